@@ -1,0 +1,5 @@
+pub mod EndpointLemmas
+pub mod ListLemmas
+pub mod LawProofs
+pub mod FirstPlaces
+pub mod ExampleRun

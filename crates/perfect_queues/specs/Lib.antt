@@ -1,1 +1,17 @@
 pub mod BasicTypes
+pub mod Endpoints
+pub mod Layouts
+pub mod Messages
+pub mod Receives
+pub mod Outcomes
+pub mod Requests
+pub mod Completions
+pub mod State
+pub mod Steps
+pub mod Calls
+pub mod Refusals
+pub mod Events
+pub mod Runs
+pub mod Quiet
+pub mod Laws
+pub mod Example

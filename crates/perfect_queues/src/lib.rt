@@ -4,7 +4,9 @@
 mod basic_type;
 mod endpoint;
 mod envelope;
+mod laws;
 
 pub use basic_type::BasicType;
 pub use endpoint::Endpoint;
 pub use envelope::{Source, Status};
+pub use laws::definitions_hold_together;

@@ -1,0 +1,83 @@
+-- What one rank does with a call, a word of another endpoint, and a frame that its link hands up.
+use Rattle.std.specs.Prelude.{ℕ, Bool, true, false, not, List, [], ◌∷◌, ◌++◌, length, map, Option, Some, None, if◌then◌else◌, nat_lt, slice_get, filter, option_and_then}
+use Rattle.perfect_queues.specs.Calls.{Call, Cancel, Irecv, Isend, Test, Wait, is_eager, receiver}
+use Rattle.perfect_queues.specs.Completions.{Answer, One, completion}
+use Rattle.perfect_queues.specs.Endpoints.{is_former, is_same}
+use Rattle.perfect_queues.specs.Outcomes.{Sent}
+use Rattle.perfect_queues.specs.Requests.{all_changed, changed}
+use Rattle.perfect_queues.specs.State.{with_number}
+use Rattle.perfect_queues.specs.declared.basic_type.BasicType.{BasicType}
+use Rattle.perfect_queues.specs.declared.endpoint.Endpoint.{Endpoint}
+use Rattle.pure_network.specs.Core.{Core, Effect, effect, with_jobs}
+use Rattle.pure_network.specs.Frames.{Cts, Data, Eager, Frame, Rts}
+use Rattle.pure_network.specs.Held.{Held, Part, Whole}
+use Rattle.pure_network.specs.Jobs.{Offering, Over, closed, collecting, dropped, ended, over_at}
+use Rattle.pure_network.specs.Matching.{arrived, receives}
+use Rattle.pure_network.specs.Transfers.{answered, collected}
+
+-- a send: to the endpoint itself, small, or large
+abbrev pub pushed_over : Core → Core
+pushed_over core = with_jobs core (core.jobs ++ Over Sent ∷ [])
+
+abbrev pub own_message : Endpoint → (context tag : ℕ) → BasicType → List ℕ → Held
+own_message e c tag basic values = record { sender = e; context = c; tag = tag; basic = basic; body = Whole values }
+
+abbrev pub sends : Endpoint → Core → Endpoint → Bool → (context tag : ℕ) → BasicType → List ℕ → Bool → Effect
+sends e core d true c tag basic values eager = arrived (pushed_over core) (own_message e c tag basic values)
+sends e core d false c tag basic values true = effect (pushed_over core) ((d, Eager c tag basic values) ∷ [])
+sends e core d false c tag basic values false =
+    effect (with_jobs core (core.jobs ++ Offering d values ∷ [])) ((d, Rts c tag basic (length core.jobs) (length values)) ∷ [])
+
+abbrev pub sends_to : Endpoint → Core → (context : ℕ) → Option ℕ → (tag : ℕ) → BasicType → List ℕ → Effect
+sends_to e core c None tag basic values = effect (pushed_over core) []
+sends_to e core c (Some to) tag basic values =
+    sends e core (receiver core.known to) (is_same (receiver core.known to) e) c tag basic values (is_eager e (receiver core.known to) basic values)
+
+abbrev pub core_used : Core → List ℕ → Core
+core_used core ks = with_jobs core (all_changed closed core.jobs ks)
+
+abbrev pub core_tested : Core → Option (Answer × List ℕ) → Core
+core_tested core None = core
+core_tested core (Some (a, ks)) = core_used core ks
+
+abbrev pub core_cancels : Core → Option ℕ → Core
+core_cancels core None = core
+core_cancels core (Some k) = with_jobs core (changed dropped core.jobs k)
+
+abbrev pub called : Endpoint → Core → Call → Effect
+called e core (Isend c to tag basic values) = sends_to e core c to tag basic values
+called e core (Irecv p) = receives core p p.source
+called e core (Wait a) = effect (record core { blocked = Some a }) []
+called e core (Test r) = effect (core_tested core (completion (over_at core.jobs) (One r))) []
+called e core (Cancel r) = effect (core_cancels core r) []
+
+abbrev pub came : Core → Endpoint → Frame → Effect
+came core s (Eager c tag basic values) =
+    arrived core (record { sender = s; context = c; tag = tag; basic = basic; body = Whole values })
+came core s (Rts c tag basic k count) =
+    arrived core (record { sender = s; context = c; tag = tag; basic = basic; body = Part k count })
+came core s (Cts k wanted) = answered core s k wanted (slice_get core.jobs k)
+came core s (Data k o values) = effect (collected core o values (collecting s k core.jobs)) []
+
+abbrev pub learned : Core → ℕ → ℕ → Core
+learned core r i =
+    record {
+      jobs = map (ended r i) core.jobs;
+      blocked = core.blocked;
+      known = with_number core.known r i;
+      held = filter (λ h. not (is_former r i h.sender)) core.held;
+    }
+
+abbrev pub met : Core → Endpoint → Core
+met core s = if nat_lt (core.known s.rank) s.incarnation then learned core s.rank s.incarnation else core
+
+-- the answer to the blocked call
+abbrev pub core_ready : Core → Option (Answer × List ℕ)
+core_ready core = option_and_then (completion (over_at core.jobs)) core.blocked
+
+abbrev pub core_settled_by : Core → Option (Answer × List ℕ) → Core
+core_settled_by core None = core
+core_settled_by core (Some (a, ks)) = record (core_used core ks) { blocked = None }
+
+abbrev pub core_settled : Core → Core
+core_settled core = core_settled_by core (core_ready core)

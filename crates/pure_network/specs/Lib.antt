@@ -1,0 +1,11 @@
+pub mod Frames
+pub mod Contract
+pub mod Links
+pub mod Held
+pub mod Jobs
+pub mod Core
+pub mod Matching
+pub mod Transfers
+pub mod Engine
+pub mod Network
+pub mod Example
