@@ -1,0 +1,106 @@
+-- A field that is read is the field that was written, and what was written is read again.
+use Rattle.std.proofs.Common.{◌≡◌, ℕ, suc, ◌+◌, ◌^◌, ◌<◌, ◌≤◌, Bool, true, false, cond, eqb, List, ◌∷◌, ◌++◌, length, get_or, take, drop, Option, Some, None, Result, Ok, Err, refl, sym, ap, ◌∙◌, arith, inl, inr, ◌⊎◌}
+use Rattle.std.proofs.lemmas.Bool.{cases_lt, eqb-true}
+use Rattle.std.proofs.lemmas.List.{take-append-drop, drop-drop, length-take, length-drop, get_or-drop, get_or-take, get_or_past}
+use Rattle.std.proofs.lemmas.Nat.{be_bytes_2, be_bytes_4, be_bytes_8}
+use Rattle.std.proofs.Math.Seq.{drop-cons}
+use Rattle.byteorder.specs.Endian.{big_bytes, big_number}
+use Rattle.byteorder.specs.Numbers.{big_from-lt, big_from-take}
+use Rattle.datagram.specs.declared.refused.Refused.{Refused}
+use Rattle.datagram.specs.declared.kinds.Kind.{Kind}
+use Rattle.datagram.specs.declared.kinds.Plane.{Plane}
+use Rattle.perfect_queues.specs.declared.basic_type.BasicType.{BasicType}
+use Rattle.datagram.specs.Kinds.{kind_code, kind_at, plane_code, plane_at}
+use Rattle.perfect_queues.specs.BasicTypes.{code_of, type_at}
+use Rattle.datagram.specs.Reading.{◌>>=◌, guard, required, number_at}
+
+abbrev pub IsBytes : List ℕ → Type 0
+IsBytes bytes = (i : ℕ) → get_or bytes i 0 < 256
+
+pub IsBytes-drop : (n : ℕ) (bytes : List ℕ) → IsBytes bytes → IsBytes (drop n bytes)
+IsBytes-drop n bytes h i = rw get_or-drop (h (n + i))
+
+IsBytes-take : (n : ℕ) (bytes : List ℕ) → IsBytes bytes → IsBytes (take n bytes)
+IsBytes-take n bytes h i =
+    elim (cases_lt i n) [
+      | inl lt ↦ rw (get_or-take n bytes i 0 lt) (h i)
+      | inr le ↦ rw (get_or_past (take n bytes) i 0 (omega (arith, length-take n bytes))) (omega arith)
+    ]
+
+-- ---- steps that did not fail
+
+pub bind_ok : {A B : Type 0} (r : Result A Refused) (f : A → Result B Refused) (y : B) → (r >>= f) ≡ Ok y → (x : A) × (r ≡ Ok x) × (f x ≡ Ok y)
+bind_ok (Ok x) f y e = (x, refl, e)
+bind_ok (Err d) f y e = absurd cc
+
+pub guard_ok : {A : Type 0} (b : Bool) (d : Refused) (next : Result A Refused) (y : A) → guard b d next ≡ Ok y → (b ≡ true) × (next ≡ Ok y)
+guard_ok true d next y e = (refl, e)
+guard_ok false d next y e = absurd cc
+
+pub required_ok : {A : Type 0} (o : Option A) (d : Refused) (y : A) → required o d ≡ Ok y → o ≡ Some y
+required_ok (Some x) d y e = cc
+required_ok None d y e = absurd cc
+
+abbrev done : {A : Type 0} → A → Result A Refused
+done x = Ok x
+
+pub ok_is : {A : Type 0} (x y : A) → done x ≡ done y → x ≡ y
+ok_is x y e = cc
+
+-- ---- numbers
+
+pub record IsWide (n : ℕ) : Type 0 where
+  pub back : (bytes : List ℕ) → length bytes ≡ n → IsBytes bytes → big_bytes n (big_number n bytes) ≡ bytes
+
+pub wide2 : IsWide 2
+wide2 = record { back = λ bytes len fits. be_bytes_2 bytes _ len fits (omega arith) }
+
+pub wide4 : IsWide 4
+wide4 = record { back = λ bytes len fits. be_bytes_4 bytes _ len fits (omega arith) }
+
+pub wide8 : IsWide 8
+wide8 = record { back = λ bytes len fits. be_bytes_8 bytes _ len fits (omega arith) }
+
+-- the bytes from place i are those of the number there, and then the rest
+pub number_takes : (n i : ℕ) (wide : IsWide n) (bytes : List ℕ) → IsBytes bytes → i + n ≤ length bytes → drop i bytes ≡ big_bytes n (number_at i n bytes) ++ drop (i + n) bytes
+number_takes n i wide bytes fits long =
+    let front = take n (drop i bytes) in
+    let len : length front ≡ n = omega (arith, length-take n (drop i bytes), length-drop i bytes) in
+    let same : big_number n front ≡ number_at i n bytes = big_from-take 0 n n (drop i bytes) (omega arith) in
+    let whole : big_bytes n (number_at i n bytes) ≡ front = ap (big_bytes n) (sym same) ∙ wide.back front len (IsBytes-take n (drop i bytes) (IsBytes-drop i bytes fits)) in
+    sym (take-append-drop n (drop i bytes)) ∙ ap (λ (t : List ℕ). t ++ drop n (drop i bytes)) (sym whole) ∙ ap (λ (t : List ℕ). big_bytes n (number_at i n bytes) ++ t) (drop-drop n i bytes)
+
+pub byte_takes : (i : ℕ) (bytes : List ℕ) → i < length bytes → drop i bytes ≡ get_or bytes i 0 ∷ drop (suc i) bytes
+byte_takes i bytes long = drop-cons bytes i 0 long
+
+pub number_fits : (i n : ℕ) (bytes : List ℕ) → IsBytes bytes → number_at i n bytes < 256 ^ n
+number_fits i n bytes fits = big_from-lt 0 n (drop i bytes) (IsBytes-drop i bytes fits)
+
+-- ---- codes
+
+test : {A : Type 0} (b : Bool) (x y : A) (o : Option A) → cond b (Some x) o ≡ Some y → ((b ≡ true) × (x ≡ y)) ⊎ (o ≡ Some y)
+test true x y o e = inl (refl, cc)
+test false x y o e = inr e
+
+none : {A P : Type 0} (y : A) → None ≡ Some y → P
+none y e = absurd cc
+
+-- one row of a table of codes
+row : {A : Type 0} (code_of : A → ℕ) (code n : ℕ) (x y : A) (o : Option A) → cond (eqb code n) (Some x) o ≡ Some y → code_of x ≡ n → (o ≡ Some y → code_of y ≡ code) → code_of y ≡ code
+row code_of code n x y o e is rest =
+    elim (test (eqb code n) x y o e) [
+      | inl h ↦ ap code_of (sym h.1) ∙ is ∙ sym (eqb-true code n h.0)
+      | inr h ↦ rest h
+    ]
+
+pub kind_back : (code : ℕ) (y : Kind) → kind_at code ≡ Some y → kind_code y ≡ code
+kind_back code y e = row kind_code code _ _ y _ e refl (λ e1. row kind_code code _ _ y _ e1 refl (none y))
+
+pub plane_back : (code : ℕ) (y : Plane) → plane_at code ≡ Some y → plane_code y ≡ code
+plane_back code y e = row plane_code code _ _ y _ e refl (λ e1. row plane_code code _ _ y _ e1 refl (none y))
+
+pub basic_back : (code : ℕ) (y : BasicType) → type_at code ≡ Some y → code_of y ≡ code
+basic_back code y e =
+    row code_of code _ _ y _ e refl (λ e1. row code_of code _ _ y _ e1 refl (λ e2. row code_of code _ _ y _ e2 refl
+    (λ e3. row code_of code _ _ y _ e3 refl (λ e4. row code_of code _ _ y _ e4 refl (λ e5. row code_of code _ _ y _ e5 refl
+    (λ e6. row code_of code _ _ y _ e6 refl (λ e7. row code_of code _ _ y _ e7 refl (λ e8. row code_of code _ _ y _ e8 refl (none y)))))))))

@@ -1,0 +1,109 @@
+-- What bytes say, field by field, with the first fault.
+use Rattle.std.specs.Prelude.{◌≡◌, ℕ, ◌*◌, List, length, drop, slice_index, Option, Some, None, Result, Ok, Err, Bool, true, nat_le, ◌==◌, if◌then◌else◌}
+use Rattle.byteorder.specs.Endian.{big_number}
+use Rattle.perfect_queues.specs.declared.basic_type.BasicType.{BasicType}
+use Rattle.perfect_queues.specs.BasicTypes.{code_of, size_of, type_at}
+use Rattle.datagram.specs.declared.refused.Refused.{Refused}
+use Rattle.datagram.specs.declared.refused.Refused.TheVariants as refusals
+use Rattle.datagram.specs.declared.kinds.Kind.{Kind}
+use Rattle.datagram.specs.declared.kinds.Kind.TheVariants as kinds
+use Rattle.datagram.specs.declared.kinds.Plane.{Plane}
+use Rattle.datagram.specs.declared.kinds.Plane.TheVariants.{PointToPoint, Collective}
+use Rattle.datagram.specs.declared.datagram.Header.{Header}
+use Rattle.datagram.specs.Kinds.{kind_at, plane_at}
+use Rattle.datagram.specs.Spelling.{EagerText, BodyText, EagerBody, AckBody, DatagramText}
+
+-- a step after a step that gave no fault
+infixl 10 ◌>>=◌
+abbrev pub ◌>>=◌ : {A B : Type 0} → Result A Refused → (A → Result B Refused) → Result B Refused
+(Ok x) >>= f = f x
+(Err e) >>= f = Err e
+
+-- what a function returned, seen by view, is what reading gives
+abbrev pub Gives : {X Y : Type 0} → (X → Y) → Result X Refused → Result Y Refused → Type 0
+Gives view (Ok x) read = read ≡ Ok (view x)
+Gives view (Err e) read = read ≡ Err e
+
+-- a fault, unless the test holds
+abbrev pub guard : {A : Type 0} → Bool → Refused → Result A Refused → Result A Refused
+guard test fault next = if test then next else Err fault
+
+-- what was looked up, or a fault where there is nothing
+abbrev pub required : {A : Type 0} → Option A → Refused → Result A Refused
+required (Some x) fault = Ok x
+required None fault = Err fault
+
+-- the number in n bytes from place i
+abbrev pub number_at : ℕ → ℕ → List ℕ → ℕ
+number_at i n bytes = big_number n (drop i bytes)
+
+-- the kind, where the fields up to it have no fault: 21, 22, 23, 24 in this order
+unfoldable pub kind_of : List ℕ → Result Kind Refused
+kind_of bytes =
+    guard (nat_le 32 (length bytes)) refusals.Short
+    (guard (number_at 0 4 bytes == 0x4d505544) refusals.Magic
+    (guard (slice_index bytes 4 == 1) refusals.Version
+    (required (kind_at (slice_index bytes 5)) refusals.Kind)))
+
+-- how long a body of this kind may be, in bytes
+abbrev pub length_fits : Kind → ℕ → Bool
+length_fits kinds.Frame n = nat_le n 1200
+length_fits kinds.Ack n = n == 0
+
+-- the bytes behind the header, which must be as many as it says and may be: 25
+unfoldable pub body_of : Kind → List ℕ → Result (List ℕ) Refused
+body_of kind bytes =
+    let body = drop 32 bytes in
+    guard (number_at 14 2 bytes == length body) refusals.Length
+    (guard (length_fits kind (length body)) refusals.Length
+    (Ok body))
+
+-- the header's fields
+unfoldable pub header_of : List ℕ → Header
+header_of bytes = record {
+  source = record { rank = number_at 6 2 bytes; incarnation = number_at 10 2 bytes };
+  target = record { rank = number_at 8 2 bytes; incarnation = number_at 12 2 bytes };
+  job = number_at 16 8 bytes;
+  sequence = number_at 24 8 bytes;
+}
+
+-- whether only bytes go between collectives
+abbrev pub basic_fits_plane : Plane → BasicType → Bool
+basic_fits_plane PointToPoint basic = true
+basic_fits_plane Collective basic = code_of basic == 9
+
+-- an eager frame, or 30
+unfoldable pub eager_of : List ℕ → Result EagerText Refused
+eager_of body =
+    guard (nat_le 20 (length body)) refusals.BadFrame
+    (guard (slice_index body 0 == 1) refusals.BadFrame
+    (guard (slice_index body 3 == 0) refusals.BadFrame (do
+      plane ← required (plane_at (slice_index body 1)) refusals.BadFrame
+      basic ← required (type_at (slice_index body 2)) refusals.BadFrame
+      guard (basic_fits_plane plane basic) refusals.BadFrame
+          (guard (nat_le (number_at 4 4 body) 2147483647) refusals.BadFrame
+          (guard (nat_le (length (drop 20 body)) 1024) refusals.BadFrame
+          (guard (length (drop 20 body) == number_at 16 4 body * size_of basic) refusals.BadFrame
+          (Ok (record {
+            plane = plane;
+            basic = basic;
+            tag = number_at 4 4 body;
+            context = number_at 8 8 body;
+            count = number_at 16 4 body;
+            elements = drop 20 body;
+          }))))))))
+
+-- the content of a body of this kind
+unfoldable pub content_of : Kind → List ℕ → Result BodyText Refused
+content_of kinds.Ack body = Ok AckBody
+content_of kinds.Frame body = do
+  e ← eager_of body
+  Ok (EagerBody e)
+
+-- what all of the bytes say, or the first fault
+unfoldable pub datagram_of : List ℕ → Result DatagramText Refused
+datagram_of bytes = do
+  kind ← kind_of bytes
+  body ← body_of kind bytes
+  content ← content_of kind body
+  Ok (record { header = header_of bytes; body = content })

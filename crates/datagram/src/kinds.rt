@@ -1,0 +1,69 @@
+//! The coded fields of a datagram.
+
+ghost use Rattle.std.specs.Prelude.{◌≡◌};
+ghost use Rattle.datagram.specs.Kinds.{kind_code, kind_at, plane_code, plane_at};
+
+/// What a datagram is for.
+#[derive(Clone, Copy, Debug, PartialEq, Eq)]
+pub enum Kind {
+    /// It carries a numbered frame.
+    Frame,
+    /// It acknowledges frames.
+    Ack,
+}
+
+impl Kind {
+    /// The code that stands for this kind.
+    pub(crate) fn code(self) -> u8
+        ensures { result ≡ kind_code self }
+    {
+        match self {
+            Kind::Frame => 1,
+            Kind::Ack => 2,
+        }
+    }
+
+    /// The kind that has this code, where there is one.
+    pub(crate) fn from_code(code: u8) -> Option<Kind>
+        ensures { result ≡ kind_at code }
+    {
+        match code {
+            1 => Some(Kind::Frame),
+            2 => Some(Kind::Ack),
+            _ => None,
+        }
+    }
+}
+
+/// Which traffic a message belongs to: those of one plane never meet those of the other
+/// (MPI 3.1, 5.1: collective and point-to-point communication do not interfere).
+#[derive(Clone, Copy, Debug, PartialEq, Eq)]
+pub enum Plane {
+    /// A message that a receive of the program takes.
+    PointToPoint,
+    /// A step of a collective operation.
+    Collective,
+}
+
+impl Plane {
+    /// The code that stands for this plane.
+    pub(crate) fn code(self) -> u8
+        ensures { result ≡ plane_code self }
+    {
+        match self {
+            Plane::PointToPoint => 0,
+            Plane::Collective => 1,
+        }
+    }
+
+    /// The plane that has this code, where there is one.
+    pub(crate) fn from_code(code: u8) -> Option<Plane>
+        ensures { result ≡ plane_at code }
+    {
+        match code {
+            0 => Some(Plane::PointToPoint),
+            1 => Some(Plane::Collective),
+            _ => None,
+        }
+    }
+}

@@ -1,0 +1,21 @@
+//! The datagrams that ranks send one another, as bytes and as values.
+#![tactic(auto)]
+
+mod bytes;
+mod datagram;
+mod kinds;
+mod laws;
+mod reading;
+mod refused;
+mod writing;
+
+pub use bytes::Bytes;
+pub use datagram::{Content, Datagram, Eager, Frame, Header};
+pub use kinds::{Kind, Plane};
+pub use laws::no_spelling_begins_another;
+pub use reading::read;
+pub use refused::Refused;
+pub use writing::write;
+
+#[cfg(test)]
+mod tests;
