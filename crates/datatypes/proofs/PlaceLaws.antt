@@ -1,0 +1,210 @@
+-- The places of a message's elements, and what is put there.
+use Rattle.std.proofs.Common.{◌≡◌, ℕ, zero, suc, ◌+◌, ◌-◌, ◌*◌, ◌/◌, ◌%◌, ◌^◌, ◌<◌, ◌≤◌, Bool, true, false, cond, ltb, List, [], ◌∷◌, ◌++◌, length, get_or, set, take, drop, Some, None, refl, sym, ap, subst, ◌∙◌, arith, inl, inr}
+use Rattle.byteorder.specs.Endian.{big_bytes}
+use Rattle.byteorder.specs.Numbers.{length-bytes_high_first}
+use Rattle.std.proofs.Math.Nat.{div-eq_of_lt, mod-eq_of_lt, add-mul-div_right, mul-add-mod_self_right, suc-mul, zero-mul}
+use Rattle.std.proofs.lemmas.Bool.{cases_lt, ltb-false, eq-eqb}
+use Rattle.std.proofs.lemmas.List.{length-append, length-take, get_or-take, get_or-map, get_or_append_left, get_or-append_right, append_assoc, set_split, take_more, take_all, ext_get_or}
+use Rattle.std.proofs.lemmas.List.FromFn.{length-map-range_with_len, get_or-map-range_with_len, map-range_with_len_more}
+use Rattle.datatypes.specs.Contents.{Contents, values_of, AreWhole}
+use Rattle.datatypes.specs.ContentLaws.{IsBytes-take, no_rest, values_of-append, values_of-take, values_of-drop}
+use Rattle.datatypes.proofs.BufferSteps.{AreWhole-append, AreWhole-drop, AreWhole-single, single_is, element_fits}
+use Rattle.perfect_queues.specs.BasicTypes.{code_of}
+use Rattle.datatypes.specs.declared.refusal.Refusal.TheVariants.{WrongType, TooShort}
+use Rattle.datatypes.specs.Layouts.{Shape, extent_of, moved, places, copies_at, has_repeats}
+use Rattle.datatypes.specs.Pieces.{piece_at}
+use Rattle.datatypes.specs.Transfers.{room_for, put_at, is_same_type, send_fault, receive_fault, unpack_fault, place_of, first_places, AreNear}
+use Rattle.datatypes.proofs.LayoutLaws.{copies_at-none, copies_at-suc, length-moved}
+use Rattle.datatypes.proofs.PieceLaws.{AreWhole-piece, near_from_room}
+
+-- ---- refusals
+
+send_cases : (same short : Bool) → cond same (cond short (Some TooShort) None) (Some WrongType) ≡ None → short ≡ false
+send_cases true true e = absurd cc
+send_cases true false e = refl
+send_cases false short e = absurd cc
+
+receive_cases : (same twice short : Bool) → cond same (cond twice (Some WrongType) (cond short (Some TooShort) None)) (Some WrongType) ≡ None → short ≡ false
+receive_cases true true short e = absurd cc
+receive_cases true false true e = absurd cc
+receive_cases true false false e = refl
+receive_cases false twice short e = absurd cc
+
+pub send_room : (buffer : Contents) (layout : Shape) (copies : ℕ) → send_fault buffer layout copies ≡ None → room_for (places copies layout.offsets) ≤ length buffer.values
+unfolding send_fault
+send_room buffer layout copies e =
+    ltb-false (length buffer.values) (room_for (places copies layout.offsets))
+    (send_cases (is_same_type buffer.basic layout.basic) (ltb (length buffer.values) (room_for (places copies layout.offsets))) e)
+
+pub receive_room : (buffer : Contents) (layout : Shape) (copies : ℕ) → receive_fault buffer layout copies ≡ None → room_for (places copies layout.offsets) ≤ length buffer.values
+unfolding receive_fault
+receive_room buffer layout copies e =
+    ltb-false (length buffer.values) (room_for (places copies layout.offsets))
+    (receive_cases (is_same_type buffer.basic layout.basic) (has_repeats layout.offsets) (ltb (length buffer.values) (room_for (places copies layout.offsets))) e)
+
+-- ---- places by number
+
+pub length-copies_at : (first count : ℕ) (xs : List ℕ) → length (copies_at first count xs) ≡ count * length xs
+length-copies_at first zero xs = ap length (copies_at-none first xs) ∙ sym (zero-mul (length xs))
+length-copies_at first (suc count) xs =
+    ap length (copies_at-suc first count xs)
+    ∙ length-append (moved (first * extent_of xs) xs) (copies_at (first + 1) count xs)
+    ∙ ap (λ (n : ℕ). n + length (copies_at (first + 1) count xs)) (length-moved (first * extent_of xs) xs)
+    ∙ ap (λ (n : ℕ). length xs + n) (length-copies_at (first + 1) count xs)
+    ∙ omega (arith, suc-mul count (length xs))
+
+later : (k l : ℕ) → 0 < l → l ≤ k → (k / l ≡ (k - l) / l + 1) × (k % l ≡ (k - l) % l)
+later k l p le =
+    let e : k ≡ (k - l) + 1 * l = omega arith in
+    let f : k ≡ 1 * l + (k - l) = omega arith in
+    ((ap (λ (n : ℕ). n / l) e ∙ add-mul-div_right (k - l) 1 p), (ap (λ (n : ℕ). n % l) f ∙ mul-add-mod_self_right 1 l (k - l)))
+
+pub get_or-copies_at : (first count k : ℕ) (xs : List ℕ) → 0 < length xs → k < count * length xs
+    → get_or (copies_at first count xs) k 0 ≡ (first + k / length xs) * extent_of xs + get_or xs (k % length xs) 0
+get_or-copies_at first zero k xs h lt = absurd (omega (arith, zero-mul (length xs)))
+get_or-copies_at first (suc count) k xs h lt =
+    let here = moved (first * extent_of xs) xs in
+    let rest = copies_at (first + 1) count xs in
+    let len = length-moved (first * extent_of xs) xs in
+    let more = suc-mul count (length xs) in
+    ap (λ (t : List ℕ). get_or t k 0) (copies_at-suc first count xs)
+    ∙ elim (cases_lt k (length xs)) [
+      | inl low ↦
+          let q : k / length xs ≡ 0 = div-eq_of_lt low in
+          let r : k % length xs ≡ k = mod-eq_of_lt low in
+          get_or_append_left here rest 0 k (omega arith)
+          ∙ get_or-map (λ (o : ℕ). first * extent_of xs + o) xs k 0 0 low
+          ∙ ap (λ (n : ℕ). first * extent_of xs + get_or xs n 0) (sym r)
+          ∙ ap (λ (n : ℕ). n * extent_of xs + get_or xs (k % length xs) 0) (omega arith)
+      | inr high ↦
+          let l = later k (length xs) h high in
+          let q = l.0 in
+          let ih = get_or-copies_at (first + 1) count (k - length xs) xs h (omega arith) in
+          get_or-append_right here rest (length xs) k 0 len high
+          ∙ ih
+          ∙ ap (λ (n : ℕ). (first + 1 + (k - length xs) / length xs) * extent_of xs + get_or xs n 0) (sym l.1)
+          ∙ ap (λ (n : ℕ). n * extent_of xs + get_or xs (k % length xs) 0) (omega arith)
+    ]
+
+pub some_offset : (copies count : ℕ) (xs : List ℕ) → count ≤ length (places copies xs) → 0 < count → 0 < length xs
+some_offset copies count [] le p = let e = length-copies_at 0 copies [] in absurd (omega arith)
+some_offset copies count (x ∷ xs) le p = omega arith
+
+-- the places of the first elements are the first places
+pub first_places-is : (copies count : ℕ) (xs : List ℕ) → count ≤ length (places copies xs) → first_places count xs ≡ take count (places copies xs)
+first_places-is copies count xs le =
+    let left = length-map-range_with_len (place_of xs) 0 count in
+    let right = length-take count (places copies xs) in
+    let all = length-copies_at 0 copies xs in
+    ext_get_or 0 (first_places count xs) (take count (places copies xs)) (omega arith) (λ k lt.
+    let below : k < count = omega arith in
+    let some = some_offset copies count xs le (omega arith) in
+    get_or-map-range_with_len (place_of xs) 0 count k k 0 below (omega arith)
+    ∙ ap (λ (n : ℕ). n * extent_of xs + get_or xs (k % length xs) 0) (omega arith)
+    ∙ sym (get_or-copies_at 0 copies k xs some (omega arith))
+    ∙ sym (get_or-take count (places copies xs) k 0 below))
+
+pub near_first : (copies count elements : ℕ) (xs : List ℕ) → count ≤ length (places copies xs) → room_for (places copies xs) ≤ elements → AreNear (first_places count xs) elements
+near_first copies count elements xs le room k lt =
+    let same = first_places-is copies count xs le in
+    let left = length-map-range_with_len (place_of xs) 0 count in
+    let below : k < count = omega arith in
+    let near = near_from_room (places copies xs) elements room k (omega arith) in
+    let here : get_or (first_places count xs) k 0 ≡ get_or (places copies xs) k 0 = ap (λ (t : List ℕ). get_or t k 0) same ∙ get_or-take count (places copies xs) k 0 below in
+    omega arith
+
+pub near_place : (count k elements : ℕ) (xs : List ℕ) → k < count → AreNear (first_places count xs) elements → place_of xs k < elements
+near_place count k elements xs lt near =
+    let left = length-map-range_with_len (place_of xs) 0 count in
+    let here = get_or-map-range_with_len (place_of xs) 0 count k k 0 lt (omega arith) in
+    let n = near k (omega arith) in
+    omega arith
+
+-- ---- elements put at their places
+
+pub put_at-push : (values at ms : List ℕ) (place m : ℕ) → length at ≡ length ms → put_at values (at ++ place ∷ []) (ms ++ m ∷ []) ≡ set (put_at values at ms) place m
+put_at-push values [] [] place m e = refl
+put_at-push values [] (n ∷ ms) place m e = absurd (omega arith)
+put_at-push values (p ∷ at) [] place m e = absurd (omega arith)
+put_at-push values (p ∷ at) (n ∷ ms) place m e = put_at-push (set values p n) at ms place m (omega arith)
+
+pub put_at-take : (values at ms : List ℕ) → put_at values (take (length ms) at) ms ≡ put_at values at ms
+put_at-take values [] [] = refl
+put_at-take values [] (m ∷ ms) = refl
+put_at-take values (p ∷ at) [] = refl
+put_at-take values (p ∷ at) (m ∷ ms) = put_at-take (set values p m) at ms
+
+pub put_more : (values offsets ms : List ℕ) (k : ℕ) → k < length ms
+    → put_at values (first_places (k + 1) offsets) (take (k + 1) ms) ≡ set (put_at values (first_places k offsets) (take k ms)) (place_of offsets k) (get_or ms k 0)
+put_more values offsets ms k lt =
+    let len = length-map-range_with_len (place_of offsets) 0 k in
+    let t = length-take k ms in
+    ap (λ (p : List ℕ). put_at values p (take (k + 1) ms)) (map-range_with_len_more (place_of offsets) 0 k k (omega arith))
+    ∙ ap (put_at values (first_places k offsets ++ place_of offsets k ∷ [])) (take_more ms k 0 lt)
+    ∙ put_at-push values (first_places k offsets) (take k ms) (place_of offsets k) (get_or ms k 0) (omega arith)
+
+-- the bytes with those of another element at a place
+abbrev pub with_piece : ℕ → List ℕ → ℕ → List ℕ → List ℕ
+with_piece size bytes place piece = take (place * size) bytes ++ piece ++ drop (place * size + size) bytes
+
+AreWhole-take : (size : ℕ) (bytes : List ℕ) (k : ℕ) → 0 < size → AreWhole size bytes → k * size ≤ length bytes → AreWhole size (take (k * size) bytes)
+AreWhole-take size bytes k h w le = record {
+  no_rest = no_rest size k (take (k * size) bytes) h (omega (arith, length-take (k * size) bytes));
+  are_bytes = IsBytes-take (k * size) bytes w.are_bytes;
+}
+
+pub with_piece-is : (size : ℕ) (bytes message : List ℕ) (place k : ℕ) → 0 < size → AreWhole size bytes → AreWhole size message
+    → place < length (values_of size bytes) → k < length (values_of size message)
+    → AreWhole size (with_piece size bytes place (piece_at size message k))
+    × (values_of size (with_piece size bytes place (piece_at size message k)) ≡ set (values_of size bytes) place (get_or (values_of size message) k 0))
+with_piece-is size bytes message place k h w wm lt lk =
+    let vs = values_of size bytes in
+    let m = get_or (values_of size message) k 0 in
+    let piece = piece_at size message k in
+    let front = take (place * size) bytes in
+    let fits = element_fits size bytes place w lt in
+    let next : place * size + size ≡ (place + 1) * size = omega arith in
+    let one : place + 1 ≡ suc place = omega arith in
+    let back = drop (place * size + size) bytes in
+    let wf : AreWhole size front = AreWhole-take size bytes place h w (omega arith) in
+    let wp = AreWhole-piece size message k h wm lk in
+    let wb : AreWhole size back = subst (λ (n : ℕ). AreWhole size (drop n bytes)) (sym next) (AreWhole-drop size bytes (place + 1) h w (omega arith)) in
+    let wfp : AreWhole size (front ++ piece) = AreWhole-append size front piece h wf wp.0 in
+    let vb : values_of size back ≡ drop (place + 1) vs = ap (λ (n : ℕ). values_of size (drop n bytes)) next ∙ values_of-drop size bytes (place + 1) h (omega arith) in (
+      AreWhole-append size (front ++ piece) back h wfp wb,
+      (values_of-append size (front ++ piece) back h wfp.no_rest
+          ∙ ap (λ (t : List ℕ). t ++ values_of size back) (values_of-append size front piece h wf.no_rest)
+          ∙ ap (λ (t : List ℕ). t ++ values_of size piece ++ values_of size back) (values_of-take size bytes place h (omega arith))
+          ∙ ap (λ (t : List ℕ). take place vs ++ t ++ values_of size back) wp.1
+          ∙ ap (λ (t : List ℕ). take place vs ++ m ∷ [] ++ t) vb
+          ∙ append_assoc (take place vs) (m ∷ []) (drop (place + 1) vs)
+          ∙ ap (λ (n : ℕ). take place vs ++ m ∷ drop n vs) one
+          ∙ sym (set_split vs place m lt)),
+    )
+
+-- what is put at the first places is put at the places
+pub put_first : (copies : ℕ) (values offsets ms : List ℕ) → length ms ≤ length (places copies offsets) → put_at values (first_places (length ms) offsets) ms ≡ put_at values (places copies offsets) ms
+put_first copies values offsets ms le =
+    ap (λ (at : List ℕ). put_at values at ms) (first_places-is copies (length ms) offsets le) ∙ put_at-take values (places copies offsets) ms
+
+pub unpack_none : (message buffer : Contents) (layout : Shape) (copies : ℕ) → message.basic ≡ buffer.basic → receive_fault buffer layout copies ≡ None → unpack_fault message buffer layout copies ≡ None
+unfolding unpack_fault
+unpack_none message buffer layout copies e h =
+    let t : is_same_type message.basic buffer.basic ≡ true = eq-eqb (code_of message.basic) (code_of buffer.basic) (ap code_of e) in
+    ap (λ (b : Bool). cond b (receive_fault buffer layout copies) (Some WrongType)) t ∙ h
+
+-- the bytes with those of a number at a place
+pub with_number-is : (size : ℕ) (bytes : List ℕ) (place m : ℕ) → 0 < size → m < 256 ^ size → AreWhole size bytes → place < length (values_of size bytes)
+    → AreWhole size (with_piece size bytes place (big_bytes size m)) × (values_of size (with_piece size bytes place (big_bytes size m)) ≡ set (values_of size bytes) place m)
+with_number-is size bytes place m h small w lt =
+    let one = AreWhole-single size m h in
+    let is : values_of size (big_bytes size m) ≡ m ∷ [] = single_is size m h small in
+    let len : length (big_bytes size m) ≡ size = length-bytes_high_first size m in
+    let within : 0 < length (values_of size (big_bytes size m)) = omega (arith, ap length is) in
+    let all : piece_at size (big_bytes size m) 0 ≡ big_bytes size m =
+    ap (λ (n : ℕ). take size (drop n (big_bytes size m))) (zero-mul size) ∙ take_all size (big_bytes size m) (omega arith)
+    in
+    let put = with_piece-is size bytes (big_bytes size m) place 0 h w one lt within in
+    let same : get_or (values_of size (big_bytes size m)) 0 0 ≡ m = ap (λ (t : List ℕ). get_or t 0 0) is in
+    subst (λ (t : List ℕ). AreWhole size (with_piece size bytes place t) × (values_of size (with_piece size bytes place t) ≡ set (values_of size bytes) place m)) all
+    (subst (λ (n : ℕ). AreWhole size (with_piece size bytes place (piece_at size (big_bytes size m) 0)) × (values_of size (with_piece size bytes place (piece_at size (big_bytes size m) 0)) ≡ set (values_of size bytes) place n)) same put)

@@ -1,0 +1,78 @@
+//! Numbers of a given size as bytes, the highest byte first.
+
+ghost use Rattle.std.specs.Prelude.{◌≡◌, ◌≤◌, ◌<◌, ◌+◌, ◌*◌, ◌^◌, ◌++◌, length, drop, replicate, vec_len, vec_capacity, if◌then◌else◌, is_ok};
+ghost use Rattle.byteorder.specs.Endian.{big_bytes};
+ghost use Rattle.datatypes.specs.Contents.{element_at, bytes_of, copies_of};
+
+use byteorder::{BigEndian, ByteOrder};
+use std::alloc::AllocError;
+
+/// Puts the bytes of `front` over the first ones.
+pub fn put_over(bytes: &mut Vec<u8>, front: &[u8])
+    requires { length front.now ≤ vec_len bytes.old }
+    ensures { bytes.new.items ≡ front.now ++ drop (length front.now) bytes.old.items }
+{
+    copy_front(bytes, front);
+}
+
+fn copy_front(bytes: &mut [u8], front: &[u8])
+    requires { length front.now ≤ length bytes.old }
+    ensures { bytes.new ≡ front.now ++ drop (length front.now) bytes.old }
+{
+    bytes[..front.len()].copy_from_slice(front);
+}
+
+/// The number in the `size` bytes at a place, where each place has `size` bytes.
+pub fn number_at(bytes: &[u8], size: usize, place: usize) -> u64
+    requires low { 1 ≤ size }
+    requires high { size ≤ 8 }
+    requires room { place * size + size ≤ length bytes.now }
+    ensures { result ≡ element_at size bytes.now place }
+{
+    BigEndian::read_uint(&bytes[place * size..], size)
+}
+
+/// Appends the number in `size` bytes.
+pub fn append_number(bytes: &mut Vec<u8>, number: u64, size: usize) -> Result<(), AllocError>
+    requires low { 1 ≤ size }
+    requires high { size ≤ 8 }
+    requires fits { number < 256 ^ size }
+    ensures { bytes.new.items ≡
+        (if is_ok result then bytes.old.items ++ big_bytes size number else bytes.old.items) }
+{
+    let mut room = [0; 8];
+    BigEndian::write_uint(&mut room, number, size);
+    bytes.extend_from_slice(&room[..size])
+}
+
+/// Appends the number in `size` bytes, so many times.
+pub fn append_copies(
+    bytes: &mut Vec<u8>,
+    number: u64,
+    size: usize,
+    count: usize,
+) -> Result<(), AllocError>
+    requires low { 1 ≤ size }
+    requires high { size ≤ 8 }
+    requires fits { number < 256 ^ size }
+    ensures { bytes.new.items ≡
+        (if is_ok result
+        then bytes.old.items ++ copies_of count (big_bytes size number)
+        else bytes.old.items) }
+{
+    let mut room = [0; 8];
+    BigEndian::write_uint(&mut room, number, size);
+    let more = count.checked_mul(size).ok_or(AllocError)?;
+    bytes.reserve(more)?;
+    fill_up(bytes, &room[..size], count);
+    Ok(())
+}
+
+fn fill_up(bytes: &mut Vec<u8>, piece: &[u8], count: usize)
+    requires { vec_len bytes.old + count * length piece.now ≤ vec_capacity bytes.old }
+    ensures { bytes.new.items ≡ bytes.old.items ++ copies_of count piece.now }
+{
+    for _ in 0..count {
+        bytes.extend_from_slice(piece).unwrap();
+    }
+}

@@ -1,0 +1,46 @@
+//! The reduction of members' elements.
+
+ghost use Rattle.std.specs.Prelude.{◌≡◌, length, All, IfOk};
+ghost use Rattle.datatypes.specs.Folds.{combined_values, folded_values, IsLike};
+
+use crate::buffer::Buffer;
+use crate::operation::ReduceOp;
+use std::alloc::{AllocError, Global};
+
+/// Combines each element of `all`, which come first, with that of `next` at the same place.
+pub fn accumulate<R: ReduceOp>(op: &R, all: &mut Buffer, next: &Buffer)
+    requires basic { all.old.basic ≡ R.basic_of op.now }
+    requires like { IsLike all.old.basic all.old.values next.now }
+    ensures { all.new ≡
+        record all.old {
+          values = combined_values (R.combines op.now) all.old.values next.now.values;
+        } }
+{
+    for place in 0..next.len() {
+        let number = op.combine(all.number(place), next.number(place));
+        all.set_number(place, number);
+    }
+}
+
+/// The elements of the first member combined with those of each further one, in order.
+pub fn fold<R: ReduceOp>(
+    op: &R,
+    alloc: Global,
+    first: &Buffer,
+    rest: &[Buffer],
+) -> Result<Buffer, AllocError>
+    requires basic { first.now.basic ≡ R.basic_of op.now }
+    requires like { All (IsLike first.now.basic first.now.values) rest.now }
+    ensures { IfOk result
+        (λ all.
+        all ≡
+        record first.now {
+          values = folded_values (R.combines op.now) first.now.values rest.now;
+        }) }
+{
+    let mut all = first.try_clone(alloc)?;
+    for next in rest {
+        accumulate(op, &mut all, next);
+    }
+    Ok(all)
+}
