@@ -1,0 +1,3 @@
+pub mod PeerLemmas
+pub mod HeaderLemmas
+pub mod SendLemmas

@@ -1,0 +1,17 @@
+pub mod Refusals
+pub mod Places
+pub mod Invariant
+pub mod Peers
+pub mod EngineState
+pub mod Sessions
+pub mod Sending
+pub mod Receiving
+pub mod Waiting
+pub mod Calls
+pub mod Datagrams
+pub mod Ticks
+pub use Rattle.datagram.specs.Spelling
+pub use Rattle.datagram.specs.Reading
+pub use Rattle.match_queues.specs.State
+pub use Rattle.reliable_link.specs.SenderState
+pub use Rattle.requests.specs.Table

@@ -1,0 +1,50 @@
+-- The sessions of an engine, one for each rank; its own stays empty.
+use Rattle.std.specs.Prelude.{◌≡◌, ℕ, zero, suc, ◌≤◌, nat_le, nat_lt, List, [], ◌∷◌, ◌++◌, length, map, Option, Some, None, replicate, slice_get, slice_set, if◌then◌else◌}
+use Rattle.std.specs.List.{flat_map}
+use Rattle.reliable_link.specs.SenderState.{SenderState, after_accept, after_ack, entered_on_ack, due_at, after_due, frame_at}
+use Rattle.engine.specs.declared.peers.Peer.{Peer}
+
+abbrev pub new_peer : Peer
+new_peer = record { sender = record { lowest = 0; frames = []; clock = 0 }; receiver = 0 }
+
+abbrev pub new_peers : ℕ → List Peer
+new_peers n = replicate n new_peer
+
+abbrev pub peer_or_new : Option Peer → Peer
+peer_or_new None = new_peer
+peer_or_new (Some p) = p
+
+-- the session with a rank
+abbrev pub peer_at : List Peer → ℕ → Peer
+peer_at peers rank = peer_or_new (slice_get peers rank)
+
+-- the session with the rank once its sender is this, or its receiver
+abbrev pub with_sender : List Peer → ℕ → SenderState → List Peer
+with_sender peers rank s = slice_set peers rank (record { sender = s; receiver = (peer_at peers rank).receiver })
+
+abbrev pub with_receiver : List Peer → ℕ → ℕ → List Peer
+with_receiver peers rank next = slice_set peers rank (record { sender = (peer_at peers rank).sender; receiver = next })
+
+abbrev pub frame_out : ℕ → Option (List ℕ) → List (ℕ × List ℕ)
+frame_out target None = []
+frame_out target (Some f) = (target, f) ∷ []
+
+-- the frames of these numbers, as they go out
+abbrev pub frames_out : ℕ → SenderState → List ℕ → List (ℕ × List ℕ)
+frames_out target s ns = flat_map (λ n. frame_out target (frame_at s n)) ns
+
+-- the frames that are due, by rising rank from this one on
+abbrev pub due_out : ℕ → List Peer → ℕ → List (ℕ × List ℕ)
+due_out rank [] now = []
+due_out rank (p ∷ ps) now = frames_out rank p.sender (due_at p.sender now) ++ due_out (suc rank) ps now
+
+abbrev pub due_peer : ℕ → Peer → Peer
+due_peer now p = record { sender = after_due p.sender now; receiver = p.receiver }
+
+-- the sessions once what is due counts as sent
+abbrev pub after_all_due : List Peer → ℕ → List Peer
+after_all_due peers now = map (due_peer now) peers
+
+-- no frame waits or is unacknowledged
+abbrev pub IsIdlePeer : Peer → Type 0
+IsIdlePeer p = p.sender.frames ≡ []

@@ -1,0 +1,66 @@
+-- What a receive does to the engine (MPI 3.1, 3.2.4 and 3.7).
+use Rattle.std.specs.Prelude.{◌≡◌, ℕ, ◌+◌, nat_le, nat_lt, Bool, true, false, List, Option, Some, None, Result, Ok, Err, length, if◌then◌else◌}
+use Rattle.perfect_queues.specs.declared.envelope.Source.{Source}
+use Rattle.perfect_queues.specs.declared.envelope.Source.TheVariants as sources
+use Rattle.perfect_queues.specs.declared.envelope.Status.{Status}
+use Rattle.datatypes.specs.Contents.{Contents}
+use Rattle.match_queues.specs.declared.envelope.Receive as posted
+use Rattle.match_queues.specs.declared.envelope.Message.{Message}
+use Rattle.match_queues.specs.State.{message_at, message_for, after_post}
+use Rattle.requests.specs.declared.table.Entry.{Entry}
+use Rattle.requests.specs.declared.table.Request.{Request}
+use Rattle.requests.specs.declared.table.Progress.{Progress}
+use Rattle.requests.specs.declared.table.Progress.TheVariants.{Receiving, Finished}
+use Rattle.requests.specs.Outcomes.{outcome_of}
+use Rattle.requests.specs.Table.{slot_at, IsSet, is_full}
+use Rattle.engine.specs.declared.place.Place.{Place}
+use Rattle.engine.specs.declared.call.Receive.{Receive}
+use Rattle.engine.specs.declared.call.Handed.{Handed}
+use Rattle.engine.specs.declared.refused.Refused.{Refused}
+use Rattle.engine.specs.declared.refused.Refused.TheVariants as refusals
+use Rattle.engine.specs.Refusals.{IsRefusal}
+use Rattle.engine.specs.EngineState.{EngineState}
+
+abbrev pub is_tag_above : Option ℕ → Bool
+is_tag_above None = false
+is_tag_above (Some tag) = nat_lt 2147483647 tag
+
+-- for now no receive names the null process
+abbrev pub is_no_source : ℕ → Source → Bool
+is_no_source size sources.Any = false
+is_no_source size (sources.Rank rank) = nat_le size rank
+is_no_source size sources.Null = true
+
+-- the first rule or limit that a receive meets
+unfoldable pub receive_fault : EngineState → Receive → Option Refused
+receive_fault e v =
+    if is_tag_above v.tag then Some refusals.Tag
+    else (if is_no_source e.place.size v.source then Some refusals.Rank
+    else (if is_full e.slots e.serial then Some refusals.Limit
+    else None))
+
+abbrev pub posted_by : ℕ → Receive → posted.Receive
+posted_by key v = record { request = key; context = 0; source = v.source; tag = v.tag }
+
+-- the status that a message gives (MPI 3.1, 3.2.5)
+abbrev pub status_of : Message → Status
+status_of m = record { source = sources.Rank m.sender.rank; tag = Some m.tag; count = length m.elements.values }
+
+abbrev pub progress_on_post : Contents → Option Message → Progress
+progress_on_post b None = Receiving b
+progress_on_post b (Some m) = Finished (outcome_of b (status_of m) m.elements)
+
+pub record IsPosted (old : EngineState) (v : Receive) (r : Request) (new : EngineState) : Type 0 where
+  pub allowed : receive_fault old v ≡ None
+  pub fresh : slot_at old.slots r.key ≡ None
+  pub serial : r.serial ≡ old.serial
+  pub entry : IsSet old.slots new.slots r.key (Some (record {
+    serial = old.serial;
+    progress = progress_on_post v.buffer (message_at old.queues.unexpected (message_for (posted_by r.key v) old.queues.unexpected));
+  }))
+  pub rest : new ≡ record old { slots = new.slots; serial = old.serial + 1; queues = after_post old.queues (posted_by r.key v) }
+
+-- the receive takes the oldest message that it accepts, or is posted; or a rule, a limit or want of memory refused it
+abbrev pub ReceiveGives : EngineState → Receive → Result Request (Handed Receive) → EngineState → Type 0
+ReceiveGives old v (Ok r) new = IsPosted old v r new
+ReceiveGives old v (Err h) new = (new ≡ old) × (h.value ≡ v) × IsRefusal (receive_fault old v) h.refused

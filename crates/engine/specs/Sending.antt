@@ -1,0 +1,105 @@
+-- What a send does to the engine (MPI 3.1, 3.4 and 3.7).
+use Rattle.std.specs.Prelude.{◌≡◌, ℕ, ◌+◌, ◌*◌, nat_le, nat_lt, ◌==◌, List, [], ◌∷◌, ◌++◌, length, Option, Some, None, Result, Ok, Err, Bool, false, ◌||◌, if◌then◌else◌}
+use Rattle.perfect_queues.specs.declared.endpoint.Endpoint.{Endpoint}
+use Rattle.perfect_queues.specs.BasicTypes.{size_of}
+use Rattle.datatypes.specs.Contents.{Contents, bytes_of}
+use Rattle.datagram.specs.declared.kinds.Plane.TheVariants.{PointToPoint}
+use Rattle.datagram.specs.declared.datagram.Header.{Header}
+use Rattle.datagram.specs.Spelling.{DatagramText, EagerBody, spelling}
+use Rattle.reliable_link.specs.SenderState.{SenderState, after_accept, next_number}
+use Rattle.requests.specs.declared.table.Entry.{Entry}
+use Rattle.requests.specs.declared.table.Request.{Request}
+use Rattle.requests.specs.declared.table.Progress.TheVariants.{Finished}
+use Rattle.requests.specs.declared.outcome.Outcome.TheVariants.{Sent}
+use Rattle.requests.specs.Table.{slot_at, IsSet, is_full}
+use Rattle.engine.specs.declared.place.Place.{Place}
+use Rattle.engine.specs.declared.call.Send.{Send}
+use Rattle.engine.specs.declared.refused.Refused.{Refused}
+use Rattle.engine.specs.declared.refused.Refused.TheVariants as refusals
+use Rattle.engine.specs.Refusals.{IsRefusal}
+use Rattle.engine.specs.EngineState.{EngineState}
+use Rattle.engine.specs.Peers.{peer_at, with_sender}
+
+-- every rank is at its first incarnation
+abbrev pub endpoint : ℕ → Endpoint
+endpoint rank = record { rank = rank; incarnation = 0 }
+
+abbrev pub header_to : Place → ℕ → ℕ → Header
+header_to p target n = record { source = endpoint p.rank; target = endpoint target; job = p.job; sequence = n }
+
+-- the bytes of data of a send
+abbrev pub byte_count : Contents → ℕ
+byte_count c = length c.values * size_of c.basic
+
+-- the datagram of a send to a rank, under a number of their session
+abbrev pub send_text : Place → ℕ → Send → ℕ → DatagramText
+send_text p target s n = record {
+  header = header_to p target n;
+  body = EagerBody (record {
+    plane = PointToPoint;
+    basic = s.elements.basic;
+    tag = s.tag;
+    context = 0;
+    count = length s.elements.values;
+    elements = bytes_of (size_of s.elements.basic) s.elements.values;
+  });
+}
+
+unfoldable pub send_bytes : Place → ℕ → Send → ℕ → List ℕ
+send_bytes p target s n = spelling (send_text p target s n)
+
+-- no frame can be numbered any more
+abbrev pub is_worn_out : SenderState → Bool
+is_worn_out s = nat_le 18446744073709551615 (next_number s)
+
+-- whether a rank is another one of the job
+abbrev pub is_other : Place → ℕ → Bool
+is_other p rank = if rank == p.rank then false else nat_lt rank p.size
+
+-- for now a send has at most 1,024 bytes, and goes to another rank
+abbrev pub target_fault : Place → Option ℕ → Option Refused
+target_fault p None = Some refusals.Rank
+target_fault p (Some target) = if is_other p target then None else Some refusals.Rank
+
+-- the first rule that a send breaks
+unfoldable pub send_fault : Place → Send → Option Refused
+send_fault p s =
+    if nat_lt 1024 (byte_count s.elements) then Some refusals.Count
+    else (if nat_lt 2147483647 s.tag then Some refusals.Tag
+    else target_fault p s.target)
+
+-- the first rule or limit that a send to a rank meets
+abbrev pub send_limit : EngineState → ℕ → Option Refused
+send_limit e target = if is_full e.slots e.serial || is_worn_out (peer_at e.peers target).sender then Some refusals.Limit else None
+
+-- a frame goes out at once where fewer than 64 are out
+abbrev pub out_on_accept : SenderState → ℕ → List ℕ → List (ℕ × List ℕ)
+out_on_accept s target bytes = if nat_lt (length s.frames) 64 then (target, bytes) ∷ [] else []
+
+pub record IsSentTo (old : EngineState) (target : ℕ) (s : Send) (r : Request) (new : EngineState) : Type 0 where
+  pub room : send_limit old target ≡ None
+  pub fresh : slot_at old.slots r.key ≡ None
+  pub serial : r.serial ≡ old.serial
+  pub entry : IsSet old.slots new.slots r.key (Some (record { serial = old.serial; progress = Finished Sent }))
+  pub rest : new ≡ record old {
+    slots = new.slots;
+    serial = old.serial + 1;
+    peers = with_sender old.peers target
+        (after_accept (peer_at old.peers target).sender
+        (send_bytes old.place target s (next_number (peer_at old.peers target).sender)));
+    out = old.out ++ out_on_accept (peer_at old.peers target).sender target
+        (send_bytes old.place target s (next_number (peer_at old.peers target).sender));
+  }
+
+-- the message is on its way, and the request is finished; or a rule, a limit or want of memory refused it
+abbrev pub SendToGives : EngineState → ℕ → Send → Result Request Refused → EngineState → Type 0
+SendToGives old target s (Ok r) new = IsSentTo old target s r new
+SendToGives old target s (Err e) new = (new ≡ old) × IsRefusal (send_limit old target) e
+
+abbrev pub SendGivesAt : Option Refused → EngineState → Send → Option ℕ → Result Request Refused → EngineState → Type 0
+SendGivesAt (Some fault) old s target result new = (result ≡ Err fault) × (new ≡ old)
+SendGivesAt None old s (Some target) result new = SendToGives old target s result new
+SendGivesAt None old s None result new = (result ≡ Err refusals.Rank) × (new ≡ old)
+
+abbrev pub SendGives : EngineState → Send → Result Request Refused → EngineState → Type 0
+SendGives old s result new = SendGivesAt (send_fault old.place s) old s s.target result new

@@ -1,0 +1,4 @@
+pub mod Accepts
+pub mod State
+pub mod Arrivals
+pub mod Oldest

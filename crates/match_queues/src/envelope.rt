@@ -1,0 +1,64 @@
+//! What a receive accepts.
+
+ghost use Rattle.std.specs.Prelude.{◌≡◌};
+ghost use Rattle.match_queues.specs.Accepts.{accepts, is_from, has_tag};
+
+use datatypes::Buffer;
+use perfect_queues::{Endpoint, Source};
+
+/// A receive that was posted for a request (MPI 3.1, 3.2.4 and 3.7.2).
+#[derive(Clone, Copy, Debug, PartialEq, Eq)]
+pub struct Receive {
+    /// The key of its request in the table of requests.
+    pub request: usize,
+    /// The context of its communicator.
+    pub context: u64,
+    /// Whom it names. A receive from the null process is never posted, and would accept nothing.
+    pub source: Source,
+    /// The tag that it wants; `None` is the wildcard.
+    pub tag: Option<u32>,
+}
+
+/// A message: its envelope and its data (MPI 3.1, 3.2.3).
+#[derive(Debug, Drop)]
+pub struct Message {
+    /// Who sent it.
+    pub sender: Endpoint,
+    /// The context of the communicator on which it was sent.
+    pub context: u64,
+    /// Its tag, at most 2,147,483,647.
+    pub tag: u32,
+    /// Its elements.
+    pub elements: Buffer,
+}
+
+fn is_from(source: Source, rank: u16) -> bool
+    ensures { result ≡ is_from source rank }
+{
+    match source {
+        Source::Any => true,
+        Source::Rank(named) => named == rank,
+        Source::Null => false,
+    }
+}
+
+fn has_tag(wanted: Option<u32>, tag: u32) -> bool
+    ensures { result ≡ has_tag wanted tag }
+{
+    match wanted {
+        None => true,
+        Some(named) => named == tag,
+    }
+}
+
+impl Receive {
+    /// Whether the receive accepts the message: by context, source and tag, and never by type or length
+    /// (MPI 3.1, 3.2.4).
+    pub fn accepts(&self, message: &Message) -> bool
+        ensures { result ≡ accepts self.now message.now }
+    {
+        self.context == message.context
+            && is_from(self.source, message.sender.rank)
+            && has_tag(self.tag, message.tag)
+    }
+}

@@ -1,0 +1,61 @@
+use super::*;
+use datatypes::Buffer;
+use perfect_queues::{BasicType, Endpoint, Source};
+use std::alloc::Global;
+use std::test::Fail;
+
+fn message(alloc: Global, tag: u32) -> Message {
+    Message {
+        sender: Endpoint {
+            rank: 0,
+            incarnation: 0,
+        },
+        context: 0,
+        tag,
+        elements: Buffer::new(alloc, BasicType::Int32),
+    }
+}
+
+fn receive(request: usize, tag: Option<u32>) -> Receive {
+    Receive {
+        request,
+        context: 0,
+        source: Source::Any,
+        tag,
+    }
+}
+
+#[test]
+fn takes_the_oldest(rt: HostRuntime) -> Result<(), Fail> {
+    let mut queues = Queues::new(rt.alloc());
+    for tag in [5, 6, 6] {
+        let Ok(arrival) = queues.arrive(message(rt.alloc(), tag)) else {
+            return Err(Fail::from("no memory"));
+        };
+        assert!(rt; matches!(&arrival, Arrival::Kept));
+    }
+    let Ok(Some(found)) = queues.post(receive(0, Some(6))) else {
+        return Err(Fail::from("nothing found"));
+    };
+    assert_eq!(rt; found.tag, 6);
+    let Ok(Some(found)) = queues.post(receive(1, None)) else {
+        return Err(Fail::from("nothing found"));
+    };
+    assert_eq!(rt; found.tag, 5);
+    Ok(())
+}
+
+#[test]
+fn the_receive_posted_first_gets_the_message(rt: HostRuntime) -> Result<(), Fail> {
+    let mut queues = Queues::new(rt.alloc());
+    for request in [3, 4] {
+        let Ok(None) = queues.post(receive(request, None)) else {
+            return Err(Fail::from("a message was found"));
+        };
+    }
+    let Ok(Arrival::Matched(first, _)) = queues.arrive(message(rt.alloc(), 1)) else {
+        return Err(Fail::from("not matched"));
+    };
+    assert_eq!(rt; first.request, 3);
+    Ok(())
+}

@@ -1,0 +1,68 @@
+-- The table of requests.
+use Rattle.std.specs.Prelude.{◌≡◌, ◌≢◌, ℕ, ◌+◌, ◌-◌, ◌^◌, ◌≤◌, nat_le, Bool, ◌||◌, List, Option, Some, None, is_some, count_by, slice_index_or, slice_set, ◌==◌, if◌then◌else◌}
+use Rattle.perfect_queues.specs.declared.envelope.Status.{Status}
+use Rattle.datatypes.specs.Contents.{Contents}
+use Rattle.requests.specs.declared.table.Entry.{Entry}
+use Rattle.requests.specs.declared.table.Progress.{Progress}
+use Rattle.requests.specs.declared.table.Progress.TheVariants.{Receiving, Finished}
+use Rattle.requests.specs.declared.outcome.Outcome.{Outcome}
+use Rattle.requests.specs.declared.table.Taken.{Taken}
+use Rattle.requests.specs.declared.table.Taken.TheVariants as takens
+use Rattle.requests.specs.Outcomes.{outcome_of}
+
+-- what stands under each key, and how many requests were started
+pub record Table : Type 0 where
+  pub slots : List (Option Entry)
+  pub vacant : ℕ
+  pub capacity : ℕ
+  pub serial : ℕ
+
+abbrev pub slot_at : List (Option Entry) → ℕ → Option Entry
+slot_at slots key = slice_index_or slots key None
+
+abbrev pub entry_at : Table → ℕ → Option Entry
+entry_at t key = slot_at t.slots key
+
+-- no request can be started: no serial is left, or 65,536 requests are there
+abbrev pub is_full : List (Option Entry) → ℕ → Bool
+is_full slots serial = (serial == 18446744073709551615) || nat_le 65536 (count_by is_some slots)
+
+-- one more request needs no memory
+abbrev pub HasRoom : Table → Type 0
+HasRoom t = count_by is_some t.slots + 1 ≤ t.capacity
+
+-- the key has this now, and every other key has what it had
+pub record IsSet (old new : List (Option Entry)) (key : ℕ) (slot : Option Entry) : Type 0 where
+  pub changed : slot_at new key ≡ slot
+  pub others : (other : ℕ) → other ≢ key → slot_at new other ≡ slot_at old other
+
+abbrev pub progress_after : Progress → Status → Contents → Progress
+progress_after (Receiving b) status m = Finished (outcome_of b status m)
+progress_after (Finished o) status m = Finished o
+
+-- a receive that was unfinished ends with the message
+abbrev pub after_message : Entry → Status → Contents → Entry
+after_message e status m = record e { progress = progress_after e.progress status m }
+
+abbrev pub entry_after : Option Entry → List (Option Entry) → ℕ → Status → Contents → List (Option Entry)
+entry_after None slots key status m = slots
+entry_after (Some e) slots key status m = slice_set slots key (Some (after_message e status m))
+
+-- the slots after the receive under a key got a message
+abbrev pub after_finish : List (Option Entry) → ℕ → Status → Contents → List (Option Entry)
+after_finish slots key status m = entry_after (slot_at slots key) slots key status m
+
+-- whether the entry is that of the request, and how far it is
+abbrev pub progress_of : Option Entry → ℕ → Option Progress
+progress_of None serial = None
+progress_of (Some e) serial = if e.serial == serial then Some e.progress else None
+
+-- how far a request is, where it stands in the table
+abbrev pub progress_at : List (Option Entry) → ℕ → ℕ → Option Progress
+progress_at slots key serial = progress_of (slot_at slots key) serial
+
+-- what a look at a request answers, and what it leaves
+abbrev pub TakeGives : Table → ℕ → Option Progress → Taken → Table → Type 0
+TakeGives old key None taken new = (taken ≡ takens.Absent) × (new ≡ old)
+TakeGives old key (Some (Receiving b)) taken new = (taken ≡ takens.Pending) × (new ≡ old)
+TakeGives old key (Some (Finished o)) taken new = (taken ≡ takens.Done o) × (new.slots ≡ slice_set old.slots key None) × (new.serial ≡ old.serial)

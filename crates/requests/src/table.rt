@@ -1,0 +1,169 @@
+//! The table of requests.
+
+ghost use Rattle.std.specs.Prelude.{◌≡◌, ◌+◌, ◌<◌, ◌^◌, OnOk, OnErr, IsErrOf, ◌↔◌, IsTrue, false, [], Some, None};
+ghost use Rattle.requests.specs.Table.{Table, HasRoom, is_full, entry_at, IsSet, after_finish, after_message, progress_at, TakeGives};
+
+use crate::outcome::{Outcome, received};
+use crate::refused::Refused;
+use datatypes::Buffer;
+use perfect_queues::Status;
+use slab::Slab;
+use std::alloc::Global;
+use std::marker::Model;
+use std::mem;
+
+/// The most requests that a rank has at one time, those that are finished and not yet answered included.
+const MOST_REQUESTS: usize = 65_536;
+
+/// A request, as its caller holds it: the key of its place, and its number in the order of starting.
+#[derive(Clone, Copy, Debug, PartialEq, Eq)]
+pub struct Request {
+    /// Its place in the table. A key is used again once its request has ended.
+    pub key: usize,
+    /// Its number in the order of starting, from 0. It is never used again.
+    pub serial: u64,
+}
+
+/// How far an operation is.
+#[derive(Debug, Drop)]
+pub enum Progress {
+    /// A receive into this buffer waits for its message.
+    Receiving(Buffer),
+    /// The operation is over, and its outcome was not yet answered.
+    Finished(Outcome),
+}
+
+/// What stands under a key.
+#[derive(Debug, Drop)]
+pub struct Entry {
+    pub serial: u64,
+    pub progress: Progress,
+}
+
+/// What a look at a request answers.
+#[derive(Debug, Drop)]
+pub enum Taken {
+    /// There is no such request, or it has ended.
+    Absent,
+    /// It is unfinished.
+    Pending,
+    /// It was finished, and ends with this outcome.
+    Done(Outcome),
+}
+
+/// The requests that were started and have not ended.
+#[derive(Drop)]
+pub struct Requests {
+    entries: Slab<Entry>,
+    serial: u64,
+}
+
+impl Model for Requests {
+    ghost use Rattle.requests.specs.Table.{Table};
+
+    ghost Value = { Table };
+
+    ghost view = { λ r. record { slots = r.entries.slots; vacant = r.entries.vacant_key; capacity = r.entries.capacity; serial = r.serial } };
+}
+
+fn advance(entry: &mut Entry, status: Status, message: &Buffer)
+    ensures { entry.new ≡ after_message entry.old status message.now }
+{
+    match mem::replace(&mut entry.progress, Progress::Finished(Outcome::Sent)) {
+        Progress::Receiving(buffer) => {
+            entry.progress = Progress::Finished(received(buffer, status, message));
+        }
+        Progress::Finished(outcome) => entry.progress = Progress::Finished(outcome),
+    }
+}
+
+impl Requests {
+    /// An empty table. It takes no memory.
+    pub fn new(alloc: Global) -> Self
+        ensures slots { result.slots ≡ [] }
+        ensures serial { result.serial ≡ 0 }
+    {
+        Requests {
+            entries: Slab::new(alloc),
+            serial: 0,
+        }
+    }
+
+    /// Whether no request can be started: 65,536 are there, or no serial is left.
+    pub fn is_full(&self) -> bool
+        ensures exact { result ≡ is_full self.now.slots self.now.serial }
+        ensures left { result ≡ false → self.now.serial + 1 < 2 ^ 64 }
+    {
+        self.serial == u64::MAX || self.entries.len() >= MOST_REQUESTS
+    }
+
+    /// Makes room for one more request: 13 (a limit) exactly where `is_full`, or else 14. It changes no request.
+    pub fn reserve(&mut self) -> Result<(), Refused>
+        ensures limit { IsErrOf result Refused.Limit ↔ IsTrue (is_full self.old.slots self.old.serial) }
+        ensures room { OnOk result (HasRoom self.new) }
+        ensures kept { self.new ≡ record self.old { capacity = self.new.capacity } }
+        ensures serial { OnOk result (self.new.serial + 1 < 2 ^ 64) }
+    {
+        if self.is_full() {
+            return Err(Refused::Limit);
+        }
+        self.entries.reserve(1).map_err(|_| Refused::OutOfMemory)
+    }
+
+    /// The key that the next request gets.
+    pub fn next_key(&self) -> usize
+        ensures { result ≡ self.now.vacant }
+    {
+        self.entries.vacant_key()
+    }
+
+    /// Starts a request, for which there is room.
+    pub fn start(&mut self, progress: Progress) -> Request
+        requires room { HasRoom self.old }
+        requires serial { self.old.serial + 1 < 2 ^ 64 }
+        ensures key { result.key ≡ self.old.vacant }
+        ensures fresh { entry_at self.old result.key ≡ None }
+        ensures entry { IsSet self.old.slots self.new.slots result.key
+            (Some (record { serial = self.old.serial; progress = progress })) }
+        ensures serial { result.serial ≡ self.old.serial }
+        ensures next { self.new.serial ≡ self.old.serial + 1 }
+    {
+        let serial = self.serial;
+        let key = self.entries.insert_reserved(Entry { serial, progress });
+        self.serial = serial + 1;
+        Request { key, serial }
+    }
+
+    /// Gives the receive under this key the message that was matched with it. Anything else stays as it is.
+    pub fn finish(&mut self, key: usize, status: Status, message: &Buffer)
+        ensures { self.new ≡ record self.old { slots = after_finish self.old.slots key status message.now } }
+    {
+        if let Some(entry) = self.entries.get_mut(key) {
+            advance(entry, status, message);
+        }
+    }
+
+    /// Looks at a request. One that is finished ends with that, and its outcome is handed out, once.
+    pub fn take(&mut self, request: Request) -> Taken
+        ensures { TakeGives self.old request.key (progress_at self.old.slots request.key request.serial) result self.new }
+    {
+        match self.entries.get(request.key) {
+            Some(entry) => {
+                if entry.serial != request.serial {
+                    return Taken::Absent;
+                }
+                if let Progress::Receiving(_) = &entry.progress {
+                    return Taken::Pending;
+                }
+            }
+            None => return Taken::Absent,
+        }
+        match self.entries.try_remove(request.key) {
+            Some(entry) => match entry.progress {
+                Progress::Finished(outcome) => Taken::Done(outcome),
+                Progress::Receiving(_) => Taken::Absent,
+            },
+            None => Taken::Absent,
+        }
+    }
+}

@@ -1,0 +1,33 @@
+use super::*;
+use datatypes::Buffer;
+use perfect_queues::{BasicType, Source, Status};
+use std::test::Fail;
+
+#[test]
+fn a_receive_ends_once(rt: HostRuntime) -> Result<(), Fail> {
+    let alloc = rt.alloc();
+    let mut requests = Requests::new(alloc);
+    requests.reserve()?;
+    let request = requests.start(Progress::Receiving(Buffer::new(alloc, BasicType::Byte)));
+    assert!(rt; matches!(&requests.take(request), Taken::Pending));
+    let status = Status {
+        source: Source::Rank(1),
+        tag: Some(2),
+        count: 0,
+    };
+    requests.finish(request.key, status, &Buffer::new(alloc, BasicType::Byte));
+    let Taken::Done(Outcome::Received(got, _)) = requests.take(request) else {
+        return Err(Fail::from("not received"));
+    };
+    assert_eq!(rt; got, status);
+    assert!(rt; matches!(&requests.take(request), Taken::Absent));
+    Ok(())
+}
+
+#[test]
+fn numbers_of_refusals(rt: HostRuntime) {
+    assert_eq!(rt; Refused::Limit.number(), 13);
+    assert_eq!(rt; Refused::OutOfMemory.number(), 14);
+    assert_eq!(rt; Failure::WrongType.number(), 2);
+    assert_eq!(rt; Failure::Truncated.number(), 10);
+}
