@@ -1,0 +1,17 @@
+-- The engines of a world at its start.
+use Rattle.std.proofs.Common.{◌≡◌, ℕ, zero, suc, ◌+◌, List, [], ◌∷◌, ◌++◌, refl, ap, ◌∙◌, arith}
+use Rattle.engine.specs.EngineState.{EngineState, opening}
+use Rattle.world.specs.WorldState.{place_of, opening_engines}
+
+one_more : (n a k : ℕ) → opening_engines n a (suc k) ≡ opening_engines n a k ++ opening (place_of n (a + k)) ∷ []
+one_more n a zero = ap (λ (r : ℕ). opening (place_of n r) ∷ []) (omega arith)
+one_more n a (suc k) =
+    ap (λ (es : List EngineState). opening (place_of n a) ∷ es)
+    (one_more n (suc a) k ∙ ap (λ (r : ℕ). opening_engines n (suc a) k ++ opening (place_of n r) ∷ []) (omega arith))
+
+-- the engine of the next rank stands behind
+pub opening_more : (n k : ℕ) → opening_engines n 0 (k + 1) ≡ opening_engines n 0 k ++ opening (place_of n k) ∷ []
+opening_more n k =
+    let e : k + 1 ≡ suc k = omega arith in
+    let f : 0 + k ≡ k = omega arith in
+    ap (λ (j : ℕ). opening_engines n 0 j) e ∙ one_more n 0 k ∙ ap (λ (r : ℕ). opening_engines n 0 k ++ opening (place_of n r) ∷ []) f

@@ -1,0 +1,5 @@
+pub mod Refusals
+pub mod WorldState
+pub mod Steps
+pub mod Strays
+pub mod Views

@@ -1,0 +1,11 @@
+-- The number of each refusal.
+use Rattle.std.specs.Prelude.{ℕ}
+use Rattle.engine.specs.Refusals as lower
+use Rattle.world.specs.declared.refused.Refused.{Refused}
+use Rattle.world.specs.declared.refused.Refused.TheVariants.{Engine, NoSuchRank, NoSuchDatagram, CarriesJob}
+
+abbrev pub number_of_refusal : Refused → ℕ
+number_of_refusal (Engine e) = lower.number_of_refusal e
+number_of_refusal NoSuchRank = 61
+number_of_refusal NoSuchDatagram = 62
+number_of_refusal CarriesJob = 63

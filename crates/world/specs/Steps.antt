@@ -1,0 +1,135 @@
+-- What an event does to a world: the engine of one rank goes on, what it emits is numbered, and what it answers stands in the history.
+use Rattle.std.specs.Prelude.{◌≡◌, ℕ, ◌<◌, ◌≤◌, ◌⊎◌, List, [], ◌∷◌, ◌++◌, length, Option, Some, None, Result, Ok, Err, slice_get, slice_set}
+use Rattle.engine.specs.EngineState.{EngineState}
+use Rattle.engine.specs.Calls.{CallGives}
+use Rattle.engine.specs.Datagrams.{DatagramGives, GivesUnless}
+use Rattle.engine.specs.Ticks.{clock_fault, after_tick}
+use Rattle.engine.specs.declared.refused.Refused as lower
+use Rattle.engine.specs.declared.refused.Refused.TheVariants as lowers
+use Rattle.engine.specs.declared.call.Call.{Call}
+use Rattle.engine.specs.declared.call.Reply.{Reply}
+use Rattle.engine.specs.declared.call.Reply.TheVariants as replies
+use Rattle.requests.specs.declared.outcome.Outcome.{Outcome}
+use Rattle.world.specs.declared.event.Event.{Event}
+use Rattle.world.specs.declared.event.Event.TheVariants as events
+use Rattle.world.specs.declared.event.Entry.{Entry}
+use Rattle.world.specs.declared.event.Failed.{Failed}
+use Rattle.world.specs.declared.event.Stepped.{Stepped}
+use Rattle.world.specs.declared.refused.Refused.{Refused}
+use Rattle.world.specs.declared.refused.Refused.TheVariants as refusals
+use Rattle.world.specs.WorldState.{WorldState}
+use Rattle.world.specs.Strays.{stray_fault}
+
+-- WHAT AN ENGINE GIVES
+
+-- what an engine gave in an event
+pub record Gave : Type 0 where
+  pub out : List (ℕ × List ℕ)
+  pub reply : Option Reply
+  pub completion : Option Outcome
+
+-- the engine once what it emitted and answered was taken out of it
+abbrev pub emptied : EngineState → EngineState
+emptied e = record e { out = []; completion = None }
+
+-- An event took an engine from one state to `mid`, with this reply or none; what it gave was taken out.
+pub record Ran (Gives : Option Reply → EngineState → Type 0) (gave : Gave) (new : EngineState) : Type 0 where
+  pub mid : EngineState
+  pub event : Gives gave.reply mid
+  pub state : new ≡ emptied mid
+  pub out : gave.out ≡ mid.out
+  pub completion : gave.completion ≡ mid.completion
+
+-- a call that isn't refused
+abbrev pub Answers : EngineState → Call → Option Reply → EngineState → Type 0
+Answers old call None new = ⊥
+Answers old call (Some (replies.Refused e back)) new = ⊥
+Answers old call (Some (replies.Started r)) new = CallGives old call (replies.Started r) new
+Answers old call (Some (replies.Done o)) new = CallGives old call (replies.Done o) new
+Answers old call (Some replies.Blocked) new = CallGives old call replies.Blocked new
+
+abbrev pub TakesIn : EngineState → List ℕ → Option Reply → EngineState → Type 0
+TakesIn old bytes None new = DatagramGives {X = ℕ} old bytes (Ok 0) new
+TakesIn old bytes (Some reply) new = ⊥
+
+abbrev pub Ticks : EngineState → ℕ → Option Reply → EngineState → Type 0
+Ticks old now None new = GivesUnless {X = ℕ} (clock_fault old.clock now) old (after_tick old now) (Ok 0) new
+Ticks old now (Some reply) new = ⊥
+
+abbrev pub RanCall : EngineState → Call → Result Gave lower.Refused → EngineState → Type 0
+RanCall old call (Ok gave) new = Ran (Answers old call) gave new
+RanCall old call (Err e) new = (new ≡ old) × ((back : Call) × CallGives old call (replies.Refused e back) old)
+
+abbrev pub RanDatagram : EngineState → List ℕ → Result Gave lower.Refused → EngineState → Type 0
+RanDatagram old bytes (Ok gave) new = Ran (TakesIn old bytes) gave new
+RanDatagram old bytes (Err e) new = (new ≡ old) × DatagramGives {X = ℕ} old bytes (Err e) old
+
+abbrev pub RanTick : EngineState → ℕ → Result Gave lower.Refused → EngineState → Type 0
+RanTick old now (Ok gave) new = Ran (Ticks old now) gave new
+RanTick old now (Err e) new = (new ≡ old) × GivesUnless {X = ℕ} (clock_fault old.clock now) old (after_tick old now) (Err e) old
+
+-- AMONG THE ENGINES
+
+-- of these engines, the one at this place went on so, and no other changed
+pub record RanAt (Runs : EngineState → Result Gave lower.Refused → EngineState → Type 0) (old : List EngineState) (rank : ℕ) (result : Result Gave lower.Refused) (new : List EngineState) : Type 0 where
+  pub engine : EngineState
+  pub there : slice_get old rank ≡ Some engine
+  pub next : EngineState
+  pub ran : Runs engine result next
+  pub others : new ≡ slice_set old rank next
+
+-- The engine of a rank went on; or there is no such rank, or its engine refused, or memory was wanting.
+abbrev pub RankGives : (EngineState → Result Gave lower.Refused → EngineState → Type 0) → List EngineState → ℕ → Result (ℕ × Gave) Refused → List EngineState → Type 0
+RankGives Runs old rank (Ok (at, gave)) new = (at ≡ rank) × RanAt Runs old rank (Ok gave) new
+RankGives Runs old rank (Err refused) new =
+    (new ≡ old) ×
+    (((length old ≤ rank) × (refused ≡ refusals.NoSuchRank)) ⊎
+    ((rank < length old) × (refused ≡ refusals.Engine lowers.OutOfMemory)) ⊎
+    ((rank < length old) × ((e : lower.Refused) × (refused ≡ refusals.Engine e) × RanAt Runs old rank (Err e) old)))
+
+abbrev pub NumberGives : Option (ℕ × List ℕ) → List EngineState → Result (ℕ × Gave) Refused → List EngineState → Type 0
+NumberGives (Some (rank, bytes)) old result new = RankGives (λ e. RanDatagram e bytes) old rank result new
+NumberGives None old result new = (result ≡ Err refusals.NoSuchDatagram) × (new ≡ old)
+
+-- Stray bytes are always refused.
+abbrev pub StrayGives : List EngineState → ℕ → List ℕ → Result (ℕ × Gave) Refused → List EngineState → Type 0
+StrayGives old rank bytes (Ok x) new = ⊥
+StrayGives old rank bytes (Err refused) new =
+    (new ≡ old) ×
+    (((length old ≤ rank) × (refused ≡ refusals.NoSuchRank)) ⊎ ((rank < length old) × (refused ≡ stray_fault bytes)))
+
+-- What an event does to the engines, by the datagrams that were emitted before.
+abbrev pub EventGives : List EngineState → List (ℕ × List ℕ) → Event → Result (ℕ × Gave) Refused → List EngineState → Type 0
+EventGives old datagrams (events.Call rank call) result new = RankGives (λ e. RanCall e call) old rank result new
+EventGives old datagrams (events.Deliver number) result new = NumberGives (slice_get datagrams number) old result new
+EventGives old datagrams (events.Stray rank bytes) result new = StrayGives old rank bytes result new
+EventGives old datagrams (events.Tick rank now) result new = RankGives (λ e. RanTick e now) old rank result new
+
+-- IN THE WORLD
+
+abbrev pub entry_of : ℕ → Event → Gave → Entry
+entry_of rank event gave = record { rank = rank; event = event; reply = gave.reply; completion = gave.completion }
+
+-- the engine of a rank went on, what it emitted is numbered, and what it answered stands in the history
+pub record Went (old : WorldState) (event : Event) (added : Stepped) (new : WorldState) : Type 0 where
+  pub rank : ℕ
+  pub gave : Gave
+  pub ran : EventGives old.engines old.datagrams event (Ok (rank, gave)) new.engines
+  pub datagrams : new.datagrams ≡ old.datagrams ++ gave.out
+  pub history : new.history ≡ old.history ++ entry_of rank event gave ∷ []
+  pub answered : added ≡ record { first = length old.datagrams; count = length gave.out; place = length old.history }
+
+-- a refusal changes nothing, and hands the event back
+pub record IsRefusedBy (old : WorldState) (event : Event) (failed : Failed) (new : WorldState) : Type 0 where
+  pub unchanged : new ≡ old
+  pub back : failed.event ≡ event
+  pub why : (failed.refused ≡ refusals.Engine lowers.OutOfMemory) ⊎ EventGives old.engines old.datagrams event (Err failed.refused) old.engines
+
+abbrev pub StepGives : WorldState → Event → Result Stepped Failed → WorldState → Type 0
+StepGives old event (Ok added) new = Went old event added new
+StepGives old event (Err failed) new = IsRefusedBy old event failed new
+
+-- a list of events, each of which may be refused
+abbrev pub RunGives : WorldState → List Event → WorldState → Type 0
+RunGives old [] new = new ≡ old
+RunGives old (event ∷ more) new = (mid : WorldState) × (answer : Result Stepped Failed) × StepGives old event answer mid × RunGives mid more new

@@ -1,0 +1,51 @@
+//! Events, and what they answer.
+
+use crate::refused::Refused;
+use datagram::Bytes;
+use engine::{Call, Reply};
+use requests::Outcome;
+
+/// What may happen in a world.
+#[derive(Debug, Drop)]
+pub enum Event {
+    /// A rank is called.
+    Call(u16, Call),
+    /// The datagram of this number is delivered to the rank that it was emitted to. That may happen any number of
+    /// times and at any later time; a lost datagram is one that is never delivered.
+    Deliver(usize),
+    /// Bytes that no engine of the job made come to a rank. They are always refused.
+    Stray(u16, Bytes),
+    /// A rank's clock says this many milliseconds.
+    Tick(u16, u64),
+}
+
+/// What the history holds of an event.
+#[derive(Debug, Drop)]
+pub struct Entry {
+    /// The rank at which it happened.
+    pub rank: u16,
+    /// What happened.
+    pub event: Event,
+    /// What the call answered, if it was one.
+    pub reply: Option<Reply>,
+    /// The answer of a blocked call that was ready now, if one was.
+    pub completion: Option<Outcome>,
+}
+
+/// What a step added to the world.
+#[derive(Clone, Copy, Debug, PartialEq, Eq)]
+pub struct Stepped {
+    /// The number of the first datagram that was emitted.
+    pub first: usize,
+    /// How many datagrams were emitted. Their numbers follow one another.
+    pub count: usize,
+    /// The place in the history of what happened.
+    pub place: usize,
+}
+
+/// A refusal, with the event that was handed in.
+#[derive(Debug, Drop)]
+pub struct Failed {
+    pub refused: Refused,
+    pub event: Event,
+}

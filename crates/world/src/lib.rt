@@ -1,0 +1,16 @@
+//! A world of ranks in one process, with every datagram that they ever emitted, and the files of events that run it.
+#![tactic(auto)]
+
+mod event;
+mod refused;
+mod script;
+mod simulation;
+mod world;
+
+pub use event::{Entry, Event, Failed, Stepped};
+pub use refused::Refused;
+pub use simulation::{SimulateError, simulate};
+pub use world::World;
+
+#[cfg(test)]
+mod tests;

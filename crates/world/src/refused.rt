@@ -1,0 +1,37 @@
+//! Why a world refused an event.
+
+ghost use Rattle.std.specs.Prelude.{◌≡◌};
+ghost use Rattle.world.specs.Refusals.{number_of_refusal};
+
+use thiserror::Error;
+
+/// Why a world refused an event. A refused event is none: the world is as it was.
+#[derive(Clone, Copy, Debug, PartialEq, Eq, Error)]
+pub enum Refused {
+    /// The rank's engine refused it.
+    #[error("{0}")]
+    Engine(engine::Refused),
+    /// There is no such rank.
+    #[error("there is no such rank")]
+    NoSuchRank,
+    /// No datagram has this number.
+    #[error("no datagram has this number")]
+    NoSuchDatagram,
+    /// Stray bytes carry the world's job number, which only its own engines do.
+    #[error("the bytes carry the world's job number")]
+    CarriesJob,
+}
+
+impl Refused {
+    /// The number of this refusal.
+    pub fn number(self) -> u8
+        ensures { result ≡ number_of_refusal self }
+    {
+        match self {
+            Refused::Engine(refused) => refused.number(),
+            Refused::NoSuchRank => 61,
+            Refused::NoSuchDatagram => 62,
+            Refused::CarriesJob => 63,
+        }
+    }
+}

@@ -1,0 +1,115 @@
+//! The buffers and requests that a rank's lines name.
+
+use datatypes::Buffer;
+use requests::{Outcome, Request};
+use std::alloc::{AllocError, Global};
+use std::collections::BTreeMap;
+use std::mem;
+
+/// What a name of a buffer stands for.
+#[derive(Drop)]
+pub enum Slot {
+    /// The buffer is here.
+    Here(Buffer),
+    /// It is lent to a receive until the outcome.
+    Lent,
+}
+
+/// What a name of a request stands for.
+#[derive(Drop)]
+pub struct Held {
+    /// The request; none is the null request.
+    pub request: Option<Request>,
+    /// The name of the buffer that the receive hands back.
+    pub buffer: Option<String>,
+}
+
+/// The names of one rank. Each kind of thing has its own.
+#[derive(Drop)]
+pub struct Names {
+    pub buffers: BTreeMap<String, Slot>,
+    pub requests: BTreeMap<String, Held>,
+    /// The name of the request that a blocked wait is about.
+    pub waiting: Option<String>,
+}
+
+impl Names {
+    pub fn new(alloc: Global) -> Names {
+        Names {
+            buffers: BTreeMap::new(alloc),
+            requests: BTreeMap::new(alloc),
+            waiting: None,
+        }
+    }
+
+    /// Whether the buffer of this name is lent.
+    pub fn is_lent(&self, name: &str) -> bool {
+        matches!(self.buffers.get(name), Some(Slot::Lent))
+    }
+
+    /// A copy of the buffer of this name, if it is here.
+    pub fn copy_of(&self, alloc: Global, name: &str) -> Result<Option<Buffer>, AllocError> {
+        match self.buffers.get(name) {
+            Some(Slot::Here(buffer)) => Ok(Some(buffer.try_clone(alloc)?)),
+            _ => Ok(None),
+        }
+    }
+
+    /// Lends the buffer of this name, if it is here.
+    pub fn lend(&mut self, name: &str) -> Option<Buffer> {
+        match self.buffers.get_mut(name) {
+            Some(slot) => match mem::replace(slot, Slot::Lent) {
+                Slot::Here(buffer) => Some(buffer),
+                Slot::Lent => None,
+            },
+            None => None,
+        }
+    }
+
+    /// A buffer that was lent is here again.
+    pub fn give_back(&mut self, name: &str, buffer: Buffer) {
+        if let Some(slot) = self.buffers.get_mut(name) {
+            *slot = Slot::Here(buffer);
+        }
+    }
+
+    pub fn set_buffer(&mut self, name: &str, alloc: Global, slot: Slot) -> Result<(), AllocError> {
+        let key = String::from_str(alloc, name)?;
+        self.buffers.insert(key, slot).map_err(AllocError::from)?;
+        Ok(())
+    }
+
+    pub fn set_request(&mut self, name: &str, alloc: Global, held: Held) -> Result<(), AllocError> {
+        let key = String::from_str(alloc, name)?;
+        self.requests.insert(key, held).map_err(AllocError::from)?;
+        Ok(())
+    }
+
+    /// The request of this name got its outcome: the name is null now, and the receive's buffer is here again.
+    pub fn end(&mut self, name: &str, alloc: Global, outcome: &Outcome) -> Result<(), AllocError> {
+        let null = Held {
+            request: None,
+            buffer: None,
+        };
+        let key = String::from_str(alloc, name)?;
+        let held = self.requests.insert(key, null).map_err(AllocError::from)?;
+        let Some(held) = held else {
+            return Ok(());
+        };
+        if let (Some(lent), Some(buffer)) = (held.buffer, buffer_of(outcome)) {
+            let copy = buffer.try_clone(alloc)?;
+            self.buffers
+                .insert(lent, Slot::Here(copy))
+                .map_err(AllocError::from)?;
+        }
+        Ok(())
+    }
+}
+
+/// The buffer that an outcome hands back.
+fn buffer_of(outcome: &Outcome) -> Option<&Buffer> {
+    match outcome {
+        Outcome::Received(_, buffer) | Outcome::Ended(_, _, buffer) => Some(buffer),
+        Outcome::Sent | Outcome::Empty => None,
+    }
+}
