@@ -1,0 +1,3 @@
+pub mod Giving
+pub mod Cutting
+pub mod Sorting

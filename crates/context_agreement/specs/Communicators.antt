@@ -1,0 +1,84 @@
+-- The communicators that a rank holds, and the contexts that it gives.
+use Rattle.std.specs.Prelude.{◌≡◌, ℕ, ◌+◌, ◌^◌, ◌<◌, ◌==◌, ◌&&◌, Bool, List, [], ◌∷◌, ◌++◌, length, position, Option, Result, Ok, Err, option_map, find}
+use Rattle.std.specs.List.{range_with_len}
+use Rattle.context_agreement.specs.declared.context.Context.{Context}
+use Rattle.context_agreement.specs.declared.communicator.Communicator.{Communicator}
+use Rattle.context_agreement.specs.declared.communicator.NotInstalled.{NotInstalled}
+use Rattle.context_agreement.specs.declared.refused.Refused.{Refused}
+use Rattle.context_agreement.specs.declared.refused.Refused.TheVariants.{Limit, OutOfMemory}
+
+-- who gives the contexts, the serial of the next one, and the communicators in the order in which
+-- the rank got them
+pub record ContextsState : Type 0 where
+  pub rank : ℕ
+  pub incarnation : ℕ
+  pub next_serial : ℕ
+  pub held : List Communicator
+
+-- world, and self, of a rank of a world of this size
+abbrev pub world_and_self : ℕ → ℕ → ℕ → List Communicator
+world_and_self rank incarnation size =
+    record {
+      context = record { rank = 0; incarnation = 0; serial = 0 };
+      group = range_with_len 0 size;
+    }
+    ∷ record {
+      context = record { rank = rank; incarnation = incarnation; serial = 1 };
+      group = rank ∷ [];
+    }
+    ∷ []
+
+-- how a rank begins at an incarnation
+abbrev pub opening : ℕ → ℕ → ℕ → ContextsState
+opening rank incarnation size = record {
+  rank = rank;
+  incarnation = incarnation;
+  next_serial = 2;
+  held = world_and_self rank incarnation size;
+}
+
+-- the context that is given next
+abbrev pub next_context : ContextsState → Context
+next_context s = record { rank = s.rank; incarnation = s.incarnation; serial = s.next_serial }
+
+-- what a call for a context answers and leaves
+abbrev pub NextGives : ContextsState → Result Context Refused → ContextsState → Type 0
+NextGives old (Ok context) new =
+    (old.next_serial < 2 ^ 32)
+    × (context ≡ next_context old)
+    × (new ≡ record old { next_serial = old.next_serial + 1 })
+NextGives old (Err Limit) new = (old.next_serial ≡ 2 ^ 32) × (new ≡ old)
+NextGives old (Err OutOfMemory) new = ⊥
+
+-- the state with one more communicator
+abbrev pub after_install : ContextsState → Communicator → ContextsState
+after_install s communicator = record s { held = s.held ++ communicator ∷ [] }
+
+-- whether one more communicator may be refused like this: at the limit for that, and below it for
+-- want of memory
+abbrev pub MayRefuse : ContextsState → Refused → Type 0
+MayRefuse s Limit = length s.held ≡ 4096
+MayRefuse s OutOfMemory = length s.held < 4096
+
+-- what the installing of a communicator answers and leaves
+abbrev pub InstallGives : ContextsState → Context → List ℕ
+    → Result ℕ NotInstalled → ContextsState → Type 0
+InstallGives old context group (Ok place) new =
+    (length old.held < 4096)
+    × (place ≡ length old.held)
+    × (new ≡ after_install old (record { context = context; group = group }))
+InstallGives old context group (Err failed) new =
+    (failed.group ≡ group) × MayRefuse old failed.refused × (new ≡ old)
+
+-- two contexts are the same
+abbrev pub is_same : Context → Context → Bool
+is_same a b = (a.rank == b.rank) && ((a.incarnation == b.incarnation) && (a.serial == b.serial))
+
+-- the place of the communicator with this context
+abbrev pub place_of : ContextsState → Context → Option ℕ
+place_of s context = position (λ held. is_same held.context context) s.held
+
+-- the group of the communicator with this context
+abbrev pub group_of : ContextsState → Context → Option (List ℕ)
+group_of s context =
+    option_map (λ held. held.group) (find (λ held. is_same held.context context) s.held)

@@ -1,0 +1,62 @@
+-- No context is given twice: a law over whole lists of calls.
+use Rattle.std.specs.Prelude.{◌≡◌, ◌≢◌, ℕ, ◌<◌, ◌≤◌, List, [], ◌∷◌, ◌++◌, Result, Ok, Err, All, AllPairs}
+use Rattle.context_agreement.specs.declared.context.Context.{Context}
+use Rattle.context_agreement.specs.declared.communicator.NotInstalled.{NotInstalled}
+use Rattle.context_agreement.specs.declared.refused.Refused.{Refused}
+use Rattle.context_agreement.specs.Communicators.{ContextsState, NextGives, InstallGives, opening, world_and_self}
+
+-- a call that may change the state, with its answer: a context was asked for, or a communicator
+-- installed
+pub data Call : Type 0 where
+  asked : Result Context Refused → Call
+  installed : Context → List ℕ → Result ℕ NotInstalled → Call
+
+-- what the call did
+abbrev pub CallGives : ContextsState → Call → ContextsState → Type 0
+CallGives old (asked answer) new = NextGives old answer new
+CallGives old (installed context group answer) new = InstallGives old context group answer new
+
+-- calls in turn, each with the state that it left
+abbrev pub IsRun : ContextsState → List (Call × ContextsState) → Type 0
+IsRun s [] = Unit {0}
+IsRun s (e ∷ es) = CallGives s e.0 e.1 × IsRun e.1 es
+
+-- the context that a call gave, if it gave one
+abbrev pub given_by : Call → List Context
+given_by (asked (Ok context)) = context ∷ []
+given_by (asked (Err refused)) = []
+given_by (installed context group answer) = []
+
+-- the contexts that the calls gave, in their order
+abbrev pub given : List (Call × ContextsState) → List Context
+given [] = []
+given (e ∷ es) = given_by e.0 ++ given es
+
+-- the contexts are this creator's, and each serial is above all that were given before
+pub record AreGivenOnce (s : ContextsState) (contexts : List Context) : Type 0 where
+  pub creator : All (λ c. (c.rank ≡ s.rank) × (c.incarnation ≡ s.incarnation)) contexts
+  pub unused : All (λ c. s.next_serial ≤ c.serial) contexts
+  pub rising : AllPairs (λ a b. a.serial < b.serial) contexts
+  pub apart : AllPairs (λ a b. a ≢ b) contexts
+
+-- whatever calls are made, no context is given twice
+abbrev pub NoneTwice : Type 0
+NoneTwice =
+    (s : ContextsState) (run : List (Call × ContextsState)) → IsRun s run
+    → AreGivenOnce s (given run)
+
+-- nor do two creators give the same one
+abbrev pub NoneOfTwo : Type 0
+NoneOfTwo =
+    (s t : ContextsState) (run other : List (Call × ContextsState)) → IsRun s run → IsRun t other
+    → (s.rank ≡ t.rank → s.incarnation ≡ t.incarnation → ⊥)
+    → All (λ a. All (λ b. a ≢ b) (given other)) (given run)
+
+-- nor is the context of any rank's world or self given
+abbrev pub NoneOfTheFirst : Type 0
+NoneOfTheFirst =
+    (rank incarnation size : ℕ) (run : List (Call × ContextsState))
+    → IsRun (opening rank incarnation size) run
+    → (other_rank other_incarnation other_size : ℕ)
+    → All (λ c. All (λ held. c ≢ held.context)
+    (world_and_self other_rank other_incarnation other_size)) (given run)

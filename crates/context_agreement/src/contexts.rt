@@ -1,0 +1,182 @@
+//! The communicators of a rank, and the contexts that it gives.
+
+ghost use Rattle.std.specs.Prelude.{◌≡◌, ◌+◌, ◌^◌, ◌↔◌, position, find, length, slice_get, IsTrue, IfOk, IsOkUnless};
+ghost use Rattle.std.specs.Option.{option_copied};
+ghost use Rattle.context_agreement.specs.Communicators.{opening, NextGives, InstallGives, is_same, place_of, group_of};
+
+use crate::communicator::{Communicator, NotInstalled};
+use crate::context::Context;
+use crate::refused::Refused;
+use groups::Group;
+use std::alloc::Global;
+use std::marker::Model;
+
+/// The serial of the first context that a rank draws: 0 and 1 are those of `world` and of its
+/// `self`.
+const FIRST_SERIAL: u64 = 2;
+
+/// One above the last serial: serials have 32 bits.
+const END_OF_SERIALS: u64 = 0x1_0000_0000;
+
+/// How many communicators a rank holds at most, `world` and `self` included.
+const MOST_COMMUNICATORS: usize = 4096;
+
+/// The communicators that a rank holds at one incarnation, in the order in which it got them, and
+/// the contexts that it gives as a creator.
+#[derive(Debug, Drop)]
+pub struct Contexts {
+    rank: u16,
+    incarnation: u16,
+    next_serial: u64,
+    held: Vec<Communicator>,
+}
+
+impl Model for Contexts {
+    ghost use Rattle.std.specs.Prelude.{◌≤◌, ◌^◌, length};
+    ghost use Rattle.context_agreement.specs.Communicators.{ContextsState};
+
+    ghost Value = { ContextsState };
+
+    ghost view = { λ c. record {
+      rank = c.rank;
+      incarnation = c.incarnation;
+      next_serial = c.next_serial;
+      held = c.held.items;
+    } };
+
+    ghost invariant = { λ c. (c.next_serial ≤ 2 ^ 32) × (length c.held.items ≤ 4096) };
+}
+
+impl Contexts {
+    /// The contexts of a rank at an incarnation, in a world of this many ranks: it holds `world` at
+    /// place 0 and `self` at place 1.
+    pub fn new(alloc: Global, rank: u16, incarnation: u16, size: u16) -> Result<Self, Refused>
+        ensures ok { IfOk result (λ contexts. contexts ≡ opening rank incarnation size) }
+        ensures err { IsOkUnless result Refused.OutOfMemory }
+    {
+        let Ok(group) = Group::of_first_ranks(alloc, size) else {
+            return Err(Refused::OutOfMemory);
+        };
+        let Ok(mut held) = Vec::with_capacity(alloc, 2) else {
+            return Err(Refused::OutOfMemory);
+        };
+        let world = Communicator {
+            context: Context::WORLD,
+            group,
+        };
+        let own = Communicator {
+            context: Context::of_self(rank, incarnation),
+            group: Group::of_rank(alloc, rank),
+        };
+        if held.push(world).is_err() || held.push(own).is_err() {
+            return Err(Refused::OutOfMemory);
+        }
+        Ok(Contexts {
+            rank,
+            incarnation,
+            next_serial: FIRST_SERIAL,
+            held,
+        })
+    }
+
+    /// Gives a context that was never given before. `Refused::Limit` comes where no serial is left.
+    /// It takes no memory.
+    pub fn next(&mut self) -> Result<Context, Refused>
+        ensures exact { NextGives self.old result self.new }
+    {
+        if self.next_serial == END_OF_SERIALS {
+            return Err(Refused::Limit);
+        }
+        let serial = self.next_serial as u32;
+        self.next_serial += 1;
+        Ok(Context {
+            rank: self.rank,
+            incarnation: self.incarnation,
+            serial,
+        })
+    }
+
+    /// How many contexts are left to give.
+    pub fn serials_left(&self) -> u64
+        ensures { result + self.now.next_serial ≡ 2 ^ 32 }
+    {
+        END_OF_SERIALS - self.next_serial
+    }
+
+    /// Whether the rank holds as many communicators as it may.
+    pub fn is_full(&self) -> bool
+        ensures { IsTrue result ↔ (length self.now.held ≡ 4096) }
+    {
+        self.communicator_count() == MOST_COMMUNICATORS
+    }
+
+    /// Takes a communicator in, behind those that the rank holds, and answers its place.
+    /// `Refused::Limit` comes where the rank holds as many as it may; a refusal hands the group
+    /// back.
+    pub fn install(&mut self, context: Context, group: Group) -> Result<usize, NotInstalled>
+        ensures exact { InstallGives self.old context group result self.new }
+    {
+        let place = self.held.len();
+        if place == MOST_COMMUNICATORS {
+            return Err(NotInstalled {
+                refused: Refused::Limit,
+                group,
+            });
+        }
+        match self.held.push(Communicator { context, group }) {
+            Ok(()) => Ok(place),
+            Err(failed) => Err(NotInstalled {
+                refused: Refused::OutOfMemory,
+                group: failed.value.group,
+            }),
+        }
+    }
+
+    /// How many communicators the rank holds.
+    pub fn communicator_count(&self) -> usize
+        ensures { result ≡ length self.now.held }
+    {
+        self.held.len()
+    }
+
+    /// The communicator at a place, where there is one.
+    pub fn communicator(&self, place: usize) -> Option<&Communicator>
+        ensures { option_copied result ≡ slice_get self.now.held place }
+    {
+        self.held.get(place)
+    }
+
+    /// The place of the communicator with this context, where the rank holds it.
+    pub fn place_of(&self, context: Context) -> Option<usize>
+        ensures { result ≡ place_of self.now context }
+    {
+        first_place(&self.held, context)
+    }
+
+    /// The group of the communicator with this context, where the rank holds it. It takes no
+    /// memory.
+    pub fn group_of(&self, context: Context) -> Option<&Group>
+        ensures { option_copied result ≡ group_of self.now context }
+    {
+        match first_with(&self.held, context) {
+            Some(communicator) => Some(&communicator.group),
+            None => None,
+        }
+    }
+}
+
+/// The index of the first communicator with this context.
+fn first_place(held: &[Communicator], context: Context) -> Option<usize>
+    ensures { result ≡ position (λ h. is_same h.context context) held.now }
+{
+    held.iter()
+        .position(|communicator| communicator.context == context)
+}
+
+/// The first communicator with this context.
+fn first_with(held: &[Communicator], context: Context) -> Option<&Communicator>
+    ensures { option_copied result ≡ find (λ h. is_same h.context context) held.now }
+{
+    held.iter()
+        .find(|communicator| communicator.context == context)
+}

@@ -1,0 +1,4 @@
+pub mod RankSetLemmas
+pub mod Repeats
+pub mod Selections
+pub mod Comparing

@@ -1,0 +1,9 @@
+-- A filter leaves no repeats.
+use Rattle.std.proofs.Common.{true}
+use Rattle.groups.specs.Makings.{passes}
+use Rattle.groups.proofs.Repeats.{HasNoRepeats-filter}
+use Rattle.groups.proofs.group.Group.intersection.Goals as goal
+
+pub invariant_of-result : goal.invariant_of-result
+invariant_of-result c =
+    rw c.in-Ok.ensures (HasNoRepeats-filter (passes c.ranks-second.result.now true) c.ranks-first.result.now c.ranks-first.ensures.apart)

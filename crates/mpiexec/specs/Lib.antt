@@ -1,0 +1,14 @@
+pub mod Refusals
+pub mod Numbers
+pub mod Symbols
+pub mod Results
+pub mod Sets
+pub mod Options
+pub mod Openings
+pub mod Configuration
+pub mod Launches
+pub mod Planning
+pub mod Grammar
+pub mod Faults
+pub mod Joined
+pub mod Keepers
