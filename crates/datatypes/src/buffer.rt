@@ -158,18 +158,14 @@ impl Buffer {
 
     /// Why nothing can be received into this buffer by so many copies of the layout, where nothing
     /// can: the basic types differ, an offset occurs twice, or the buffer is too short.
-    #[tactic(auto, unfolding(crate::specs::Transfers::receive_fault))]
+    #[tactic(auto, unfolding(crate::specs::Transfers::send_fault, crate::specs::Transfers::receive_fault))]
     pub fn receive_fault(&self, layout: &Layout, copies: u64) -> Option<Refusal>
         ensures { result ≡ receive_fault self.now layout.now copies }
     {
-        if self.basic != layout.basic() {
+        if layout.has_repeats() {
             Some(Refusal::WrongType)
-        } else if layout.has_repeats() {
-            Some(Refusal::WrongType)
-        } else if layout.is_too_long(copies, self.len()) {
-            Some(Refusal::TooShort)
         } else {
-            None
+            self.send_fault(layout, copies)
         }
     }
 
@@ -201,7 +197,8 @@ impl Buffer {
             }) }
     {
         let size = usize::from(self.basic.size());
-        let mut bytes = Vec::new(alloc);
+        let room = layout.place_count(copies).saturating_mul(size as u64);
+        let mut bytes = Vec::with_capacity(alloc, room as usize)?;
         append_places(
             &mut bytes,
             self.bytes.as_slice(),

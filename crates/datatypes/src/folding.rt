@@ -1,11 +1,12 @@
 //! The reduction of members' elements.
 
-ghost use Rattle.std.specs.Prelude.{◌≡◌, length, All, IfOk};
+ghost use Rattle.std.specs.Prelude.{◌≡◌, length, All, IfOk, IfErr};
 ghost use Rattle.datatypes.specs.Folds.{combined_values, folded_values, IsLike};
 
 use crate::buffer::Buffer;
 use crate::operation::ReduceOp;
-use std::alloc::{AllocError, Global};
+use crate::refusal::Refusal;
+use std::alloc::Global;
 
 /// Combines each element of `all`, which come first, with that of `next` at the same place.
 pub fn accumulate<R: ReduceOp>(op: &R, all: &mut Buffer, next: &Buffer)
@@ -17,26 +18,31 @@ pub fn accumulate<R: ReduceOp>(op: &R, all: &mut Buffer, next: &Buffer)
         } }
 {
     for place in 0..next.len() {
-        let number = op.combine(all.number(place), next.number(place));
+        let first = all.number(place);
+        let second = next.number(place);
+        let number = op.combine(first, second);
         all.set_number(place, number);
     }
 }
 
 /// The elements of the first member combined with those of each further one, in order.
+///
+/// Refused for want of memory alone.
 pub fn fold<R: ReduceOp>(
     op: &R,
     alloc: Global,
     first: &Buffer,
     rest: &[Buffer],
-) -> Result<Buffer, AllocError>
+) -> Result<Buffer, Refusal>
     requires basic { first.now.basic ≡ R.basic_of op.now }
     requires like { All (IsLike first.now.basic first.now.values) rest.now }
-    ensures { IfOk result
+    ensures ok { IfOk result
         (λ all.
         all ≡
         record first.now {
           values = folded_values (R.combines op.now) first.now.values rest.now;
         }) }
+    ensures err { IfErr result (λ refusal. refusal ≡ Refusal.OutOfMemory) }
 {
     let mut all = first.try_clone(alloc)?;
     for next in rest {

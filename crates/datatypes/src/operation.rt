@@ -2,7 +2,7 @@
 
 ghost use Rattle.std.specs.Prelude.{◌≡◌, ◌<◌, ◌%◌, ◌+◌, ◌*◌, ℕ, true, false, ◌↔◌, IfOk, IfErr, IsErrOf};
 ghost use Rattle.datatypes.specs.Elements.{numbers_of};
-ghost use Rattle.datatypes.specs.Operations.{order_of, map_after, is_defined, combined};
+ghost use Rattle.datatypes.specs.Operations.{order_of, greater_by, lesser_by, logical_and, logical_or, logical_xor, map_after, is_defined, combined};
 
 use crate::element::{is_signed, largest_number};
 use crate::refusal::Refusal;
@@ -153,6 +153,69 @@ fn wrapped_product(basic: BasicType, first: u64, second: u64) -> u64
     reduced(basic, first.wrapping_mul(second))
 }
 
+/// The greater of two elements of the type.
+fn greater(basic: BasicType, first: u64, second: u64) -> u64
+    requires first { first < numbers_of basic }
+    requires second { second < numbers_of basic }
+    ensures { result ≡ greater_by (order_of basic) first second }
+{
+    if order(basic, first) < order(basic, second) {
+        second
+    } else {
+        first
+    }
+}
+
+/// The lesser of two elements of the type.
+fn lesser(basic: BasicType, first: u64, second: u64) -> u64
+    requires first { first < numbers_of basic }
+    requires second { second < numbers_of basic }
+    ensures { result ≡ lesser_by (order_of basic) first second }
+{
+    if order(basic, second) < order(basic, first) {
+        second
+    } else {
+        first
+    }
+}
+
+/// 1 where both are true, else 0.
+fn both_true(first: u64, second: u64) -> u64
+    ensures { result ≡ logical_and first second }
+{
+    if first == 0 {
+        0
+    } else if second == 0 {
+        0
+    } else {
+        1
+    }
+}
+
+/// 1 where one is true, else 0.
+fn one_true(first: u64, second: u64) -> u64
+    ensures { result ≡ logical_or first second }
+{
+    if first == 0 {
+        if second == 0 { 0 } else { 1 }
+    } else {
+        1
+    }
+}
+
+/// 1 where just one is true, else 0.
+fn just_one_true(first: u64, second: u64) -> u64
+    ensures { result ≡ logical_xor first second }
+{
+    if first == 0 {
+        if second == 0 { 0 } else { 1 }
+    } else if second == 0 {
+        1
+    } else {
+        0
+    }
+}
+
 /// What the operation makes of two elements of the type.
 #[tactic(auto, unfolding(crate::specs::Operations::combined))]
 fn combine_numbers(operation: Op, basic: BasicType, first: u64, second: u64) -> u64
@@ -161,47 +224,13 @@ fn combine_numbers(operation: Op, basic: BasicType, first: u64, second: u64) -> 
     ensures { result ≡ combined operation basic first second }
 {
     match operation {
-        Op::Max => {
-            if order(basic, first) < order(basic, second) {
-                second
-            } else {
-                first
-            }
-        }
-        Op::Min => {
-            if order(basic, second) < order(basic, first) {
-                second
-            } else {
-                first
-            }
-        }
+        Op::Max => greater(basic, first, second),
+        Op::Min => lesser(basic, first, second),
         Op::Sum => wrapped_sum(basic, first, second),
         Op::Prod => wrapped_product(basic, first, second),
-        Op::Land => {
-            if first == 0 {
-                0
-            } else if second == 0 {
-                0
-            } else {
-                1
-            }
-        }
-        Op::Lor => {
-            if first == 0 {
-                if second == 0 { 0 } else { 1 }
-            } else {
-                1
-            }
-        }
-        Op::Lxor => {
-            if first == 0 {
-                if second == 0 { 0 } else { 1 }
-            } else if second == 0 {
-                1
-            } else {
-                0
-            }
-        }
+        Op::Land => both_true(first, second),
+        Op::Lor => one_true(first, second),
+        Op::Lxor => just_one_true(first, second),
         Op::Band => first & second,
         Op::Bor => first | second,
         Op::Bxor => first ^ second,

@@ -1,5 +1,5 @@
 -- What a header that is for this rank says.
-use Rattle.std.proofs.Common.{◌≡◌, ℕ, ◌<◌, Bool, true, false, cond, eqb, ltb, Option, Some, None, refl, arith}
+use Rattle.std.proofs.Common.{◌≡◌, ◌<◌, Bool, true, false, cond, eqb, ltb, Some, None, refl}
 use Rattle.std.proofs.lemmas.Bool.{ltb-true}
 use Rattle.datagram.specs.declared.datagram.Header.{Header}
 use Rattle.engine.specs.declared.place.Place.{Place}

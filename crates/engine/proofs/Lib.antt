@@ -1,3 +1,2 @@
 pub mod PeerLemmas
 pub mod HeaderLemmas
-pub mod SendLemmas

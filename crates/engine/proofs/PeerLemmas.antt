@@ -1,20 +1,19 @@
 -- The sessions of an engine as a list.
-use Rattle.std.proofs.Common.{◌≡◌, ℕ, zero, suc, ◌+◌, ◌-◌, ◌*◌, ◌<◌, ◌≤◌, List, [], ◌∷◌, ◌++◌, length, get_or, take, drop, map, filter, replicate, Option, Some, None, refl, sym, ap, subst, ◌∙◌, append_assoc, append-nil, arith, inl, inr, min}
-use Rattle.std.specs.Prelude.{All, slice_get, slice_set}
-use Rattle.std.specs.List.{flat_map, enumerate_from, range_with_len}
-use Rattle.std.proofs.lemmas.List.{length-set, length-append, length-take, length-drop, length-map, take_more, replicate-append-replicate, get_or-drop, get_or-append_right}
+use Rattle.std.proofs.Common.{◌≡◌, ℕ, zero, suc, ◌+◌, ◌<◌, ◌≤◌, List, [], ◌∷◌, ◌++◌, length, get_or, take, filter, replicate, refl, sym, ap, subst, ◌∙◌, append_assoc, append-nil, arith, inl, inr}
+use Rattle.std.specs.Prelude.{All}
+use Rattle.std.specs.List.{enumerate_from, range_with_len}
+use Rattle.std.proofs.lemmas.List.{length-set, length-take, length-map, take_more, replicate-append-replicate}
 use Rattle.std.proofs.lemmas.List.Elements.{All-set, All-nil, All-cons}
-use Rattle.std.proofs.lemmas.List.Edits.{map_over_more}
-use Rattle.std.proofs.lemmas.Option.{slice_get_cases, get_or_from_slice_get}
+use Rattle.std.proofs.lemmas.Option.{slice_get_cases}
 use Rattle.std.specs.Prelude.{nat_lt, Bool, true, false, Result, Ok, Err, IfOk, vec_len}
 use Rattle.std.specs.Global.{Vec}
 use Rattle.std.proofs.Common.{cond}
 use Rattle.reliable_link.specs.declared.out_frame.OutFrame.{OutFrame}
-use Rattle.reliable_link.specs.SenderState.{SenderState, due_at, is_due, out_count, out_end, after_ack, after_due, heeded, frame_at}
+use Rattle.reliable_link.specs.SenderState.{SenderState, due_at, is_due, out_count, out_end, after_ack, after_due, heeded}
 use Rattle.engine.specs.declared.place.Place.{Place}
 use Rattle.engine.specs.declared.peers.Peer.{Peer}
 use Rattle.engine.specs.Invariant.{IsSound}
-use Rattle.engine.specs.Peers.{new_peer, new_peers, peer_or_new, peer_at, with_sender, with_receiver, frame_out, frames_out, due_out, due_peer, after_all_due}
+use Rattle.engine.specs.Peers.{peer_at, with_sender, with_receiver, frames_out, due_out, due_peer, after_all_due}
 
 -- ---- the clocks
 

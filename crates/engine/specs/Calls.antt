@@ -1,5 +1,7 @@
 -- What a call does to the engine.
-use Rattle.std.specs.Prelude.{◌≡◌, ℕ, Option, Some, None, Result, Ok, Err}
+use Rattle.std.specs.Prelude.{◌≡◌, Option, Some, None, Ok, Err}
+use Rattle.perfect_queues.specs.BasicTypes.{size_of}
+use Rattle.datatypes.specs.Contents.{AreWithin}
 use Rattle.requests.specs.declared.table.Request.{Request}
 use Rattle.engine.specs.declared.call.Send.{Send}
 use Rattle.engine.specs.declared.call.Receive.{Receive}
@@ -47,3 +49,16 @@ RefusedLeaves (replies.Refused e back) old new = new ≡ old
 RefusedLeaves (replies.Started r) old new = Unit {0}
 RefusedLeaves (replies.Done o) old new = Unit {0}
 RefusedLeaves replies.Blocked old new = Unit {0}
+
+-- a call that was taken
+abbrev pub IsTaken : Reply → Type 0
+IsTaken (replies.Refused e back) = ⊥
+IsTaken (replies.Started r) = Unit {0}
+IsTaken (replies.Done o) = Unit {0}
+IsTaken replies.Blocked = Unit {0}
+
+-- each element that a call hands in has the width of its type
+abbrev pub IsWithin : Call → Type 0
+IsWithin (calls.Isend s) = AreWithin (size_of s.elements.basic) s.elements.values
+IsWithin (calls.Irecv v) = Unit {0}
+IsWithin (calls.Wait q) = Unit {0}

@@ -1,10 +1,10 @@
 -- What a datagram does to the engine.
-use Rattle.std.specs.Prelude.{◌≡◌, ℕ, ◌+◌, nat_le, nat_lt, ◌==◌, List, [], ◌∷◌, ◌++◌, Option, Some, None, Result, Ok, Err, Bool, ◌&&◌, if◌then◌else◌}
+use Rattle.std.specs.Prelude.{◌≡◌, ℕ, ◌+◌, nat_lt, ◌==◌, List, [], ◌∷◌, ◌++◌, Option, Some, None, Result, Ok, Err, if◌then◌else◌}
 use Rattle.std.specs.Ordering.{nat_cmp}
 use Rattle.std.specs.declared.cmp.Ordering.{Ordering}
 use Rattle.std.specs.declared.cmp.Ordering.TheVariants.{Less, Equal, Greater}
 use Rattle.perfect_queues.specs.BasicTypes.{size_of}
-use Rattle.datatypes.specs.Contents.{Contents, values_of}
+use Rattle.datatypes.specs.Contents.{values_of}
 use Rattle.datagram.specs.declared.refused.Refused as lower
 use Rattle.datagram.specs.declared.kinds.Plane.{Plane}
 use Rattle.datagram.specs.declared.kinds.Plane.TheVariants.{PointToPoint, Collective}
@@ -12,13 +12,9 @@ use Rattle.datagram.specs.declared.datagram.Header.{Header}
 use Rattle.datagram.specs.Spelling.{EagerText, BodyText, EagerBody, AckBody, DatagramText, spelling}
 use Rattle.datagram.specs.Reading.{datagram_of}
 use Rattle.match_queues.specs.declared.envelope.Message.{Message}
-use Rattle.match_queues.specs.declared.queues.Arrival.{Arrival}
-use Rattle.match_queues.specs.declared.queues.Arrival.TheVariants.{Matched, Kept}
 use Rattle.match_queues.specs.State.{after_arrival}
 use Rattle.match_queues.specs.Arrivals.{arrival_of}
 use Rattle.reliable_link.specs.SenderState.{SenderState, out_end, after_ack, entered_on_ack}
-use Rattle.requests.specs.declared.table.Entry.{Entry}
-use Rattle.requests.specs.Table.{after_finish}
 use Rattle.engine.specs.declared.place.Place.{Place}
 use Rattle.engine.specs.declared.refused.Refused.{Refused}
 use Rattle.engine.specs.declared.refused.Refused.TheVariants as refusals
@@ -26,7 +22,7 @@ use Rattle.engine.specs.Refusals.{of_datagram, IsRefusal}
 use Rattle.engine.specs.EngineState.{EngineState}
 use Rattle.engine.specs.Peers.{peer_at, with_sender, with_receiver, frames_out}
 use Rattle.engine.specs.Sending.{header_to, is_other}
-use Rattle.engine.specs.Receiving.{status_of}
+use Rattle.engine.specs.Receiving.{slots_on_arrival}
 use Rattle.engine.specs.Waiting.{woken}
 
 -- the first rule by which the header is not for this rank; for now every rank is at its first incarnation
@@ -68,10 +64,6 @@ message_of h t = record {
   tag = t.tag;
   elements = record { basic = t.basic; values = values_of (size_of t.basic) t.elements };
 }
-
-abbrev pub slots_on_arrival : List (Option Entry) → Arrival → List (Option Entry)
-slots_on_arrival slots (Matched r m) = after_finish slots r.request (status_of m) m.elements
-slots_on_arrival slots Kept = slots
 
 -- the message is handed up and acknowledged
 unfoldable pub handed_up : EngineState → ℕ → Message → EngineState

@@ -1,5 +1,5 @@
 -- What a rank's engine holds.
-use Rattle.std.specs.Prelude.{ℕ, zero, suc, List, [], ◌∷◌, Option, None}
+use Rattle.std.specs.Prelude.{ℕ, List, [], Option, None}
 use Rattle.match_queues.specs.State.{State}
 use Rattle.requests.specs.declared.table.Entry.{Entry}
 use Rattle.requests.specs.declared.table.Request.{Request}

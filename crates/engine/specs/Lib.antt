@@ -4,8 +4,8 @@ pub mod Invariant
 pub mod Peers
 pub mod EngineState
 pub mod Sessions
-pub mod Sending
 pub mod Receiving
+pub mod Sending
 pub mod Waiting
 pub mod Calls
 pub mod Datagrams

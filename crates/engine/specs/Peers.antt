@@ -1,7 +1,7 @@
 -- The sessions of an engine, one for each rank; its own stays empty.
-use Rattle.std.specs.Prelude.{◌≡◌, ℕ, zero, suc, ◌≤◌, nat_le, nat_lt, List, [], ◌∷◌, ◌++◌, length, map, Option, Some, None, replicate, slice_get, slice_set, if◌then◌else◌}
+use Rattle.std.specs.Prelude.{◌≡◌, ℕ, suc, List, [], ◌∷◌, ◌++◌, map, Option, Some, None, replicate, slice_get, slice_set}
 use Rattle.std.specs.List.{flat_map}
-use Rattle.reliable_link.specs.SenderState.{SenderState, after_accept, after_ack, entered_on_ack, due_at, after_due, frame_at}
+use Rattle.reliable_link.specs.SenderState.{SenderState, due_at, after_due, frame_at}
 use Rattle.engine.specs.declared.peers.Peer.{Peer}
 
 abbrev pub new_peer : Peer

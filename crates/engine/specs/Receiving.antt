@@ -6,14 +6,15 @@ use Rattle.perfect_queues.specs.declared.envelope.Status.{Status}
 use Rattle.datatypes.specs.Contents.{Contents}
 use Rattle.match_queues.specs.declared.envelope.Receive as posted
 use Rattle.match_queues.specs.declared.envelope.Message.{Message}
+use Rattle.match_queues.specs.declared.queues.Arrival.{Arrival}
+use Rattle.match_queues.specs.declared.queues.Arrival.TheVariants.{Kept, Matched}
 use Rattle.match_queues.specs.State.{message_at, message_for, after_post}
 use Rattle.requests.specs.declared.table.Entry.{Entry}
 use Rattle.requests.specs.declared.table.Request.{Request}
 use Rattle.requests.specs.declared.table.Progress.{Progress}
 use Rattle.requests.specs.declared.table.Progress.TheVariants.{Receiving, Finished}
 use Rattle.requests.specs.Outcomes.{outcome_of}
-use Rattle.requests.specs.Table.{slot_at, IsSet, is_full}
-use Rattle.engine.specs.declared.place.Place.{Place}
+use Rattle.requests.specs.Table.{slot_at, IsSet, after_finish, is_full}
 use Rattle.engine.specs.declared.call.Receive.{Receive}
 use Rattle.engine.specs.declared.call.Handed.{Handed}
 use Rattle.engine.specs.declared.refused.Refused.{Refused}
@@ -45,6 +46,11 @@ posted_by key v = record { request = key; context = 0; source = v.source; tag = 
 -- the status that a message gives (MPI 3.1, 3.2.5)
 abbrev pub status_of : Message → Status
 status_of m = record { source = sources.Rank m.sender.rank; tag = Some m.tag; count = length m.elements.values }
+
+-- the table once a message came: the receive that took it has ended
+abbrev pub slots_on_arrival : List (Option Entry) → Arrival → List (Option Entry)
+slots_on_arrival slots (Matched r m) = after_finish slots r.request (status_of m) m.elements
+slots_on_arrival slots Kept = slots
 
 abbrev pub progress_on_post : Contents → Option Message → Progress
 progress_on_post b None = Receiving b

@@ -1,11 +1,14 @@
 -- What a send does to the engine (MPI 3.1, 3.4 and 3.7).
-use Rattle.std.specs.Prelude.{◌≡◌, ℕ, ◌+◌, ◌*◌, nat_le, nat_lt, ◌==◌, List, [], ◌∷◌, ◌++◌, length, Option, Some, None, Result, Ok, Err, Bool, false, ◌||◌, if◌then◌else◌}
+use Rattle.std.specs.Prelude.{◌≡◌, ℕ, ◌+◌, ◌*◌, ◌≤◌, nat_le, nat_lt, ◌==◌, List, [], ◌∷◌, ◌++◌, length, Option, Some, None, Result, Ok, Err, Bool, true, false, ◌||◌, if◌then◌else◌}
 use Rattle.perfect_queues.specs.declared.endpoint.Endpoint.{Endpoint}
 use Rattle.perfect_queues.specs.BasicTypes.{size_of}
 use Rattle.datatypes.specs.Contents.{Contents, bytes_of}
 use Rattle.datagram.specs.declared.kinds.Plane.TheVariants.{PointToPoint}
 use Rattle.datagram.specs.declared.datagram.Header.{Header}
 use Rattle.datagram.specs.Spelling.{DatagramText, EagerBody, spelling}
+use Rattle.match_queues.specs.declared.envelope.Message.{Message}
+use Rattle.match_queues.specs.Arrivals.{arrival_of}
+use Rattle.match_queues.specs.State.{after_arrival}
 use Rattle.reliable_link.specs.SenderState.{SenderState, after_accept, next_number}
 use Rattle.requests.specs.declared.table.Entry.{Entry}
 use Rattle.requests.specs.declared.table.Request.{Request}
@@ -19,6 +22,7 @@ use Rattle.engine.specs.declared.refused.Refused.TheVariants as refusals
 use Rattle.engine.specs.Refusals.{IsRefusal}
 use Rattle.engine.specs.EngineState.{EngineState}
 use Rattle.engine.specs.Peers.{peer_at, with_sender}
+use Rattle.engine.specs.Receiving.{slots_on_arrival}
 
 -- every rank is at its first incarnation
 abbrev pub endpoint : ℕ → Endpoint
@@ -30,6 +34,11 @@ header_to p target n = record { source = endpoint p.rank; target = endpoint targ
 -- the bytes of data of a send
 abbrev pub byte_count : Contents → ℕ
 byte_count c = length c.values * size_of c.basic
+
+-- what a send to another rank is, for now: it goes in one frame
+pub record IsSmall (s : Send) : Type 0 where
+  pub count : byte_count s.elements ≤ 1024
+  pub tag : s.tag ≤ 2147483647
 
 -- the datagram of a send to a rank, under a number of their session
 abbrev pub send_text : Place → ℕ → Send → ℕ → DatagramText
@@ -56,12 +65,12 @@ is_worn_out s = nat_le 18446744073709551615 (next_number s)
 abbrev pub is_other : Place → ℕ → Bool
 is_other p rank = if rank == p.rank then false else nat_lt rank p.size
 
--- for now a send has at most 1,024 bytes, and goes to another rank
+-- for now a send goes to a rank of the job, and not to the null process
 abbrev pub target_fault : Place → Option ℕ → Option Refused
 target_fault p None = Some refusals.Rank
-target_fault p (Some target) = if is_other p target then None else Some refusals.Rank
+target_fault p (Some target) = if nat_lt target p.size then None else Some refusals.Rank
 
--- the first rule that a send breaks
+-- the first rule that a send breaks; for now it has at most 1,024 bytes, also to the own rank
 unfoldable pub send_fault : Place → Send → Option Refused
 send_fault p s =
     if nat_lt 1024 (byte_count s.elements) then Some refusals.Count
@@ -96,9 +105,40 @@ abbrev pub SendToGives : EngineState → ℕ → Send → Result Request Refused
 SendToGives old target s (Ok r) new = IsSentTo old target s r new
 SendToGives old target s (Err e) new = (new ≡ old) × IsRefusal (send_limit old target) e
 
+-- A SEND TO THE OWN RANK, which goes into its own queues without a datagram
+
+abbrev pub own_message : Place → Send → Message
+own_message p s = record { sender = endpoint p.rank; context = 0; tag = s.tag; elements = s.elements }
+
+-- the first limit that it meets
+abbrev pub own_limit : EngineState → Option Refused
+own_limit e = if is_full e.slots e.serial then Some refusals.Limit else None
+
+-- the request of the send is finished, and its message arrives at once
+pub record IsSentToItself (old : EngineState) (s : Send) (r : Request) (new : EngineState) : Type 0 where
+  pub room : own_limit old ≡ None
+  pub fresh : slot_at old.slots r.key ≡ None
+  pub serial : r.serial ≡ old.serial
+  pub started : List (Option Entry)
+  pub entry : IsSet old.slots started r.key (Some (record { serial = old.serial; progress = Finished Sent }))
+  pub rest : new ≡ record old {
+    slots = slots_on_arrival started (arrival_of old.queues (own_message old.place s));
+    serial = old.serial + 1;
+    queues = after_arrival old.queues (own_message old.place s);
+  }
+
+abbrev pub SendToItselfGives : EngineState → Send → Result Request Refused → EngineState → Type 0
+SendToItselfGives old s (Ok r) new = IsSentToItself old s r new
+SendToItselfGives old s (Err e) new = (new ≡ old) × IsRefusal (own_limit old) e
+
+-- by whether it goes to the own rank
+abbrev pub SendToAnyGives : Bool → EngineState → ℕ → Send → Result Request Refused → EngineState → Type 0
+SendToAnyGives true old target s result new = SendToItselfGives old s result new
+SendToAnyGives false old target s result new = SendToGives old target s result new
+
 abbrev pub SendGivesAt : Option Refused → EngineState → Send → Option ℕ → Result Request Refused → EngineState → Type 0
 SendGivesAt (Some fault) old s target result new = (result ≡ Err fault) × (new ≡ old)
-SendGivesAt None old s (Some target) result new = SendToGives old target s result new
+SendGivesAt None old s (Some target) result new = SendToAnyGives (target == old.place.rank) old target s result new
 SendGivesAt None old s None result new = (result ≡ Err refusals.Rank) × (new ≡ old)
 
 abbrev pub SendGives : EngineState → Send → Result Request Refused → EngineState → Type 0

@@ -1,10 +1,9 @@
 -- What a wait does to the engine, and how a blocked call is answered (MPI 3.1, 3.7.3).
-use Rattle.std.specs.Prelude.{◌≡◌, ℕ, List, Option, Some, None, slice_set}
+use Rattle.std.specs.Prelude.{◌≡◌, Option, Some, None, slice_set}
 use Rattle.requests.specs.declared.table.Request.{Request}
 use Rattle.requests.specs.declared.table.Progress.{Progress}
 use Rattle.requests.specs.declared.table.Progress.TheVariants.{Receiving, Finished}
 use Rattle.requests.specs.Table.{progress_at}
-use Rattle.engine.specs.declared.call.Call.{Call}
 use Rattle.engine.specs.declared.call.Call.TheVariants as calls
 use Rattle.engine.specs.declared.call.Reply.{Reply}
 use Rattle.engine.specs.declared.call.Reply.TheVariants as replies

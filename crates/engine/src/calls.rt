@@ -3,18 +3,21 @@
 ghost use Rattle.std.specs.Prelude.{◌≡◌, ◌≤◌, ◌<◌, ◌+◌, ◌^◌, ◌↔◌, ◌||◌, length, OnOk, OnErr, IfErr, None, Ok, Err};
 ghost use Rattle.requests.specs.Table.{HasRoom, is_full};
 ghost use Rattle.engine.specs.Peers.{peer_at};
-ghost use Rattle.engine.specs.Sending.{SendGives, SendToGives, send_fault, is_worn_out};
+ghost use Rattle.perfect_queues.specs.BasicTypes.{size_of};
+ghost use Rattle.datatypes.specs.Contents.{AreWithin};
+ghost use Rattle.engine.specs.Sending.{IsSmall, SendGives, SendToGives, SendToItselfGives, is_worn_out};
 ghost use Rattle.engine.specs.Receiving.{ReceiveGives, receive_fault};
 ghost use Rattle.engine.specs.Waiting.{WaitGives};
-ghost use Rattle.engine.specs.Calls.{CallGives, RefusedLeaves};
+ghost use Rattle.engine.specs.Calls.{CallGives, IsTaken, IsWithin, RefusedLeaves};
 
 use crate::call::{Call, Handed, Receive, Reply, Send};
 use crate::engine::Engine;
 use crate::peers;
-use crate::receiving::{is_no_source, is_tag_above, posted_by, progress_on_post};
+use crate::receiving::{is_no_source, is_tag_above, posted_by, progress_on_post, status_of};
 use crate::refused::Refused;
-use crate::sending::{fault_of, send_bytes};
+use crate::sending::{fault_of, own_message, send_bytes};
 use datagram::Bytes;
+use match_queues::Arrival;
 use requests::{Outcome, Progress, Request, Requests, Taken};
 
 impl Engine {
@@ -28,7 +31,7 @@ impl Engine {
     }
 
     fn send_to(&mut self, target: u16, send: &Send) -> Result<Request, Refused>
-        requires allowed { send_fault self.old.place send.now ≡ None }
+        requires small { IsSmall send.now }
         requires there { target < length self.old.peers }
         ensures exact { SendToGives self.old target send.now result self.new }
         ensures few { length self.new.out ≤ length self.old.out + 1 }
@@ -51,9 +54,36 @@ impl Engine {
         Ok(self.requests.start(Progress::Finished(Outcome::Sent)))
     }
 
+    /// The message goes into the own queues, without a datagram.
+    fn send_to_itself(&mut self, send: &Send) -> Result<Request, Refused>
+        ensures exact { SendToItselfGives self.old send.now result self.new }
+        ensures few { self.new.out ≡ self.old.out }
+        ensures placed { self.new.place ≡ self.old.place }
+    {
+        if self.requests.is_full() {
+            return Err(Refused::Limit);
+        }
+        // What needs memory comes first.
+        let message = own_message(self.alloc, self.place, send)?;
+        self.requests.reserve().map_err(|_| Refused::OutOfMemory)?;
+        let arrival = self
+            .queues
+            .arrive(message)
+            .map_err(|_| Refused::OutOfMemory)?;
+        // Nothing fails from here on.
+        let request = self.requests.start(Progress::Finished(Outcome::Sent));
+        if let Arrival::Matched(receive, message) = arrival {
+            let status = status_of(&message);
+            self.requests
+                .finish(receive.request, status, &message.elements);
+        }
+        Ok(request)
+    }
+
     #[tactic(auto, unfolding(crate::specs::Sending::send_fault))]
     fn isend(&mut self, send: &Send) -> Result<Request, Refused>
         ensures exact { SendGives self.old send.now result self.new }
+        ensures within { OnOk result (AreWithin (size_of send.now.elements.basic) send.now.elements.values) }
         ensures few { length self.new.out ≤ length self.old.out + 1 }
         ensures placed { self.new.place ≡ self.old.place }
     {
@@ -61,7 +91,13 @@ impl Engine {
             return Err(fault);
         }
         match send.target {
-            Some(target) => self.send_to(target, send),
+            Some(target) => {
+                if target == self.place.rank {
+                    self.send_to_itself(send)
+                } else {
+                    self.send_to(target, send)
+                }
+            }
             None => Err(Refused::Rank),
         }
     }
@@ -129,12 +165,13 @@ impl Engine {
 
     /// Answers a call.
     ///
-    /// Refused is the first that holds of: 6 (an earlier call is blocked, or there is no such request), 1 (more than
-    /// 1,024 bytes of data), 3 (the tag is above the greatest), 5 (no such rank; for now also the own rank and the
-    /// null process), 13 (65,536 requests are there, or a number would come round), 14. A refusal hands the call back,
-    /// and changes nothing.
+    /// Refused is the first that holds of: 6 (an earlier call is blocked, or there is no such request), 1 (for now more than
+    /// 1,024 bytes of data), 3 (the tag is above the greatest), 5 (no such rank; for now also the null process), 13 (65,536
+    /// requests are there, or a number would come round), 14. A refusal hands the call back, and changes nothing. A send to
+    /// the own rank (MPI 3.1, 3.2.4) emits no datagram.
     pub fn call(&mut self, call: Call) -> Reply
         ensures exact { CallGives self.old call result self.new }
+        ensures within { IsTaken result → IsWithin call }
         ensures unchanged { RefusedLeaves result self.old self.new }
         ensures few { length self.new.out ≤ length self.old.out + 1 }
         ensures placed { self.new.place ≡ self.old.place }

@@ -3,17 +3,20 @@
 ghost use Rattle.std.specs.Prelude.{◌≡◌, ◌<◌, ◌≤◌, ◌+◌, ◌^◌, Some, None, IfOk, IfErr, IsTrue, length};
 ghost use Rattle.datagram.specs.Spelling.{datagram_text, content_text, spelling, BodyFits};
 ghost use Rattle.engine.specs.Datagrams.{ack_bytes};
-ghost use Rattle.engine.specs.Sending.{endpoint, header_to, send_text, send_bytes, send_fault, target_fault, is_other};
+ghost use Rattle.perfect_queues.specs.BasicTypes.{size_of};
+ghost use Rattle.datatypes.specs.Contents.{AreWithin};
+ghost use Rattle.engine.specs.Sending.{IsSmall, endpoint, header_to, own_message, send_bytes, send_fault, target_fault, is_other};
 
 use crate::call::Send;
 use crate::place::Place;
 use crate::refused::Refused;
 use datagram::{Bytes, Content, Datagram, Eager, Frame, Header, Plane};
+use match_queues::Message;
 use perfect_queues::Endpoint;
 use std::alloc::Global;
 
-/// The most bytes of data that a message in one frame has.
-pub(crate) const EAGER_LIMIT: usize = 1024;
+/// The most bytes of data that a message in one frame has, and for now any message.
+const EAGER_LIMIT: usize = 1024;
 
 /// The greatest tag.
 pub(crate) const GREATEST_TAG: u32 = 2_147_483_647;
@@ -57,7 +60,7 @@ fn fault_of_target(place: Place, target: Option<u16>) -> Option<Refused>
 {
     match target {
         Some(target) => {
-            if place.is_other(target) {
+            if target < place.size {
                 None
             } else {
                 Some(Refused::Rank)
@@ -70,8 +73,11 @@ fn fault_of_target(place: Place, target: Option<u16>) -> Option<Refused>
 /// The first rule that a send breaks.
 #[tactic(auto, unfolding(crate::specs::Sending::send_fault))]
 pub(crate) fn fault_of(place: Place, send: &Send) -> Option<Refused>
-    ensures { result ≡ send_fault place send.now }
+    ensures fault { result ≡ send_fault place send.now }
+    ensures within { AreWithin (size_of send.now.elements.basic) send.now.elements.values }
 {
+    // The bytes show that each element has the width of its type.
+    let _bytes = send.elements.as_bytes();
     if send.elements.byte_len() > EAGER_LIMIT {
         return Some(Refused::Count);
     }
@@ -94,7 +100,7 @@ fn bytes_of(alloc: Global, datagram: &Datagram) -> Result<Bytes, Refused>
 }
 
 /// The datagram of a send that breaks no rule.
-#[tactic(auto, unfolding(crate::specs::Sending::send_fault, crate::specs::Sending::send_bytes))]
+#[tactic(auto, unfolding(crate::specs::Sending::send_bytes))]
 pub(crate) fn send_bytes(
     alloc: Global,
     place: Place,
@@ -102,7 +108,7 @@ pub(crate) fn send_bytes(
     send: &Send,
     sequence: u64,
 ) -> Result<Bytes, Refused>
-    requires { send_fault place send.now ≡ None }
+    requires { IsSmall send.now }
     ensures ok { IfOk result (λ bytes. bytes ≡ send_bytes place target send.now sequence) }
     ensures err { IfErr result (λ e. e ≡ Refused.OutOfMemory) }
 {
@@ -119,6 +125,22 @@ pub(crate) fn send_bytes(
         content: Content::Frame(Frame::Eager(eager)),
     };
     bytes_of(alloc, &datagram)
+}
+
+/// The message of a send to the own rank.
+pub(crate) fn own_message(alloc: Global, place: Place, send: &Send) -> Result<Message, Refused>
+    ensures ok { IfOk result (λ m. m ≡ own_message place send.now) }
+    ensures err { IfErr result (λ e. e ≡ Refused.OutOfMemory) }
+{
+    match send.elements.try_clone(alloc) {
+        Ok(elements) => Ok(Message {
+            sender: endpoint(place.rank),
+            context: 0,
+            tag: send.tag,
+            elements,
+        }),
+        Err(_) => Err(Refused::OutOfMemory),
+    }
 }
 
 /// An acknowledgement of all frames of a rank below `next`.

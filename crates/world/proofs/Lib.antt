@@ -1,2 +1,4 @@
 pub mod Openings
 pub mod Runs
+pub mod Sound
+pub mod Headlines

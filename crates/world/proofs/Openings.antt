@@ -1,7 +1,8 @@
 -- The engines of a world at its start.
-use Rattle.std.proofs.Common.{◌≡◌, ℕ, zero, suc, ◌+◌, List, [], ◌∷◌, ◌++◌, refl, ap, ◌∙◌, arith}
+use Rattle.std.proofs.Common.{◌≡◌, ℕ, zero, suc, ◌+◌, List, [], ◌∷◌, ◌++◌, ap, ◌∙◌, arith}
 use Rattle.engine.specs.EngineState.{EngineState, opening}
-use Rattle.world.specs.WorldState.{place_of, opening_engines}
+use Rattle.link_truth.specs.Events.{opening_engines}
+use Rattle.link_truth.specs.Wire.{place_of}
 
 one_more : (n a k : ℕ) → opening_engines n a (suc k) ≡ opening_engines n a k ++ opening (place_of n (a + k)) ∷ []
 one_more n a zero = ap (λ (r : ℕ). opening (place_of n r) ∷ []) (omega arith)

@@ -3,3 +3,4 @@ pub mod WorldState
 pub mod Steps
 pub mod Strays
 pub mod Views
+pub mod Headline

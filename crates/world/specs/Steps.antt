@@ -1,7 +1,7 @@
 -- What an event does to a world: the engine of one rank goes on, what it emits is numbered, and what it answers stands in the history.
 use Rattle.std.specs.Prelude.{◌≡◌, ℕ, ◌<◌, ◌≤◌, ◌⊎◌, List, [], ◌∷◌, ◌++◌, length, Option, Some, None, Result, Ok, Err, slice_get, slice_set}
 use Rattle.engine.specs.EngineState.{EngineState}
-use Rattle.engine.specs.Calls.{CallGives}
+use Rattle.engine.specs.Calls.{CallGives, IsTaken, IsWithin}
 use Rattle.engine.specs.Datagrams.{DatagramGives, GivesUnless}
 use Rattle.engine.specs.Ticks.{clock_fault, after_tick}
 use Rattle.engine.specs.declared.refused.Refused as lower
@@ -17,6 +17,7 @@ use Rattle.world.specs.declared.event.Failed.{Failed}
 use Rattle.world.specs.declared.event.Stepped.{Stepped}
 use Rattle.world.specs.declared.refused.Refused.{Refused}
 use Rattle.world.specs.declared.refused.Refused.TheVariants as refusals
+use Rattle.link_truth.specs.Events.{emptied}
 use Rattle.world.specs.WorldState.{WorldState}
 use Rattle.world.specs.Strays.{stray_fault}
 
@@ -28,10 +29,6 @@ pub record Gave : Type 0 where
   pub reply : Option Reply
   pub completion : Option Outcome
 
--- the engine once what it emitted and answered was taken out of it
-abbrev pub emptied : EngineState → EngineState
-emptied e = record e { out = []; completion = None }
-
 -- An event took an engine from one state to `mid`, with this reply or none; what it gave was taken out.
 pub record Ran (Gives : Option Reply → EngineState → Type 0) (gave : Gave) (new : EngineState) : Type 0 where
   pub mid : EngineState
@@ -40,13 +37,10 @@ pub record Ran (Gives : Option Reply → EngineState → Type 0) (gave : Gave) (
   pub out : gave.out ≡ mid.out
   pub completion : gave.completion ≡ mid.completion
 
--- a call that isn't refused
+-- a call that is taken
 abbrev pub Answers : EngineState → Call → Option Reply → EngineState → Type 0
 Answers old call None new = ⊥
-Answers old call (Some (replies.Refused e back)) new = ⊥
-Answers old call (Some (replies.Started r)) new = CallGives old call (replies.Started r) new
-Answers old call (Some (replies.Done o)) new = CallGives old call (replies.Done o) new
-Answers old call (Some replies.Blocked) new = CallGives old call replies.Blocked new
+Answers old call (Some reply) new = IsTaken reply × IsWithin call × CallGives old call reply new
 
 abbrev pub TakesIn : EngineState → List ℕ → Option Reply → EngineState → Type 0
 TakesIn old bytes None new = DatagramGives {X = ℕ} old bytes (Ok 0) new

@@ -1,5 +1,5 @@
 -- What a function of the program gave, as the definitions see it.
-use Rattle.std.specs.Prelude.{ℕ, Option, Result, Ok, Err}
+use Rattle.std.specs.Prelude.{ℕ, Result, Ok, Err}
 use Rattle.engine.specs.declared.refused.Refused as lower
 use Rattle.world.specs.declared.world.Given.{Given}
 use Rattle.world.specs.Steps.{Gave}

@@ -1,6 +1,9 @@
 //! The worked rows, each a file of events and what it prints.
 
 use super::*;
+use datatypes::Buffer;
+use engine::{Call, Receive, Send};
+use perfect_queues::{BasicType, Source};
 use std::alloc::Global;
 use std::process::Abort;
 use std::test::Fail;
@@ -79,11 +82,12 @@ fn stray_bytes_are_refused(rt: HostRuntime) {
 }
 
 #[test]
-fn faulty_lines_are_named(rt: HostRuntime) {
+fn faulty_worlds_and_buffers_are_named(rt: HostRuntime) {
     for (text, line) in [
         ("", 1),
         ("# nothing\n", 2),
-        ("world 3\n", 1),
+        ("world 0\n", 1),
+        ("world 257\n", 1),
         ("world 02\n", 1),
         ("tick 0 1\n", 1),
         ("world 2\nworld 2\n", 2),
@@ -95,6 +99,14 @@ fn faulty_lines_are_named(rt: HostRuntime) {
         ("world 2\n0 buf a int12 1\n", 2),
         ("world 2\n0 buf world int32 1\n", 2),
         ("world 2\n0 buf A int32 1\n", 2),
+    ] {
+        assert_faulty(&rt, rt.alloc(), text, line);
+    }
+}
+
+#[test]
+fn faulty_calls_and_events_are_named(rt: HostRuntime) {
+    for (text, line) in [
         ("world 2\n0 isend q world 1 7\n", 2),
         ("world 2\n0 isend q world 1 7 a b\n", 2),
         ("world 2\n0 isend q world 1 07 a\n", 2),
@@ -163,6 +175,90 @@ fn world_shows_what_happened(rt: HostRuntime) -> Result<(), Fail> {
     assert_eq!(rt; failed.refused.number(), 41);
     assert_eq!(rt; world.history().len(), 3);
     assert!(rt; world.datagram(0).is_none());
-    assert!(rt; World::new(rt.alloc(), 3).is_err());
+    assert_eq!(rt; World::new(rt.alloc(), 256)?.size(), 256);
+    for size in [0, 257] {
+        let Err(refused) = World::new(rt.alloc(), size) else {
+            return Err(Fail::from("there is no such world"));
+        };
+        assert_eq!(rt; refused.number(), 13);
+    }
+    Ok(())
+}
+
+#[test]
+fn window_lets_64_frames_out(rt: HostRuntime) -> Result<(), Fail> {
+    let alloc = rt.alloc();
+    let mut text = String::new(alloc);
+    let mut expected = String::new(alloc);
+    text.push_str("world 2\n0 buf a int32 1\n")?;
+    for number in 0..65 {
+        text.push_str("0 isend q world 1 7 a\n")?;
+        expected.push_str(format!(in alloc; "request {number}\n")?.as_str())?;
+        if number < 64 {
+            expected.push_str(format!(in alloc; "+{number} 0.0>1.0 EAGER {number}\n")?.as_str())?;
+        }
+    }
+    text.push_str("deliver 0\ndeliver 64\ndeliver 2\ndeliver 1\ndeliver 2\n")?;
+    expected.push_str(
+        "ok\n+64 1.0>0.0 ACK 1\nok\n+65 0.0>1.0 EAGER 64\nrefused 31\nok\n+66 1.0>0.0 ACK 2\nok\n+67 1.0>0.0 ACK 3\n",
+    )?;
+    assert_prints(&rt, alloc, text.as_str(), expected.as_str());
+    Ok(())
+}
+
+#[test]
+fn due_frames_go_out_by_rising_rank(rt: HostRuntime) {
+    assert_prints(
+        &rt,
+        rt.alloc(),
+        "world 3\n0 buf a int32 1\n0 isend q world 2 1 a\n0 isend p world 1 1 a\ntick 0 20\n",
+        "request 0\n+0 0.0>2.0 EAGER 0\nrequest 1\n+1 0.0>1.0 EAGER 0\nok\n+2 0.0>1.0 EAGER 0\n+3 0.0>2.0 EAGER 0\n",
+    );
+}
+
+#[test]
+fn own_rank_gets_its_message_without_a_datagram(rt: HostRuntime) {
+    assert_prints(
+        &rt,
+        rt.alloc(),
+        "world 1\n0 buf a int32 1 2\n0 buf b int32 0 0 0\n0 irecv r world 0 7 b\n0 isend q world 0 7 a\n0 wait r\n0 wait q\n0 buf c uint8 1024*9\n0 buf d uint8 0\n0 isend q world 0 1 c\n0 irecv r world any any d\n0 wait r\n0 buf c uint8 1025*9\n0 isend q world 0 1 c\n",
+        "request 0\nrequest 1\nsource 0 tag 7 count 2 data 1 2 0\nsent\nrequest 2\nrequest 3\nerror 10 source 0 tag 1 count 1024 data 0\nrefused 1\n",
+    );
+}
+
+fn send_to_rank_1(alloc: Global) -> Result<Call, Fail> {
+    let mut elements = Buffer::new(alloc, BasicType::Int32);
+    elements.push_number(1)?;
+    Ok(Call::Isend(Send {
+        target: Some(1),
+        tag: 7,
+        elements,
+    }))
+}
+
+fn receive_from_rank_0(alloc: Global) -> Result<Call, Fail> {
+    let mut buffer = Buffer::new(alloc, BasicType::Int32);
+    buffer.push_number(0)?;
+    Ok(Call::Irecv(Receive {
+        source: Source::Rank(0),
+        tag: Some(7),
+        buffer,
+    }))
+}
+
+#[test]
+fn world_is_quiet_once_all_is_acknowledged(rt: HostRuntime) -> Result<(), Fail> {
+    let mut world = World::new(rt.alloc(), 2)?;
+    assert!(rt; world.is_quiet());
+    let sent = Event::Call(0, send_to_rank_1(rt.alloc())?);
+    world.run(vec![in rt.alloc();
+        sent,
+        Event::Tick(0, 20),
+        Event::Deliver(1),
+        Event::Deliver(1),
+    ]?);
+    assert!(rt; !world.is_quiet());
+    world.run(vec![in rt.alloc(); Event::Deliver(2)]?);
+    assert!(rt; world.is_quiet());
     Ok(())
 }

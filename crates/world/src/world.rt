@@ -3,8 +3,10 @@
 ghost use Rattle.std.specs.Prelude.{◌≡◌, ◌≤◌, ◌<◌, ◌+◌, ◌*◌, [], ◌∷◌, ◌++◌, All, length, Option, option_map, IfOk, IfErr, OnOk, OnErr, IsTrue, MatchResult, slice_get, Some, None, Ok, Err, vec_len, vec_capacity, ◌↔◌, ◌⊎◌, ◌≢◌, nat_le, if◌then◌else◌};
 ghost use Rattle.std.specs.Option.{option_copied};
 ghost use Rattle.engine.specs.declared.refused.Refused.TheVariants as lowers;
-ghost use Rattle.world.specs.WorldState.{WorldState, StandsIn, IsWorld, opening_engines, opening_world};
-ghost use Rattle.world.specs.Steps.{emptied, RanCall, RanDatagram, RanTick, RanAt, RankGives, NumberGives, EventGives, StepGives, RunGives};
+ghost use Rattle.link_truth.specs.Events.{emptied, opening_engines};
+ghost use Rattle.world.specs.WorldState.{StandsIn, IsWorld, is_outside, opening_world};
+ghost use Rattle.world.specs.Headline.{IsQuiet, IsRunOfPerfectQueues, IsSound, SessionsAreInOrder};
+ghost use Rattle.world.specs.Steps.{RanCall, RanDatagram, RanTick, RanAt, RankGives, NumberGives, EventGives, StepGives, RunGives};
 ghost use Rattle.world.specs.Strays.{stray_fault};
 ghost use Rattle.world.specs.Views.{gave_of, ranked};
 
@@ -32,13 +34,14 @@ pub struct World {
 }
 
 impl Model for World {
-    ghost use Rattle.world.specs.WorldState.{WorldState, IsWorld};
+    ghost use Rattle.world.specs.WorldState.{WorldState};
+    ghost use Rattle.world.specs.Headline.{IsSound};
 
     ghost Value = { WorldState };
 
     ghost view = { λ w. record { engines = w.engines.items; datagrams = w.datagrams.items; history = w.history.items } };
 
-    ghost invariant = { λ w. IsWorld w.engines.items };
+    ghost invariant = { λ w. IsSound w.engines.items w.datagrams.items w.history.items };
 }
 
 /// What an engine gave in an event.
@@ -216,7 +219,7 @@ fn run_tick(engines: &mut Vec<Engine>, rank: u16, now: u64) -> Result<(u16, Give
     }
 }
 
-/// Why stray bytes are refused at a rank of `size`, as every rank's engine refuses them.
+/// Why stray bytes are refused at a rank of `size`, as every rank's engine would refuse them.
 fn fault_of_stray(size: usize, rank: u16, bytes: &[u8]) -> Refused
     ensures { result ≡ (if nat_le size rank then Refused.NoSuchRank else stray_fault bytes.now) }
 {
@@ -286,16 +289,68 @@ fn run_event(
     }
 }
 
+/// One event at the rank that it names, whose engine alone changes.
+fn advance(
+    alloc: Global,
+    engines: &mut Vec<Engine>,
+    datagrams: &mut Vec<(u16, Bytes)>,
+    history: &mut Vec<Entry>,
+    event: Event,
+) -> Result<Stepped, Failed>
+    requires { IsSound engines.old.items datagrams.old.items history.old.items }
+    ensures exact { StepGives
+        (record { engines = engines.old.items; datagrams = datagrams.old.items; history = history.old.items })
+        event result
+        (record { engines = engines.new.items; datagrams = datagrams.new.items; history = history.new.items }) }
+    ensures sound { IsSound engines.new.items datagrams.new.items history.new.items }
+{
+    if !has_made_room(datagrams, history, engines.len()) {
+        return Err(Failed {
+            refused: OUT_OF_MEMORY,
+            event,
+        });
+    }
+    match run_event(alloc, engines, datagrams, &event) {
+        Ok((rank, mut given)) => {
+            let first = datagrams.len();
+            let count = given.out.len();
+            let place = history.len();
+            // There is room for both.
+            datagrams.append(&mut given.out).unwrap();
+            let entry = Entry {
+                rank,
+                event,
+                reply: given.reply,
+                completion: given.completion,
+            };
+            history.push(entry).unwrap();
+            Ok(Stepped {
+                first,
+                count,
+                place,
+            })
+        }
+        Err(refused) => Err(Failed { refused, event }),
+    }
+}
+
+/// Whether no session of these engines holds a frame.
+fn are_quiet(engines: &[Engine]) -> bool
+    ensures { IsTrue result ↔ IsQuiet engines.now }
+{
+    engines.iter().all(|engine| engine.is_idle())
+}
+
 impl World {
-    /// A world of so many ranks, in which nothing happened yet. For now there are two.
+    /// A world of so many ranks, 1 to 256, in which nothing happened yet.
     ///
     /// Refused with 13 for another number, and with 14.
     pub fn new(alloc: Global, size: u16) -> Result<World, Refused>
         ensures opening { IfOk result (λ w. w ≡ opening_world size) }
-        ensures limit { (result ≡ Err (Refused.Engine lowers.Limit)) ↔ (size ≢ 2) }
+        ensures limit { (result ≡ Err (Refused.Engine lowers.Limit)) ↔ IsTrue (is_outside size) }
         ensures refused { IfErr result (λ e. (e ≡ Refused.Engine lowers.Limit) ⊎ (e ≡ Refused.Engine lowers.OutOfMemory)) }
     {
-        if size != 2 {
+        if size == 0 || size > MOST_RANKS {
             return Err(Refused::Engine(engine::Refused::Limit));
         }
         let engines = new_engines(alloc, size)?;
@@ -322,56 +377,56 @@ impl World {
     }
 
     /// The events that were not refused, with what they answered, in order. It takes no memory.
+    ///
+    /// What is seen in it, calls with their replies and completions, is a run of the machine of perfect queues, which has
+    /// come to rest where the world is quiet (MPI 3.1, 3.5 and 3.7). In each session every frame below the lowest
+    /// unacknowledged number was handed up, and no more than were accepted.
     pub fn history(&self) -> &[Entry]
-        ensures { result.now ≡ self.now.history }
+        ensures entries { result.now ≡ self.now.history }
+        ensures headline { IsRunOfPerfectQueues self.now }
+        ensures sessions { SessionsAreInOrder self.now.engines }
     {
         &self.history
+    }
+
+    /// Whether no session of any rank holds a frame that waits or is unacknowledged. Then no receive that waits accepts a
+    /// pending message, and what was matched is finished: see `history`. It takes no memory.
+    pub fn is_quiet(&self) -> bool
+        ensures { IsTrue result ↔ IsQuiet self.now.engines }
+    {
+        are_quiet(&self.engines)
     }
 
     /// One event: a call, a delivery, stray bytes or a tick at one rank, whose engine alone changes.
     ///
     /// Answers the numbers of the datagrams that were emitted, and where the history has what the event answered. Refused
     /// is the first that holds of: 61 (no such rank), 62 (no such datagram), 63 (stray bytes that carry job 1), what the
-    /// rank's engine refuses with, and 14. A refusal hands the event back, and changes nothing.
+    /// rank's engine refuses with. Want of memory (14) is told as soon as a growth is refused, before or after these are
+    /// judged. A refusal hands the event back, and changes nothing.
     pub fn step(&mut self, event: Event) -> Result<Stepped, Failed>
         ensures { StepGives self.old event result self.new }
     {
-        if !has_made_room(&mut self.datagrams, &mut self.history, self.engines.len()) {
-            return Err(Failed {
-                refused: OUT_OF_MEMORY,
-                event,
-            });
-        }
-        match run_event(self.alloc, &mut self.engines, &self.datagrams, &event) {
-            Ok((rank, mut given)) => {
-                let first = self.datagrams.len();
-                let count = given.out.len();
-                let place = self.history.len();
-                // There is room for both.
-                self.datagrams.append(&mut given.out).unwrap();
-                let entry = Entry {
-                    rank,
-                    event,
-                    reply: given.reply,
-                    completion: given.completion,
-                };
-                self.history.push(entry).unwrap();
-                Ok(Stepped {
-                    first,
-                    count,
-                    place,
-                })
-            }
-            Err(refused) => Err(Failed { refused, event }),
-        }
+        advance(
+            self.alloc,
+            &mut self.engines,
+            &mut self.datagrams,
+            &mut self.history,
+            event,
+        )
     }
 
     /// The events in order; one that is refused is passed over.
+    ///
+    /// For every list of events, what is seen of the world is a run of the machine of perfect queues, which has come to
+    /// rest where the world is quiet: see `history`.
     pub fn run(&mut self, events: Vec<Event>)
-        ensures { RunGives self.old events.items self.new }
+        ensures exact { RunGives self.old events.items self.new }
+        ensures headline { IsRunOfPerfectQueues self.new }
+        ensures sessions { SessionsAreInOrder self.new.engines }
     {
         for event in events {
             let _ = self.step(event);
         }
+        let _engines = &self.engines;
     }
 }

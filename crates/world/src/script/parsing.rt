@@ -1,12 +1,13 @@
 //! Reading a file of events.
 
+ghost use Rattle.std.specs.Prelude.{◌≡◌};
+ghost use Rattle.world.specs.declared.script.parsing.LineError.TheVariants.{OutOfMemory};
+
 use super::{Action, Line, Named, ParseError, ReceiveLine, Script, SendLine, Statement, numbers};
 use datatypes::{Buffer, number_of};
+use engine::MOST_RANKS;
 use perfect_queues::{BasicType, Source};
 use std::alloc::{AllocError, Global};
-
-/// How many ranks a world has, for now.
-const SIZE: u16 = 2;
 
 /// The longest name.
 const LONGEST_NAME: usize = 16;
@@ -21,6 +22,8 @@ enum LineError {
 }
 
 impl From<AllocError> for LineError {
+    ghost from_gives = { λ _ e. e ≡ OutOfMemory };
+
     fn from(_e: AllocError) -> LineError {
         LineError::OutOfMemory
     }
@@ -201,11 +204,11 @@ fn statement(alloc: Global, words: &[&str]) -> Result<Statement, LineError> {
 fn world_size(words: &[&str]) -> Result<u16, LineError> {
     match words {
         ["world", size] => {
-            if required(numbers::rank(*size))? == SIZE {
-                Ok(SIZE)
-            } else {
-                Err(LineError::Faulty)
+            let size = required(numbers::rank(*size))?;
+            if size == 0 || size > MOST_RANKS {
+                return Err(LineError::Faulty);
             }
+            Ok(size)
         }
         _ => Err(LineError::Faulty),
     }
@@ -254,7 +257,7 @@ impl Reading {
     }
 }
 
-/// Reads a file of events whole. Its first line that isn't skipped is `world 2`; empty lines and those whose first word
+/// Reads a file of events whole. Its first line that isn't skipped is `world N`, N from 1 to 256; empty lines and those whose first word
 /// begins with `#` are skipped.
 ///
 /// Answers the first faulty line, or that a growth was refused.

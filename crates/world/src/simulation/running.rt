@@ -1,5 +1,8 @@
 //! Running a file of events.
 
+ghost use Rattle.std.specs.Prelude.{◌≡◌};
+ghost use Rattle.world.specs.declared.simulation.running.SimulateError.TheVariants.{OutOfMemory, Output};
+
 use super::names::{Held, Names, Slot};
 use super::printing::{print_event, print_refusal};
 use crate::event::{Entry, Event};
@@ -25,12 +28,16 @@ pub enum SimulateError {
 }
 
 impl From<AllocError> for SimulateError {
+    ghost from_gives = { λ _ e. e ≡ OutOfMemory };
+
     fn from(_e: AllocError) -> SimulateError {
         SimulateError::OutOfMemory
     }
 }
 
 impl From<io::Error> for SimulateError {
+    ghost from_gives = { λ _ e. e ≡ Output };
+
     fn from(_e: io::Error) -> SimulateError {
         SimulateError::Output
     }

@@ -5,8 +5,8 @@ use Rattle.datatypes.proofs.BufferSteps.{contents_of}
 use Rattle.datatypes.proofs.FoldLaws.{combined_to, combined_to-at, combined_to-more, length-combined_to}
 use Rattle.datatypes.proofs.folding.accumulate.Goals as goal
 
-pub number-requires : goal.number-requires
-number-requires g c =
+pub number-first-requires : goal.number-first-requires
+number-first-requires g c =
     let f = g.R.ReduceOp.combines c.args.op.now in
     let old = c.args.all.now.values in
     let next = c.args.next.now.values in
@@ -39,11 +39,11 @@ loop-place-preserved g c =
     let vals : c.loop-place.all.values ≡ combined_to f k old next = ap (λ (v : Contents). v.values) c.loop-place.invariant in
     let len = length-combined_to f k old next same in
     let lt : k < length old = omega (arith, c.len-place-end.ensures) in
-    let first : c.number.result ≡ get_or old k 0 =
-    c.number.ensures.number ∙ ap (λ (t : List ℕ). get_or t k 0) vals ∙ combined_to-at f k old next same
+    let first : c.number-first.result ≡ get_or old k 0 =
+    c.number-first.ensures.number ∙ ap (λ (t : List ℕ). get_or t k 0) vals ∙ combined_to-at f k old next same
     in
     let number : c.combine-number.result ≡ f (get_or old k 0) (get_or next k 0) =
-    c.combine-number.ensures.combined ∙ ap (λ (n : ℕ). f n c.number-in-loop-place.result) first ∙ ap (f (get_or old k 0)) c.number-in-loop-place.ensures.number
+    c.combine-number.ensures.combined ∙ ap (λ (n : ℕ). f n c.number-second.result) first ∙ ap (f (get_or old k 0)) c.number-second.ensures.number
     in
     let basic : c.loop-place.all.basic ≡ c.args.all.now.basic = ap (λ (v : Contents). v.basic) c.loop-place.invariant in
     let values : set c.loop-place.all.values k c.combine-number.result ≡ combined_to f (k + 1) old next =

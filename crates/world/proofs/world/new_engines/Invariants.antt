@@ -1,5 +1,5 @@
 use Rattle.std.proofs.Common.{◌≡◌}
-use Rattle.world.specs.WorldState.{opening_engines}
+use Rattle.link_truth.specs.Events.{opening_engines}
 use Rattle.world.proofs.world.new_engines.Given as goal
 
 abbrev pub invariant-loop-rank : goal.invariant-loop-rank

@@ -1,4 +1,4 @@
-use Rattle.std.proofs.Common.{◌<◌, ◌∙◌, sym, arith}
+use Rattle.std.proofs.Common.{◌∙◌, sym, arith}
 use Rattle.engine.proofs.HeaderLemmas.{source_below}
 use Rattle.engine.proofs.engine.Engine.on_datagram.Goals as goal
 

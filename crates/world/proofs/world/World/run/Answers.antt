@@ -1,3 +1,4 @@
+use Rattle.world.proofs.Headlines.{is_run_of_machine, sessions_are_in_order}
 use Rattle.world.proofs.Runs.{run_push}
 use Rattle.world.proofs.world.World.run.Goals as goal
 
@@ -18,3 +19,9 @@ loop-event-preserved-in-Some-5 c = run_push _ _ _ _ _ _ c.loop-event.invariant c
 
 pub loop-event-preserved : goal.loop-event-preserved
 loop-event-preserved c = run_push _ _ _ _ _ _ c.loop-event.invariant c.step.ensures
+
+pub returns-clause-headline : goal.returns-clause-headline
+returns-clause-headline c = rw (← c.self.view_is) (is_run_of_machine _ c.self.invariant)
+
+pub returns-clause-sessions : goal.returns-clause-sessions
+returns-clause-sessions c = rw (← c.self.view_is) (sessions_are_in_order _ _ _ c.self.invariant)

@@ -1,0 +1,5 @@
+pub mod Positions
+pub mod Accepting
+pub mod ArrivalLemmas
+pub mod PostLemmas
+pub mod EndingLemmas

@@ -1,0 +1,12 @@
+pub mod Tables
+pub mod RowLemmas
+pub mod Settling
+pub mod Waking
+pub mod Starting
+pub mod Arriving
+pub mod Waits
+pub mod Sends
+pub mod OwnSends
+pub mod Posts
+pub mod CallsShown
+pub mod OpeningShown

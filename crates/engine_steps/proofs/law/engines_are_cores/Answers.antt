@@ -1,0 +1,16 @@
+use Rattle.engine_matching.proofs.ArrivalLemmas.{arrivals_match}
+use Rattle.engine_matching.proofs.EndingLemmas.{outcomes_agree, receives_fit}
+use Rattle.engine_matching.proofs.PostLemmas.{posts_match}
+use Rattle.engine_steps.proofs.Arriving.{arrivals_are_shown}
+use Rattle.engine_steps.proofs.CallsShown.{calls_are_shown}
+use Rattle.engine_steps.proofs.OpeningShown.{opening_is_shown}
+use Rattle.engine_steps.proofs.law.engines_are_cores.Goals as goal
+
+pub returns-clause-calls : goal.returns-clause-calls
+returns-clause-calls c = calls_are_shown receives_fit posts_match arrivals_match outcomes_agree
+
+pub returns-clause-arrivals : goal.returns-clause-arrivals
+returns-clause-arrivals c = arrivals_are_shown arrivals_match outcomes_agree
+
+pub returns-clause-opening : goal.returns-clause-opening
+returns-clause-opening c = opening_is_shown

@@ -1,0 +1,5 @@
+use Rattle.incarnation.proofs.Learning.{known_never_falls}
+use Rattle.incarnation.proofs.laws.known_never_falls.Goals as goal
+
+pub returns : goal.returns
+returns c = known_never_falls

@@ -1,0 +1,5 @@
+use Rattle.incarnation.proofs.Learning.{what_is_handled_is_known}
+use Rattle.incarnation.proofs.laws.what_is_handled_is_known.Goals as goal
+
+pub returns : goal.returns
+returns c = what_is_handled_is_known

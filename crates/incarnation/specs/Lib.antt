@@ -1,0 +1,5 @@
+pub mod Refusals
+pub mod Restarting
+pub mod Knowing
+pub mod Judging
+pub mod Lessons

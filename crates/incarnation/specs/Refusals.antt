@@ -1,0 +1,13 @@
+-- The number of each refusal.
+use Rattle.std.specs.Prelude.{ℕ}
+use Rattle.incarnation.specs.declared.refused.Refused.{Refused}
+use Rattle.incarnation.specs.declared.refused.Refused.TheVariants.{Limit, OutOfMemory, ForeignJob, NotForMe, StaleSource, StaleTarget}
+
+-- the number that a call answers
+abbrev pub number_of_refusal : Refused → ℕ
+number_of_refusal Limit = 13
+number_of_refusal OutOfMemory = 14
+number_of_refusal ForeignJob = 26
+number_of_refusal NotForMe = 27
+number_of_refusal StaleSource = 28
+number_of_refusal StaleTarget = 29

@@ -1,0 +1,17 @@
+//! The incarnation at which a rank is started anew.
+
+ghost use Rattle.std.specs.Prelude.{◌≡◌};
+ghost use Rattle.incarnation.specs.Restarting.{incarnation_after};
+
+use crate::refused::Refused;
+
+/// The incarnation after this one. It is refused with `Limit` exactly at 65,535, the last one: a
+/// rank is started anew at most so often.
+pub fn next_incarnation(incarnation: u16) -> Result<u16, Refused>
+    ensures { result ≡ incarnation_after incarnation }
+{
+    match incarnation.checked_add(1) {
+        Some(next) => Ok(next),
+        None => Err(Refused::Limit),
+    }
+}

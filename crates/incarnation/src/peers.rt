@@ -1,0 +1,116 @@
+//! What a process knows of the ranks of its job.
+
+ghost use Rattle.std.specs.Prelude.{◌≡◌, ◌≢◌, ◌<◌, ℕ, max, IfOk, IsOkUnless};
+ghost use Rattle.incarnation.specs.Knowing.{known_at, opening, after_learn};
+ghost use Rattle.incarnation.specs.Judging.{JudgeGives, judgement};
+
+use crate::judgement::Judgement;
+use crate::place::Place;
+use crate::refused::Refused;
+use datagram::Header;
+use std::alloc::Global;
+use std::marker::Model;
+
+/// The place of a process, and the incarnation at which it knows each rank of its job. Contracts
+/// see it as a `Knowledge`.
+#[derive(Debug, Drop)]
+pub struct Peers {
+    place: Place,
+    /// The incarnation at which each rank is known, by rank.
+    known: Vec<u16>,
+}
+
+impl Model for Peers {
+    ghost use Rattle.std.specs.Prelude.{◌≡◌, ◌<◌, length};
+    ghost use Rattle.incarnation.specs.Knowing.{Knowledge};
+
+    ghost Value = { Knowledge };
+
+    ghost view = { λ p. record { place = p.place; known = p.known.items } };
+
+    ghost invariant = { λ p.
+        (length p.known.items ≡ p.place.size) × (p.place.endpoint.rank < p.place.size) };
+}
+
+impl Peers {
+    /// What a process knows when it starts: itself at its own incarnation, and every other rank at
+    /// incarnation 0. The only error is want of memory.
+    pub fn new(alloc: Global, place: Place) -> Result<Self, Refused>
+        requires { place.endpoint.rank < place.size }
+        ensures ok { IfOk result (λ peers. peers ≡ opening place) }
+        ensures own { IfOk result (λ peers.
+            known_at peers place.endpoint.rank ≡ place.endpoint.incarnation) }
+        ensures others { IfOk result (λ peers. (other : ℕ) → other < place.size
+            → other ≢ place.endpoint.rank → known_at peers other ≡ 0) }
+        ensures err { IsOkUnless result Refused.OutOfMemory }
+    {
+        let Ok(mut known) = vec![in alloc; 0u16; place.size as usize] else {
+            return Err(Refused::OutOfMemory);
+        };
+        known[place.endpoint.rank as usize] = place.endpoint.incarnation;
+        Ok(Peers { place, known })
+    }
+
+    /// Where this process stands.
+    pub fn place(&self) -> Place
+        ensures { result ≡ self.now.place }
+    {
+        self.place
+    }
+
+    /// The incarnation at which a rank is known. It takes no memory.
+    pub fn known(&self, rank: u16) -> u16
+        requires { rank < self.now.place.size }
+        ensures { result ≡ known_at self.now rank }
+    {
+        self.known[rank as usize]
+    }
+
+    /// Judges a datagram by both of its endpoints. Refused is the first that holds of: 26 (another
+    /// job), 27 (for another rank or a later incarnation of this one, or from no other rank of the
+    /// job), 28 (from a former incarnation of the source), 29 (for a former incarnation of this
+    /// rank). It changes nothing, and takes no memory.
+    #[tactic(auto, unfolding(crate::specs::Judging::judgement))]
+    pub fn judge(&self, header: Header) -> Result<Judgement, Refused>
+        ensures rule { JudgeGives self.now header result }
+        ensures exact { result ≡ judgement self.now header }
+    {
+        let own = self.place.endpoint;
+        let source = header.source;
+        let target = header.target;
+        if header.job != self.place.job {
+            return Err(Refused::ForeignJob);
+        }
+        if target.rank != own.rank
+            || target.incarnation > own.incarnation
+            || source.rank == own.rank
+            || source.rank >= self.place.size
+        {
+            return Err(Refused::NotForMe);
+        }
+        let known = self.known[source.rank as usize];
+        if source.incarnation < known {
+            return Err(Refused::StaleSource);
+        }
+        if target.incarnation < own.incarnation {
+            return Err(Refused::StaleTarget);
+        }
+        if source.incarnation > known {
+            return Ok(Judgement::Learn(source.incarnation));
+        }
+        Ok(Judgement::Current)
+    }
+
+    /// Knows the rank at this incarnation, or still at the one at which it is known where that is
+    /// greater. Nothing else changes. It takes no memory.
+    pub fn learn(&mut self, rank: u16, incarnation: u16)
+        requires { rank < self.old.place.size }
+        ensures exact { self.new ≡ after_learn self.old rank incarnation }
+        ensures greater { known_at self.new rank ≡ max (known_at self.old rank) incarnation }
+        ensures others { (other : ℕ) → other ≢ rank
+            → known_at self.new other ≡ known_at self.old other }
+    {
+        let known = &mut self.known[rank as usize];
+        *known = (*known).max(incarnation);
+    }
+}

@@ -1,0 +1,14 @@
+//! Where a process stands.
+
+use perfect_queues::Endpoint;
+
+/// Which process of which job this is.
+#[derive(Clone, Copy, Debug, PartialEq, Eq)]
+pub struct Place {
+    /// Its rank in `world`, below the size, and the incarnation at which it runs.
+    pub endpoint: Endpoint,
+    /// How many ranks the job has.
+    pub size: u16,
+    /// The job's number.
+    pub job: u64,
+}

@@ -1,0 +1,11 @@
+pub mod Lists
+pub mod Wires
+pub mod Reading
+pub mod Senders
+pub mod Growing
+pub mod Engines
+pub mod Openings
+pub mod Ticks
+pub mod Idle
+pub mod Calls
+pub mod Datagrams

@@ -1,0 +1,4 @@
+pub mod Networks
+pub mod Worlds
+pub mod Following
+pub mod Closed

@@ -1,0 +1,8 @@
+use Rattle.world.proofs.Headlines.{is_run_of_machine, sessions_are_in_order}
+use Rattle.world.proofs.world.World.history.Goals as goal
+
+pub returns-clause-headline : goal.returns-clause-headline
+returns-clause-headline c = rw (← c.self.view_is) (is_run_of_machine _ c.self.invariant)
+
+pub returns-clause-sessions : goal.returns-clause-sessions
+returns-clause-sessions c = rw (← c.self.view_is) (sessions_are_in_order _ _ _ c.self.invariant)

@@ -1,0 +1,6 @@
+use Rattle.std.proofs.Common.{arith}
+use Rattle.world.proofs.Sound.{opening_sound}
+use Rattle.world.proofs.world.World.new.Goals as goal
+
+pub invariant_of-result : goal.invariant_of-result
+invariant_of-result c = rw (c.in_ok-engines.ensures.ok, c.new.ensures.items, c.new-2.ensures.items) (opening_sound c.args.size (omega (arith, c.if-size-gt-MOST_RANKS.false)))
