@@ -8,7 +8,9 @@ use std::marker::Model;
 /// old communicator of those that are in it, in their new order (MPI 3.1, 6.4.2).
 #[derive(Debug, Drop)]
 pub struct Part {
+    /// The colour that all of its members gave.
     pub(crate) colour: u32,
+    /// The ranks of its members in the old communicator, in their order in the new one.
     pub(crate) ranks: Vec<u16>,
 }
 

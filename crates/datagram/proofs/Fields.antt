@@ -94,7 +94,7 @@ row code_of code n x y o e is rest =
     ]
 
 pub kind_back : (code : ℕ) (y : Kind) → kind_at code ≡ Some y → kind_code y ≡ code
-kind_back code y e = row kind_code code _ _ y _ e refl (λ e1. row kind_code code _ _ y _ e1 refl (none y))
+kind_back code y e = row kind_code code _ _ y _ e refl (λ e1. row kind_code code _ _ y _ e1 refl (λ e2. row kind_code code _ _ y _ e2 refl (none y)))
 
 pub plane_back : (code : ℕ) (y : Plane) → plane_at code ≡ Some y → plane_code y ≡ code
 plane_back code y e = row plane_code code _ _ y _ e refl (λ e1. row plane_code code _ _ y _ e1 refl (none y))

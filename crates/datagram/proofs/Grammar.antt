@@ -1,5 +1,5 @@
 -- What is read is spelled so, and what is spelled so is read.
-use Rattle.std.proofs.Common.{◌≡◌, ℕ, ◌+◌, ◌*◌, ◌^◌, ◌<◌, ◌≤◌, true, eqb, leb, List, [], ◌∷◌, ◌++◌, length, get_or, take, drop, Some, Result, Ok, Err, refl, sym, ap, subst, ◌∙◌, arith}
+use Rattle.std.proofs.Common.{◌≡◌, ℕ, ◌+◌, ◌*◌, ◌^◌, ◌<◌, ◌≤◌, Bool, true, false, eqb, leb, List, [], ◌∷◌, ◌++◌, length, get_or, take, drop, Some, Result, Ok, Err, refl, sym, ap, subst, ◌∙◌, arith}
 use Rattle.std.specs.Prelude.{IfOk}
 use Rattle.std.proofs.lemmas.Bool.{eqb-true, eq-eqb, leb-true, le-leb}
 use Rattle.std.proofs.lemmas.List.{length-append, nil_from_length}
@@ -18,7 +18,7 @@ use Rattle.datagram.specs.declared.datagram.Header.{Header}
 use Rattle.datagram.specs.declared.datagram.Datagram.{Datagram}
 use Rattle.datagram.specs.Kinds.{kind_code, kind_at, plane_code, plane_at}
 use Rattle.perfect_queues.specs.BasicTypes.{code_of, type_at, size_of}
-use Rattle.datagram.specs.Spelling.{EagerText, BodyText, EagerBody, AckBody, DatagramText, datagram_text, BasicFitsPlane, EagerFits, BodyFits, HeaderIsWithinFields, EagerIsWithinFields, BodyIsWithinFields, DatagramFits, NoSpellingBeginsAnother, eager_spelling, body_spelling, kind_of_body, header_spelling, spelling}
+use Rattle.datagram.specs.Spelling.{EagerText, BodyText, EagerBody, AckBody, ResetBody, DatagramText, datagram_text, BasicFitsPlane, EagerFits, BodyFits, SequenceFits, HeaderIsWithinFields, EagerIsWithinFields, BodyIsWithinFields, DatagramFits, NoSpellingBeginsAnother, eager_spelling, body_spelling, kind_of_body, header_spelling, spelling}
 use Rattle.datagram.specs.Reading.{Gives, required, number_at, kind_of, length_fits, body_of, header_of, basic_fits_plane, eager_of, content_of, datagram_of}
 use Rattle.datagram.proofs.Fields.{IsBytes, IsBytes-drop, bind_ok, guard_ok, required_ok, ok_is, wide2, wide4, wide8, number_takes, byte_takes, number_fits, kind_back, plane_back, basic_back}
 
@@ -143,21 +143,32 @@ eager_takes body e fits is =
 
 -- ---- all of it
 
-content_takes : (kind : Kind) (body : List ℕ) (c : BodyText) → IsBytes body → (kind ≡ kinds.Ack → body ≡ []) → content_of kind body ≡ Ok c → BodyIsWithinFields c × BodyFits c × (body ≡ body_spelling c) × (kind ≡ kind_of_body c)
+-- a kind whose datagrams have a body
+abbrev has_body : Kind → Bool
+has_body kinds.Frame = true
+has_body kinds.Ack = false
+has_body kinds.Reset = false
+
+content_takes : (kind : Kind) (n : ℕ) (body : List ℕ) (c : BodyText) → IsBytes body → (has_body kind ≡ false → body ≡ []) → content_of kind n body ≡ Ok c
+    → BodyIsWithinFields c × BodyFits c × (body ≡ body_spelling c) × (kind ≡ kind_of_body c) × SequenceFits n c
 unfolding content_of body_spelling
-content_takes kinds.Ack body c fits nothing is =
-    subst (λ (x : BodyText). BodyIsWithinFields x × BodyFits x × (body ≡ body_spelling x) × (kinds.Ack ≡ kind_of_body x)) (ok_is AckBody c is) (tt, tt, nothing refl, refl)
-content_takes kinds.Frame body c fits nothing is =
+content_takes kinds.Ack n body c fits nothing is =
+    subst (λ (x : BodyText). BodyIsWithinFields x × BodyFits x × (body ≡ body_spelling x) × (kinds.Ack ≡ kind_of_body x) × SequenceFits n x) (ok_is AckBody c is) (tt, tt, nothing refl, refl, tt)
+content_takes kinds.Reset n body c fits nothing is =
+    let a = guard_ok (eqb n 0) refusals.BadFrame _ c is in
+    subst (λ (x : BodyText). BodyIsWithinFields x × BodyFits x × (body ≡ body_spelling x) × (kinds.Reset ≡ kind_of_body x) × SequenceFits n x) (ok_is ResetBody c a.1) (tt, tt, nothing refl, refl, eqb-true _ _ a.0)
+content_takes kinds.Frame n body c fits nothing is =
     let a = bind_ok (eager_of body) (λ e. Ok (EagerBody e)) c is in
     let b = eager_takes body a.0 fits a.1 in
-    subst (λ (x : BodyText). BodyIsWithinFields x × BodyFits x × (body ≡ body_spelling x) × (kinds.Frame ≡ kind_of_body x)) (ok_is (EagerBody a.0) c a.2) (b.0, b.1, b.2, refl)
+    subst (λ (x : BodyText). BodyIsWithinFields x × BodyFits x × (body ≡ body_spelling x) × (kinds.Frame ≡ kind_of_body x) × SequenceFits n x) (ok_is (EagerBody a.0) c a.2) (b.0, b.1, b.2, refl, tt)
 
-is_empty : (k : Kind) (body : List ℕ) → k ≡ kinds.Ack → length_fits k (length body) ≡ true → body ≡ []
+is_empty : (k : Kind) (body : List ℕ) → has_body k ≡ false → length_fits k (length body) ≡ true → body ≡ []
 is_empty kinds.Ack body is fits = nil_from_length body (eqb-true _ _ fits)
+is_empty kinds.Reset body is fits = nil_from_length body (eqb-true _ _ fits)
 is_empty kinds.Frame body is fits = absurd cc
 
 datagram_takes : (bytes : List ℕ) (d : DatagramText) → IsBytes bytes → datagram_of bytes ≡ Ok d → DatagramFits d × (bytes ≡ spelling d)
-unfolding datagram_of body_of spelling
+unfolding datagram_of body_of header_of spelling
 datagram_takes bytes d fits is =
     let k = bind_ok (kind_of bytes) _ d is in
     let h = kind_takes bytes k.0 k.1 in
@@ -165,9 +176,9 @@ datagram_takes bytes d fits is =
     let l = guard_ok (eqb (number_at 14 2 bytes) (length (drop 32 bytes))) refusals.Length _ b.0 b.1 in
     let m = guard_ok (length_fits k.0 (length (drop 32 bytes))) refusals.Length _ b.0 l.1 in
     let body_is : drop 32 bytes ≡ b.0 = ok_is (drop 32 bytes) b.0 m.1 in
-    let c = bind_ok (content_of k.0 b.0) _ d b.2 in
+    let c = bind_ok (content_of k.0 (number_at 24 8 bytes) b.0) _ d b.2 in
     let body_fits : IsBytes b.0 = subst IsBytes body_is (IsBytes-drop 32 bytes fits) in
-    let t = content_takes k.0 b.0 c.0 body_fits (λ is_ack. sym body_is ∙ is_empty k.0 (drop 32 bytes) is_ack m.0) c.1 in
+    let t = content_takes k.0 (number_at 24 8 bytes) b.0 c.0 body_fits (λ is. sym body_is ∙ is_empty k.0 (drop 32 bytes) is m.0) c.1 in
     let e = header_takes bytes k.0 fits h in
     let len : number_at 14 2 bytes ≡ length (body_spelling c.0) = eqb-true _ _ l.0 ∙ ap length (body_is ∙ t.2) in
     let made : DatagramText = record { header = header_of bytes; body = c.0 } in
@@ -176,7 +187,7 @@ datagram_takes bytes d fits is =
     ∙ ap (λ (k : Kind). header_spelling (header_of bytes) k (length (body_spelling c.0)) ++ drop 32 bytes) t.3
     ∙ ap (λ (u : List ℕ). header_spelling (header_of bytes) (kind_of_body c.0) (length (body_spelling c.0)) ++ u) (body_is ∙ t.2)
     in
-    subst (λ (x : DatagramText). DatagramFits x × (bytes ≡ spelling x)) (ok_is made d c.2) (record { header = header_fits bytes fits; width = t.0; body = t.1 }, whole)
+    subst (λ (x : DatagramText). DatagramFits x × (bytes ≡ spelling x)) (ok_is made d c.2) (record { header = header_fits bytes fits; width = t.0; body = t.1; sequence = t.4 }, whole)
 
 -- ---- the other way round
 
@@ -234,31 +245,36 @@ header_from : (bytes : List ℕ) (h : Header) → number_at 6 2 bytes ≡ h.sour
 unfolding header_of
 header_from bytes h e6 e8 e10 e12 e16 e24 = rw (e6, e8, e10, e12, e16, e24) refl
 
-content_again : (b : BodyText) → BodyIsWithinFields b → BodyFits b → content_of (kind_of_body b) (body_spelling b) ≡ Ok b
+content_again : (n : ℕ) (b : BodyText) → BodyIsWithinFields b → BodyFits b → SequenceFits n b → content_of (kind_of_body b) n (body_spelling b) ≡ Ok b
 unfolding content_of body_spelling
-content_again AckBody narrow fits = refl
-content_again (EagerBody e) narrow fits = rw (eager_again e narrow fits) refl
+content_again n AckBody narrow fits numbered = refl
+content_again n ResetBody narrow fits numbered = rw numbered refl
+content_again n (EagerBody e) narrow fits numbered = rw (eager_again e narrow fits) refl
 
 body_limit : (b : BodyText) → BodyFits b → length_fits (kind_of_body b) (length (body_spelling b)) ≡ true
 unfolding body_spelling
 body_limit AckBody fits = refl
+body_limit ResetBody fits = refl
 body_limit (EagerBody e) fits = le-leb _ _ (omega (arith, fits.limit))
 
 pub body_short : (b : BodyText) → BodyFits b → length (body_spelling b) ≤ 1200
 unfolding body_spelling
 body_short AckBody fits = omega arith
+body_short ResetBody fits = omega arith
 body_short (EagerBody e) fits = omega (arith, fits.limit)
 
 kind_again : (k : Kind) → kind_at (kind_code k) ≡ Some k
 kind_again kinds.Frame = refl
 kind_again kinds.Ack = refl
+kind_again kinds.Reset = refl
 
-datagram_from : (bytes body : List ℕ) (d : DatagramText) → kind_of bytes ≡ Ok (kind_of_body d.body) → body_of (kind_of_body d.body) bytes ≡ Ok body → content_of (kind_of_body d.body) body ≡ Ok d.body → header_of bytes ≡ d.header → datagram_of bytes ≡ Ok d
+datagram_from : (bytes body : List ℕ) (d : DatagramText) → kind_of bytes ≡ Ok (kind_of_body d.body) → body_of (kind_of_body d.body) bytes ≡ Ok body → content_of (kind_of_body d.body) d.header.sequence body ≡ Ok d.body
+    → header_of bytes ≡ d.header → number_at 24 8 bytes ≡ d.header.sequence → datagram_of bytes ≡ Ok d
 unfolding datagram_of
-datagram_from bytes body d k b c h = rw (k, b, c, h) refl
+datagram_from bytes body d k b c h n = rw (k, b, n, c, h) refl
 
 header_again : (h : Header) (kind : Kind) (body : List ℕ) → HeaderIsWithinFields h → length body ≤ 1200 → length_fits kind (length body) ≡ true
-    → let bytes : List ℕ = header_spelling h kind (length body) ++ body in (kind_of bytes ≡ Ok kind) × (body_of kind bytes ≡ Ok body) × (header_of bytes ≡ h)
+    → let bytes : List ℕ = header_spelling h kind (length body) ++ body in (kind_of bytes ≡ Ok kind) × (body_of kind bytes ≡ Ok body) × (header_of bytes ≡ h) × (number_at 24 8 bytes ≡ h.sequence)
 unfolding header_spelling
 header_again h kind body fits short limit =
     let bytes : List ℕ = header_spelling h kind (length body) ++ body in
@@ -274,13 +290,14 @@ header_again h kind body fits short limit =
       body_from kind bytes body refl (big_number-reads_back 2 (length body) r14 len) limit,
       header_from bytes h (big_number-reads_back 2 h.source.rank r6 fits.source.rank) (big_number-reads_back 2 h.target.rank r8 fits.target.rank) (big_number-reads_back 2 h.source.incarnation r10 fits.source.incarnation)
           (big_number-reads_back 2 h.target.incarnation r12 fits.target.incarnation) (big_number-reads_back 8 h.job r16 fits.job) (big_number-reads_back 8 h.sequence r24 fits.sequence),
+      big_number-reads_back 8 h.sequence r24 fits.sequence,
     )
 
 datagram_again : (d : DatagramText) → DatagramFits d → datagram_of (spelling d) ≡ Ok d
 unfolding spelling
 datagram_again d fits =
     let a = header_again d.header (kind_of_body d.body) (body_spelling d.body) fits.header (body_short d.body fits.body) (body_limit d.body fits.body) in
-    datagram_from (spelling d) (body_spelling d.body) d a.0 a.1 (content_again d.body fits.width fits.body) a.2
+    datagram_from (spelling d) (body_spelling d.body) d a.0 a.1 (content_again d.header.sequence d.body fits.width fits.body fits.sequence) a.2 a.3
 
 pub is_found : (bytes : List ℕ) (r : Result Datagram Refused) → IsBytes bytes → Gives datagram_text r (datagram_of bytes) → IfOk r (λ d. DatagramFits (datagram_text d) × (bytes ≡ spelling (datagram_text d)))
 is_found bytes (Ok d) fits given = datagram_takes bytes (datagram_text d) fits given

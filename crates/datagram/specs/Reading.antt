@@ -11,10 +11,10 @@ use Rattle.datagram.specs.declared.kinds.Plane.{Plane}
 use Rattle.datagram.specs.declared.kinds.Plane.TheVariants.{PointToPoint, Collective}
 use Rattle.datagram.specs.declared.datagram.Header.{Header}
 use Rattle.datagram.specs.Kinds.{kind_at, plane_at}
-use Rattle.datagram.specs.Spelling.{EagerText, BodyText, EagerBody, AckBody, DatagramText}
+use Rattle.datagram.specs.Spelling.{EagerText, BodyText, EagerBody, AckBody, ResetBody, DatagramText}
 
--- a step after a step that gave no fault
 infixl 10 ◌>>=◌
+-- a step after a step that gave no fault
 abbrev pub ◌>>=◌ : {A B : Type 0} → Result A Refused → (A → Result B Refused) → Result B Refused
 (Ok x) >>= f = f x
 (Err e) >>= f = Err e
@@ -49,6 +49,7 @@ kind_of bytes =
 abbrev pub length_fits : Kind → ℕ → Bool
 length_fits kinds.Frame n = nat_le n 1200
 length_fits kinds.Ack n = n == 0
+length_fits kinds.Reset n = n == 0
 
 -- the bytes behind the header, which must be as many as it says and may be: 25
 unfoldable pub body_of : Kind → List ℕ → Result (List ℕ) Refused
@@ -93,10 +94,11 @@ eager_of body =
             elements = drop 20 body;
           }))))))))
 
--- the content of a body of this kind
-unfoldable pub content_of : Kind → List ℕ → Result BodyText Refused
-content_of kinds.Ack body = Ok AckBody
-content_of kinds.Frame body = do
+-- the content of a body of this kind under this number, or 30: a reset has number 0
+unfoldable pub content_of : Kind → ℕ → List ℕ → Result BodyText Refused
+content_of kinds.Ack n body = Ok AckBody
+content_of kinds.Reset n body = guard (n == 0) refusals.BadFrame (Ok ResetBody)
+content_of kinds.Frame n body = do
   e ← eager_of body
   Ok (EagerBody e)
 
@@ -105,5 +107,5 @@ unfoldable pub datagram_of : List ℕ → Result DatagramText Refused
 datagram_of bytes = do
   kind ← kind_of bytes
   body ← body_of kind bytes
-  content ← content_of kind body
+  content ← content_of kind (number_at 24 8 bytes) body
   Ok (record { header = header_of bytes; body = content })

@@ -31,6 +31,7 @@ pub record EagerText : Type 0 where
 pub data BodyText : Type 0 where
   EagerBody : EagerText → BodyText
   AckBody : BodyText
+  ResetBody : BodyText
 
 -- what a datagram says
 pub record DatagramText : Type 0 where
@@ -58,6 +59,7 @@ frame_text (frames.Eager e) = EagerBody (eager_text e)
 abbrev pub content_text : Content → BodyText
 content_text (contents.Frame f) = frame_text f
 content_text contents.Ack = AckBody
+content_text contents.Reset = ResetBody
 
 -- what a datagram says
 abbrev pub datagram_text : Datagram → DatagramText
@@ -77,10 +79,17 @@ pub record EagerFits (e : EagerText) : Type 0 where
   pub limit : length e.elements ≤ 1024
   pub plane : BasicFitsPlane e.plane e.basic
 
--- the same of any body; an acknowledgement has none
+-- the same of any body; an acknowledgement and a reset have none
 abbrev pub BodyFits : BodyText → Type 0
 BodyFits (EagerBody e) = EagerFits e
 BodyFits AckBody = Unit {0}
+BodyFits ResetBody = Unit {0}
+
+-- a reset has number 0
+abbrev pub SequenceFits : ℕ → BodyText → Type 0
+SequenceFits n (EagerBody e) = Unit {0}
+SequenceFits n AckBody = Unit {0}
+SequenceFits n ResetBody = n ≡ 0
 
 -- ---- the widths of the fields, which every value of the program keeps by its types
 
@@ -105,12 +114,14 @@ pub record EagerIsWithinFields (e : EagerText) : Type 0 where
 abbrev pub BodyIsWithinFields : BodyText → Type 0
 BodyIsWithinFields (EagerBody e) = EagerIsWithinFields e
 BodyIsWithinFields AckBody = Unit {0}
+BodyIsWithinFields ResetBody = Unit {0}
 
 -- ---- what may be spelled: the widths and the rules together
 pub record DatagramFits (d : DatagramText) : Type 0 where
   pub header : HeaderIsWithinFields d.header
   pub width : BodyIsWithinFields d.body
   pub body : BodyFits d.body
+  pub sequence : SequenceFits d.header.sequence d.body
 
 -- ---- the spelling; `big_bytes n x` is the number x in n bytes, the highest first
 
@@ -124,11 +135,13 @@ eager_spelling e =
 unfoldable pub body_spelling : BodyText → List ℕ
 body_spelling (EagerBody e) = eager_spelling e
 body_spelling AckBody = []
+body_spelling ResetBody = []
 
 -- the kind that a body goes under
 abbrev pub kind_of_body : BodyText → Kind
 kind_of_body (EagerBody e) = kinds.Frame
 kind_of_body AckBody = kinds.Ack
+kind_of_body ResetBody = kinds.Reset
 
 -- the 32 bytes in front of a body of this kind and so many bytes: magic, version, kind, ranks,
 -- incarnations, length of the body, job, sequence

@@ -16,7 +16,7 @@ pub struct Header {
     /// The number of the job that both belong to.
     pub job: u64,
     /// Of a frame its number in its direction of the session, of an acknowledgement the number of
-    /// the next frame that its sender waits for.
+    /// the next frame that its sender waits for, of a reset 0.
     pub sequence: u64,
 }
 
@@ -80,6 +80,9 @@ pub enum Content<'a> {
     Frame(Frame<'a>),
     /// An acknowledgement: the header says it all.
     Ack,
+    /// The header says it all: who its sender now is; it has number 0. It answers a datagram that
+    /// was meant for a former incarnation of its sender.
+    Reset,
 }
 
 /// One datagram.

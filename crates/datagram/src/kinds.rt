@@ -10,6 +10,8 @@ pub enum Kind {
     Frame,
     /// It acknowledges frames.
     Ack,
+    /// It says who its sender now is.
+    Reset,
 }
 
 impl Kind {
@@ -20,6 +22,7 @@ impl Kind {
         match self {
             Kind::Frame => 1,
             Kind::Ack => 2,
+            Kind::Reset => 3,
         }
     }
 
@@ -30,6 +33,7 @@ impl Kind {
         match code {
             1 => Some(Kind::Frame),
             2 => Some(Kind::Ack),
+            3 => Some(Kind::Reset),
             _ => None,
         }
     }

@@ -53,6 +53,7 @@ fn body_of(kind: Kind, bytes: &[u8]) -> Result<&[u8], Refused>
     let fits = match kind {
         Kind::Frame => body.len() <= 1200,
         Kind::Ack => body.len() == 0,
+        Kind::Reset => body.len() == 0,
     };
     if !fits {
         return Err(Refused::Length);
@@ -113,34 +114,38 @@ fn eager_of(body: &[u8]) -> Result<Eager<'_>, Refused>
     })
 }
 
-/// What a body of this kind says.
+/// What a body of this kind says under this sequence.
 #[tactic(auto, unfolding(crate::specs::Reading::content_of))]
-fn content_of(kind: Kind, body: &[u8]) -> Result<Content<'_>, Refused>
-    ensures { Gives content_text result (content_of kind body.now) }
+fn content_of(kind: Kind, sequence: u64, body: &[u8]) -> Result<Content<'_>, Refused>
+    ensures { Gives content_text result (content_of kind sequence body.now) }
 {
     match kind {
         Kind::Ack => Ok(Content::Ack),
+        Kind::Reset => {
+            if sequence != 0 {
+                return Err(Refused::BadFrame);
+            }
+            Ok(Content::Reset)
+        }
         Kind::Frame => Ok(Content::Frame(Frame::Eager(eager_of(body)?))),
     }
 }
 
 /// What the bytes say, field by field.
-#[tactic(auto, unfolding(crate::specs::Reading::datagram_of))]
+#[tactic(auto, unfolding(crate::specs::Reading::datagram_of, crate::specs::Reading::header_of))]
 fn datagram_of(bytes: &[u8]) -> Result<Datagram<'_>, Refused>
     ensures { Gives datagram_text result (datagram_of bytes.now) }
 {
     let kind = kind_of(bytes)?;
     let body = body_of(kind, bytes)?;
-    let content = content_of(kind, body)?;
-    Ok(Datagram {
-        header: header_of(bytes),
-        content,
-    })
+    let header = header_of(bytes);
+    let content = content_of(kind, header.sequence, body)?;
+    Ok(Datagram { header, content })
 }
 
 /// The datagram that the bytes spell, which borrows them, or their first fault, in this order:
 /// fewer than 32 bytes, another magic, another version, an unknown kind, a length that is not that
-/// of the body or not allowed, a body that is no frame.
+/// of the body or not allowed, a body that is no frame or a reset whose sequence is not 0.
 pub fn read(bytes: &[u8]) -> Result<Datagram<'_>, Refused>
     // What is read is within the format's limits and spelled so, each byte of it.
     ensures found { IfOk result (λ d.

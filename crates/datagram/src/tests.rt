@@ -16,6 +16,12 @@ const ACKNOWLEDGEMENT: [u8; 32] = [
     0, 0, 0, 1,
 ];
 
+/// Rank 1, started anew, tells the first incarnation of rank 0 who it now is, in job 1.
+const RESET: [u8; 32] = [
+    0x4d, 0x50, 0x55, 0x44, 1, 3, 0, 1, 0, 0, 0, 1, 0, 0, 0, 0, 0, 0, 0, 0, 0, 0, 0, 1, 0, 0, 0, 0,
+    0, 0, 0, 0,
+];
+
 fn edited(alloc: Global, bytes: &[u8], at: usize, byte: u8) -> Result<Vec<u8>, Fail> {
     let mut edited = Vec::from_slice(alloc, bytes)?;
     if at < edited.len() {
@@ -69,13 +75,38 @@ fn an_acknowledgement_is_read_and_appended(rt: HostRuntime) -> Result<(), Fail> 
 }
 
 #[test]
+fn a_reset_is_read_and_written(rt: HostRuntime) -> Result<(), Fail> {
+    let datagram = read(&RESET)?;
+    assert!(rt; matches!(datagram.content, Content::Reset));
+    assert_eq!(rt; datagram.header.source.rank, 1);
+    assert_eq!(rt; datagram.header.source.incarnation, 1);
+    assert_eq!(rt; datagram.header.target.incarnation, 0);
+    assert_eq!(rt; datagram.header.sequence, 0);
+    let mut out = Vec::new(rt.alloc());
+    write(&datagram, &mut out)?;
+    assert_eq!(rt; out.as_slice(), RESET.as_slice());
+    Ok(())
+}
+
+#[test]
+fn a_reset_has_number_0_and_no_body(rt: HostRuntime) -> Result<(), Fail> {
+    let numbered = edited(rt.alloc(), &RESET, 31, 1)?;
+    assert_eq!(rt; read(&numbered).err(), Some(Refused::BadFrame));
+    let unannounced = edited(rt.alloc(), &RESET, 32, 0)?;
+    assert_eq!(rt; read(&unannounced).err(), Some(Refused::Length));
+    let with_body = edited(rt.alloc(), &unannounced, 15, 1)?;
+    assert_eq!(rt; read(&with_body).err(), Some(Refused::Length));
+    Ok(())
+}
+
+#[test]
 fn the_first_fault_is_answered(rt: HostRuntime) -> Result<(), Fail> {
     assert!(rt; matches!(read(&ACKNOWLEDGEMENT[..31]), Err(Refused::Short)));
     assert!(rt; matches!(read(&MESSAGE[..63]), Err(Refused::Length)));
     let of_header = [
         (0, 0x4e, Refused::Magic),
         (4, 2, Refused::Version),
-        (5, 3, Refused::Kind),
+        (5, 4, Refused::Kind),
         (32, 0, Refused::Length),
     ];
     for (at, byte, fault) in of_header {

@@ -2,7 +2,7 @@
 
 ghost use Rattle.std.specs.Prelude.{◌≡◌, ◌+◌, ◌≤◌, ◌++◌, [], ◌∷◌, OnOk, OnErr, IsOkUnless, length, vec_len, vec_capacity};
 ghost use Rattle.byteorder.specs.Endian.{big_bytes};
-ghost use Rattle.datagram.specs.Spelling.{eager_text, eager_spelling, frame_text, content_text, body_spelling, kind_of_body, datagram_text, DatagramFits, BodyFits, HeaderIsWithinFields, EagerIsWithinFields, BodyIsWithinFields, header_spelling, spelling};
+ghost use Rattle.datagram.specs.Spelling.{eager_text, eager_spelling, frame_text, content_text, body_spelling, kind_of_body, datagram_text, DatagramFits, BodyFits, SequenceFits, HeaderIsWithinFields, EagerIsWithinFields, BodyIsWithinFields, header_spelling, spelling};
 
 use crate::datagram::{Content, Datagram, Eager, Frame, Header};
 use crate::kinds::Kind;
@@ -104,11 +104,12 @@ fn put_frame(out: &mut Vec<u8>, frame: Frame)
 }
 
 /// Appends the one spelling of the datagram. The only refusal is want of memory, and then nothing
-/// was appended. An acknowledgement can always be written, and a frame where it keeps the rules of
-/// its kind (`Eager::fits`); what `read` answered keeps them.
+/// was appended. An acknowledgement can always be written, a frame where it keeps the rules of its
+/// kind (`Eager::fits`), and a reset where its sequence is 0; what `read` answered keeps them.
 #[tactic(auto, unfolding(crate::specs::Spelling::spelling, crate::specs::Spelling::body_spelling))]
 pub fn write(datagram: &Datagram, out: &mut Vec<u8>) -> Result<(), Refused>
-    requires { BodyFits (content_text datagram.now.content) }
+    requires body { BodyFits (content_text datagram.now.content) }
+    requires sequence { SequenceFits datagram.now.header.sequence (content_text datagram.now.content) }
     ensures ok { OnOk result
         (out.new.items ≡ out.old.items ++ spelling (datagram_text datagram.now)) }
     ensures fits { OnOk result (DatagramFits (datagram_text datagram.now)) }
@@ -120,6 +121,10 @@ pub fn write(datagram: &Datagram, out: &mut Vec<u8>) -> Result<(), Refused>
         Content::Ack => {
             out.reserve(32).map_err(|_| Refused::OutOfMemory)?;
             put_header(out, &header, Kind::Ack, 0);
+        }
+        Content::Reset => {
+            out.reserve(32).map_err(|_| Refused::OutOfMemory)?;
+            put_header(out, &header, Kind::Reset, 0);
         }
         Content::Frame(frame) => {
             let body_len = frame.len();

@@ -65,6 +65,7 @@ pub trait ReduceOp {
 pub struct Reduction {
     operation: Op,
     basic: BasicType,
+    /// That the operation is defined on the type.
     pub ghost defined: { is_defined operation basic ≡ true },
 }
 

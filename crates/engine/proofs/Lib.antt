@@ -1,2 +1,3 @@
 pub mod PeerLemmas
-pub mod HeaderLemmas
+pub mod FirstWords
+pub mod Heard

@@ -10,10 +10,10 @@ use Rattle.std.specs.Global.{Vec}
 use Rattle.std.proofs.Common.{cond}
 use Rattle.reliable_link.specs.declared.out_frame.OutFrame.{OutFrame}
 use Rattle.reliable_link.specs.SenderState.{SenderState, due_at, is_due, out_count, out_end, after_ack, after_due, heeded}
-use Rattle.engine.specs.declared.place.Place.{Place}
+use Rattle.incarnation.specs.declared.place.Place.{Place}
 use Rattle.engine.specs.declared.peers.Peer.{Peer}
 use Rattle.engine.specs.Invariant.{IsSound}
-use Rattle.engine.specs.Peers.{peer_at, with_sender, with_receiver, frames_out, due_out, due_peer, after_all_due}
+use Rattle.engine.specs.Peers.{peer_at, with_sender, with_receiver, new_session, with_new_session, frames_out, due_out, due_peer, after_all_due}
 
 -- ---- the clocks
 
@@ -41,6 +41,14 @@ sound_with_receiver place peers clock rank next h = record {
   size = h.size;
   each = length-set peers rank (record { sender = (peer_at peers rank).sender; receiver = next }) ∙ h.each;
   clocks = All-set (NotAhead clock) peers rank (record { sender = (peer_at peers rank).sender; receiver = next }) (peer_not_ahead peers rank clock h.clocks) h.clocks;
+}
+
+pub sound_with_new_session : (place : Place) (peers : List Peer) (clock rank : ℕ) → IsSound place peers clock → IsSound place (with_new_session peers rank) clock
+sound_with_new_session place peers clock rank h = record {
+  rank = h.rank;
+  size = h.size;
+  each = length-set peers rank (new_session (peer_at peers rank)) ∙ h.each;
+  clocks = All-set (NotAhead clock) peers rank (new_session (peer_at peers rank)) (peer_not_ahead peers rank clock h.clocks) h.clocks;
 }
 
 pub ack_clock : (s : SenderState) (n : ℕ) → (after_ack s n).clock ≡ s.clock

@@ -16,18 +16,21 @@ use Rattle.engine.specs.Sending.{SendGives}
 use Rattle.engine.specs.Receiving.{ReceiveGives}
 use Rattle.engine.specs.Waiting.{WaitGives}
 
+-- a send answers the request that it started; or it is refused, and handed back as it was (MPI 3.1, 3.7.2)
 abbrev pub IsendGives : EngineState → Send → Reply → EngineState → Type 0
 IsendGives old s (replies.Started r) new = SendGives old s (Ok r) new
 IsendGives old s (replies.Refused e back) new = (back ≡ calls.Isend s) × SendGives old s (Err e) new
 IsendGives old s (replies.Done o) new = ⊥
 IsendGives old s replies.Blocked new = ⊥
 
+-- a receive answers the request that it started; or it is refused, and handed back as it was (MPI 3.1, 3.7.2)
 abbrev pub IrecvGives : EngineState → Receive → Reply → EngineState → Type 0
 IrecvGives old v (replies.Started r) new = ReceiveGives old v (Ok r) new
 IrecvGives old v (replies.Refused e back) new = (back ≡ calls.Irecv v) × ReceiveGives old v (Err (record { refused = e; value = v })) new
 IrecvGives old v (replies.Done o) new = ⊥
 IrecvGives old v replies.Blocked new = ⊥
 
+-- what a call gives while no earlier one is blocked
 abbrev pub FreeCallGives : EngineState → Call → Reply → EngineState → Type 0
 FreeCallGives old (calls.Isend s) reply new = IsendGives old s reply new
 FreeCallGives old (calls.Irecv v) reply new = IrecvGives old v reply new
@@ -35,6 +38,7 @@ FreeCallGives old (calls.Wait (Some q)) reply new = WaitGives old q reply new
 -- the null request answers the empty outcome (MPI 3.1, 3.7.3)
 FreeCallGives old (calls.Wait None) reply new = (reply ≡ replies.Done outcomes.Empty) × (new ≡ old)
 
+-- by whether an earlier call is blocked; that a call is then refused is our own
 abbrev pub CallGivesAt : Option Request → EngineState → Call → Reply → EngineState → Type 0
 CallGivesAt (Some q) old call reply new = (reply ≡ replies.Refused refusals.Request call) × (new ≡ old)
 CallGivesAt None old call reply new = FreeCallGives old call reply new

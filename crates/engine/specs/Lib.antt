@@ -7,6 +7,7 @@ pub mod Sessions
 pub mod Receiving
 pub mod Sending
 pub mod Waiting
+pub mod Learning
 pub mod Calls
 pub mod Datagrams
 pub mod Ticks

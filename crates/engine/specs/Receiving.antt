@@ -22,6 +22,7 @@ use Rattle.engine.specs.declared.refused.Refused.TheVariants as refusals
 use Rattle.engine.specs.Refusals.{IsRefusal}
 use Rattle.engine.specs.EngineState.{EngineState}
 
+-- whether a tag is above the highest, 2,147,483,647 (our own); the wildcard isn't
 abbrev pub is_tag_above : Option ℕ → Bool
 is_tag_above None = false
 is_tag_above (Some tag) = nat_lt 2147483647 tag
@@ -40,6 +41,7 @@ receive_fault e v =
     else (if is_full e.slots e.serial then Some refusals.Limit
     else None))
 
+-- the receive as it stands in the queue, under its key in the table; it is on world, whose context is 0
 abbrev pub posted_by : ℕ → Receive → posted.Receive
 posted_by key v = record { request = key; context = 0; source = v.source; tag = v.tag }
 
@@ -52,10 +54,13 @@ abbrev pub slots_on_arrival : List (Option Entry) → Arrival → List (Option E
 slots_on_arrival slots (Matched r m) = after_finish slots r.request (status_of m) m.elements
 slots_on_arrival slots Kept = slots
 
+-- how far a receive is once it was posted: it waits, or it has ended with the message that was found
 abbrev pub progress_on_post : Contents → Option Message → Progress
 progress_on_post b None = Receiving b
 progress_on_post b (Some m) = Finished (outcome_of b (status_of m) m.elements)
 
+-- the receive has the next serial and a key that was free; it has ended with the oldest message that it accepts, or it
+-- waits (MPI 3.1, 3.5)
 pub record IsPosted (old : EngineState) (v : Receive) (r : Request) (new : EngineState) : Type 0 where
   pub allowed : receive_fault old v ≡ None
   pub fresh : slot_at old.slots r.key ≡ None

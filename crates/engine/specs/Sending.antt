@@ -15,21 +15,18 @@ use Rattle.requests.specs.declared.table.Request.{Request}
 use Rattle.requests.specs.declared.table.Progress.TheVariants.{Finished}
 use Rattle.requests.specs.declared.outcome.Outcome.TheVariants.{Sent}
 use Rattle.requests.specs.Table.{slot_at, IsSet, is_full}
-use Rattle.engine.specs.declared.place.Place.{Place}
+use Rattle.incarnation.specs.declared.place.Place.{Place}
 use Rattle.engine.specs.declared.call.Send.{Send}
 use Rattle.engine.specs.declared.refused.Refused.{Refused}
 use Rattle.engine.specs.declared.refused.Refused.TheVariants as refusals
 use Rattle.engine.specs.Refusals.{IsRefusal}
-use Rattle.engine.specs.EngineState.{EngineState}
+use Rattle.engine.specs.EngineState.{EngineState, known_endpoint}
 use Rattle.engine.specs.Peers.{peer_at, with_sender}
 use Rattle.engine.specs.Receiving.{slots_on_arrival}
 
--- every rank is at its first incarnation
-abbrev pub endpoint : ℕ → Endpoint
-endpoint rank = record { rank = rank; incarnation = 0 }
-
-abbrev pub header_to : Place → ℕ → ℕ → Header
-header_to p target n = record { source = endpoint p.rank; target = endpoint target; job = p.job; sequence = n }
+-- the header of a datagram to an endpoint, under this number
+abbrev pub header_to : Place → Endpoint → ℕ → Header
+header_to p target n = record { source = p.endpoint; target = target; job = p.job; sequence = n }
 
 -- the bytes of data of a send
 abbrev pub byte_count : Contents → ℕ
@@ -40,8 +37,8 @@ pub record IsSmall (s : Send) : Type 0 where
   pub count : byte_count s.elements ≤ 1024
   pub tag : s.tag ≤ 2147483647
 
--- the datagram of a send to a rank, under a number of their session
-abbrev pub send_text : Place → ℕ → Send → ℕ → DatagramText
+-- the datagram of a send to an endpoint, under a number of their session
+abbrev pub send_text : Place → Endpoint → Send → ℕ → DatagramText
 send_text p target s n = record {
   header = header_to p target n;
   body = EagerBody (record {
@@ -54,16 +51,13 @@ send_text p target s n = record {
   });
 }
 
-unfoldable pub send_bytes : Place → ℕ → Send → ℕ → List ℕ
+-- the bytes of a send's datagram
+unfoldable pub send_bytes : Place → Endpoint → Send → ℕ → List ℕ
 send_bytes p target s n = spelling (send_text p target s n)
 
 -- no frame can be numbered any more
 abbrev pub is_worn_out : SenderState → Bool
 is_worn_out s = nat_le 18446744073709551615 (next_number s)
-
--- whether a rank is another one of the job
-abbrev pub is_other : Place → ℕ → Bool
-is_other p rank = if rank == p.rank then false else nat_lt rank p.size
 
 -- for now a send goes to a rank of the job, and not to the null process
 abbrev pub target_fault : Place → Option ℕ → Option Refused
@@ -85,6 +79,7 @@ send_limit e target = if is_full e.slots e.serial || is_worn_out (peer_at e.peer
 abbrev pub out_on_accept : SenderState → ℕ → List ℕ → List (ℕ × List ℕ)
 out_on_accept s target bytes = if nat_lt (length s.frames) 64 then (target, bytes) ∷ [] else []
 
+-- the message is meant for the incarnation at which the target is known
 pub record IsSentTo (old : EngineState) (target : ℕ) (s : Send) (r : Request) (new : EngineState) : Type 0 where
   pub room : send_limit old target ≡ None
   pub fresh : slot_at old.slots r.key ≡ None
@@ -95,9 +90,9 @@ pub record IsSentTo (old : EngineState) (target : ℕ) (s : Send) (r : Request) 
     serial = old.serial + 1;
     peers = with_sender old.peers target
         (after_accept (peer_at old.peers target).sender
-        (send_bytes old.place target s (next_number (peer_at old.peers target).sender)));
+        (send_bytes old.place (known_endpoint old.known target) s (next_number (peer_at old.peers target).sender)));
     out = old.out ++ out_on_accept (peer_at old.peers target).sender target
-        (send_bytes old.place target s (next_number (peer_at old.peers target).sender));
+        (send_bytes old.place (known_endpoint old.known target) s (next_number (peer_at old.peers target).sender));
   }
 
 -- the message is on its way, and the request is finished; or a rule, a limit or want of memory refused it
@@ -107,8 +102,9 @@ SendToGives old target s (Err e) new = (new ≡ old) × IsRefusal (send_limit ol
 
 -- A SEND TO THE OWN RANK, which goes into its own queues without a datagram
 
+-- the message of a send to the own rank, on world
 abbrev pub own_message : Place → Send → Message
-own_message p s = record { sender = endpoint p.rank; context = 0; tag = s.tag; elements = s.elements }
+own_message p s = record { sender = p.endpoint; context = 0; tag = s.tag; elements = s.elements }
 
 -- the first limit that it meets
 abbrev pub own_limit : EngineState → Option Refused
@@ -127,6 +123,7 @@ pub record IsSentToItself (old : EngineState) (s : Send) (r : Request) (new : En
     queues = after_arrival old.queues (own_message old.place s);
   }
 
+-- the request is finished and the message has come; or a limit or want of memory refused it
 abbrev pub SendToItselfGives : EngineState → Send → Result Request Refused → EngineState → Type 0
 SendToItselfGives old s (Ok r) new = IsSentToItself old s r new
 SendToItselfGives old s (Err e) new = (new ≡ old) × IsRefusal (own_limit old) e
@@ -136,10 +133,12 @@ abbrev pub SendToAnyGives : Bool → EngineState → ℕ → Send → Result Req
 SendToAnyGives true old target s result new = SendToItselfGives old s result new
 SendToAnyGives false old target s result new = SendToGives old target s result new
 
+-- a send that breaks a rule is refused by the first one, and changes nothing; any other goes to its rank
 abbrev pub SendGivesAt : Option Refused → EngineState → Send → Option ℕ → Result Request Refused → EngineState → Type 0
 SendGivesAt (Some fault) old s target result new = (result ≡ Err fault) × (new ≡ old)
-SendGivesAt None old s (Some target) result new = SendToAnyGives (target == old.place.rank) old target s result new
+SendGivesAt None old s (Some target) result new = SendToAnyGives (target == old.place.endpoint.rank) old target s result new
 SendGivesAt None old s None result new = (result ≡ Err refusals.Rank) × (new ≡ old)
 
+-- what a send gives, judged first by the rules and then by what the engine has room for
 abbrev pub SendGives : EngineState → Send → Result Request Refused → EngineState → Type 0
 SendGives old s result new = SendGivesAt (send_fault old.place s) old s s.target result new

@@ -16,14 +16,17 @@ WaitGivesAt old q None reply new = (reply ≡ replies.Refused refusals.Request (
 WaitGivesAt old q (Some (Receiving b)) reply new = (reply ≡ replies.Blocked) × (new ≡ record old { blocked = Some q })
 WaitGivesAt old q (Some (Finished o)) reply new = (reply ≡ replies.Done o) × (new ≡ record old { slots = slice_set old.slots q.key None })
 
+-- a wait ends a finished request, is blocked by an unfinished one, and is refused where there is none
 abbrev pub WaitGives : EngineState → Request → Reply → EngineState → Type 0
 WaitGives old q reply new = WaitGivesAt old q (progress_at old.slots q.key q.serial) reply new
 
+-- by how far its request is: a finished one ends, and its outcome is the completion
 abbrev pub woken_at : EngineState → Request → Option Progress → EngineState
 woken_at e q None = e
 woken_at e q (Some (Receiving b)) = e
 woken_at e q (Some (Finished o)) = record e { slots = slice_set e.slots q.key None; blocked = None; completion = Some o }
 
+-- where no wait is blocked, nothing is answered
 abbrev pub woken_by : EngineState → Option Request → EngineState
 woken_by e None = e
 woken_by e (Some q) = woken_at e q (progress_at e.slots q.key q.serial)

@@ -57,7 +57,9 @@ pub enum Reply {
 /// A refusal, with what was handed in.
 #[derive(Debug, Drop)]
 pub struct Handed<T> {
+    /// Why it was refused.
     pub refused: Refused,
+    /// What was handed in, as it was.
     pub value: T,
 }
 

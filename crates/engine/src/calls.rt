@@ -13,6 +13,7 @@ ghost use Rattle.engine.specs.Calls.{CallGives, IsTaken, IsWithin, RefusedLeaves
 use crate::call::{Call, Handed, Receive, Reply, Send};
 use crate::engine::Engine;
 use crate::peers;
+use crate::place::known_endpoint;
 use crate::receiving::{is_no_source, is_tag_above, posted_by, progress_on_post, status_of};
 use crate::refused::Refused;
 use crate::sending::{fault_of, own_message, send_bytes};
@@ -42,7 +43,8 @@ impl Engine {
         }
         // What needs memory comes first.
         let sequence = peers::peer_at(&self.peers, target).sender.next_number();
-        let bytes = send_bytes(self.alloc, self.place, target, send, sequence)?;
+        let endpoint = known_endpoint(&self.known, target);
+        let bytes = send_bytes(self.alloc, self.known.place(), endpoint, send, sequence)?;
         let copy = Bytes::from_slice(self.alloc, bytes.as_slice()).map_err(
             |_| Refused::OutOfMemory,
         )?;
@@ -64,7 +66,7 @@ impl Engine {
             return Err(Refused::Limit);
         }
         // What needs memory comes first.
-        let message = own_message(self.alloc, self.place, send)?;
+        let message = own_message(self.alloc, self.known.place(), send)?;
         self.requests.reserve().map_err(|_| Refused::OutOfMemory)?;
         let arrival = self
             .queues
@@ -87,12 +89,12 @@ impl Engine {
         ensures few { length self.new.out ≤ length self.old.out + 1 }
         ensures placed { self.new.place ≡ self.old.place }
     {
-        if let Some(fault) = fault_of(self.place, send) {
+        if let Some(fault) = fault_of(self.known.place(), send) {
             return Err(fault);
         }
         match send.target {
             Some(target) => {
-                if target == self.place.rank {
+                if target == self.known.place().endpoint.rank {
                     self.send_to_itself(send)
                 } else {
                     self.send_to(target, send)
@@ -109,7 +111,7 @@ impl Engine {
         if is_tag_above(receive.tag) {
             return Some(Refused::Tag);
         }
-        if is_no_source(self.place.size, receive.source) {
+        if is_no_source(self.known.place().size, receive.source) {
             return Some(Refused::Rank);
         }
         if self.requests.is_full() {

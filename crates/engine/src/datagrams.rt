@@ -1,25 +1,27 @@
 //! How an engine takes datagrams in.
 
-ghost use Rattle.std.specs.Prelude.{◌≡◌, ◌≤◌, ◌<◌, ◌+◌, ◌^◌, length, OnOk, OnErr, IfErr, None, Ok, Err};
+ghost use Rattle.std.specs.Prelude.{◌≡◌, ◌≤◌, ◌<◌, ◌+◌, ◌^◌, length, OnOk, None};
 ghost use Rattle.std.specs.Ordering.{nat_cmp};
-ghost use Rattle.datagram.specs.Spelling.{eager_text, EagerFits};
+ghost use Rattle.datagram.specs.Spelling.{content_text, eager_text, BodyFits, EagerFits};
 ghost use Rattle.engine.specs.Peers.{peer_at};
 ghost use Rattle.engine.specs.Waiting.{woken};
-ghost use Rattle.engine.specs.Datagrams.{GivesUnless, EagerGivesAt, DatagramGives, ack_fault, after_acked, handed_up, repeated, message_of, frame_fault};
+ghost use Rattle.engine.specs.Datagrams.{GivesUnless, EagerGivesAt, BodyGives, DatagramGives, SourceIsKnown, RefusedDatagramLeaves, ack_fault, after_acked, handed_up, repeated, message_of, frame_fault};
 
 use crate::engine::Engine;
 use crate::peers;
-use crate::receiving::{fault_of_header, message_of, status_of};
+use crate::place::known_endpoint;
+use crate::receiving::{message_of, status_of};
 use crate::refused::Refused;
 use crate::sending::ack_bytes;
 use datagram::{Content, Eager, Frame, Header, Plane};
+use incarnation::Judgement;
 use match_queues::{Arrival, Message};
 use requests::Taken;
 
 impl Engine {
     /// Answers the blocked call, if its request is finished now.
     #[tactic(auto, unfolding(crate::specs::Waiting::woken))]
-    fn wake(&mut self)
+    pub(crate) fn wake(&mut self)
         ensures exact { self.new ≡ woken self.old }
         ensures few { self.new.out ≡ self.old.out }
         ensures placed { self.new.place ≡ self.old.place }
@@ -40,7 +42,8 @@ impl Engine {
         ensures placed { self.new.place ≡ self.old.place }
     {
         let next = peers::peer_at(&self.peers, source).receiver.next();
-        let ack = ack_bytes(self.alloc, self.place, source, next)?;
+        let endpoint = known_endpoint(&self.known, source);
+        let ack = ack_bytes(self.alloc, self.known.place(), endpoint, next)?;
         self.out
             .push((source, ack))
             .map_err(|_| Refused::OutOfMemory)?;
@@ -57,7 +60,8 @@ impl Engine {
         ensures placed { self.new.place ≡ self.old.place }
     {
         let next = peers::peer_at(&self.peers, source).receiver.next();
-        let ack = ack_bytes(self.alloc, self.place, source, next + 1)?;
+        let endpoint = known_endpoint(&self.known, source);
+        let ack = ack_bytes(self.alloc, self.known.place(), endpoint, next + 1)?;
         self.out.reserve(1).map_err(|_| Refused::OutOfMemory)?;
         let arrival = self
             .queues
@@ -138,14 +142,27 @@ impl Engine {
             .map_err(|_| Refused::OutOfMemory)
     }
 
-    /// Takes a datagram in.
-    ///
-    /// Refused is the first that holds of: 21 to 25 and 30 (the bytes spell no datagram), 26 (another job), 27 (not for
-    /// this rank, or from no other rank of the job), 31 (a number outside the window), 30 (a message of a collective
-    /// operation, for now), 13 and 14. A refusal changes nothing.
-    pub fn on_datagram(&mut self, bytes: &[u8]) -> Result<(), Refused>
+    /// Takes in what a datagram from the incarnation at which its source is known says.
+    fn on_current(&mut self, header: Header, content: &Content) -> Result<(), Refused>
+        requires there { header.source.rank < length self.old.peers }
+        requires fits { BodyFits (content_text content.now) }
+        ensures exact { BodyGives self.old header (content_text content.now) result self.new }
+        ensures unchanged { RefusedDatagramLeaves result self.old self.new }
+        ensures few { length self.new.out ≤ length self.old.out + 64 }
+        ensures placed { self.new.place ≡ self.old.place }
+    {
+        match content {
+            Content::Ack => self.on_ack(header.source.rank, header.sequence),
+            // It says at which incarnation its source is, and that is known.
+            Content::Reset => Ok(()),
+            Content::Frame(Frame::Eager(eager)) => self.on_eager(header, eager),
+        }
+    }
+
+    /// Reads a datagram, judges it by both of its endpoints, and takes in what it says.
+    fn take_in(&mut self, bytes: &[u8]) -> Result<(), Refused>
         ensures exact { DatagramGives self.old bytes.now result self.new }
-        ensures unchanged { OnErr result (self.new ≡ self.old) }
+        ensures unchanged { RefusedDatagramLeaves result self.old self.new }
         ensures few { length self.new.out ≤ length self.old.out + 64 }
         ensures placed { self.new.place ≡ self.old.place }
     {
@@ -153,12 +170,39 @@ impl Engine {
             Ok(datagram) => datagram,
             Err(refused) => return Err(Refused::of_datagram(refused)),
         };
-        if let Some(fault) = fault_of_header(self.place, datagram.header) {
-            return Err(fault);
+        match self.known.judge(datagram.header) {
+            Ok(Judgement::Current) => self.on_current(datagram.header, &datagram.content),
+            Ok(Judgement::Learn(_)) => self.on_first_word(datagram.header, &datagram.content),
+            Err(incarnation::Refused::StaleTarget) => {
+                self.on_stale(datagram.header, &datagram.content)
+            }
+            Err(refused) => Err(Refused::of_judging(refused)),
         }
-        match datagram.content {
-            Content::Ack => self.on_ack(datagram.header.source.rank, datagram.header.sequence),
-            Content::Frame(Frame::Eager(eager)) => self.on_eager(datagram.header, &eager),
-        }
+    }
+
+    /// Takes a datagram in.
+    ///
+    /// Refused is the first that holds of: 21 to 25 and 30 (the bytes spell no datagram), 26 (another job), 27 (for
+    /// another rank or a later incarnation of this one, or from no other rank of the job), 28 (from a former incarnation
+    /// of its source), 29 (for a former incarnation of this rank: where the datagram is no reset itself, one reset goes
+    /// out to its source), 31 (a number outside the window), 30 (a message of a collective operation, for now), 13 and
+    /// 14. A refusal changes nothing, but for that reset; without memory for the reset it is 14.
+    ///
+    /// A datagram from a later incarnation of its source than the known one teaches it, before the datagram is
+    /// handled. Both directions of the session start anew, so of a frame or an acknowledgement only number 0 is within
+    /// the window; receives that name the rank end as replaced, with their buffers as they were; messages from its
+    /// former incarnations that were not received are dropped. A reset that teaches nothing changes nothing. MPI 3.1 has
+    /// no restarts of a rank: these rules are this project's own. What is not refused leaves its source known at the
+    /// incarnation in its header.
+    pub fn on_datagram(&mut self, bytes: &[u8]) -> Result<(), Refused>
+        ensures exact { DatagramGives self.old bytes.now result self.new }
+        ensures known { OnOk result (SourceIsKnown self.new bytes.now) }
+        ensures unchanged { RefusedDatagramLeaves result self.old self.new }
+        ensures few { length self.new.out ≤ length self.old.out + 64 }
+        ensures placed { self.new.place ≡ self.old.place }
+    {
+        // The place shows that there is one known incarnation for each rank.
+        let _place = self.known.place();
+        self.take_in(bytes)
     }
 }

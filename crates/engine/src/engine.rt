@@ -10,9 +10,10 @@ ghost use Rattle.engine.specs.Datagrams.{GivesUnless};
 ghost use Rattle.engine.specs.Ticks.{clock_fault, after_tick};
 
 use crate::peers::{self, Peer};
-use crate::place::Place;
+use crate::place::{fault_of_place, is_other};
 use crate::refused::Refused;
 use datagram::Bytes;
+use incarnation::Place;
 use match_queues::Queues;
 use requests::{Outcome, Request, Requests};
 use std::alloc::Global;
@@ -22,14 +23,23 @@ use std::mem;
 /// One rank of a job.
 #[derive(Drop)]
 pub struct Engine {
+    /// Where all memory of the engine comes from.
     pub(crate) alloc: Global,
-    pub(crate) place: Place,
+    /// Where it stands, and the incarnation at which it knows each rank.
+    pub(crate) known: incarnation::Peers,
+    /// The receives that wait for a message, and the messages that wait for a receive.
     pub(crate) queues: Queues,
+    /// The requests that were started and have not ended.
     pub(crate) requests: Requests,
+    /// The session with each rank, by rank; that with the rank itself stays empty.
     pub(crate) peers: Vec<Peer>,
+    /// The time of the last tick, in milliseconds; 0 before the first.
     pub(crate) clock: u64,
+    /// The request that the blocked call waits for.
     pub(crate) blocked: Option<Request>,
+    /// The datagrams that were emitted and not yet taken out, each with the rank that it goes to.
     pub(crate) out: Vec<(u16, Bytes)>,
+    /// The answer of a blocked call, until it is taken out.
     pub(crate) completion: Option<Outcome>,
 }
 
@@ -41,7 +51,8 @@ impl Model for Engine {
     ghost use Rattle.engine.specs.Invariant.{IsSound};
 
     ghost view = { λ e. record {
-      place = e.place;
+      place = e.known.place;
+      known = e.known.known;
       queues = e.queues;
       slots = e.requests.slots;
       serial = e.requests.serial;
@@ -52,7 +63,7 @@ impl Model for Engine {
       completion = e.completion;
     } };
 
-    ghost invariant = { λ e. IsSound e.place e.peers.items e.clock };
+    ghost invariant = { λ e. IsSound e.known.place e.peers.items e.clock };
 }
 
 /// How a session with another rank stands.
@@ -65,7 +76,8 @@ pub struct Session {
 }
 
 impl Engine {
-    /// The engine of a rank at its start: nothing is pending, its clock is at 0, and no session has begun.
+    /// The engine of a rank at its start: nothing is pending, its clock is at 0, no session has begun, and every other
+    /// rank is known at incarnation 0.
     ///
     /// Refused with 5 where the rank is not below the size, with 13 where the size is above 256, and with 14.
     pub fn new(alloc: Global, place: Place) -> Result<Engine, Refused>
@@ -73,13 +85,16 @@ impl Engine {
         ensures placed { OnOk result (place_fault place ≡ None) }
         ensures refused { IfErr result (λ e. IsRefusal (place_fault place) e) }
     {
-        if let Some(fault) = place.fault() {
+        if let Some(fault) = fault_of_place(place) {
             return Err(fault);
         }
+        let Ok(known) = incarnation::Peers::new(alloc, place) else {
+            return Err(Refused::OutOfMemory);
+        };
         let peers = peers::new_peers(alloc, place.size)?;
         Ok(Engine {
             alloc,
-            place,
+            known,
             queues: Queues::new(alloc),
             requests: Requests::new(alloc),
             peers,
@@ -88,6 +103,13 @@ impl Engine {
             out: Vec::new(alloc),
             completion: None,
         })
+    }
+
+    /// Which rank of which job this is, and at which incarnation.
+    pub fn place(&self) -> Place
+        ensures { result ≡ self.now.place }
+    {
+        self.known.place()
     }
 
     /// The clock says `now`, in milliseconds: what was last sent 20 ms or more before is sent again.
@@ -115,7 +137,7 @@ impl Engine {
     }
 
     /// Hands out what was emitted since the last time, with the rank that each datagram goes to, in order: of each
-    /// event first its acknowledgement, then frames by rising rank and, for one rank, by their numbers.
+    /// event first its acknowledgement or reset, then frames by rising rank and, for one rank, by their numbers.
     pub fn take_out(&mut self) -> Vec<(u16, Bytes)>
         ensures all { result.items ≡ self.old.out }
         ensures rest { self.new ≡ record self.old { out = [] } }
@@ -143,12 +165,12 @@ impl Engine {
     pub fn session(&self, rank: u16) -> Option<Session>
         ensures { SessionGives self.now rank result }
     {
-        if !self.place.is_other(rank) {
+        if !is_other(self.known.place(), rank) {
             return None;
         }
         let idle = peers::peer_at(&self.peers, rank).sender.is_empty();
         Some(Session {
-            incarnation: 0,
+            incarnation: self.known.known(rank),
             idle,
         })
     }

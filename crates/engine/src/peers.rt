@@ -3,7 +3,7 @@
 ghost use Rattle.std.specs.Prelude.{◌≡◌, ◌≤◌, ◌<◌, ◌+◌, ◌-◌, ◌*◌, ◌++◌, ◌↔◌, length, All, IsTrue, IfOk, OnOk, OnErr, IfErr, nat_lt, ◌^◌, [], ◌∷◌, if◌then◌else◌, vec_len, vec_capacity};
 ghost use Rattle.reliable_link.specs.SenderState.{after_accept, after_ack, entered_on_ack, due_at, out_end, next_number};
 ghost use Rattle.std.specs.List.{range_with_len};
-ghost use Rattle.engine.specs.Peers.{new_peers, peer_at, with_sender, with_receiver, frames_out, due_out, after_all_due, IsIdlePeer};
+ghost use Rattle.engine.specs.Peers.{new_peers, peer_at, with_sender, with_receiver, with_new_session, frames_out, due_out, after_all_due, IsIdlePeer};
 
 use crate::refused::Refused;
 use datagram::Bytes;
@@ -91,6 +91,16 @@ pub(crate) fn acknowledge_at(peers: &mut Vec<Peer>, rank: u16, n: u64)
 {
     let peer = &mut peers[rank as usize];
     let _ = peer.sender.on_ack(n);
+}
+
+/// Both directions of the session with a rank start anew.
+pub(crate) fn reset_at(peers: &mut Vec<Peer>, rank: u16)
+    requires { rank < vec_len peers.old }
+    ensures { peers.new.items ≡ with_new_session peers.old.items rank }
+{
+    let peer = &mut peers[rank as usize];
+    peer.sender.reset();
+    peer.receiver.reset();
 }
 
 /// The frames of these numbers, as they go out to a rank.

@@ -2,11 +2,10 @@
 
 ghost use Rattle.std.specs.Prelude.{◌≡◌, ◌*◌, ◌≤◌, ◌<◌, ◌^◌, IfOk, IfErr, length};
 ghost use Rattle.datagram.specs.Spelling.{eager_text, EagerFits};
-ghost use Rattle.engine.specs.Datagrams.{message_of, header_fault};
+ghost use Rattle.engine.specs.Datagrams.{message_of};
 ghost use Rattle.engine.specs.Receiving.{is_tag_above, is_no_source, posted_by, status_of, progress_on_post};
 
 use crate::call::Receive;
-use crate::place::Place;
 use crate::refused::Refused;
 use crate::sending::GREATEST_TAG;
 use datagram::{Eager, Header};
@@ -87,22 +86,4 @@ pub(crate) fn message_of(alloc: Global, header: Header, eager: &Eager) -> Result
         tag: eager.tag,
         elements: Buffer::from_bytes(eager.basic, bytes),
     })
-}
-
-/// The first rule by which a header is not for this rank.
-#[tactic(auto, unfolding(crate::specs::Datagrams::header_fault))]
-pub(crate) fn fault_of_header(place: Place, header: Header) -> Option<Refused>
-    ensures { result ≡ header_fault place header }
-{
-    if header.job != place.job {
-        return Some(Refused::ForeignJob);
-    }
-    if header.target.rank != place.rank
-        || header.target.incarnation != 0
-        || !place.is_other(header.source.rank)
-        || header.source.incarnation != 0
-    {
-        return Some(Refused::NotForMe);
-    }
-    None
 }

@@ -1,11 +1,12 @@
 //! Why an engine refused an event.
 
 ghost use Rattle.std.specs.Prelude.{◌≡◌};
-ghost use Rattle.engine.specs.Refusals.{number_of_refusal, of_datagram};
+ghost use Rattle.engine.specs.Refusals.{number_of_refusal, of_datagram, of_judging};
 
 use thiserror::Error;
 
-/// Why an engine refused an event. A refused event is none: the engine is as it was.
+/// Why an engine refused an event. A refused event is none: the engine is as it was, but for the reset that goes out
+/// with `StaleTarget`.
 #[derive(Clone, Copy, Debug, PartialEq, Eq, Error)]
 pub enum Refused {
     /// More data than a send may have (MPI 3.1, ERR_COUNT).
@@ -44,9 +45,16 @@ pub enum Refused {
     /// The datagram is of another job.
     #[error("the datagram is of another job")]
     ForeignJob,
-    /// The datagram is not for this rank, or comes from no other rank of the job.
+    /// The datagram is for another rank or for a later incarnation of this one, or comes from no other rank of the job.
     #[error("the datagram is not for this rank")]
     NotForMe,
+    /// The datagram comes from a former incarnation of its source. MPI 3.1 has no restarts of a rank: this rule and the
+    /// next are this project's own.
+    #[error("the datagram comes from a former incarnation")]
+    StaleSource,
+    /// The datagram is for a former incarnation of this rank. A reset tells its source so, unless it is one itself.
+    #[error("the datagram is for a former incarnation")]
+    StaleTarget,
     /// The body is no frame.
     #[error("the body is no frame")]
     BadFrame,
@@ -77,6 +85,8 @@ impl Refused {
             Refused::Length => 25,
             Refused::ForeignJob => 26,
             Refused::NotForMe => 27,
+            Refused::StaleSource => 28,
+            Refused::StaleTarget => 29,
             Refused::BadFrame => 30,
             Refused::OutOfWindow => 31,
             Refused::ClockBack => 41,
@@ -95,6 +105,20 @@ impl Refused {
             datagram::Refused::Kind => Refused::Kind,
             datagram::Refused::Length => Refused::Length,
             datagram::Refused::BadFrame => Refused::BadFrame,
+        }
+    }
+
+    /// The refusal of a datagram by its endpoints.
+    pub fn of_judging(refused: incarnation::Refused) -> Refused
+        ensures { result ≡ of_judging refused }
+    {
+        match refused {
+            incarnation::Refused::Limit => Refused::Limit,
+            incarnation::Refused::OutOfMemory => Refused::OutOfMemory,
+            incarnation::Refused::ForeignJob => Refused::ForeignJob,
+            incarnation::Refused::NotForMe => Refused::NotForMe,
+            incarnation::Refused::StaleSource => Refused::StaleSource,
+            incarnation::Refused::StaleTarget => Refused::StaleTarget,
         }
     }
 }

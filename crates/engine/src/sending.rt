@@ -1,16 +1,16 @@
 //! The datagrams that a rank makes.
 
 ghost use Rattle.std.specs.Prelude.{◌≡◌, ◌<◌, ◌≤◌, ◌+◌, ◌^◌, Some, None, IfOk, IfErr, IsTrue, length};
-ghost use Rattle.datagram.specs.Spelling.{datagram_text, content_text, spelling, BodyFits};
-ghost use Rattle.engine.specs.Datagrams.{ack_bytes};
+ghost use Rattle.datagram.specs.Spelling.{datagram_text, content_text, spelling, BodyFits, SequenceFits};
+ghost use Rattle.engine.specs.Datagrams.{ack_bytes, reset_bytes};
 ghost use Rattle.perfect_queues.specs.BasicTypes.{size_of};
 ghost use Rattle.datatypes.specs.Contents.{AreWithin};
-ghost use Rattle.engine.specs.Sending.{IsSmall, endpoint, header_to, own_message, send_bytes, send_fault, target_fault, is_other};
+ghost use Rattle.engine.specs.Sending.{IsSmall, header_to, own_message, send_bytes, send_fault, target_fault};
 
 use crate::call::Send;
-use crate::place::Place;
 use crate::refused::Refused;
 use datagram::{Bytes, Content, Datagram, Eager, Frame, Header, Plane};
+use incarnation::Place;
 use match_queues::Message;
 use perfect_queues::Endpoint;
 use std::alloc::Global;
@@ -21,37 +21,15 @@ const EAGER_LIMIT: usize = 1024;
 /// The greatest tag.
 pub(crate) const GREATEST_TAG: u32 = 2_147_483_647;
 
-fn endpoint(rank: u16) -> Endpoint
-    ensures { result ≡ endpoint rank }
+/// The header of a datagram to an endpoint.
+fn header_to(place: Place, target: Endpoint, sequence: u64) -> Header
+    ensures { result ≡ header_to place target sequence }
 {
-    Endpoint {
-        rank,
-        incarnation: 0,
-    }
-}
-
-impl Place {
-    /// Whether the rank is another one of the job.
-    pub(crate) fn is_other(self, rank: u16) -> bool
-        ensures { result ≡ is_other self rank }
-    {
-        if rank == self.rank {
-            false
-        } else {
-            rank < self.size
-        }
-    }
-
-    /// The header of a datagram to a rank.
-    pub(crate) fn header_to(self, target: u16, sequence: u64) -> Header
-        ensures { result ≡ header_to self target sequence }
-    {
-        Header {
-            source: endpoint(self.rank),
-            target: endpoint(target),
-            job: self.job,
-            sequence,
-        }
+    Header {
+        source: place.endpoint,
+        target,
+        job: place.job,
+        sequence,
     }
 }
 
@@ -88,7 +66,8 @@ pub(crate) fn fault_of(place: Place, send: &Send) -> Option<Refused>
 }
 
 fn bytes_of(alloc: Global, datagram: &Datagram) -> Result<Bytes, Refused>
-    requires { BodyFits (content_text datagram.now.content) }
+    requires body { BodyFits (content_text datagram.now.content) }
+    requires sequence { SequenceFits datagram.now.header.sequence (content_text datagram.now.content) }
     ensures ok { IfOk result (λ bytes. bytes ≡ spelling (datagram_text datagram.now)) }
     ensures err { IfErr result (λ e. e ≡ Refused.OutOfMemory) }
 {
@@ -99,12 +78,12 @@ fn bytes_of(alloc: Global, datagram: &Datagram) -> Result<Bytes, Refused>
     }
 }
 
-/// The datagram of a send that breaks no rule.
+/// The datagram of a send that breaks no rule, to an endpoint.
 #[tactic(auto, unfolding(crate::specs::Sending::send_bytes))]
 pub(crate) fn send_bytes(
     alloc: Global,
     place: Place,
-    target: u16,
+    target: Endpoint,
     send: &Send,
     sequence: u64,
 ) -> Result<Bytes, Refused>
@@ -121,7 +100,7 @@ pub(crate) fn send_bytes(
         elements: send.elements.as_bytes(),
     };
     let datagram = Datagram {
-        header: place.header_to(target, sequence),
+        header: header_to(place, target, sequence),
         content: Content::Frame(Frame::Eager(eager)),
     };
     bytes_of(alloc, &datagram)
@@ -134,7 +113,7 @@ pub(crate) fn own_message(alloc: Global, place: Place, send: &Send) -> Result<Me
 {
     match send.elements.try_clone(alloc) {
         Ok(elements) => Ok(Message {
-            sender: endpoint(place.rank),
+            sender: place.endpoint,
             context: 0,
             tag: send.tag,
             elements,
@@ -143,20 +122,33 @@ pub(crate) fn own_message(alloc: Global, place: Place, send: &Send) -> Result<Me
     }
 }
 
-/// An acknowledgement of all frames of a rank below `next`.
+/// An acknowledgement of all frames of an endpoint below `next`.
 #[tactic(auto, unfolding(crate::specs::Datagrams::ack_bytes))]
 pub(crate) fn ack_bytes(
     alloc: Global,
     place: Place,
-    target: u16,
+    target: Endpoint,
     next: u64,
 ) -> Result<Bytes, Refused>
     ensures ok { IfOk result (λ bytes. bytes ≡ ack_bytes place target next) }
     ensures err { IfErr result (λ e. e ≡ Refused.OutOfMemory) }
 {
     let datagram = Datagram {
-        header: place.header_to(target, next),
+        header: header_to(place, target, next),
         content: Content::Ack,
+    };
+    bytes_of(alloc, &datagram)
+}
+
+/// A reset, which tells an endpoint at which incarnation the rank is now.
+#[tactic(auto, unfolding(crate::specs::Datagrams::reset_bytes))]
+pub(crate) fn reset_bytes(alloc: Global, place: Place, target: Endpoint) -> Result<Bytes, Refused>
+    ensures ok { IfOk result (λ bytes. bytes ≡ reset_bytes place target) }
+    ensures err { IfErr result (λ e. e ≡ Refused.OutOfMemory) }
+{
+    let datagram = Datagram {
+        header: header_to(place, target, 0),
+        content: Content::Reset,
     };
     bytes_of(alloc, &datagram)
 }

@@ -32,6 +32,7 @@ pub record IsMatchedTo (rows : List Row) (old : State) (m : Message) (k key : �
   pub posted : (o : Outcome) → (after_arrival old m).posted ≡ posted_rows (slice_set rows k (record { key = key; job = Over o }))
   pub unexpected : (after_arrival old m).unexpected ≡ old.unexpected
 
+-- A message that comes is kept by the engine's queues and by the core, or both match it with the same receive
 abbrev pub ArrivalsMatch : Type 0
 ArrivalsMatch =
     (rows : List Row) (old : State) (m : Message) → old.posted ≡ posted_rows rows →
@@ -43,12 +44,14 @@ pub record FindsNone (old : State) (v : engine_receive.Receive) (key : ℕ) : Ty
   pub message : message_at old.unexpected (message_for (posted_by key v) old.unexpected) ≡ None
   pub queues : after_post old (posted_by key v) ≡ record old { posted = old.posted ++ posted_by key v ∷ [] }
 
+-- the receive takes the same message out of both, and those before and after it stay
 pub record Finds (old : State) (v : engine_receive.Receive) (key : ℕ) (m : Message) (earlier later : List Held) : Type 0 where
   pub core : found (receive_seen v) (map held_of old.unexpected) ≡ Some (earlier, held_of m, later)
   pub message : message_at old.unexpected (message_for (posted_by key v) old.unexpected) ≡ Some m
   pub posted : (after_post old (posted_by key v)).posted ≡ old.posted
   pub unexpected : map held_of (after_post old (posted_by key v)).unexpected ≡ earlier ++ later
 
+-- A receive that is posted finds the same message in the engine's queues and in the core, or in neither
 abbrev pub PostsMatch : Type 0
 PostsMatch =
     (old : State) (v : engine_receive.Receive) (key : ℕ) →

@@ -22,21 +22,22 @@ use Rattle.requests.specs.declared.table.Request.{Request}
 use Rattle.engine.specs.Datagrams.{handed_up}
 use Rattle.engine.specs.Receiving.{slots_on_arrival}
 use Rattle.engine.specs.EngineState.{EngineState}
+use Rattle.engine.specs.Learning.{met}
 use Rattle.engine.specs.Receiving.{status_of}
 use Rattle.pure_network.proofs.JobLemmas.{get_set_same}
 use Rattle.pure_network.specs.Core.{Core, Effect}
+use Rattle.pure_network.specs.Engine as network
 use Rattle.pure_network.specs.Held.{Held, full}
 use Rattle.pure_network.specs.Jobs.{Job, Over, Waiting, oldest_posted}
 use Rattle.pure_network.specs.Matching.{arrived, arrived_at}
 use Rattle.engine_view.specs.Rows.{Fits, Holds, IsTable, IsWhole, Row, contents_of, held_of, jobs_of, posted_rows}
 use Rattle.engine_view.specs.Seen.{outcome_seen}
-use Rattle.engine_view.specs.Shown.{IsBlocked}
 use Rattle.engine_matching.specs.Matches.{ArrivalsMatch, IsKept, IsMatchedTo, OutcomesAgree}
 use Rattle.engine_steps.specs.Steps.{ArrivalsAreShown}
 use Rattle.engine_steps.proofs.RowLemmas.{set_jobs}
-use Rattle.engine_steps.proofs.Starting.{holding_of}
+use Rattle.engine_steps.proofs.Meeting.{HoldBoth, met_holds}
 use Rattle.engine_steps.proofs.Tables.{Says, changed_table, held_at, says_some, set_is_set}
-use Rattle.engine_steps.proofs.Waking.{Holding, IsAwaited, IsOpen, IsSettled, settles}
+use Rattle.engine_steps.proofs.Waking.{Holding, IsAwaited, IsOpen, IsSettled, known_still, settles}
 
 -- what a message leaves of the rows
 pub record Arrives (rows : List Row) (slots : List (Option Entry)) (queues : State) (core : Core) (after : Effect) : Type 0 where
@@ -49,7 +50,7 @@ pub record Arrives (rows : List Row) (slots : List (Option Entry)) (queues : Sta
   pub blocked : after.core.blocked ≡ core.blocked
   pub known : after.core.known ≡ core.known
   pub sends : after.out ≡ []
-  pub waits : (k key : ℕ) (p : Receive) → slice_get rows k ≡ Some (record { key = key; job = Waiting p }) → IsOpen left k key
+  pub waits : (k key : ℕ) → IsOpen rows k key → IsOpen left k key
 
 -- it waits behind the others
 arrives_kept : (rows : List Row) (slots : List (Option Entry)) (queues : State) (core : Core) (m : Message) →
@@ -66,7 +67,7 @@ arrives_kept rows slots queues core m js table po he =
       blocked = refl;
       known = refl;
       sends = refl;
-      waits = λ k key p h. inl (p, h);
+      waits = λ k key h. h;
     }
 
 -- a receive that waits is into a whole buffer
@@ -103,7 +104,7 @@ arrives_matched agree rows slots queues core m k key p js table he row po =
       blocked = refl;
       known = refl;
       sends = refl;
-      waits = λ j other q h. waits j other q (cases_eq j k) h;
+      waits = λ j other h. stays j other (cases_eq j k) h;
     }
   where
     x : machine.Outcome
@@ -130,6 +131,17 @@ arrives_matched agree rows slots queues core m k key p js table he row po =
               (subst (λ (y : ℕ). slice_get (slice_set rows k over) k ≡ Some (record { key = y; job = Over x })) (ap (λ (r : Row). r.key) same) (get_set_same rows k (record { key = key; job = Waiting p }) over row)),
         )
     waits j other q (inr n) h = inl (q, get_set_other rows k j over (λ e. n (sym e)) ∙ h)
+
+    ends : (j other : ℕ) (y : machine.Outcome) → (j ≡ k) ⊎ (j ≡ k → ⊥) → slice_get rows j ≡ Some (record { key = other; job = Over y }) → IsOpen (slice_set rows k over) j other
+    ends j other y (inl e) h =
+        let same : Waiting p ≡ Over y =
+        ap (λ (r : Row). r.job) (same_Some (record { key = key; job = Waiting p }) (record { key = other; job = Over y }) (sym row ∙ (sym (ap (slice_get rows) e) ∙ h))) in
+        absurd cc
+    ends j other y (inr n) h = inr (y, get_set_other rows k j over (λ e. n (sym e)) ∙ h)
+
+    stays : (j other : ℕ) → (j ≡ k) ⊎ (j ≡ k → ⊥) → IsOpen rows j other → IsOpen (slice_set rows k over) j other
+    stays j other c (inl t) = waits j other t.0 c t.1
+    stays j other c (inr t) = ends j other t.0 c t.1
 
 -- a message comes, from a link or from the rank itself
 pub message_arrives : ArrivalsMatch → OutcomesAgree → (rows : List Row) (slots : List (Option Entry)) (queues : State) (core : Core) (m : Message) →
@@ -158,13 +170,13 @@ pub record IsHeldAfter (rows : List Row) (new : EngineState) (core : Core) (afte
   pub holding : Holding new after.core left
   pub blocked : after.core.blocked ≡ core.blocked
   pub sends : after.out ≡ []
-  pub waits : (k key : ℕ) (p : Receive) → slice_get rows k ≡ Some (record { key = key; job = Waiting p }) → IsOpen left k key
+  pub waits : (k key : ℕ) → IsOpen rows k key → IsOpen left k key
 
 -- an engine takes a message into its queues and its slots, and its core takes it too
 pub message_holds : ArrivalsMatch → OutcomesAgree → (old new : EngineState) (core : Core) (rows : List Row) (m : Message) → Holding old core rows →
-    new.slots ≡ slots_on_arrival old.slots (arrival_of old.queues m) → new.queues ≡ after_arrival old.queues m → new.serial ≡ old.serial →
+    new.slots ≡ slots_on_arrival old.slots (arrival_of old.queues m) → new.queues ≡ after_arrival old.queues m → new.serial ≡ old.serial → new.place ≡ old.place → new.known ≡ old.known →
     IsHeldAfter rows new core (arrived core (held_of m))
-message_holds match agree old new core rows m h slots queues serial =
+message_holds match agree old new core rows m h slots queues serial place known =
     let a : Arrives rows (slots_on_arrival old.slots (arrival_of old.queues m)) (after_arrival old.queues m) core (arrived core (held_of m)) =
     message_arrives match agree rows old.slots old.queues core m h.jobs h.table h.posted h.held in
     record {
@@ -175,7 +187,7 @@ message_holds match agree old new core rows m h slots queues serial =
         table = subst (λ (t : List (Option Entry)). IsTable t a.left) (sym slots) a.table;
         posted = ap (λ (s : State). s.posted) queues ∙ a.posted;
         held = a.held ∙ ap (λ (s : State). map held_of s.unexpected) (sym queues);
-        known = λ r. ap (λ (f : ℕ → ℕ). f r) a.known ∙ h.known r;
+        knowing = known_still old.place new.place old.known new.known core.known (arrived core (held_of m)).core.known h.knowing place known a.known;
       };
       blocked = a.blocked;
       sends = a.sends;
@@ -183,18 +195,18 @@ message_holds match agree old new core rows m h slots queues serial =
     }
 
 -- the blocked call still waits for its request, or this is over
-still_awaited : (rows left : List Row) (b : Option Request) (x y : Option Awaited) → IsBlocked rows b x → y ≡ x →
-    ((k key : ℕ) (p : Receive) → slice_get rows k ≡ Some (record { key = key; job = Waiting p }) → IsOpen left k key) → IsAwaited left b y
+still_awaited : (rows left : List Row) (b : Option Request) (x y : Option Awaited) → IsAwaited rows b x → y ≡ x → ((k key : ℕ) → IsOpen rows k key → IsOpen left k key) → IsAwaited left b y
 still_awaited rows left None x y h e w = e ∙ h
-still_awaited rows left (Some q) x y h e w = (e ∙ h.0, w q.serial q.key h.1.0 h.1.1)
+still_awaited rows left (Some q) x y h e w = (e ∙ h.0, w q.serial q.key h.1)
 
 -- each message that comes keeps what an engine shows
 pub arrivals_are_shown : ArrivalsMatch → OutcomesAgree → ArrivalsAreShown
 unfolding handed_up
-arrivals_are_shown match agree old core source m shown free =
-    let a : IsHeldAfter shown.rows (handed_up old source m) core (arrived core (held_of m)) =
-    message_holds match agree old (handed_up old source m) core shown.rows m (holding_of old core shown) refl refl refl in
-    let s : IsSettled (handed_up old source m) (arrived core (held_of m)).core =
-    settles (handed_up old source m) (arrived core (held_of m)).core a.left a.holding
-    (still_awaited shown.rows a.left old.blocked core.blocked (arrived core (held_of m)).core.blocked shown.blocked a.blocked a.waits) free in
-    record { shown = s.shown; sends = a.sends; tells = s.tells old.place.rank }
+arrivals_are_shown match agree old core s m shown free other =
+    let b : HoldBoth (met old s) (network.met core s) = met_holds old core s shown free other in
+    let a : IsHeldAfter b.rows (handed_up (met old s) s.rank m) (network.met core s) (arrived (network.met core s) (held_of m)) =
+    message_holds match agree (met old s) (handed_up (met old s) s.rank m) (network.met core s) b.rows m b.holding refl refl refl refl refl in
+    let t : IsSettled (handed_up (met old s) s.rank m) (arrived (network.met core s) (held_of m)).core =
+    settles (handed_up (met old s) s.rank m) (arrived (network.met core s) (held_of m)).core a.left a.holding
+    (still_awaited b.rows a.left (met old s).blocked (network.met core s).blocked (arrived (network.met core s) (held_of m)).core.blocked b.awaited a.blocked a.waits) b.free in
+    record { shown = t.shown; sends = a.sends; tells = t.tells old.place.endpoint }

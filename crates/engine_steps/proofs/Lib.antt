@@ -1,8 +1,13 @@
 pub mod Tables
 pub mod RowLemmas
 pub mod Settling
+pub mod Knowing
+pub mod Ending
+pub mod Replacing
 pub mod Waking
 pub mod Starting
+pub mod Meeting
+pub mod Words
 pub mod Arriving
 pub mod Waits
 pub mod Sends

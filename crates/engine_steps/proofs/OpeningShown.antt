@@ -1,13 +1,11 @@
 -- A new engine holds what a new core holds.
-use Rattle.std.proofs.Common.{◌≡◌, ℕ, Bool, true, false, [], if◌then◌else◌, ◌==◌, refl}
+use Rattle.std.proofs.Common.{[], refl}
 use Rattle.engine_steps.specs.Steps.{OpeningIsShown}
-
-zero_either_way : (b : Bool) → ◌≡◌ {A = ℕ} (if b then 0 else 0) 0
-zero_either_way true = refl
-zero_either_way false = refl
+use Rattle.engine_steps.proofs.Knowing.{opening_known}
 
 pub opening_is_shown : OpeningIsShown
-opening_is_shown p =
+opening_is_shown p inside =
+    let k = opening_known p inside in
     record {
       rows = [];
       jobs = refl;
@@ -16,5 +14,7 @@ opening_is_shown p =
       posted = refl;
       held = refl;
       blocked = refl;
-      known = λ r. zero_either_way (r == p.rank);
+      width = k.width;
+      known = k.same;
+      itself = k.itself;
     }

@@ -117,7 +117,7 @@ post_waits old new core v q fit shown free h finds =
     (holding_started old new core (posted_at core (receive_seen v) None).core shown.rows q.key (Receiving v.buffer) (Waiting (receive_seen v)) (holding_of old core shown) h.fresh
     (entry_of old new v q None h finds.message) (refl, whole v) refl (serial_of old new v q h)
     (ap (λ (s : State). s.posted) qs ∙ ap (λ (ps : List queued.Receive). ps ++ posted_by q.key v ∷ []) shown.posted)
-    (shown.held ∙ ap (λ (s : State). map held_of s.unexpected) (sym qs)) refl)
+    (shown.held ∙ ap (λ (s : State). map held_of s.unexpected) (sym qs)) refl (ap (λ (e : EngineState). e.place) h.rest) (ap (λ (e : EngineState). e.known) h.rest))
     refl refl
 
 -- the oldest message that it accepts ends the receive
@@ -129,7 +129,7 @@ post_ends old new core v q m earlier later agree fit shown free h finds =
     (holding_started old new core (posted_at core (receive_seen v) (Some (earlier, held_of m, later))).core shown.rows q.key (Finished (outcome_of v.buffer (status_of m) m.elements)) (Over x) (holding_of old core shown) h.fresh
     (entry_of old new v q (Some m) h finds.message) (agree (receive_seen v) m (whole v)) refl (serial_of old new v q h)
     (ap (λ (s : State). s.posted) qs ∙ (finds.posted ∙ (shown.posted ∙ sym (append-nil (posted_rows shown.rows)))))
-    (sym (ap (λ (s : State). map held_of s.unexpected) qs ∙ finds.unexpected)) refl)
+    (sym (ap (λ (s : State). map held_of s.unexpected) qs ∙ finds.unexpected)) refl (ap (λ (e : EngineState). e.place) h.rest) (ap (λ (e : EngineState). e.known) h.rest))
     refl refl
   where
     x : ends.Outcome

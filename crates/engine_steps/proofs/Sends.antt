@@ -1,5 +1,5 @@
 -- A send of an engine is that of its core.
-use Rattle.std.proofs.Common.{◌≡◌, ℕ, ◌*◌, ◌≤◌, ◌<◌, Bool, true, false, List, [], ◌∷◌, ◌++◌, map, length, Option, Some, None, if◌then◌else◌, ◌==◌, nat_le, nat_lt, refl, sym, ap, ◌∙◌, arith, append-nil}
+use Rattle.std.proofs.Common.{◌≡◌, ℕ, ◌*◌, ◌≤◌, ◌<◌, Bool, true, false, List, [], ◌∷◌, ◌++◌, map, length, Option, Some, None, if◌then◌else◌, ◌==◌, nat_le, nat_lt, slice_index, refl, sym, ap, ◌∙◌, arith, append-nil}
 use Rattle.std.proofs.lemmas.Bool.{and_left, le-leb, le-ltb, lt-leb, ltb-false, ltb-true, or_left}
 use Rattle.perfect_queues.specs.BasicTypes.{size_of}
 use Rattle.perfect_queues.specs.Calls as machine
@@ -19,11 +19,11 @@ use Rattle.requests.specs.declared.table.Request.{Request}
 use Rattle.engine.specs.declared.call.Call.TheVariants as calls
 use Rattle.engine.specs.declared.call.Reply.TheVariants as replies
 use Rattle.engine.specs.declared.call.Send.{Send}
-use Rattle.engine.specs.declared.place.Place.{Place}
+use Rattle.incarnation.specs.declared.place.Place.{Place}
 use Rattle.engine.specs.declared.refused.Refused.{Refused}
 use Rattle.engine.specs.declared.refused.Refused.TheVariants as refusals
-use Rattle.engine.specs.EngineState.{EngineState}
-use Rattle.engine.specs.Sending.{IsSentTo, byte_count, endpoint, send_fault, target_fault}
+use Rattle.engine.specs.EngineState.{EngineState, known_endpoint}
+use Rattle.engine.specs.Sending.{IsSentTo, byte_count, send_fault, target_fault}
 use Rattle.engine_view.specs.Rows.{held_of, posted_rows}
 use Rattle.engine_view.specs.Seen.{sent_to}
 use Rattle.engine_view.specs.Shown.{IsShown}
@@ -57,18 +57,18 @@ send_rules p target s fine to =
 -- THE CORE'S SEND
 
 -- a small send to another rank
-pub core_sends : (core : Core) (rank to c tag : ℕ) (basic : BasicType) (values : List ℕ) → (to == rank) ≡ false → nat_le (length values * size_of basic) machine.eager_limit ≡ true → core.known to ≡ 0 →
-    sends_to (endpoint rank) core c (Some to) tag basic values ≡ effect (pushed_over core) ((endpoint to, Eager c tag basic values) ∷ [])
-core_sends core rank to c tag basic values other small known =
-    ap (λ (b : Bool). sends (endpoint rank) core d b c tag basic values eager) (and_left (to == rank) (core.known to == 0) other) ∙
-    (ap (λ (b : Bool). sends (endpoint rank) core d false c tag basic values b) (or_left (nat_le (length values * size_of basic) machine.eager_limit) (is_same d (endpoint rank)) small) ∙
-    ap (λ (i : ℕ). effect (pushed_over core) ((record { rank = to; incarnation = i }, Eager c tag basic values) ∷ [])) known)
+pub core_sends : (core : Core) (own : Endpoint) (to i c tag : ℕ) (basic : BasicType) (values : List ℕ) → (to == own.rank) ≡ false → nat_le (length values * size_of basic) machine.eager_limit ≡ true → core.known to ≡ i →
+    sends_to own core c (Some to) tag basic values ≡ effect (pushed_over core) ((record { rank = to; incarnation = i }, Eager c tag basic values) ∷ [])
+core_sends core own to i c tag basic values other small known =
+    ap (λ (b : Bool). sends own core d b c tag basic values eager) (and_left (to == own.rank) (core.known to == own.incarnation) other) ∙
+    (ap (λ (b : Bool). sends own core d false c tag basic values b) (or_left (nat_le (length values * size_of basic) machine.eager_limit) (is_same d own) small) ∙
+    ap (λ (n : ℕ). effect (pushed_over core) ((record { rank = to; incarnation = n }, Eager c tag basic values) ∷ [])) known)
   where
     d : Endpoint
     d = machine.receiver core.known to
 
     eager : Bool
-    eager = machine.is_eager (endpoint rank) d basic values
+    eager = machine.is_eager own d basic values
 
 -- no rule of the machine is broken
 pub send_fit : (n : ℕ) (core : Core) (to tag : ℕ) (basic : BasicType) (values : List ℕ) → core.blocked ≡ None → length values * size_of basic ≤ 1048576 → nat_lt 2147483647 tag ≡ false → to < n →
@@ -81,12 +81,12 @@ send_fit n core to tag basic values free few low inside =
 -- THE ENGINE'S SEND
 
 -- a send to another rank
-pub other_send_shown : (old new : EngineState) (core : Core) (s : Send) (q : Request) (to : ℕ) → IsShown old core → old.blocked ≡ None → s.target ≡ Some to → (to == old.place.rank) ≡ false → KeepsRules old.place to s →
+pub other_send_shown : (old new : EngineState) (core : Core) (s : Send) (q : Request) (to : ℕ) → IsShown old core → old.blocked ≡ None → s.target ≡ Some to → (to == old.place.endpoint.rank) ≡ false → KeepsRules old.place to s →
     IsSentTo old to s q new → IsCalled old core (calls.Isend s) (replies.Started q) new
 other_send_shown old new core s q to shown free is other rules_kept sent =
-    started_call old new core (calls.Isend s) q (effect (pushed_over core) ((endpoint to, Eager rules.world s.tag s.elements.basic s.elements.values) ∷ []))
-    (ap (λ (t : Option ℕ). sends_to (endpoint old.place.rank) core rules.world t s.tag s.elements.basic s.elements.values) is ∙
-    core_sends core old.place.rank to rules.world s.tag s.elements.basic s.elements.values other (le-leb (length s.elements.values * size_of s.elements.basic) 1024 small) (shown.known to))
+    started_call old new core (calls.Isend s) q (effect (pushed_over core) ((known_endpoint old.known to, Eager rules.world s.tag s.elements.basic s.elements.values) ∷ []))
+    (ap (λ (t : Option ℕ). sends_to old.place.endpoint core rules.world t s.tag s.elements.basic s.elements.values) is ∙
+    core_sends core old.place.endpoint to (slice_index old.known to) rules.world s.tag s.elements.basic s.elements.values other (le-leb (length s.elements.values * size_of s.elements.basic) 1024 small) (shown.known to))
     (ap (λ (t : Option ℕ). rules.fault old.place.size (view blank core) (machine.Isend rules.world t s.tag s.elements.basic s.elements.values)) is ∙
     send_fit old.place.size core to s.tag s.elements.basic s.elements.values core_is (omega (arith, small)) rules_kept.low rules_kept.inside)
     core_is
@@ -94,9 +94,9 @@ other_send_shown old new core s q to shown free is other rules_kept sent =
     (holding_started old new core (pushed_over core) shown.rows q.key (Finished Sent) (Over ends.Sent) (holding_of old core shown) sent.fresh sent.entry refl refl
     (ap (λ (e : EngineState). e.serial) sent.rest)
     (ap (λ (e : EngineState). e.queues.posted) sent.rest ∙ (shown.posted ∙ sym (append-nil (posted_rows shown.rows))))
-    (shown.held ∙ ap (λ (e : EngineState). map held_of e.queues.unexpected) (sym sent.rest)) refl)
+    (shown.held ∙ ap (λ (e : EngineState). map held_of e.queues.unexpected) (sym sent.rest)) refl (ap (λ (e : EngineState). e.place) sent.rest) (ap (λ (e : EngineState). e.known) sent.rest))
     (ap (λ (e : EngineState). e.blocked) sent.rest ∙ free) core_is)
-    (sym (ap (sent_to old.place.rank s) is ∙ ap (λ (b : Bool). if b then [] else (endpoint to, Eager rules.world s.tag s.elements.basic s.elements.values) ∷ []) other))
+    (sym (ap (sent_to old.place.endpoint.rank old.known s) is ∙ ap (λ (b : Bool). if b then [] else (known_endpoint old.known to, Eager rules.world s.tag s.elements.basic s.elements.values) ∷ []) other))
     (ap (λ (n : ℕ). Some (machine.Isend rules.world s.target s.tag s.elements.basic s.elements.values, Some (machine.Started n))) (serial_told old core q shown sent.serial))
   where
     core_is : core.blocked ≡ None

@@ -16,7 +16,6 @@ use Rattle.engine.specs.declared.call.Call.{Call}
 use Rattle.engine.specs.declared.call.Reply.TheVariants as replies
 use Rattle.engine.specs.declared.refused.Refused.{Refused}
 use Rattle.engine.specs.EngineState.{EngineState}
-use Rattle.engine.specs.Sending.{endpoint}
 use Rattle.engine_view.specs.Rows.{Fits, Row, held_of, posted_job, posted_rows}
 use Rattle.engine_view.specs.Seen.{call_seen, sent_by}
 use Rattle.engine_view.specs.Shown.{IsBlocked, IsShown}
@@ -24,11 +23,19 @@ use Rattle.engine_steps.specs.Steps.{IsCalled}
 use Rattle.engine_steps.proofs.RowLemmas.{posted_push, push_jobs}
 use Rattle.engine_steps.proofs.Settling.{settled_free}
 use Rattle.engine_steps.proofs.Tables.{Says, says_some, started_table}
-use Rattle.engine_steps.proofs.Waking.{Holding, shown_with}
+use Rattle.engine_steps.proofs.Waking.{Holding, known_still, shown_with}
 
 -- what is shown is held
 pub holding_of : (e : EngineState) (core : Core) → (s : IsShown e core) → Holding e core s.rows
-holding_of e core s = record { jobs = s.jobs; count = s.count; table = s.table; posted = s.posted; held = s.held; known = s.known }
+holding_of e core s =
+    record {
+      jobs = s.jobs;
+      count = s.count;
+      table = s.table;
+      posted = s.posted;
+      held = s.held;
+      knowing = record { width = s.width; same = s.known; itself = s.itself };
+    }
 
 -- where the engine's call is not blocked, the core's isn't
 pub core_free : (e : EngineState) (core : Core) → IsShown e core → e.blocked ≡ None → core.blocked ≡ None
@@ -56,9 +63,9 @@ two_tests false false x y o h = (refl, refl, h)
 -- one more request, in both
 pub holding_started : (e e' : EngineState) (core core' : Core) (rows : List Row) (key : ℕ) (g : Progress) (job : Job) → Holding e core rows → slot_at e.slots key ≡ None →
     IsSet e.slots e'.slots key (Some (record { serial = e.serial; progress = g })) → Fits g job → core'.jobs ≡ core.jobs ++ job ∷ [] → e'.serial ≡ e.serial + 1 →
-    e'.queues.posted ≡ posted_rows rows ++ posted_job key job → core'.held ≡ map held_of e'.queues.unexpected → core'.known ≡ core.known →
+    e'.queues.posted ≡ posted_rows rows ++ posted_job key job → core'.held ≡ map held_of e'.queues.unexpected → core'.known ≡ core.known → e'.place ≡ e.place → e'.known ≡ e.known →
     Holding e' core' (rows ++ record { key = key; job = job } ∷ [])
-holding_started e e' core core' rows key g job h fresh set fits js se po he kn =
+holding_started e e' core core' rows key g job h fresh set fits js se po he kn pl ek =
     record {
       jobs = js ∙ (ap (λ (ys : List Job). ys ++ job ∷ []) h.jobs ∙ sym (push_jobs rows key job));
       count = length-append rows (record { key = key; job = job } ∷ []) ∙ (ap (λ (n : ℕ). n + 1) h.count ∙ sym se);
@@ -66,7 +73,7 @@ holding_started e e' core core' rows key g job h fresh set fits js se po he kn =
           (subst (λ (n : ℕ). Says (Some (record { serial = e.serial; progress = g })) n job) (sym h.count) (says_some e.serial g job fits));
       posted = po ∙ sym (posted_push rows key job);
       held = he;
-      known = λ r. ap (λ (f : ℕ → ℕ). f r) kn ∙ h.known r;
+      knowing = known_still e.place e'.place e.known e'.known core.known core'.known h.knowing pl ek kn;
     }
 
 -- the serial that the machine gives
@@ -75,13 +82,13 @@ serial_told e core q s h =
     length-map core.jobs (request_of blank) ∙ (ap (λ (js : List Job). length js) s.jobs ∙ (length-map s.rows (λ (r : Row). r.job) ∙ (s.count ∙ sym h)))
 
 -- a call that starts a request is answered by its serial
-pub started_call : (old new : EngineState) (core : Core) (call : Call) (q : Request) (after : Effect) → called (endpoint old.place.rank) core (call_seen call) ≡ after →
-    fault old.place.size (view blank core) (call_seen call) ≡ None → after.core.blocked ≡ None → IsShown new after.core → after.out ≡ sent_by old.place.rank call →
+pub started_call : (old new : EngineState) (core : Core) (call : Call) (q : Request) (after : Effect) → called old.place.endpoint core (call_seen call) ≡ after →
+    fault old.place.size (view blank core) (call_seen call) ≡ None → after.core.blocked ≡ None → IsShown new after.core → after.out ≡ sent_by old call →
     call_and_reply (view blank core) (Some (call_seen call)) ≡ Some (call_seen call, Some (machine.Started q.serial)) → IsCalled old core call (replies.Started q) new
 started_call old new core call q after is fit free shown sends reply =
     record {
       fit = fit;
       shown = subst (λ (f : Effect). IsShown new (core_settled f.core)) (sym is) (subst (λ (c : Core). IsShown new c) (sym (settled_free after.core free)) shown);
       sends = ap (λ (f : Effect). f.out) is ∙ sends;
-      tells = ap (λ (o : Option (machine.Call × Option machine.Reply)). told (endpoint old.place.rank) o (core_ready (called (endpoint old.place.rank) core (call_seen call)).core)) reply;
+      tells = ap (λ (o : Option (machine.Call × Option machine.Reply)). told old.place.endpoint o (core_ready (called old.place.endpoint core (call_seen call)).core)) reply;
     }

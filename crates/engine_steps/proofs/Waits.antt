@@ -29,7 +29,6 @@ use Rattle.engine.specs.declared.call.Reply.TheVariants as replies
 use Rattle.engine.specs.declared.refused.Refused.{Refused}
 use Rattle.engine.specs.declared.refused.Refused.TheVariants as refusals
 use Rattle.engine.specs.EngineState.{EngineState}
-use Rattle.engine.specs.Sending.{endpoint}
 use Rattle.engine.specs.Waiting.{WaitGives, WaitGivesAt}
 use Rattle.engine_view.specs.Rows.{Fits, IsRow, IsTable, Row}
 use Rattle.engine_view.specs.Seen.{outcome_seen}
@@ -39,7 +38,7 @@ use Rattle.engine_steps.specs.Steps.{IsCalled}
 use Rattle.engine_steps.proofs.RowLemmas.{job_at}
 use Rattle.engine_steps.proofs.Settling.{ready_over, ready_waiting}
 use Rattle.engine_steps.proofs.Starting.{core_free, fault_free, holding_of, shown_free}
-use Rattle.engine_steps.proofs.Waking.{core_answered, holding_taken, settled_over}
+use Rattle.engine_steps.proofs.Waking.{Holding, core_answered, holding_taken, settled_over}
 
 -- a refused call was not taken
 pub taken_refused : (reply : Reply) (e : Refused) (back : Call) → reply ≡ replies.Refused e back → IsTaken reply → ⊥
@@ -54,9 +53,11 @@ core_unblocked core = record core { blocked = None }
 -- it is answered at once
 wait_none_done : (old : EngineState) (core : Core) → IsShown old core → old.blocked ≡ None → IsCalled old core (calls.Wait None) (replies.Done outcomes.Empty) old
 wait_none_done old core shown free =
+    let h : Holding old core shown.rows = holding_of old core shown in
     record {
       fit = fault_free old.place.size core (machine.Wait (One None)) (core_free old core shown free);
-      shown = shown_free old (core_unblocked core) shown.rows (record { jobs = shown.jobs; count = shown.count; table = shown.table; posted = shown.posted; held = shown.held; known = shown.known }) free refl;
+      shown = shown_free old (core_unblocked core) shown.rows
+          (record { jobs = h.jobs; count = h.count; table = h.table; posted = h.posted; held = h.held; knowing = h.knowing }) free refl;
       sends = refl;
       tells = refl;
     }
@@ -145,9 +146,9 @@ wait_blocked old core q p shown free row job =
     record {
       fit = wait_fit old.place.size core q.serial (Waiting p) free job refl;
       shown = subst (λ (c : Core). IsShown (record old { blocked = Some q }) c) (sym (ap (core_settled_by (core_waits core q.serial)) ready))
-          (record { rows = shown.rows; jobs = shown.jobs; count = shown.count; table = shown.table; posted = shown.posted; held = shown.held; blocked = (refl, (p, row)); known = shown.known });
+          (record { rows = shown.rows; jobs = shown.jobs; count = shown.count; table = shown.table; posted = shown.posted; held = shown.held; blocked = (refl, (p, row)); width = shown.width; known = shown.known; itself = shown.itself });
       sends = refl;
-      tells = ap (told (endpoint old.place.rank) (Some (machine.Wait (One (Some q.serial)), None))) ready;
+      tells = ap (told old.place.endpoint (Some (machine.Wait (One (Some q.serial)), None))) ready;
     }
   where
     ready : core_ready (core_waits core q.serial) ≡ None
@@ -162,9 +163,9 @@ wait_done old core q o shown engine_free free row job =
       fit = wait_fit old.place.size core q.serial (Over (outcome_seen o)) free job (outcome_stands (outcome_seen o));
       shown = subst (λ (c : Core). IsShown new c) (sym (settled_over (core_waits core q.serial) q.serial (outcome_seen o) ready))
           (shown_free new (core_answered (core_waits core q.serial) q.serial) (slice_set shown.rows q.serial (record { key = q.key; job = Closed }))
-          (holding_taken old new core (core_answered (core_waits core q.serial) q.serial) shown.rows q.serial q.key (outcome_seen o) (holding_of old core shown) row refl refl refl refl refl refl) engine_free refl);
+          (holding_taken old new core (core_answered (core_waits core q.serial) q.serial) shown.rows q.serial q.key (outcome_seen o) (holding_of old core shown) row refl refl refl refl refl refl refl refl) engine_free refl);
       sends = refl;
-      tells = ap (told (endpoint old.place.rank) (Some (machine.Wait (One (Some q.serial)), None))) ready;
+      tells = ap (told old.place.endpoint (Some (machine.Wait (One (Some q.serial)), None))) ready;
     }
   where
     new : EngineState

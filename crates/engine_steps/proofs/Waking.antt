@@ -7,6 +7,8 @@ use Rattle.perfect_queues.specs.Events.{Completed, told}
 use Rattle.perfect_queues.specs.Outcomes as machine
 use Rattle.perfect_queues.specs.Receives.{Receive}
 use Rattle.perfect_queues.specs.Requests.{changed}
+use Rattle.perfect_queues.specs.declared.endpoint.Endpoint.{Endpoint}
+use Rattle.incarnation.specs.declared.place.Place.{Place}
 use Rattle.match_queues.specs.State.{State}
 use Rattle.pure_network.specs.Core.{Core}
 use Rattle.pure_network.specs.Engine.{core_ready, core_settled, core_settled_by}
@@ -17,11 +19,11 @@ use Rattle.requests.specs.declared.table.Progress.TheVariants.{Receiving, Finish
 use Rattle.requests.specs.declared.table.Request.{Request}
 use Rattle.requests.specs.Table.{progress_at}
 use Rattle.engine.specs.EngineState.{EngineState}
-use Rattle.engine.specs.Sending.{endpoint}
 use Rattle.engine.specs.Waiting.{woken, woken_at, woken_by}
 use Rattle.engine_view.specs.Rows.{IsTable, Row, held_of, jobs_of, posted_rows}
 use Rattle.engine_view.specs.Seen.{outcome_seen, told_completion}
 use Rattle.engine_view.specs.Shown.{IsBlocked, IsShown}
+use Rattle.engine_steps.proofs.Knowing.{IsKnown}
 use Rattle.engine_steps.proofs.RowLemmas.{closed_row, posted_closed}
 use Rattle.engine_steps.proofs.Settling.{progress_over, progress_waiting, ready_free, ready_over, ready_waiting, taken_table}
 
@@ -32,7 +34,7 @@ pub record Holding (e : EngineState) (core : Core) (rows : List Row) : Type 0 wh
   pub table : IsTable e.slots rows
   pub posted : e.queues.posted ≡ posted_rows rows
   pub held : core.held ≡ map held_of e.queues.unexpected
-  pub known : (r : ℕ) → core.known r ≡ 0
+  pub knowing : IsKnown e.place e.known core.known
 
 -- the request is a receive that waits, or it is over
 abbrev pub IsOpen : List Row → (k key : ℕ) → Type 0
@@ -47,7 +49,29 @@ IsAwaited rows (Some q) b = (b ≡ Some (One (Some q.serial))) × IsOpen rows q.
 
 -- what is held is shown, with what the call waits for
 pub shown_with : (e : EngineState) (core : Core) (rows : List Row) → Holding e core rows → IsBlocked rows e.blocked core.blocked → IsShown e core
-shown_with e core rows h b = record { rows = rows; jobs = h.jobs; count = h.count; table = h.table; posted = h.posted; held = h.held; blocked = b; known = h.known }
+shown_with e core rows h b =
+    record {
+      rows = rows;
+      jobs = h.jobs;
+      count = h.count;
+      table = h.table;
+      posted = h.posted;
+      held = h.held;
+      blocked = b;
+      width = h.knowing.width;
+      known = h.knowing.same;
+      itself = h.knowing.itself;
+    }
+
+-- what the blocked call waits for is a receive that waits, so it is awaited
+pub awaited_of : (rows : List Row) (b : Option Request) (x : Option Awaited) → IsBlocked rows b x → IsAwaited rows b x
+awaited_of rows None x h = h
+awaited_of rows (Some q) x h = (h.0, inl h.1)
+
+-- what both know is as it was
+pub known_still : (p p' : Place) (known known' : List ℕ) (at at' : ℕ → ℕ) → IsKnown p known at → p' ≡ p → known' ≡ known → at' ≡ at → IsKnown p' known' at'
+known_still p p' known known' at at' h ep ek ea =
+    subst (λ (x : Place). IsKnown x known' at') (sym ep) (subst (λ (xs : List ℕ). IsKnown p xs at') (sym ek) (subst (λ (f : ℕ → ℕ). IsKnown p known f) (sym ea) h))
 
 -- THE ENGINE
 
@@ -82,30 +106,30 @@ settled_over core k x h = ap (core_settled_by core) h
 
 -- a request that is over is taken out of both
 pub holding_taken : (e e' : EngineState) (core core' : Core) (rows : List Row) (k key : ℕ) (x : machine.Outcome) → Holding e core rows → slice_get rows k ≡ Some (record { key = key; job = Over x }) →
-    core'.jobs ≡ changed closed core.jobs k → core'.held ≡ core.held → core'.known ≡ core.known → e'.slots ≡ slice_set e.slots key None → e'.serial ≡ e.serial → e'.queues ≡ e.queues →
+    core'.jobs ≡ changed closed core.jobs k → core'.held ≡ core.held → core'.known ≡ core.known → e'.slots ≡ slice_set e.slots key None → e'.serial ≡ e.serial → e'.queues ≡ e.queues → e'.place ≡ e.place → e'.known ≡ e.known →
     Holding e' core' (slice_set rows k (record { key = key; job = Closed }))
-holding_taken e e' core core' rows k key x h row js hs kn sl se qu =
+holding_taken e e' core core' rows k key x h row js hs kn sl se qu pl ek =
     record {
       jobs = js ∙ (ap (λ (ys : List Job). changed closed ys k) h.jobs ∙ closed_row rows k key x row);
       count = length-set rows k (record { key = key; job = Closed }) ∙ (h.count ∙ sym se);
       table = subst (λ (t : List (Option slots.Entry)). IsTable t (slice_set rows k (record { key = key; job = Closed }))) (sym sl) (taken_table e.slots rows k key x h.table row);
       posted = ap (λ (q : State). q.posted) qu ∙ (h.posted ∙ sym (posted_closed rows k key x row));
       held = hs ∙ (h.held ∙ ap (λ (q : State). map held_of q.unexpected) (sym qu));
-      known = λ r. ap (λ (f : ℕ → ℕ). f r) kn ∙ h.known r;
+      knowing = known_still e.place e'.place e.known e'.known core.known core'.known h.knowing pl ek kn;
     }
 
 -- the engine is woken as the core is settled
 pub record IsSettled (e : EngineState) (core : Core) : Type 0 where
   pub shown : IsShown (woken e) (core_settled core)
-  pub tells : (rank : ℕ) → told (endpoint rank) None (core_ready core) ≡ told_completion rank (woken e).completion
+  pub tells : (a : Endpoint) → told a None (core_ready core) ≡ told_completion a (woken e).completion
 
 -- both, by what they become
 settled_from : (e e' : EngineState) (core core' : Core) (ready : Option (Answer × List ℕ)) → woken e ≡ e' → core_settled core ≡ core' → core_ready core ≡ ready → IsShown e' core' →
-    ((rank : ℕ) → told (endpoint rank) None ready ≡ told_completion rank e'.completion) → IsSettled e core
+    ((a : Endpoint) → told a None ready ≡ told_completion a e'.completion) → IsSettled e core
 settled_from e e' core core' ready w s r shown tells =
     record {
       shown = subst (λ (x : EngineState). IsShown x (core_settled core)) (sym w) (subst (λ (c : Core). IsShown e' c) (sym s) shown);
-      tells = λ rank. ap (told (endpoint rank) None) r ∙ (tells rank ∙ ap (λ (x : EngineState). told_completion rank x.completion) (sym w));
+      tells = λ a. ap (told a None) r ∙ (tells a ∙ ap (λ (x : EngineState). told_completion a x.completion) (sym w));
     }
 
 -- an engine is woken as its core is settled
@@ -113,7 +137,7 @@ pub settles : (e : EngineState) (core : Core) (rows : List Row) → Holding e co
 settles e core rows h a free = go e.blocked refl a
   where
     still : woken e ≡ e → core_ready core ≡ None → IsBlocked rows e.blocked core.blocked → IsSettled e core
-    still w r b = settled_from e e core core None w (ap (core_settled_by core) r) r (shown_with e core rows h b) (λ rank. ap (told_completion rank) (sym free))
+    still w r b = settled_from e e core core None w (ap (core_settled_by core) r) r (shown_with e core rows h b) (λ t. ap (told_completion t) (sym free))
 
     wait : (q : Request) → e.blocked ≡ Some q → core.blocked ≡ Some (One (Some q.serial)) → IsOpen rows q.serial q.key → IsSettled e core
     wait q b c (inl t) =
@@ -125,8 +149,8 @@ settles e core rows h a free = go e.blocked refl a
         let r : core_ready core ≡ Some (ForOne t.0, q.serial ∷ []) = ready_over core rows q.serial q.key t.0 c h.jobs t.1 in
         settled_from e (answered e q g.0) core (core_answered core q.serial) (Some (ForOne t.0, q.serial ∷ [])) (woken_over e q g.0 b g.1) (settled_over core q.serial t.0 r) r
         (shown_with (answered e q g.0) (core_answered core q.serial) (slice_set rows q.serial (record { key = q.key; job = Closed }))
-        (holding_taken e (answered e q g.0) core (core_answered core q.serial) rows q.serial q.key t.0 h t.1 refl refl refl refl refl refl) refl)
-        (λ rank. ap (λ (x : machine.Outcome). Completed (endpoint rank) (ForOne x) ∷ []) g.2)
+        (holding_taken e (answered e q g.0) core (core_answered core q.serial) rows q.serial q.key t.0 h t.1 refl refl refl refl refl refl refl refl) refl)
+        (λ a. ap (λ (x : machine.Outcome). Completed a (ForOne x) ∷ []) g.2)
 
     go : (b : Option Request) → e.blocked ≡ b → IsAwaited rows b core.blocked → IsSettled e core
     go None b c = still (woken_free e b) (ready_free core c) (subst (λ (x : Option Request). IsBlocked rows x core.blocked) (sym b) c)

@@ -12,10 +12,12 @@ use Rattle.pure_network.specs.Held.{Held, Whole}
 use Rattle.pure_network.specs.Jobs.{Job, Waiting, Collecting, Offering, Over, Closed}
 use Rattle.engine_view.specs.Seen.{outcome_seen}
 
+-- a request: its key in the table, and its job
 pub record Row : Type 0 where
   pub key : ℕ
   pub job : Job
 
+-- the jobs of these requests, by their serials
 abbrev pub jobs_of : List Row → List Job
 jobs_of rows = map (λ (r : Row). r.job) rows
 
@@ -49,7 +51,7 @@ pub record Holds (slot : Option Entry) (serial : ℕ) (job : Job) : Type 0 where
   pub serial_is : entry.serial ≡ serial
   pub fits : Fits entry.progress job
 
--- what stands in the slot of a request that has not ended
+-- what stands in the slot of a request whose outcome wasn't answered; for now none collects or offers
 abbrev pub Stands : Option Entry → (serial : ℕ) → Job → Type 0
 Stands slot k (Waiting p) = Holds slot k (Waiting p)
 Stands slot k (Over o) = Holds slot k (Over o)
@@ -64,11 +66,12 @@ pub record IsRow (rows : List Row) (key : ℕ) (t : Entry) : Type 0 where
   pub key_is : row.key ≡ key
   pub fits : Fits t.progress row.job
 
+-- the table holds each request whose outcome wasn't answered under its key, and nothing else
 pub record IsTable (slots : List (Option Entry)) (rows : List Row) : Type 0 where
   pub stands : (k : ℕ) (r : Row) → slice_get rows k ≡ Some r → Stands (slot_at slots r.key) k r.job
   pub entries : (key : ℕ) (t : Entry) → slot_at slots key ≡ Some t → IsRow rows key t
 
--- the receives that wait, in the order of their serials
+-- the receive of a request that waits, under its key
 abbrev pub posted_job : (key : ℕ) → Job → List posted.Receive
 posted_job key (Waiting p) = record { request = key; context = p.context; source = p.source; tag = p.tag } ∷ []
 posted_job key (Collecting p h got) = []
@@ -76,6 +79,7 @@ posted_job key (Offering d values) = []
 posted_job key (Over o) = []
 posted_job key Closed = []
 
+-- the receives that wait, in the order of their serials
 abbrev pub posted_rows : List Row → List posted.Receive
 posted_rows [] = []
 posted_rows (r ∷ rs) = posted_job r.key r.job ++ posted_rows rs

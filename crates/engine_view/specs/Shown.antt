@@ -1,5 +1,5 @@
 -- When an engine holds what a core of the pure network holds.
-use Rattle.std.specs.Prelude.{◌≡◌, ℕ, List, length, map, Option, Some, None, slice_get}
+use Rattle.std.specs.Prelude.{◌≡◌, ℕ, List, length, map, Option, Some, None, slice_get, slice_index}
 use Rattle.requests.specs.declared.table.Request.{Request}
 use Rattle.engine.specs.EngineState.{EngineState}
 use Rattle.perfect_queues.specs.Completions.{Awaited, One}
@@ -15,6 +15,7 @@ IsBlocked rows (Some q) b =
     (b ≡ Some (One (Some q.serial))) ×
     ((p : Receive) × (slice_get rows q.serial ≡ Some (record { key = q.key; job = Waiting p })))
 
+-- the engine holds the core's requests and messages, is blocked on the same, and knows the ranks alike
 pub record IsShown (e : EngineState) (core : Core) : Type 0 where
   pub rows : List Row
   pub jobs : core.jobs ≡ jobs_of rows
@@ -23,4 +24,7 @@ pub record IsShown (e : EngineState) (core : Core) : Type 0 where
   pub posted : e.queues.posted ≡ posted_rows rows
   pub held : core.held ≡ map held_of e.queues.unexpected
   pub blocked : IsBlocked rows e.blocked core.blocked
-  pub known : (r : ℕ) → core.known r ≡ 0
+  -- both know each rank at the same incarnation, and the rank itself at its own
+  pub width : length e.known ≡ e.place.size
+  pub known : (r : ℕ) → core.known r ≡ slice_index e.known r
+  pub itself : slice_index e.known e.place.endpoint.rank ≡ e.place.endpoint.incarnation

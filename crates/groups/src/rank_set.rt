@@ -8,6 +8,7 @@ ghost use Rattle.groups.specs.Groups.{is_member};
 /// pass over two groups needs no memory and no search.
 #[derive(Drop)]
 pub(crate) struct RankSet {
+    /// The bits: that of rank `r` is bit `r % 64` of word `r / 64`, the lowest bit being 0.
     pub(crate) words: [u64; RankSet::WORDS],
 }
 

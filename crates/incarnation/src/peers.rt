@@ -1,6 +1,6 @@
 //! What a process knows of the ranks of its job.
 
-ghost use Rattle.std.specs.Prelude.{◌≡◌, ◌≢◌, ◌<◌, ℕ, max, IfOk, IsOkUnless};
+ghost use Rattle.std.specs.Prelude.{◌≡◌, ◌≢◌, ◌<◌, ℕ, max, length, IfOk, IsOkUnless};
 ghost use Rattle.incarnation.specs.Knowing.{known_at, opening, after_learn};
 ghost use Rattle.incarnation.specs.Judging.{JudgeGives, judgement};
 
@@ -51,9 +51,10 @@ impl Peers {
         Ok(Peers { place, known })
     }
 
-    /// Where this process stands.
+    /// Where this process stands. It knows one incarnation of each rank of its job.
     pub fn place(&self) -> Place
-        ensures { result ≡ self.now.place }
+        ensures place { result ≡ self.now.place }
+        ensures each { length self.now.known ≡ self.now.place.size }
     {
         self.place
     }

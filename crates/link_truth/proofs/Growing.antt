@@ -9,9 +9,10 @@ use Rattle.pure_network.specs.Frames.{Frame}
 use Rattle.pure_network.specs.Links.{Link, accept, handed_on, with_link}
 use Rattle.pure_network.proofs.JobLemmas.{All_append}
 use Rattle.reliable_link.proofs.Places.{place_stays}
-use Rattle.engine.specs.Sending.{endpoint}
+use Rattle.engine.specs.EngineState.{EngineState}
 use Rattle.link_truth.specs.Sessions.{IsLink, Links, is_pair}
-use Rattle.link_truth.specs.Told.{IsTold, TellsAck, TellsFrame}
+use Rattle.link_truth.specs.Told.{IsTold, TellsAck, TellsFrame, TellsReset}
+use Rattle.link_truth.specs.Truth.{AreTrue}
 use Rattle.link_truth.specs.Wire.{IsSent}
 
 -- a link is the changed one, or as it was
@@ -82,12 +83,38 @@ handed_grows a s d =
     }
 
 -- what was told stays true
-pub told_more : (n r : ℕ) (a b : Links) → Grows r a b → (t : ℕ × List ℕ) → IsTold n a t → IsTold n b t
-told_more n r a b grows t told = record { source = told.source; source_is = told.source_is; target_is = told.target_is; apart = told.apart; tells = go told.tells }
+pub told_more : (n r : ℕ) (a b : Links) (current : ℕ → ℕ) → Grows r a b → (t : ℕ × List ℕ) → IsTold n a current t → IsTold n b current t
+told_more n r a b current grows t told = record {
+  source = told.source;
+  target = told.target;
+  to = told.to;
+  source_is = told.source_is;
+  target_is = told.target_is;
+  apart = told.apart;
+  source_begun = told.source_begun;
+  target_begun = told.target_begun;
+  tells = go told.tells;
+}
   where
-    go : TellsFrame n told.source t.0 a t.1 ⊎ TellsAck n told.source t.0 a t.1 → TellsFrame n told.source t.0 b t.1 ⊎ TellsAck n told.source t.0 b t.1
-    go (inl x) = inl (record { number = x.number; frame = x.frame; there = grows.kept (endpoint told.source) (endpoint t.0) x.number x.frame x.there; bytes_are = x.bytes_are })
-    go (inr x) = inr (record { number = x.number; there = omega (arith, x.there, grows.more (endpoint t.0) (endpoint told.source)); bytes_are = x.bytes_are })
+    go : TellsFrame n told.source told.target a t.1 ⊎ (TellsAck n told.source told.target a t.1 ⊎ TellsReset n told.source told.target t.1)
+        → TellsFrame n told.source told.target b t.1 ⊎ (TellsAck n told.source told.target b t.1 ⊎ TellsReset n told.source told.target t.1)
+    go (inl x) = inl (record { number = x.number; frame = x.frame; there = grows.kept told.source told.target x.number x.frame x.there; bytes_are = x.bytes_are })
+    go (inr (inl x)) = inr (inl (record { number = x.number; there = omega (arith, x.there, grows.more told.target told.source); bytes_are = x.bytes_are }))
+    go (inr (inr x)) = inr (inr x)
+
+-- and once ranks are at later incarnations
+pub told_later : (n : ℕ) (a : Links) (current later : ℕ → ℕ) → ((x : ℕ) → current x ≤ later x) → (t : ℕ × List ℕ) → IsTold n a current t → IsTold n a later t
+told_later n a current later up t told = record {
+  source = told.source;
+  target = told.target;
+  to = told.to;
+  source_is = told.source_is;
+  target_is = told.target_is;
+  apart = told.apart;
+  source_begun = omega (arith, told.source_begun, up told.source.rank);
+  target_begun = omega (arith, told.target_begun, up told.target.rank);
+  tells = told.tells;
+}
 
 -- each link is sound still once a frame that may be sent was accepted
 pub accept_sound : (a : Links) (s d : Endpoint) (f : Frame) → ((s' d' : Endpoint) → IsLink (a s' d')) → IsSent f → length (a s d).accepted + 1 < 2 ^ 64 → (s' d' : Endpoint) → IsLink (accept a s (d, f) s' d')
@@ -118,3 +145,42 @@ accept_strangers n a s d f strangers pair s' d' no_pair =
 pub handed_strangers : (n : ℕ) (a : Links) (s d : Endpoint) → ((s' d' : Endpoint) → is_pair n s' d' ≡ false → (a s' d').accepted ≡ [])
     → (s' d' : Endpoint) → is_pair n s' d' ≡ false → (handed_on a s d s' d').accepted ≡ []
 handed_strangers n a s d strangers s' d' no_pair = handed_accepted a s d s' d' ∙ strangers s' d' no_pair
+
+-- what is true of links by themselves, at these incarnations
+pub record LinksFit (n : ℕ) (links : Links) (current : ℕ → ℕ) : Type 0 where
+  pub sound : (s d : Endpoint) → IsLink (links s d)
+  pub strangers : (s d : Endpoint) → is_pair n s d ≡ false → (links s d).accepted ≡ []
+  pub none_accepted : (s d : Endpoint) → current s.rank < s.incarnation → (links s d).accepted ≡ []
+  pub none_handed : (s d : Endpoint) → current d.rank < d.incarnation → (links s d).handed ≡ 0
+
+-- a world's links do
+pub links_fit : (n : ℕ) (engines : List EngineState) (datagrams : List (ℕ × List ℕ)) (links : Links) (current : ℕ → ℕ)
+    → AreTrue n engines datagrams links current → LinksFit n links current
+links_fit n engines datagrams links current true_now = record {
+  sound = true_now.sound;
+  strangers = true_now.strangers;
+  none_accepted = true_now.none_accepted;
+  none_handed = true_now.none_handed;
+}
+
+-- a frame that an endpoint which was there accepts
+pub accept_fits : (n : ℕ) (a : Links) (current : ℕ → ℕ) (s d : Endpoint) (f : Frame) → LinksFit n a current → IsSent f
+    → length (a s d).accepted + 1 < 2 ^ 64 → is_pair n s d ≡ true → s.incarnation ≤ current s.rank → LinksFit n (accept a s (d, f)) current
+accept_fits n a current s d f fit is_sent numbered pair begun = record {
+  sound = accept_sound a s d f fit.sound is_sent numbered;
+  strangers = accept_strangers n a s d f fit.strangers pair;
+  none_accepted = λ s' d' above. link_cases (λ l. l.accepted ≡ []) a s d (record { accepted = (a s d).accepted ++ f ∷ []; handed = (a s d).handed }) s' d'
+      (λ es ed. absurd (let k : current s.rank < s.incarnation = subst (λ (x : Endpoint). current x.rank < x.incarnation) es above in omega (arith, begun, k))) (λ k. fit.none_accepted s' d' above);
+  none_handed = λ s' d' above. accepted_handed a s d f s' d' ∙ fit.none_handed s' d' above;
+}
+
+-- a frame that is handed up at an endpoint which was there
+pub handed_fits : (n : ℕ) (a : Links) (current : ℕ → ℕ) (s d : Endpoint) → LinksFit n a current → (a s d).handed < length (a s d).accepted
+    → d.incarnation ≤ current d.rank → LinksFit n (handed_on a s d) current
+handed_fits n a current s d fit within begun = record {
+  sound = handed_sound a s d fit.sound within;
+  strangers = handed_strangers n a s d fit.strangers;
+  none_accepted = λ s' d' above. handed_accepted a s d s' d' ∙ fit.none_accepted s' d' above;
+  none_handed = λ s' d' above. link_cases (λ l. l.handed ≡ 0) a s d (record { accepted = (a s d).accepted; handed = suc (a s d).handed }) s' d'
+      (λ es ed. absurd (let k : current d.rank < d.incarnation = subst (λ (x : Endpoint). current x.rank < x.incarnation) ed above in omega (arith, begun, k))) (λ k. fit.none_handed s' d' above);
+}

@@ -1,8 +1,8 @@
--- What is read from the bytes of frames and acknowledgements.
-use Rattle.std.proofs.Common.{◌≡◌, ℕ, ◌*◌, ◌<◌, ◌≤◌, ◌^◌, Bool, true, false, List, length, Some, None, Result, Ok, Err, ◌==◌, nat_lt, cond, refl, sym, ap, ◌∙◌, arith}
-use Rattle.std.proofs.lemmas.Bool.{eq-eqb, lt-ltb}
+-- What is read from the bytes of frames, acknowledgements and resets.
+use Rattle.std.proofs.Common.{◌≡◌, ℕ, ◌*◌, ◌<◌, ◌≤◌, ◌^◌, List, length, Result, Ok, Err, refl, sym, ap, ◌∙◌, arith}
 use Rattle.perfect_queues.specs.BasicTypes.{size_of}
 use Rattle.perfect_queues.specs.declared.basic_type.BasicType.{BasicType}
+use Rattle.perfect_queues.specs.declared.endpoint.Endpoint.{Endpoint}
 use Rattle.datatypes.specs.ContentLaws.{length-bytes_of, sizes, values_of-bytes_of}
 use Rattle.datatypes.specs.Contents.{AreWithin, bytes_of}
 use Rattle.datagram.specs.declared.kinds.Plane.TheVariants.{PointToPoint}
@@ -12,21 +12,28 @@ use Rattle.datagram.specs.declared.datagram.Content.TheVariants as contents
 use Rattle.datagram.specs.declared.datagram.Datagram.{Datagram}
 use Rattle.datagram.specs.declared.refused.Refused as lower
 use Rattle.datagram.specs.Reading.{datagram_of}
-use Rattle.datagram.specs.Spelling.{AckBody, BodyText, DatagramFits, DatagramText, EagerBody, EagerText, HeaderIsWithinFields, content_text, datagram_text, spelling}
+use Rattle.datagram.specs.Spelling.{AckBody, BodyText, DatagramFits, DatagramText, EagerBody, EagerText, HeaderIsWithinFields, ResetBody, content_text, datagram_text, spelling}
 use Rattle.datagram.proofs.Grammar.{is_only}
-use Rattle.engine.specs.Datagrams.{ack_bytes, header_fault, message_of}
-use Rattle.engine.specs.declared.refused.Refused.{Refused}
-use Rattle.engine.specs.declared.refused.Refused.TheVariants.{NotForMe, ForeignJob}
-use Rattle.engine.specs.Sending.{endpoint, header_to, is_other}
+use Rattle.engine.specs.Datagrams.{ack_bytes, message_of, reset_bytes}
+use Rattle.engine.specs.Sending.{header_to}
 use Rattle.link_truth.specs.Wire.{IsSmall, place_of, text_of, wire}
 use Rattle.pure_network.specs.Frames as net
 use Rattle.pure_network.specs.Held.{Whole}
 use Rattle.engine_view.specs.Rows.{held_of}
 
+-- two endpoints of n ranks whose numbers have the widths of a header
+pub record HaveWidths (n : ℕ) (s d : Endpoint) : Type 0 where
+  pub few : n ≤ 256
+  pub source_is : s.rank < n
+  pub target_is : d.rank < n
+  pub source_last : s.incarnation ≤ 65535
+  pub target_last : d.incarnation ≤ 65535
+
 -- a content that says this
 said : (b : BodyText) → (c : Content) × (content_text c ≡ b)
 said (EagerBody e) = (contents.Frame (frames.Eager (record { plane = e.plane; basic = e.basic; tag = e.tag; context = e.context; count = e.count; elements = record { ref_ptr = (0, 0); now = e.elements } })), refl)
 said AckBody = (contents.Ack, refl)
+said ResetBody = (contents.Reset, refl)
 
 -- what is spelled is read as it was spelled
 pub spelled_is_read : (d : DatagramText) → DatagramFits d → datagram_of (spelling d) ≡ Ok d
@@ -43,60 +50,55 @@ spelled_is_read d fits = go (datagram_of (spelling d)) refl
         let same : Ok d ≡ Err e = is_only (spelling d) (Err e) is d fits refl in
         absurd cc
 
--- the widths of a header from one rank to another
-header_fits : (n s d q : ℕ) → s < n → d < n → n ≤ 256 → q < 2 ^ 64 → HeaderIsWithinFields (header_to (place_of n s) d q)
-header_fits n s d q s_is d_is few numbered = record {
-  source = record { rank = omega arith; incarnation = omega arith };
-  target = record { rank = omega arith; incarnation = omega arith };
+-- the widths of a header from one endpoint to another
+header_fits : (n : ℕ) (s d : Endpoint) (q : ℕ) → HaveWidths n s d → q < 2 ^ 64 → HeaderIsWithinFields (header_to (place_of n s) d q)
+header_fits n s d q w numbered = record {
+  source = record { rank = omega (arith, w.few, w.source_is); incarnation = omega (arith, w.source_last) };
+  target = record { rank = omega (arith, w.few, w.target_is); incarnation = omega (arith, w.target_last) };
   job = omega arith;
   sequence = numbered;
 }
 
 -- a frame that may be sent has the widths and keeps the rules
-eager_fits : (n s d q c tag : ℕ) (basic : BasicType) (values : List ℕ) → IsSmall c tag basic values → s < n → d < n → n ≤ 256 → q < 2 ^ 64
+eager_fits : (n : ℕ) (s d : Endpoint) (q c tag : ℕ) (basic : BasicType) (values : List ℕ) → IsSmall c tag basic values → HaveWidths n s d → q < 2 ^ 64
     → DatagramFits (text_of n s d q (net.Eager c tag basic values))
-eager_fits n s d q c tag basic values small s_is d_is few numbered =
+eager_fits n s d q c tag basic values small w numbered =
     let sized : length (bytes_of (size_of basic) values) ≡ length values * size_of basic = length-bytes_of (size_of basic) values in
     let size : 0 < size_of basic = (sizes basic).positive in
     let least : length values ≤ length values * size_of basic = grind arith in
     record {
-      header = header_fits n s d q s_is d_is few numbered;
+      header = header_fits n s d q w numbered;
       width = record { context = omega (arith, small.context_is); count = omega (arith, least, small.size) };
       body = record { tag = small.tag_is; size = sized; limit = omega (arith, sized, small.size); plane = tt };
+      sequence = tt;
     }
 
 -- the bytes of a frame are read as the frame
-pub frame_is_read : (n s d q c tag : ℕ) (basic : BasicType) (values : List ℕ) → IsSmall c tag basic values → s < n → d < n → n ≤ 256 → q < 2 ^ 64
+pub frame_is_read : (n : ℕ) (s d : Endpoint) (q c tag : ℕ) (basic : BasicType) (values : List ℕ) → IsSmall c tag basic values → HaveWidths n s d → q < 2 ^ 64
     → datagram_of (wire n s d q (net.Eager c tag basic values)) ≡ Ok (text_of n s d q (net.Eager c tag basic values))
 unfolding wire
-frame_is_read n s d q c tag basic values small s_is d_is few numbered =
-    spelled_is_read (text_of n s d q (net.Eager c tag basic values)) (eager_fits n s d q c tag basic values small s_is d_is few numbered)
+frame_is_read n s d q c tag basic values small w numbered =
+    spelled_is_read (text_of n s d q (net.Eager c tag basic values)) (eager_fits n s d q c tag basic values small w numbered)
 
 -- what an acknowledgement says
-abbrev pub ack_text : (n s d k : ℕ) → DatagramText
+abbrev pub ack_text : (n : ℕ) (s d : Endpoint) (k : ℕ) → DatagramText
 ack_text n s d k = record { header = header_to (place_of n s) d k; body = AckBody }
 
 -- the bytes of an acknowledgement are read as it
-pub ack_is_read : (n s d k : ℕ) → s < n → d < n → n ≤ 256 → k < 2 ^ 64 → datagram_of (ack_bytes (place_of n s) d k) ≡ Ok (ack_text n s d k)
+pub ack_is_read : (n : ℕ) (s d : Endpoint) (k : ℕ) → HaveWidths n s d → k < 2 ^ 64 → datagram_of (ack_bytes (place_of n s) d k) ≡ Ok (ack_text n s d k)
 unfolding ack_bytes
-ack_is_read n s d k s_is d_is few numbered =
-    spelled_is_read (ack_text n s d k) (record { header = header_fits n s d k s_is d_is few numbered; width = tt; body = tt })
+ack_is_read n s d k w numbered =
+    spelled_is_read (ack_text n s d k) (record { header = header_fits n s d k w numbered; width = tt; body = tt; sequence = tt })
 
--- a chain of tests that all pass finds no fault
-no_fault : (a b c d e : Bool) (x y : Refused) → a ≡ true → b ≡ true → c ≡ true → d ≡ true → e ≡ true
-    → cond a (cond b (cond c (cond d (cond e None (Some x)) (Some x)) (Some x)) (Some x)) (Some y) ≡ None
-no_fault a b c d e x y ha hb hc hd he = rw (ha, hb, hc, hd, he)
+-- what a reset says
+abbrev pub reset_text : (n : ℕ) (s d : Endpoint) → DatagramText
+reset_text n s d = record { header = header_to (place_of n s) d 0; body = ResetBody }
 
--- the test for another rank passes
-other_passes : (t u : Bool) → t ≡ false → u ≡ true → cond t false u ≡ true
-other_passes t u ht hu = rw (ht, hu)
-
--- a header from another rank is for this one
-pub header_is_fine : (n s d q : ℕ) → s < n → (s == d) ≡ false → header_fault (place_of n d) (header_to (place_of n s) d q) ≡ None
-unfolding header_fault
-header_is_fine n s d q s_is apart =
-    no_fault (1 == 1) (d == d) (0 == 0) (is_other (place_of n d) s) (0 == 0) NotForMe ForeignJob
-    refl (eq-eqb d d refl) refl (other_passes (s == d) (nat_lt s n) apart (lt-ltb s n s_is)) refl
+-- the bytes of a reset are read as it
+pub reset_is_read : (n : ℕ) (s d : Endpoint) → HaveWidths n s d → datagram_of (reset_bytes (place_of n s) d) ≡ Ok (reset_text n s d)
+unfolding reset_bytes
+reset_is_read n s d w =
+    spelled_is_read (reset_text n s d) (record { header = header_fits n s d 0 w (omega arith); width = tt; body = tt; sequence = refl })
 
 -- what a frame says behind its header
 abbrev pub eager_said : (c tag : ℕ) (basic : BasicType) (values : List ℕ) → EagerText
@@ -110,10 +112,10 @@ eager_said c tag basic values = record {
 }
 
 -- the message of a frame, as it is held
-pub message_is_held : (n s d q c tag : ℕ) (basic : BasicType) (values : List ℕ) → AreWithin (size_of basic) values
+pub message_is_held : (n : ℕ) (s d : Endpoint) (q c tag : ℕ) (basic : BasicType) (values : List ℕ) → AreWithin (size_of basic) values
     → held_of (message_of (header_to (place_of n s) d q) (eager_said c tag basic values))
-    ≡ record { sender = endpoint s; context = c; tag = tag; basic = basic; body = Whole values }
+    ≡ record { sender = s; context = c; tag = tag; basic = basic; body = Whole values }
 unfolding message_of
 message_is_held n s d q c tag basic values within =
-    ap (λ (v : List ℕ). record { sender = endpoint s; context = c; tag = tag; basic = basic; body = Whole v })
+    ap (λ (v : List ℕ). record { sender = s; context = c; tag = tag; basic = basic; body = Whole v })
     (values_of-bytes_of (size_of basic) values (sizes basic).positive within)

@@ -1,27 +1,27 @@
 -- What one sender keeps of its link, and what it sends.
-use Rattle.std.proofs.Common.{◌≡◌, ℕ, ◌+◌, ◌-◌, ◌<◌, ◌≤◌, Bool, true, false, cond, leb, nat_le, ◌==◌, List, [], ◌∷◌, ◌++◌, length, drop, Option, Some, None, slice_get, refl, sym, ap, subst, ◌∙◌, inl, inr, arith}
+use Rattle.std.proofs.Common.{◌≡◌, ℕ, ◌+◌, ◌-◌, ◌<◌, ◌≤◌, Bool, true, false, cond, leb, nat_le, ◌==◌, List, [], ◌∷◌, ◌++◌, length, drop, Option, Some, None, slice_get, refl, sym, ap, subst, ◌∙◌, inl, inr, ◌⊎◌, arith}
 use Rattle.std.specs.List.{AllByRecursion}
 use Rattle.std.specs.Option.{option_map}
 use Rattle.std.proofs.lemmas.Bool.{cases_lt, leb-true}
 use Rattle.std.proofs.lemmas.List.{drop-append-le, drop-drop, length-drop, length-map}
 use Rattle.std.proofs.lemmas.Option.{slice_get-map}
+use Rattle.perfect_queues.specs.declared.endpoint.Endpoint.{Endpoint}
 use Rattle.reliable_link.specs.declared.out_frame.OutFrame.{OutFrame}
 use Rattle.reliable_link.specs.SenderState.{SenderState, after_accept, after_ack, after_due, frame_at, next_number}
 use Rattle.reliable_link.proofs.KeptBytes.{bytes_after_accept, bytes_after_ack, bytes_after_due, lowest_after_due}
 use Rattle.reliable_link.proofs.Places.{place_in_drop}
 use Rattle.reliable_link.proofs.Senders.{is_heeded, is_passed}
 use Rattle.engine.specs.Peers.{frame_out, frames_out}
-use Rattle.engine.specs.Sending.{endpoint}
 use Rattle.pure_network.specs.Frames.{Frame}
 use Rattle.pure_network.specs.Links.{Link}
 use Rattle.link_truth.specs.Sessions.{Links, SenderTells}
-use Rattle.link_truth.specs.Told.{IsTold}
+use Rattle.link_truth.specs.Told.{IsTold, TellsAck, TellsFrame, TellsReset}
 use Rattle.link_truth.specs.Wire.{wire, wires}
 use Rattle.link_truth.proofs.Lists.{All_flat}
 use Rattle.link_truth.proofs.Wires.{IsWire, wires_get, wires_length, wires_push}
 
 -- the next number is how many frames the link accepted
-pub next_is : (n s d : ℕ) (sender : SenderState) (link : Link) → SenderTells n s d sender link → link.handed ≤ length link.accepted → next_number sender ≡ length link.accepted
+pub next_is : (n : ℕ) (s d : Endpoint) (sender : SenderState) (link : Link) → SenderTells n s d sender link → link.handed ≤ length link.accepted → next_number sender ≡ length link.accepted
 next_is n s d sender link tells reach =
     let kept : length sender.frames ≡ length link.accepted - sender.lowest =
     sym (length-map sender.frames (λ (f : OutFrame). f.bytes)) ∙ ap (λ (t : List (List ℕ)). length t) tells.kept
@@ -30,7 +30,7 @@ next_is n s d sender link tells reach =
     omega (arith, kept, reach, tells.below)
 
 -- a new frame, under the next number
-pub accept_tells : (n s d : ℕ) (sender : SenderState) (link : Link) (f : Frame) (bytes : List ℕ) → SenderTells n s d sender link → link.handed ≤ length link.accepted
+pub accept_tells : (n : ℕ) (s d : Endpoint) (sender : SenderState) (link : Link) (f : Frame) (bytes : List ℕ) → SenderTells n s d sender link → link.handed ≤ length link.accepted
     → bytes ≡ wire n s d (length link.accepted) f → SenderTells n s d (after_accept sender bytes) (record link { accepted = link.accepted ++ f ∷ [] })
 accept_tells n s d sender link f bytes tells reach is =
     let within : sender.lowest ≤ length (wires n s d 0 link.accepted) = omega (arith, wires_length n s d 0 link.accepted, reach, tells.below) in
@@ -46,7 +46,7 @@ accept_tells n s d sender link f bytes tells reach is =
     }
 
 -- an acknowledgement of what was handed up
-pub ack_tells : (n s d : ℕ) (sender : SenderState) (link : Link) (k : ℕ) → SenderTells n s d sender link → k ≤ link.handed → SenderTells n s d (after_ack sender k) link
+pub ack_tells : (n : ℕ) (s d : Endpoint) (sender : SenderState) (link : Link) (k : ℕ) → SenderTells n s d sender link → k ≤ link.handed → SenderTells n s d (after_ack sender k) link
 ack_tells n s d sender link k tells le =
     elim (cases_lt sender.lowest k) [
       | inl lt ↦
@@ -61,14 +61,14 @@ ack_tells n s d sender link k tells le =
     ]
 
 -- a tick
-pub due_tells : (n s d : ℕ) (sender : SenderState) (link : Link) (now : ℕ) → SenderTells n s d sender link → SenderTells n s d (after_due sender now) link
+pub due_tells : (n : ℕ) (s d : Endpoint) (sender : SenderState) (link : Link) (now : ℕ) → SenderTells n s d sender link → SenderTells n s d (after_due sender now) link
 due_tells n s d sender link now tells = record {
   kept = bytes_after_due sender now ∙ tells.kept ∙ ap (λ (m : ℕ). drop m (wires n s d 0 link.accepted)) (sym (lowest_after_due sender now));
   below = omega (arith, tells.below, lowest_after_due sender now);
 }
 
 -- the bytes that are kept under a number are those of the frame that was accepted under it
-kept_is_accepted : (n s d : ℕ) (sender : SenderState) (link : Link) (q : ℕ) (bytes : List ℕ) → SenderTells n s d sender link → (t : Bool) → leb sender.lowest q ≡ t
+kept_is_accepted : (n : ℕ) (s d : Endpoint) (sender : SenderState) (link : Link) (q : ℕ) (bytes : List ℕ) → SenderTells n s d sender link → (t : Bool) → leb sender.lowest q ≡ t
     → cond t (option_map (λ (f : OutFrame). f.bytes) (slice_get sender.frames (q - sender.lowest))) None ≡ Some bytes → IsWire n s d q link.accepted q bytes
 kept_is_accepted n s d sender link q bytes tells true le e =
     let there : sender.lowest + (q - sender.lowest) ≡ q = omega (arith, leb-true sender.lowest q le) in
@@ -81,21 +81,44 @@ kept_is_accepted n s d sender link q bytes tells true le e =
     subst (λ (k : ℕ). IsWire n s d k link.accepted q bytes) zero_and (wires_get n s d 0 link.accepted q bytes got)
 kept_is_accepted n s d sender link q bytes tells false le e = absurd cc
 
+-- a datagram goes between endpoints of two ranks of n, which were there
+pub record AreBegun (n : ℕ) (s d : Endpoint) (current : ℕ → ℕ) : Type 0 where
+  pub source : s.rank < n
+  pub target : d.rank < n
+  pub apart : (s.rank == d.rank) ≡ false
+  pub source_begun : s.incarnation ≤ current s.rank
+  pub target_begun : d.incarnation ≤ current d.rank
+
+-- what tells one of three things between such endpoints is told
+pub is_told : (n : ℕ) (s d : Endpoint) (links : Links) (current : ℕ → ℕ) (bytes : List ℕ) → AreBegun n s d current
+    → TellsFrame n s d links bytes ⊎ (TellsAck n s d links bytes ⊎ TellsReset n s d bytes) → IsTold n links current (d.rank, bytes)
+is_told n s d links current bytes begun tells = record {
+  source = s;
+  target = d;
+  to = refl;
+  source_is = begun.source;
+  target_is = begun.target;
+  apart = begun.apart;
+  source_begun = begun.source_begun;
+  target_begun = begun.target_begun;
+  tells = tells;
+}
+
 -- a frame that goes out is told
-frame_is_told : (n s d : ℕ) (links : Links) (q : ℕ) (o : Option (List ℕ)) → s < n → d < n → (s == d) ≡ false
-    → ((bytes : List ℕ) → o ≡ Some bytes → IsWire n s d q (links (endpoint s) (endpoint d)).accepted q bytes) → AllByRecursion (IsTold n links) (frame_out d o)
-frame_is_told n s d links q None s_is d_is apart says = tt
-frame_is_told n s d links q (Some bytes) s_is d_is apart says =
+frame_is_told : (n : ℕ) (s d : Endpoint) (links : Links) (current : ℕ → ℕ) (q : ℕ) (o : Option (List ℕ)) → AreBegun n s d current
+    → ((bytes : List ℕ) → o ≡ Some bytes → IsWire n s d q (links s d).accepted q bytes) → AllByRecursion (IsTold n links current) (frame_out d.rank o)
+frame_is_told n s d links current q None begun says = tt
+frame_is_told n s d links current q (Some bytes) begun says =
     let w = says bytes refl in
-    (record { source = s; source_is = s_is; target_is = d_is; apart = apart; tells = inl (record { number = q; frame = w.frame; there = w.there; bytes_are = w.bytes_are }) }, tt)
+    (is_told n s d links current bytes begun (inl (record { number = q; frame = w.frame; there = w.there; bytes_are = w.bytes_are })), tt)
 
 -- whatever numbers go out, each frame is told
-pub frames_are_told : (n s d : ℕ) (sender : SenderState) (links : Links) (numbers : List ℕ) → s < n → d < n → (s == d) ≡ false
-    → SenderTells n s d sender (links (endpoint s) (endpoint d)) → AllByRecursion (IsTold n links) (frames_out d sender numbers)
-frames_are_told n s d sender links numbers s_is d_is apart tells =
-    All_flat (IsTold n links) (λ (q : ℕ). frame_out d (frame_at sender q)) numbers (λ q.
-    frame_is_told n s d links q (frame_at sender q) s_is d_is apart (λ bytes e.
-    kept_is_accepted n s d sender (links (endpoint s) (endpoint d)) q bytes tells (leb sender.lowest q) refl e))
+pub frames_are_told : (n : ℕ) (s d : Endpoint) (sender : SenderState) (links : Links) (current : ℕ → ℕ) (numbers : List ℕ) → AreBegun n s d current
+    → SenderTells n s d sender (links s d) → AllByRecursion (IsTold n links current) (frames_out d.rank sender numbers)
+frames_are_told n s d sender links current numbers begun tells =
+    All_flat (IsTold n links current) (λ (q : ℕ). frame_out d.rank (frame_at sender q)) numbers (λ q.
+    frame_is_told n s d links current q (frame_at sender q) begun (λ bytes e.
+    kept_is_accepted n s d sender (links s d) q bytes tells (leb sender.lowest q) refl e))
 
 -- where no frame is kept, none goes out
 pub none_out : (d : ℕ) (sender : SenderState) (numbers : List ℕ) → sender.frames ≡ [] → frames_out d sender numbers ≡ []

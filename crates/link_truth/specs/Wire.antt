@@ -1,17 +1,22 @@
 -- The bytes under which a frame of a link goes.
 use Rattle.std.specs.Prelude.{◌≡◌, ℕ, suc, ◌*◌, ◌≤◌, List, [], ◌∷◌, length}
 use Rattle.perfect_queues.specs.BasicTypes.{size_of}
+use Rattle.perfect_queues.specs.declared.endpoint.Endpoint.{Endpoint}
 use Rattle.perfect_queues.specs.declared.basic_type.BasicType.{BasicType}
 use Rattle.datatypes.specs.Contents.{AreWithin, bytes_of}
 use Rattle.datagram.specs.declared.kinds.Plane.TheVariants.{PointToPoint}
 use Rattle.datagram.specs.Spelling.{AckBody, BodyText, DatagramText, EagerBody, spelling}
-use Rattle.engine.specs.declared.place.Place.{Place}
+use Rattle.incarnation.specs.declared.place.Place.{Place}
 use Rattle.engine.specs.Sending.{header_to}
 use Rattle.pure_network.specs.Frames.{Cts, Data, Eager, Frame, Rts}
 
--- the place of a rank among n, in job 1
-abbrev pub place_of : (n rank : ℕ) → Place
-place_of n rank = record { rank = rank; size = n; job = 1 }
+-- a rank at an incarnation
+abbrev pub at : (rank incarnation : ℕ) → Endpoint
+at rank incarnation = record { rank = rank; incarnation = incarnation }
+
+-- the place of an endpoint among n ranks, in job 1
+abbrev pub place_of : (n : ℕ) → Endpoint → Place
+place_of n e = record { endpoint = e; size = n; job = 1 }
 
 -- what a message that goes in one frame may be, for now on world
 pub record IsSmall (context tag : ℕ) (basic : BasicType) (values : List ℕ) : Type 0 where
@@ -27,6 +32,7 @@ IsSent (Rts c tag basic transfer count) = ⊥
 IsSent (Cts transfer wanted) = ⊥
 IsSent (Data transfer offset values) = ⊥
 
+-- the body of a frame: a whole message as an eager one; links carry no other frame yet, so theirs has no meaning
 abbrev pub body_of : Frame → BodyText
 body_of (Eager c tag basic values) =
     EagerBody (record {
@@ -41,14 +47,15 @@ body_of (Rts c tag basic transfer count) = AckBody
 body_of (Cts transfer wanted) = AckBody
 body_of (Data transfer offset values) = AckBody
 
--- the frame of a number on the link from s to d, two ranks of n
-abbrev pub text_of : (n s d number : ℕ) → Frame → DatagramText
+-- the frame of a number on the link from s to d, two endpoints among n ranks
+abbrev pub text_of : (n : ℕ) (s d : Endpoint) (number : ℕ) → Frame → DatagramText
 text_of n s d q f = record { header = header_to (place_of n s) d q; body = body_of f }
 
-unfoldable pub wire : (n s d number : ℕ) → Frame → List ℕ
+-- the bytes under which a frame goes from s to d
+unfoldable pub wire : (n : ℕ) (s d : Endpoint) (number : ℕ) → Frame → List ℕ
 wire n s d q f = spelling (text_of n s d q f)
 
 -- frames that follow one another, the first under this number
-abbrev pub wires : (n s d number : ℕ) → List Frame → List (List ℕ)
+abbrev pub wires : (n : ℕ) (s d : Endpoint) (number : ℕ) → List Frame → List (List ℕ)
 wires n s d q [] = []
 wires n s d q (f ∷ fs) = wire n s d q f ∷ wires n s d (suc q) fs

@@ -2,6 +2,8 @@
 
 ghost use Rattle.std.specs.Prelude.{◌≡◌};
 ghost use Rattle.match_queues.specs.Accepts.{accepts, is_from, has_tag};
+ghost use Rattle.perfect_queues.specs.Endpoints.{is_former};
+ghost use Rattle.perfect_queues.specs.Receives.{names};
 
 use datatypes::Buffer;
 use perfect_queues::{Endpoint, Source};
@@ -61,4 +63,21 @@ impl Receive {
             && is_from(self.source, message.sender.rank)
             && has_tag(self.tag, message.tag)
     }
+}
+
+/// Whether the receive names this rank; one from any source names none.
+pub(crate) fn names(receive: &Receive, rank: u16) -> bool
+    ensures { result ≡ names receive.now.source rank }
+{
+    match receive.source {
+        Source::Rank(named) => named == rank,
+        Source::Null | Source::Any => false,
+    }
+}
+
+/// Whether the message is from an incarnation of this rank before this one.
+pub(crate) fn is_former(message: &Message, rank: u16, incarnation: u16) -> bool
+    ensures { result ≡ is_former rank incarnation message.now.sender }
+{
+    message.sender.rank == rank && message.sender.incarnation < incarnation
 }

@@ -1,13 +1,16 @@
 //! The queues.
 
-ghost use Rattle.std.specs.Prelude.{◌≡◌, [], IfOk, OnOk, OnErr, IfErr, position, Some, None};
-ghost use Rattle.match_queues.specs.State.{State, message_at, receive_at, message_for, receive_for, after_post, after_arrival};
+ghost use Rattle.std.specs.Prelude.{◌≡◌, ◌≤◌, ◌<◌, not, filter, [], IfOk, OnOk, OnErr, IfErr, position, Some, None};
+ghost use Rattle.std.specs.Vec.{vec_len, vec_capacity};
+ghost use Rattle.perfect_queues.specs.Endpoints.{is_former};
+ghost use Rattle.perfect_queues.specs.Receives.{names};
+ghost use Rattle.match_queues.specs.State.{State, message_at, receive_at, message_for, receive_for, after_post, after_arrival, after_drop, keys_naming};
 ghost use Rattle.match_queues.specs.Arrivals.{arrival_of};
 ghost use Rattle.match_queues.specs.Oldest.{IsOldestMessage, IsOldestReceive};
 ghost use Rattle.match_queues.specs.declared.envelope.Receive.{Receive};
 ghost use Rattle.match_queues.specs.declared.envelope.Message.{Message};
 
-use crate::envelope::{Message, Receive};
+use crate::envelope::{Message, Receive, is_former, names};
 use crate::refused::{Handed, OutOfMemory};
 use std::alloc::Global;
 use std::marker::Model;
@@ -46,6 +49,74 @@ fn place_of_receive(message: &Message, receives: &[Receive]) -> Option<usize>
     ensures { result ≡ receive_for message.now receives.now }
 {
     receives.iter().position(|receive| receive.accepts(message))
+}
+
+/// Drops the receives that name the rank.
+fn drop_receives(posted: &mut Vec<Receive>, rank: u16)
+    ensures { posted.new.items ≡ filter (λ r. not (names r.source rank)) posted.old.items }
+{
+    posted.retain(|receive| !names(receive, rank));
+}
+
+/// Drops the messages from incarnations of the rank before this one.
+fn drop_messages(unexpected: &mut Vec<Message>, rank: u16, incarnation: u16)
+    ensures items { unexpected.new.items ≡ filter (λ m. not (is_former rank incarnation m.sender)) unexpected.old.items }
+    ensures bound { vec_len unexpected.new ≤ vec_len unexpected.old }
+    ensures capacity { vec_capacity unexpected.new ≡ vec_capacity unexpected.old }
+{
+    unexpected.retain(|message| !is_former(message, rank, incarnation));
+}
+
+/// The keys of the receives that name the rank, or want of memory.
+fn keys_among(alloc: Global, receives: &[Receive], rank: u16) -> Result<Vec<usize>, OutOfMemory>
+    ensures { IfOk result (λ keys. keys.items ≡ keys_naming rank receives.now) }
+{
+    match receives
+        .iter()
+        .filter(|receive| names(receive, rank))
+        .map(|receive| receive.request)
+        .collect(alloc)
+    {
+        Ok(keys) => Ok(keys),
+        Err(_) => Err(OutOfMemory {}),
+    }
+}
+
+/// Gives the message to the oldest receive that accepts it, or keeps it in the room that there is.
+fn give(posted: &mut Vec<Receive>, unexpected: &mut Vec<Message>, message: Message) -> Arrival
+    requires room { vec_len unexpected.old < vec_capacity unexpected.old }
+    ensures what { result ≡ arrival_of (record { posted = posted.old.items; unexpected = unexpected.old.items }) message }
+    ensures state { record { posted = posted.new.items; unexpected = unexpected.new.items } ≡
+        after_arrival (record { posted = posted.old.items; unexpected = unexpected.old.items }) message }
+{
+    match place_of_receive(&message, posted) {
+        Some(place) => Arrival::Matched(posted.remove(place), message),
+        None => {
+            let _ = unexpected.push(message);
+            Arrival::Kept
+        }
+    }
+}
+
+/// Drops what is of former incarnations of the rank, and then gives the message.
+fn give_anew(
+    posted: &mut Vec<Receive>,
+    unexpected: &mut Vec<Message>,
+    rank: u16,
+    incarnation: u16,
+    message: Message,
+) -> Arrival
+    requires room { vec_len unexpected.old < vec_capacity unexpected.old }
+    ensures what { result ≡
+        arrival_of (after_drop
+        (record { posted = posted.old.items; unexpected = unexpected.old.items }) rank incarnation) message }
+    ensures state { record { posted = posted.new.items; unexpected = unexpected.new.items } ≡
+        after_arrival (after_drop
+        (record { posted = posted.old.items; unexpected = unexpected.old.items }) rank incarnation) message }
+{
+    drop_receives(posted, rank);
+    drop_messages(unexpected, rank, incarnation);
+    give(posted, unexpected, message)
 }
 
 /// A law of `post` and `arrive`: what is taken is the oldest that fits, and what is kept, nothing there fits
@@ -108,6 +179,54 @@ impl Queues {
                     value: e.value,
                 }),
             },
+        }
+    }
+
+    /// The keys of the receives that name the rank, the oldest first; or want of memory. One from any source names
+    /// none.
+    pub fn keys_naming(&self, alloc: Global, rank: u16) -> Result<Vec<usize>, OutOfMemory>
+        ensures { IfOk result (λ keys. keys.items ≡ keys_naming rank self.now.posted) }
+    {
+        keys_among(alloc, &self.posted, rank)
+    }
+
+    /// Drops the receives that name the rank, and the messages from its incarnations before this one. It takes no
+    /// memory.
+    ///
+    /// MPI 3.1 defines no restart of a rank; what becomes of these is this project's own.
+    pub fn drop_from(&mut self, rank: u16, incarnation: u16)
+        ensures { self.new ≡ after_drop self.old rank incarnation }
+    {
+        drop_receives(&mut self.posted, rank);
+        drop_messages(&mut self.unexpected, rank, incarnation);
+    }
+
+    /// Does what `drop_from` does, and then what `arrive` does: the rank was started anew, and a message came.
+    ///
+    /// Without memory for it the message is handed back, and nothing changes.
+    pub fn arrive_anew(
+        &mut self,
+        rank: u16,
+        incarnation: u16,
+        message: Message,
+    ) -> Result<Arrival, Handed<Message>>
+        ensures state { OnOk result (self.new ≡ after_arrival (after_drop self.old rank incarnation) message) }
+        ensures what { IfOk result (λ arrival. arrival ≡ arrival_of (after_drop self.old rank incarnation) message) }
+        ensures back { IfErr result (λ e. e.value ≡ message) }
+        ensures unchanged { OnErr result (self.new ≡ self.old) }
+    {
+        match self.unexpected.reserve(1) {
+            Ok(()) => Ok(give_anew(
+                &mut self.posted,
+                &mut self.unexpected,
+                rank,
+                incarnation,
+                message,
+            )),
+            Err(_) => Err(Handed {
+                refused: OutOfMemory {},
+                value: message,
+            }),
         }
     }
 }

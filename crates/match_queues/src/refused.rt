@@ -1,5 +1,7 @@
 //! Why a receive or a message could not be kept.
 
+ghost use Rattle.std.specs.Prelude.{◌≡◌};
+
 use thiserror::Error;
 
 /// No memory for one more receive or message: refusal number 14.
@@ -7,9 +9,20 @@ use thiserror::Error;
 #[error("out of memory")]
 pub struct OutOfMemory {}
 
+impl OutOfMemory {
+    /// The number of this refusal: 14, this project's own for want of memory.
+    pub fn number(self) -> u8
+        ensures { result ≡ 14 }
+    {
+        14
+    }
+}
+
 /// A refusal, with what was handed in.
 #[derive(Debug, Drop)]
 pub struct Handed<T> {
+    /// Why it was refused.
     pub refused: OutOfMemory,
+    /// What was handed in, as it was.
     pub value: T,
 }

@@ -15,6 +15,7 @@ is_line_end byte = byte == 10
 abbrev pub is_blank : ℕ → Bool
 is_blank byte = byte == 32 || byte == 9
 
+-- whether there is anything in a list
 abbrev pub is_nonempty : {A : Type 0} → List A → Bool
 is_nonempty items = not (length items == 0)
 

@@ -51,6 +51,7 @@ pub record IsFile (bytes : List ℕ) (sets : List ProcessSet) : Type 0 where
 
 -- ---- own options
 
+-- the word of an own option
 abbrev pub name_of : OwnOption → Word
 name_of Job = codes "-job"
 name_of BasePort = codes "-baseport"
@@ -71,6 +72,7 @@ AreOptions before (name ∷ []) after = ⊥
 AreOptions before (name ∷ value ∷ words) after =
     (option : OwnOption) × (number : ℕ) × IsOption option number name value × (given_of option before ≡ None) × AreOptions (with_number option before number) words after
 
+-- the word in front of the configuration file's name (MPI 3.1, 8.8)
 abbrev pub file_option : Word
 file_option = codes "-configfile"
 

@@ -63,6 +63,7 @@ pub record IsWithinLimits (launch : Launch) : Type 0 where
   pub ranks : rank_count launch.sets ≤ 256
   pub ports : launch.base_port + rank_count launch.sets ≤ 65536
 
+-- whether a launch has at most 256 ranks and no port above 65,535
 abbrev pub is_within_limits : Launch → Bool
 is_within_limits launch = nat_le (rank_count launch.sets) 256 && nat_le (launch.base_port + rank_count launch.sets) 65536
 

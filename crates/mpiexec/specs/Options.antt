@@ -22,6 +22,7 @@ given_of BasePort given = given.base_port
 given_of Restart given = given.restarts
 given_of Patience given = given.patience
 
+-- whether the option was given before
 abbrev pub is_given : OwnOption → Given → Bool
 is_given option given = is_some (given_of option given)
 
@@ -44,9 +45,11 @@ pub record Opening : Type 0 where
   pub file : Option Word
   pub rest : List Word
 
+-- these options, with the words of the sets behind them
 abbrev pub at_sets : Given → List Word → Opening
 at_sets given words = record { given = given; file = None; rest = words }
 
+-- these options, with a configuration file's name and more words behind them
 abbrev pub at_file : Given → Word → List Word → Opening
 at_file given name rest = record { given = given; file = Some name; rest = rest }
 

@@ -15,6 +15,7 @@ abbrev pub if_ended : List Word → List ProcessSet → Result (List ProcessSet)
 if_ended [] sets = Ok sets
 if_ended (word ∷ words) sets = Err refusals.WrongOption
 
+-- the sets from the file that is named, which no word may follow, or else from the words
 abbrev pub sets_where : Option Word → List Word → Option (List ℕ) → Result (List ProcessSet) Refused
 sets_where None rest config = sets_of rest
 sets_where (Some name) rest config = sets_of_file config >>= if_ended rest

@@ -4,6 +4,7 @@ use Rattle.mpiexec.specs.declared.refused.Refused.{Refused}
 use Rattle.mpiexec.specs.declared.refused.Refused.TheVariants as refusals
 
 infixl 10 ◌>>=◌
+-- a step after a step that gave no fault
 abbrev pub ◌>>=◌ : {A B : Type 0} → Result A Refused → (A → Result B Refused) → Result B Refused
 (Ok x) >>= f = f x
 (Err e) >>= f = Err e

@@ -11,9 +11,13 @@ use crate::symbol::OwnOption;
 /// The values of the own options that were given.
 #[derive(Clone, Copy, Debug)]
 pub(crate) struct Given {
+    /// The number of the job, of `-job`.
     pub(crate) job: Option<u64>,
+    /// The port of rank 0, of `-baseport`; that of rank r is r above it.
     pub(crate) base_port: Option<u16>,
+    /// How often a rank may be started again, of `-restart`.
     pub(crate) restarts: Option<u16>,
+    /// How long the ranks wait, in milliseconds, of `-patience`.
     pub(crate) patience: Option<u32>,
 }
 

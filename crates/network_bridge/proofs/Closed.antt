@@ -5,12 +5,15 @@ use Rattle.engine_matching.proofs.PostLemmas.{posts_match}
 use Rattle.engine_steps.proofs.Arriving.{arrivals_are_shown}
 use Rattle.engine_steps.proofs.CallsShown.{calls_are_shown}
 use Rattle.engine_steps.proofs.OpeningShown.{opening_is_shown}
+use Rattle.engine_steps.proofs.Words.{words_are_shown}
 use Rattle.link_truth.proofs.Calls.{calls_are_true}
 use Rattle.link_truth.proofs.Datagrams.{datagrams_are_true}
 use Rattle.link_truth.proofs.Idle.{idle_is_still}
 use Rattle.link_truth.proofs.Openings.{opening_is_true}
+use Rattle.link_truth.proofs.Refusals.{refusals_are_true}
+use Rattle.link_truth.proofs.Restarts.{restarts_are_true}
 use Rattle.link_truth.proofs.Ticks.{ticks_are_true}
-use Rattle.network_bridge.specs.Following.{CallsFollow, DatagramsFollow, FollowingIsRun, OpeningFollows, TicksFollow}
+use Rattle.network_bridge.specs.Following.{CallsFollow, DatagramsFollow, FollowingIsRun, OpeningFollows, RefusalsFollow, RestartsFollow, TicksFollow}
 use Rattle.network_bridge.proofs.Following as parts
 
 pub opening_follows : OpeningFollows
@@ -20,10 +23,16 @@ pub calls_follow : CallsFollow
 calls_follow = parts.calls_follow (calls_are_shown receives_fit posts_match arrivals_match outcomes_agree) calls_are_true
 
 pub datagrams_follow : DatagramsFollow
-datagrams_follow = parts.datagrams_follow (arrivals_are_shown arrivals_match outcomes_agree) datagrams_are_true
+datagrams_follow = parts.datagrams_follow words_are_shown (arrivals_are_shown arrivals_match outcomes_agree) datagrams_are_true
+
+pub refusals_follow : RefusalsFollow
+refusals_follow = parts.refusals_follow refusals_are_true
 
 pub ticks_follow : TicksFollow
 ticks_follow = parts.ticks_follow ticks_are_true
+
+pub restarts_follow : RestartsFollow
+restarts_follow = parts.restarts_follow opening_is_shown restarts_are_true
 
 pub following_is_run : FollowingIsRun
 following_is_run = parts.following_is_run idle_is_still

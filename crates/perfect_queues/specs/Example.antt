@@ -10,9 +10,11 @@ use Rattle.perfect_queues.specs.declared.basic_type.BasicType.TheVariants.{Int32
 use Rattle.perfect_queues.specs.declared.endpoint.Endpoint.{Endpoint}
 use Rattle.perfect_queues.specs.declared.envelope.Source.TheVariants.{Rank}
 
+-- rank 0, never started anew
 abbrev pub rank_0 : Endpoint
 rank_0 = record { rank = 0; incarnation = 0 }
 
+-- rank 1, never started anew
 abbrev pub rank_1 : Endpoint
 rank_1 = record { rank = 1; incarnation = 0 }
 

@@ -191,4 +191,11 @@ pub is_run : (n : ℕ) (hs : List Happening) → IsRunOfMachine n (run n hs new_
 is_run n hs =
     let V : Values = λ s i. get_or ((run n hs new_network).log s) i [] in
     let k : Kept n V (run n hs new_network) = run_kept n V hs new_network (λ s i lt. refl) (new_kept n V) in
-    record { events = k.seen.events; run = k.seen.run; tells = k.seen.tells; quiet = quiet_kept n V (run n hs new_network) k }
+    record {
+      events = k.seen.events;
+      run = k.seen.run;
+      tells = k.seen.tells;
+      current = λ r. ap (λ (f : ℕ → ℕ). f r) k.seen.joined.now;
+      knows = λ e x. ap (λ (f : ℕ → ℕ). f x) (k.seen.joined.each e).known;
+      quiet = quiet_kept n V (run n hs new_network) k;
+    }

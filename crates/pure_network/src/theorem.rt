@@ -6,8 +6,9 @@ ghost use Rattle.pure_network.specs.Example.{late_and_repeated};
 ghost use Rattle.pure_network.specs.Network.{Happening, run, new_network, IsRunOfMachine};
 
 /// States that each history of the pure network is a history of the machine of perfect queues: for every number of ranks
-/// and every list of happenings, whatever is called, delayed, lost or started anew. Where the network is quiet, the run
-/// ends in a state that meets the machine's quiet clause. It does nothing when it is called.
+/// and every list of happenings, whatever is called, delayed, lost or started anew. The run ends with each rank at the
+/// network's incarnation, where each endpoint knows what its core knows; and where the network is quiet, it ends in a state
+/// that meets the machine's quiet clause. It does nothing when it is called.
 ///
 /// The example shows that the network moves: a message that comes late and is repeated is received once.
 ///

@@ -6,8 +6,9 @@ use Rattle.datatypes.specs.Contents.{Contents}
 use Rattle.requests.specs.declared.outcome.Failure.{Failure}
 use Rattle.requests.specs.declared.outcome.Failure.TheVariants.{WrongType, Truncated}
 use Rattle.requests.specs.declared.outcome.Outcome.{Outcome}
-use Rattle.requests.specs.declared.outcome.Outcome.TheVariants.{Sent, Received, Ended}
+use Rattle.requests.specs.declared.outcome.Outcome.TheVariants.{Received, Ended}
 
+-- the number that an outcome tells: 2, ERR_TYPE (3.3.1), or 10, ERR_TRUNCATE (3.2.4)
 abbrev pub number_of_failure : Failure → ℕ
 number_of_failure WrongType = 2
 number_of_failure Truncated = 10

@@ -1,25 +1,27 @@
 -- The table of requests.
-use Rattle.std.specs.Prelude.{◌≡◌, ◌≢◌, ℕ, ◌+◌, ◌-◌, ◌^◌, ◌≤◌, nat_le, Bool, ◌||◌, List, Option, Some, None, is_some, count_by, slice_index_or, slice_set, ◌==◌, if◌then◌else◌}
+use Rattle.std.specs.Prelude.{◌≡◌, ◌≢◌, ℕ, ◌+◌, ◌≤◌, nat_le, Bool, ◌||◌, List, [], ◌∷◌, Option, Some, None, is_some, count_by, slice_index_or, slice_set, ◌==◌, if◌then◌else◌}
 use Rattle.perfect_queues.specs.declared.envelope.Status.{Status}
 use Rattle.datatypes.specs.Contents.{Contents}
 use Rattle.requests.specs.declared.table.Entry.{Entry}
 use Rattle.requests.specs.declared.table.Progress.{Progress}
 use Rattle.requests.specs.declared.table.Progress.TheVariants.{Receiving, Finished}
-use Rattle.requests.specs.declared.outcome.Outcome.{Outcome}
+use Rattle.requests.specs.declared.outcome.Outcome.TheVariants as outcomes
 use Rattle.requests.specs.declared.table.Taken.{Taken}
 use Rattle.requests.specs.declared.table.Taken.TheVariants as takens
 use Rattle.requests.specs.Outcomes.{outcome_of}
 
--- what stands under each key, and how many requests were started
+-- what stands under each key, the key of the next request, for how many there is memory, and how many were started
 pub record Table : Type 0 where
   pub slots : List (Option Entry)
   pub vacant : ℕ
   pub capacity : ℕ
   pub serial : ℕ
 
+-- what stands under a key; nothing does beyond the last
 abbrev pub slot_at : List (Option Entry) → ℕ → Option Entry
 slot_at slots key = slice_index_or slots key None
 
+-- the entry under a key of the table
 abbrev pub entry_at : Table → ℕ → Option Entry
 entry_at t key = slot_at t.slots key
 
@@ -36,6 +38,7 @@ pub record IsSet (old new : List (Option Entry)) (key : ℕ) (slot : Option Entr
   pub changed : slot_at new key ≡ slot
   pub others : (other : ℕ) → other ≢ key → slot_at new other ≡ slot_at old other
 
+-- how far a request is once its message came: a receive that waits ends with it
 abbrev pub progress_after : Progress → Status → Contents → Progress
 progress_after (Receiving b) status m = Finished (outcome_of b status m)
 progress_after (Finished o) status m = Finished o
@@ -44,6 +47,7 @@ progress_after (Finished o) status m = Finished o
 abbrev pub after_message : Entry → Status → Contents → Entry
 after_message e status m = record e { progress = progress_after e.progress status m }
 
+-- the slots once the message came for the entry that was found under the key
 abbrev pub entry_after : Option Entry → List (Option Entry) → ℕ → Status → Contents → List (Option Entry)
 entry_after None slots key status m = slots
 entry_after (Some e) slots key status m = slice_set slots key (Some (after_message e status m))
@@ -66,3 +70,28 @@ abbrev pub TakeGives : Table → ℕ → Option Progress → Taken → Table →
 TakeGives old key None taken new = (taken ≡ takens.Absent) × (new ≡ old)
 TakeGives old key (Some (Receiving b)) taken new = (taken ≡ takens.Pending) × (new ≡ old)
 TakeGives old key (Some (Finished o)) taken new = (taken ≡ takens.Done o) × (new.slots ≡ slice_set old.slots key None) × (new.serial ≡ old.serial)
+
+-- A RANK THAT WAS STARTED ANEW
+
+-- a receive that waits ends, and its buffer is as it was
+abbrev pub replaced_progress : Progress → Progress
+replaced_progress (Receiving b) = Finished (outcomes.Replaced (Some b))
+replaced_progress (Finished o) = Finished o
+
+-- an entry once the rank that it names was replaced
+abbrev pub replaced_entry : Entry → Entry
+replaced_entry e = record e { progress = replaced_progress e.progress }
+
+-- the slots once the entry that was found under the key has ended so
+abbrev pub slot_replaced : Option Entry → List (Option Entry) → (key : ℕ) → List (Option Entry)
+slot_replaced None slots key = slots
+slot_replaced (Some e) slots key = slice_set slots key (Some (replaced_entry e))
+
+-- the slots once the operation under this key has ended, for the rank that it names was replaced
+abbrev pub after_replace : List (Option Entry) → (key : ℕ) → List (Option Entry)
+after_replace slots key = slot_replaced (slot_at slots key) slots key
+
+-- and those under these keys, one after the other
+abbrev pub after_replaces : List (Option Entry) → (keys : List ℕ) → List (Option Entry)
+after_replaces slots [] = slots
+after_replaces slots (key ∷ keys) = after_replaces (after_replace slots key) keys

@@ -1,7 +1,7 @@
 //! The table of requests.
 
 ghost use Rattle.std.specs.Prelude.{◌≡◌, ◌+◌, ◌<◌, ◌^◌, OnOk, OnErr, IsErrOf, ◌↔◌, IsTrue, false, [], Some, None};
-ghost use Rattle.requests.specs.Table.{Table, HasRoom, is_full, entry_at, IsSet, after_finish, after_message, progress_at, TakeGives};
+ghost use Rattle.requests.specs.Table.{Table, HasRoom, is_full, entry_at, IsSet, after_finish, after_message, progress_at, TakeGives, replaced_entry, after_replace, after_replaces};
 
 use crate::outcome::{Outcome, received};
 use crate::refused::Refused;
@@ -36,7 +36,9 @@ pub enum Progress {
 /// What stands under a key.
 #[derive(Debug, Drop)]
 pub struct Entry {
+    /// The number of its request in the order of starting.
     pub serial: u64,
+    /// How far its operation is.
     pub progress: Progress,
 }
 
@@ -72,6 +74,18 @@ fn advance(entry: &mut Entry, status: Status, message: &Buffer)
     match mem::replace(&mut entry.progress, Progress::Finished(Outcome::Sent)) {
         Progress::Receiving(buffer) => {
             entry.progress = Progress::Finished(received(buffer, status, message));
+        }
+        Progress::Finished(outcome) => entry.progress = Progress::Finished(outcome),
+    }
+}
+
+/// Ends a receive that waits, for the rank that it names was started anew.
+fn end_replaced(entry: &mut Entry)
+    ensures { entry.new ≡ replaced_entry entry.old }
+{
+    match mem::replace(&mut entry.progress, Progress::Finished(Outcome::Sent)) {
+        Progress::Receiving(buffer) => {
+            entry.progress = Progress::Finished(Outcome::Replaced(Some(buffer)));
         }
         Progress::Finished(outcome) => entry.progress = Progress::Finished(outcome),
     }
@@ -140,6 +154,27 @@ impl Requests {
     {
         if let Some(entry) = self.entries.get_mut(key) {
             advance(entry, status, message);
+        }
+    }
+
+    /// Ends the receive under this key, if one waits there.
+    fn replace(&mut self, key: usize)
+        ensures { self.new ≡ record self.old { slots = after_replace self.old.slots key } }
+    {
+        if let Some(entry) = self.entries.get_mut(key) {
+            end_replaced(entry);
+        }
+    }
+
+    /// Ends the receives that wait under these keys: the rank that they name was started anew, and each hands its
+    /// buffer back as it was. Keys under which nothing stands, and requests that are finished, stay as they are.
+    ///
+    /// It takes no memory. MPI 3.1 defines no restart of a rank; that such a receive ends is this project's own.
+    pub fn replace_each(&mut self, keys: &[usize])
+        ensures { self.new ≡ record self.old { slots = after_replaces self.old.slots keys.now } }
+    {
+        for key in keys {
+            self.replace(*key);
         }
     }
 

@@ -25,6 +25,25 @@ fn a_receive_ends_once(rt: HostRuntime) -> Result<(), Fail> {
 }
 
 #[test]
+fn a_receive_ends_where_its_rank_is_replaced(rt: HostRuntime) -> Result<(), Fail> {
+    let alloc = rt.alloc();
+    let mut requests = Requests::new(alloc);
+    requests.reserve()?;
+    let waiting = requests.start(Progress::Receiving(Buffer::new(alloc, BasicType::Byte)));
+    requests.reserve()?;
+    let finished = requests.start(Progress::Finished(Outcome::Sent));
+    requests.replace_each(&[waiting.key, finished.key, 7]);
+    assert!(rt;
+        matches!(
+            &requests.take(waiting),
+            Taken::Done(Outcome::Replaced(Some(_)))
+        )
+    );
+    assert!(rt; matches!(&requests.take(finished), Taken::Done(Outcome::Sent)));
+    Ok(())
+}
+
+#[test]
 fn numbers_of_refusals(rt: HostRuntime) {
     assert_eq!(rt; Refused::Limit.number(), 13);
     assert_eq!(rt; Refused::OutOfMemory.number(), 14);

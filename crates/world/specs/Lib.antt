@@ -4,3 +4,4 @@ pub mod Steps
 pub mod Strays
 pub mod Views
 pub mod Headline
+pub mod Quiet

@@ -1,9 +1,13 @@
 -- What an event does to a world: the engine of one rank goes on, what it emits is numbered, and what it answers stands in the history.
-use Rattle.std.specs.Prelude.{◌≡◌, ℕ, ◌<◌, ◌≤◌, ◌⊎◌, List, [], ◌∷◌, ◌++◌, length, Option, Some, None, Result, Ok, Err, slice_get, slice_set}
-use Rattle.engine.specs.EngineState.{EngineState}
+use Rattle.std.specs.Prelude.{◌≡◌, ℕ, ◌<◌, ◌≤◌, ◌⊎◌, List, [], ◌∷◌, ◌++◌, length, Option, Some, None, Result, Ok, Err, slice_get, slice_set, ◌==◌, if◌then◌else◌}
+use Rattle.perfect_queues.specs.declared.endpoint.Endpoint.{Endpoint}
+use Rattle.perfect_queues.specs.Events.{last_incarnation}
+use Rattle.incarnation.specs.declared.place.Place.{Place}
+use Rattle.engine.specs.EngineState.{EngineState, opening}
 use Rattle.engine.specs.Calls.{CallGives, IsTaken, IsWithin}
 use Rattle.engine.specs.Datagrams.{DatagramGives, GivesUnless}
 use Rattle.engine.specs.Ticks.{clock_fault, after_tick}
+use Rattle.engine.specs.Refusals.{IsRefusal}
 use Rattle.engine.specs.declared.refused.Refused as lower
 use Rattle.engine.specs.declared.refused.Refused.TheVariants as lowers
 use Rattle.engine.specs.declared.call.Call.{Call}
@@ -18,6 +22,7 @@ use Rattle.world.specs.declared.event.Stepped.{Stepped}
 use Rattle.world.specs.declared.refused.Refused.{Refused}
 use Rattle.world.specs.declared.refused.Refused.TheVariants as refusals
 use Rattle.link_truth.specs.Events.{emptied}
+use Rattle.network_bridge.specs.Following.{next_place}
 use Rattle.world.specs.WorldState.{WorldState}
 use Rattle.world.specs.Strays.{stray_fault}
 
@@ -28,6 +33,11 @@ pub record Gave : Type 0 where
   pub out : List (ℕ × List ℕ)
   pub reply : Option Reply
   pub completion : Option Outcome
+
+-- why an engine refused an event, and what it gave all the same: nothing, or a reset
+pub record Refusal : Type 0 where
+  pub refused : lower.Refused
+  pub out : List (ℕ × List ℕ)
 
 -- An event took an engine from one state to `mid`, with this reply or none; what it gave was taken out.
 pub record Ran (Gives : Option Reply → EngineState → Type 0) (gave : Gave) (new : EngineState) : Type 0 where
@@ -50,74 +60,113 @@ abbrev pub Ticks : EngineState → ℕ → Option Reply → EngineState → Type
 Ticks old now None new = GivesUnless {X = ℕ} (clock_fault old.clock now) old (after_tick old now) (Ok 0) new
 Ticks old now (Some reply) new = ⊥
 
-abbrev pub RanCall : EngineState → Call → Result Gave lower.Refused → EngineState → Type 0
+abbrev pub RanCall : EngineState → Call → Result Gave Refusal → EngineState → Type 0
 RanCall old call (Ok gave) new = Ran (Answers old call) gave new
-RanCall old call (Err e) new = (new ≡ old) × ((back : Call) × CallGives old call (replies.Refused e back) old)
+RanCall old call (Err e) new =
+    (new ≡ old) × (e.out ≡ []) × ((back : Call) × CallGives old call (replies.Refused e.refused back) old)
 
-abbrev pub RanDatagram : EngineState → List ℕ → Result Gave lower.Refused → EngineState → Type 0
+-- a datagram that is taken in; or a refusal, with which just what the engine then emitted goes out: nothing, or a reset
+abbrev pub RanDatagram : EngineState → List ℕ → Result Gave Refusal → EngineState → Type 0
 RanDatagram old bytes (Ok gave) new = Ran (TakesIn old bytes) gave new
-RanDatagram old bytes (Err e) new = (new ≡ old) × DatagramGives {X = ℕ} old bytes (Err e) old
+RanDatagram old bytes (Err e) new =
+    (new ≡ old) × ((mid : EngineState) × DatagramGives {X = ℕ} old bytes (Err e.refused) mid × (e.out ≡ mid.out))
 
-abbrev pub RanTick : EngineState → ℕ → Result Gave lower.Refused → EngineState → Type 0
+abbrev pub RanTick : EngineState → ℕ → Result Gave Refusal → EngineState → Type 0
 RanTick old now (Ok gave) new = Ran (Ticks old now) gave new
-RanTick old now (Err e) new = (new ≡ old) × GivesUnless {X = ℕ} (clock_fault old.clock now) old (after_tick old now) (Err e) old
+RanTick old now (Err e) new =
+    (new ≡ old) × (e.out ≡ []) ×
+    GivesUnless {X = ℕ} (clock_fault old.clock now) old (after_tick old now) (Err e.refused) old
+
+-- there is no incarnation after the last one
+abbrev pub restart_fault : Place → Option lower.Refused
+restart_fault p = if p.endpoint.incarnation == last_incarnation then Some lowers.Limit else None
+
+-- The engine gives way to a new one at the next incarnation, which gives nothing
+abbrev pub RanRestart : EngineState → Result Gave Refusal → EngineState → Type 0
+RanRestart old (Ok gave) new =
+    (restart_fault old.place ≡ None) × (new ≡ opening (next_place old.place)) ×
+    (gave ≡ record { out = []; reply = None; completion = None })
+RanRestart old (Err e) new = (new ≡ old) × (e.out ≡ []) × IsRefusal (restart_fault old.place) e.refused
 
 -- AMONG THE ENGINES
 
 -- of these engines, the one at this place went on so, and no other changed
-pub record RanAt (Runs : EngineState → Result Gave lower.Refused → EngineState → Type 0) (old : List EngineState) (rank : ℕ) (result : Result Gave lower.Refused) (new : List EngineState) : Type 0 where
+pub record RanAt (Runs : EngineState → Result Gave Refusal → EngineState → Type 0) (old : List EngineState) (rank : ℕ)
+    (result : Result Gave Refusal) (new : List EngineState) : Type 0 where
   pub engine : EngineState
   pub there : slice_get old rank ≡ Some engine
   pub next : EngineState
   pub ran : Runs engine result next
   pub others : new ≡ slice_set old rank next
 
--- The engine of a rank went on; or there is no such rank, or its engine refused, or memory was wanting.
-abbrev pub RankGives : (EngineState → Result Gave lower.Refused → EngineState → Type 0) → List EngineState → ℕ → Result (ℕ × Gave) Refused → List EngineState → Type 0
-RankGives Runs old rank (Ok (at, gave)) new = (at ≡ rank) × RanAt Runs old rank (Ok gave) new
-RankGives Runs old rank (Err refused) new =
-    (new ≡ old) ×
-    (((length old ≤ rank) × (refused ≡ refusals.NoSuchRank)) ⊎
-    ((rank < length old) × (refused ≡ refusals.Engine lowers.OutOfMemory)) ⊎
-    ((rank < length old) × ((e : lower.Refused) × (refused ≡ refusals.Engine e) × RanAt Runs old rank (Err e) old)))
+-- what an event is refused with: why, and the reset that goes out, if one does
+pub record Denial : Type 0 where
+  pub refused : Refused
+  pub out : List (ℕ × List ℕ)
 
-abbrev pub NumberGives : Option (ℕ × List ℕ) → List EngineState → Result (ℕ × Gave) Refused → List EngineState → Type 0
+-- for this reason, and nothing goes out
+abbrev pub IsPlain : Denial → Refused → Type 0
+IsPlain denial refused = denial ≡ record { refused = refused; out = [] }
+
+-- The engine of a rank went on, which was this endpoint; or there is no such rank, or its engine refused, or memory was
+-- wanting.
+abbrev pub RankGives : (EngineState → Result Gave Refusal → EngineState → Type 0) → List EngineState → ℕ → Result (Endpoint × Gave) Denial → List EngineState → Type 0
+RankGives Runs old rank (Ok (at, gave)) new = (ran : RanAt Runs old rank (Ok gave) new) × (at ≡ ran.engine.place.endpoint)
+RankGives Runs old rank (Err denial) new =
+    (new ≡ old) ×
+    (((length old ≤ rank) × IsPlain denial refusals.NoSuchRank) ⊎
+    (((rank < length old) × IsPlain denial (refusals.Engine lowers.OutOfMemory)) ⊎
+    ((rank < length old) ×
+    ((e : Refusal) × (denial ≡ record { refused = refusals.Engine e.refused; out = e.out }) × RanAt Runs old rank (Err e) old))))
+
+abbrev pub NumberGives : Option (ℕ × List ℕ) → List EngineState → Result (Endpoint × Gave) Denial → List EngineState → Type 0
 NumberGives (Some (rank, bytes)) old result new = RankGives (λ e. RanDatagram e bytes) old rank result new
-NumberGives None old result new = (result ≡ Err refusals.NoSuchDatagram) × (new ≡ old)
+NumberGives None old (Ok x) new = ⊥
+NumberGives None old (Err denial) new = IsPlain denial refusals.NoSuchDatagram × (new ≡ old)
 
 -- Stray bytes are always refused.
-abbrev pub StrayGives : List EngineState → ℕ → List ℕ → Result (ℕ × Gave) Refused → List EngineState → Type 0
+abbrev pub StrayGives : List EngineState → ℕ → List ℕ → Result (Endpoint × Gave) Denial → List EngineState → Type 0
 StrayGives old rank bytes (Ok x) new = ⊥
-StrayGives old rank bytes (Err refused) new =
+StrayGives old rank bytes (Err denial) new =
     (new ≡ old) ×
-    (((length old ≤ rank) × (refused ≡ refusals.NoSuchRank)) ⊎ ((rank < length old) × (refused ≡ stray_fault bytes)))
+    (((length old ≤ rank) × IsPlain denial refusals.NoSuchRank) ⊎ ((rank < length old) × IsPlain denial (stray_fault bytes)))
 
 -- What an event does to the engines, by the datagrams that were emitted before.
-abbrev pub EventGives : List EngineState → List (ℕ × List ℕ) → Event → Result (ℕ × Gave) Refused → List EngineState → Type 0
+abbrev pub EventGives : List EngineState → List (ℕ × List ℕ) → Event → Result (Endpoint × Gave) Denial → List EngineState → Type 0
 EventGives old datagrams (events.Call rank call) result new = RankGives (λ e. RanCall e call) old rank result new
 EventGives old datagrams (events.Deliver number) result new = NumberGives (slice_get datagrams number) old result new
 EventGives old datagrams (events.Stray rank bytes) result new = StrayGives old rank bytes result new
 EventGives old datagrams (events.Tick rank now) result new = RankGives (λ e. RanTick e now) old rank result new
+EventGives old datagrams (events.Restart rank) result new = RankGives RanRestart old rank result new
 
 -- IN THE WORLD
 
-abbrev pub entry_of : ℕ → Event → Gave → Entry
-entry_of rank event gave = record { rank = rank; event = event; reply = gave.reply; completion = gave.completion }
+abbrev pub entry_of : Endpoint → Event → Gave → Entry
+entry_of e event gave = record { endpoint = e; event = event; reply = gave.reply; completion = gave.completion }
 
 -- the engine of a rank went on, what it emitted is numbered, and what it answered stands in the history
 pub record Went (old : WorldState) (event : Event) (added : Stepped) (new : WorldState) : Type 0 where
-  pub rank : ℕ
+  pub endpoint : Endpoint
   pub gave : Gave
-  pub ran : EventGives old.engines old.datagrams event (Ok (rank, gave)) new.engines
+  pub ran : EventGives old.engines old.datagrams event (Ok (endpoint, gave)) new.engines
   pub datagrams : new.datagrams ≡ old.datagrams ++ gave.out
-  pub history : new.history ≡ old.history ++ entry_of rank event gave ∷ []
+  pub history : new.history ≡ old.history ++ entry_of endpoint event gave ∷ []
   pub answered : added ≡ record { first = length old.datagrams; count = length gave.out; place = length old.history }
 
--- a refusal changes nothing, and hands the event back
+-- the number of the first of these datagrams, which come behind so many others
+abbrev pub first_of : (before : ℕ) → List (ℕ × List ℕ) → Option ℕ
+first_of before [] = None
+first_of before (d ∷ ds) = Some before
+
+-- A refusal hands the event back and changes nothing, but that the reset that goes out with it is numbered
 pub record IsRefusedBy (old : WorldState) (event : Event) (failed : Failed) (new : WorldState) : Type 0 where
-  pub unchanged : new ≡ old
+  pub out : List (ℕ × List ℕ)
+  pub unchanged : new ≡ record old { datagrams = old.datagrams ++ out }
+  pub reset : failed.reset ≡ first_of (length old.datagrams) out
   pub back : failed.event ≡ event
-  pub why : (failed.refused ≡ refusals.Engine lowers.OutOfMemory) ⊎ EventGives old.engines old.datagrams event (Err failed.refused) old.engines
+  pub why :
+      IsPlain (record { refused = failed.refused; out = out }) (refusals.Engine lowers.OutOfMemory) ⊎
+      EventGives old.engines old.datagrams event (Err (record { refused = failed.refused; out = out })) old.engines
 
 abbrev pub StepGives : WorldState → Event → Result Stepped Failed → WorldState → Type 0
 StepGives old event (Ok added) new = Went old event added new

@@ -1,5 +1,5 @@
 -- A world: its engines, every datagram that they emitted, and what happened.
-use Rattle.std.specs.Prelude.{◌≡◌, ℕ, ◌≤◌, Bool, ◌||◌, ◌==◌, nat_lt, List, [], length, All}
+use Rattle.std.specs.Prelude.{◌≡◌, ℕ, ◌≤◌, Bool, ◌||◌, ◌==◌, nat_lt, List, [], length, All, Some, slice_get}
 use Rattle.engine.specs.EngineState.{EngineState}
 use Rattle.link_truth.specs.Events.{opening_engines}
 use Rattle.network_bridge.specs.Joined.{IsClean}
@@ -24,6 +24,15 @@ opening_world n = record { engines = opening_engines n 0 n; datagrams = []; hist
 pub record StandsIn (n : ℕ) (e : EngineState) : Type 0 where
   pub size : e.place.size ≡ n
   pub clean : IsClean e
+
+-- the engine's place is that of rank r among n
+pub record IsPlaced (n r : ℕ) (e : EngineState) : Type 0 where
+  pub size : e.place.size ≡ n
+  pub rank : e.place.endpoint.rank ≡ r
+
+-- each engine stands at its own rank
+abbrev pub ArePlaced : List EngineState → Type 0
+ArePlaced engines = (r : ℕ) (e : EngineState) → slice_get engines r ≡ Some e → IsPlaced (length engines) r e
 
 -- a world's engines know how many they are
 abbrev pub IsWorld : List EngineState → Type 0

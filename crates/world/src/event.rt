@@ -3,6 +3,7 @@
 use crate::refused::Refused;
 use datagram::Bytes;
 use engine::{Call, Reply};
+use perfect_queues::Endpoint;
 use requests::Outcome;
 
 /// What may happen in a world.
@@ -17,13 +18,16 @@ pub enum Event {
     Stray(u16, Bytes),
     /// A rank's clock says this many milliseconds.
     Tick(u16, u64),
+    /// A rank is started anew, at the next incarnation. What it had is gone, and what its former incarnation emitted is
+    /// still on its way.
+    Restart(u16),
 }
 
 /// What the history holds of an event.
 #[derive(Debug, Drop)]
 pub struct Entry {
-    /// The rank at which it happened.
-    pub rank: u16,
+    /// The endpoint at which it happened: the rank, at the incarnation that it had. Of a restart that is the former one.
+    pub endpoint: Endpoint,
     /// What happened.
     pub event: Event,
     /// What the call answered, if it was one.
@@ -46,6 +50,10 @@ pub struct Stepped {
 /// A refusal, with the event that was handed in.
 #[derive(Debug, Drop)]
 pub struct Failed {
+    /// Why the event was refused.
     pub refused: Refused,
+    /// The event, as it was handed in.
     pub event: Event,
+    /// The number of the reset that went out, where the datagram was meant for a former incarnation of its target.
+    pub reset: Option<usize>,
 }

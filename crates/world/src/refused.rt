@@ -5,7 +5,8 @@ ghost use Rattle.world.specs.Refusals.{number_of_refusal};
 
 use thiserror::Error;
 
-/// Why a world refused an event. A refused event is none: the world is as it was.
+/// Why a world refused an event. A refused event is none: the world is as it was, but for the reset that goes out with
+/// the refusal of a datagram for a former incarnation.
 #[derive(Clone, Copy, Debug, PartialEq, Eq, Error)]
 pub enum Refused {
     /// The rank's engine refused it.

@@ -1,4 +1,4 @@
-//! The worked rows, each a file of events and what it prints.
+//! What files of events print, and what a world shows of what happened in it.
 
 use super::*;
 use datatypes::Buffer;
@@ -260,5 +260,103 @@ fn world_is_quiet_once_all_is_acknowledged(rt: HostRuntime) -> Result<(), Fail> 
     assert!(rt; !world.is_quiet());
     world.run(vec![in rt.alloc(); Event::Deliver(2)]?);
     assert!(rt; world.is_quiet());
+    Ok(())
+}
+
+#[test]
+fn unreceived_message_of_a_former_incarnation_is_dropped(rt: HostRuntime) {
+    assert_prints(
+        &rt,
+        rt.alloc(),
+        "world 2\n1 buf a int32 1\n1 isend q world 0 3 a\ndeliver 0\nrestart 1\n1 buf a int32 2\n1 isend q world 0 3 a\ndeliver 2\n0 buf b int32 0\n0 irecv r world any any b\n0 wait r\n",
+        "request 0\n+0 1.0>0.0 EAGER 0\nok\n+1 0.0>1.0 ACK 1\nok\nrequest 0\n+2 1.1>0.0 EAGER 0\nok\n+3 0.0>1.1 ACK 1\nrequest 0\nsource 1 tag 3 count 1 data 2\n",
+    );
+}
+
+#[test]
+fn datagram_of_a_former_incarnation_is_refused(rt: HostRuntime) {
+    assert_prints(
+        &rt,
+        rt.alloc(),
+        "world 2\n1 buf a int32 1\n1 isend q world 0 3 a\nrestart 1\n1 buf a int32 2\n1 isend q world 0 3 a\ndeliver 1\ndeliver 0\n0 buf b int32 0\n0 irecv r world any any b\n0 wait r\n",
+        "request 0\n+0 1.0>0.0 EAGER 0\nok\nrequest 0\n+1 1.1>0.0 EAGER 0\nok\n+2 0.0>1.1 ACK 1\nrefused 28\nrequest 0\nsource 1 tag 3 count 1 data 2\n",
+    );
+}
+
+#[test]
+fn reset_tells_of_a_restart(rt: HostRuntime) {
+    assert_prints(
+        &rt,
+        rt.alloc(),
+        "world 2\n0 buf b int32 0\n0 irecv r world 1 9 b\n0 buf a int32 5\n0 isend q world 1 4 a\nrestart 1\ndeliver 0\ndeliver 1\n0 wait r\n0 wait q\n0 isend q world 1 4 a\n",
+        "request 0\nrequest 1\n+0 0.0>1.0 EAGER 0\nok\nrefused 29\n+1 1.1>0.0 RESET 0\nok\nerror 11 data 0\nsent\nrequest 2\n+2 0.0>1.1 EAGER 0\n",
+    );
+}
+
+#[test]
+fn reset_ends_a_blocked_wait(rt: HostRuntime) {
+    assert_prints(
+        &rt,
+        rt.alloc(),
+        "world 2\n0 buf b int32 0\n0 irecv r world 1 9 b\n0 buf a int32 5\n0 isend q world 1 4 a\n0 wait r\nrestart 1\ndeliver 0\ndeliver 1\n0 isend q world 1 4 b\n",
+        "request 0\nrequest 1\n+0 0.0>1.0 EAGER 0\nblocked\nok\nrefused 29\n+1 1.1>0.0 RESET 0\nok\n0 error 11 data 0\nrequest 2\n+2 0.0>1.1 EAGER 0\n",
+    );
+}
+
+#[test]
+fn names_of_a_restarted_rank_stand_for_nothing(rt: HostRuntime) {
+    let alloc = rt.alloc();
+    let begun = "world 2\n0 buf a int32 1\n0 irecv r world 1 7 a\nrestart 0\n";
+    for further in [
+        "0 isend q world 1 7 a\n",
+        "0 irecv r world 1 7 a\n",
+        "0 wait r\n",
+    ] {
+        match format!(in alloc; "{begun}{further}") {
+            Ok(text) => assert_faulty(&rt, alloc, text.as_str(), 5),
+            Err(_) => assert!(rt; false),
+        }
+    }
+    assert_prints(
+        &rt,
+        alloc,
+        "world 2\n0 buf a int32 1\n0 irecv r world 1 7 a\nrestart 2\nrestart 0\n0 buf a int32 2\n0 isend q world 1 7 a\n",
+        "request 0\nrefused 61\nok\nrequest 0\n+0 0.1>1.0 EAGER 0\n",
+    );
+}
+
+#[test]
+fn incarnations_of_a_rank_end(rt: HostRuntime) -> Result<(), Fail> {
+    let mut text = String::new(rt.alloc());
+    let mut expected = String::new(rt.alloc());
+    text.push_str("world 1\n")?;
+    for _restart in 0..65_535 {
+        text.push_str("restart 0\n")?;
+        expected.push_str("ok\n")?;
+    }
+    text.push_str("restart 0\nrestart 0\n")?;
+    expected.push_str("refused 13\nrefused 13\n")?;
+    assert_prints(&rt, rt.alloc(), text.as_str(), expected.as_str());
+    Ok(())
+}
+
+#[test]
+fn session_with_a_former_incarnation_leaves_the_world_quiet(rt: HostRuntime) -> Result<(), Fail> {
+    let mut world = World::new(rt.alloc(), 2)?;
+    let sent = Event::Call(0, send_to_rank_1(rt.alloc())?);
+    world.run(vec![in rt.alloc(); sent]?);
+    assert!(rt; !world.is_quiet());
+    // Rank 0 does not know rank 1 as it is now, and what it holds is for a rank that is gone.
+    world.run(vec![in rt.alloc(); Event::Restart(1)]?);
+    assert!(rt; world.is_quiet());
+    let Err(failed) = world.step(Event::Deliver(0)) else {
+        return Err(Fail::from("a datagram for a former incarnation was taken"));
+    };
+    assert_eq!(rt; (failed.refused.number(), failed.reset), (29, Some(1)));
+    world.run(vec![in rt.alloc(); Event::Deliver(1)]?);
+    assert!(rt; world.is_quiet());
+    let sent = Event::Call(0, send_to_rank_1(rt.alloc())?);
+    world.run(vec![in rt.alloc(); sent]?);
+    assert!(rt; !world.is_quiet());
     Ok(())
 }

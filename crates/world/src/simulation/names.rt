@@ -27,7 +27,9 @@ pub struct Held {
 /// The names of one rank. Each kind of thing has its own.
 #[derive(Drop)]
 pub struct Names {
+    /// The buffers that were set, by name.
     pub buffers: BTreeMap<String, Slot>,
+    /// The requests that were started, by name.
     pub requests: BTreeMap<String, Held>,
     /// The name of the request that a blocked wait is about.
     pub waiting: Option<String>,
@@ -110,6 +112,7 @@ impl Names {
 fn buffer_of(outcome: &Outcome) -> Option<&Buffer> {
     match outcome {
         Outcome::Received(_, buffer) | Outcome::Ended(_, _, buffer) => Some(buffer),
+        Outcome::Replaced(buffer) => buffer.as_ref(),
         Outcome::Sent | Outcome::Empty => None,
     }
 }

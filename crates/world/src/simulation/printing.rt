@@ -52,6 +52,11 @@ fn print_outcome<W: Write>(outcome: &Outcome, out: &mut W) -> io::Result<()> {
             print_status(status, out)?;
             print_elements(buffer, out)
         }
+        Outcome::Replaced(Some(buffer)) => {
+            write!(out, "error 11")?;
+            print_elements(buffer, out)
+        }
+        Outcome::Replaced(None) => write!(out, "error 11"),
         Outcome::Empty => write!(out, "source any tag any count 0"),
     }
 }
@@ -84,6 +89,7 @@ fn print_datagram<W: Write>(number: usize, bytes: &[u8], out: &mut W) -> io::Res
     let kind = match datagram.content {
         Content::Frame(_) => "EAGER",
         Content::Ack => "ACK",
+        Content::Reset => "RESET",
     };
     let header = datagram.header;
     let (source, target) = (header.source, header.target);
@@ -94,6 +100,22 @@ fn print_datagram<W: Write>(number: usize, bytes: &[u8], out: &mut W) -> io::Res
         out,
         "+{number} {from}.{from_inc}>{to}.{to_inc} {kind} {sequence}"
     )
+}
+
+/// So many datagrams that a world emitted, from this number on.
+pub fn print_emitted<W: Write>(
+    world: &World,
+    first: usize,
+    count: usize,
+    out: &mut W,
+) -> io::Result<()> {
+    for place in 0..count {
+        let number = first.saturating_add(place);
+        if let Some((_rank, bytes)) = world.datagram(number) {
+            print_datagram(number, bytes, out)?;
+        }
+    }
+    Ok(())
 }
 
 /// What an event answered, what it emitted, and the answer of a blocked call.
@@ -108,14 +130,9 @@ pub fn print_event<W: Write>(
         Some(reply) => print_reply(reply, out)?,
         None => writeln!(out, "ok")?,
     }
-    for place in 0..count {
-        let number = first.saturating_add(place);
-        if let Some((_rank, bytes)) = world.datagram(number) {
-            print_datagram(number, bytes, out)?;
-        }
-    }
+    print_emitted(world, first, count, out)?;
     if let Some(outcome) = &entry.completion {
-        let rank = entry.rank;
+        let rank = entry.endpoint.rank;
         write!(out, "{rank} ")?;
         print_outcome(outcome, out)?;
         writeln!(out)?;

@@ -4,12 +4,12 @@ ghost use Rattle.std.specs.Prelude.{◌≡◌};
 ghost use Rattle.world.specs.declared.simulation.running.SimulateError.TheVariants.{OutOfMemory, Output};
 
 use super::names::{Held, Names, Slot};
-use super::printing::{print_event, print_refusal};
+use super::printing::{print_emitted, print_event, print_refusal};
 use crate::event::{Entry, Event};
-use crate::script::{Action, Line, Named, ParseError, ReceiveLine, SendLine, Statement, parse};
 use crate::world::World;
 use datatypes::Buffer;
 use engine::{Call, Receive, Reply, Send};
+use event_files::{Action, Line, Named, ParseError, ReceiveLine, SendLine, Statement, parse};
 use requests::{Outcome, Request};
 use std::alloc::{AllocError, Global};
 use std::collections::BTreeMap;
@@ -71,7 +71,7 @@ fn note_outcome(
     let Some(outcome) = ended_outcome(entry) else {
         return Ok(());
     };
-    if let Some(names) = ranks.get_mut(&entry.rank) {
+    if let Some(names) = ranks.get_mut(&entry.endpoint.rank) {
         if let Some(waiting) = names.waiting.take() {
             names.end(waiting.as_str(), alloc, outcome)?;
         }
@@ -100,6 +100,9 @@ impl Simulation {
             Ok(stepped) => (stepped.first, stepped.count),
             Err(failed) => {
                 print_refusal(failed.refused.number(), out)?;
+                if let Some(number) = failed.reset {
+                    print_emitted(&self.world, number, 1, out)?;
+                }
                 return Ok(Some(failed.event));
             }
         };
@@ -317,6 +320,16 @@ impl Simulation {
         }
     }
 
+    /// A rank is started anew, and its names stand for nothing any more.
+    fn restart<W: Write>(&mut self, rank: u16, out: &mut W) -> Result<(), SimulateError> {
+        if self.happen(Event::Restart(rank), out)?.is_none() {
+            if let Some(names) = self.ranks.get_mut(&rank) {
+                *names = Names::new(self.alloc);
+            }
+        }
+        Ok(())
+    }
+
     fn run<W: Write>(&mut self, line: Line, out: &mut W) -> Result<(), SimulateError> {
         let number = line.number;
         let event = match line.statement {
@@ -324,6 +337,7 @@ impl Simulation {
             Statement::Deliver(number) => Event::Deliver(number),
             Statement::Tick(rank, now) => Event::Tick(rank, now),
             Statement::Stray(rank, bytes) => Event::Stray(rank, bytes),
+            Statement::Restart(rank) => return self.restart(rank, out),
         };
         let _ = self.happen(event, out)?;
         Ok(())

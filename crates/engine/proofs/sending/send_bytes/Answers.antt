@@ -3,8 +3,8 @@ use Rattle.perfect_queues.specs.BasicTypes.{size_of}
 use Rattle.datatypes.specs.ContentLaws.{length-bytes_of}
 use Rattle.engine.proofs.sending.send_bytes.Goals as goal
 
-pub bytes_of-requires : goal.bytes_of-requires
-bytes_of-requires c =
+pub bytes_of-requires-clause-body : goal.bytes_of-requires-clause-body
+bytes_of-requires-clause-body c =
     let limits = c.requires in
     let size : length c.as_bytes.result.now ≡ length c.args.send.now.elements.values * size_of c.args.send.now.elements.basic = ap length c.as_bytes.ensures.bytes ∙ length-bytes_of (size_of c.args.send.now.elements.basic) c.args.send.now.elements.values in
     rw (c.basic.ensures, c.len.ensures) (record { tag = limits.tag; size = size; limit = omega (arith, size, limits.count); plane = tt })

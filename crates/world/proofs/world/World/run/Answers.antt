@@ -1,4 +1,4 @@
-use Rattle.world.proofs.Headlines.{is_run_of_machine, sessions_are_in_order}
+use Rattle.world.proofs.Headlines.{is_run_of_machine, sessions_are_in_order, sessions_are_true}
 use Rattle.world.proofs.Runs.{run_push}
 use Rattle.world.proofs.world.World.run.Goals as goal
 
@@ -25,3 +25,6 @@ returns-clause-headline c = rw (← c.self.view_is) (is_run_of_machine _ c.self.
 
 pub returns-clause-sessions : goal.returns-clause-sessions
 returns-clause-sessions c = rw (← c.self.view_is) (sessions_are_in_order _ _ _ c.self.invariant)
+
+pub returns-clause-law : goal.returns-clause-law
+returns-clause-law c = rw (← c.self.view_is) (sessions_are_true _ c.self.invariant)

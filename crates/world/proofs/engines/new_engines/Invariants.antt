@@ -1,0 +1,6 @@
+use Rattle.std.proofs.Common.{◌≡◌}
+use Rattle.link_truth.specs.Events.{opening_engines}
+use Rattle.world.proofs.engines.new_engines.Given as goal
+
+abbrev pub invariant-loop-rank : goal.invariant-loop-rank
+invariant-loop-rank l = l.engines.items ≡ opening_engines l.size 0 l.rank
