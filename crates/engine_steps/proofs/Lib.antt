@@ -15,3 +15,6 @@ pub mod OwnSends
 pub mod Posts
 pub mod CallsShown
 pub mod OpeningShown
+pub mod RefusedWaits
+pub mod RefusedStarts
+pub mod RefusedCalls

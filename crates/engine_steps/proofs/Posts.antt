@@ -44,7 +44,7 @@ receive_rules e v h =
     (t.0, t.1)
 
 -- the rule on tags is one
-tag_low : (t : Option ℕ) → is_tag_above t ≡ false → rules.is_tag_above t ≡ false
+pub tag_low : (t : Option ℕ) → is_tag_above t ≡ false → rules.is_tag_above t ≡ false
 tag_low None h = refl
 tag_low (Some tag) h = h
 
@@ -61,7 +61,7 @@ source_real n core p (sources.Rank r) h = refl
 source_real n core p sources.Null h = absurd (grind arith)
 
 -- no rule of the machine is broken
-post_fit : (n : ℕ) (core : Core) (v : Receive) → ReceivesFit → core.blocked ≡ None → is_tag_above v.tag ≡ false → is_no_source n v.source ≡ false →
+pub post_fit : (n : ℕ) (core : Core) (v : Receive) → ReceivesFit → core.blocked ≡ None → is_tag_above v.tag ≡ false → is_no_source n v.source ≡ false →
     rules.fault n (view blank core) (machine.Irecv (receive_seen v)) ≡ None
 post_fit n core v fit free tag source =
     fault_free n core (machine.Irecv (receive_seen v)) free ∙

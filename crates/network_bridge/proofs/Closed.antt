@@ -5,6 +5,7 @@ use Rattle.engine_matching.proofs.PostLemmas.{posts_match}
 use Rattle.engine_steps.proofs.Arriving.{arrivals_are_shown}
 use Rattle.engine_steps.proofs.CallsShown.{calls_are_shown}
 use Rattle.engine_steps.proofs.OpeningShown.{opening_is_shown}
+use Rattle.engine_steps.proofs.RefusedCalls.{refused_calls_have_reasons}
 use Rattle.engine_steps.proofs.Words.{words_are_shown}
 use Rattle.link_truth.proofs.Calls.{calls_are_true}
 use Rattle.link_truth.proofs.Datagrams.{datagrams_are_true}
@@ -35,4 +36,4 @@ pub restarts_follow : RestartsFollow
 restarts_follow = parts.restarts_follow opening_is_shown restarts_are_true
 
 pub following_is_run : FollowingIsRun
-following_is_run = parts.following_is_run idle_is_still
+following_is_run = parts.following_is_run idle_is_still (refused_calls_have_reasons receives_fit)

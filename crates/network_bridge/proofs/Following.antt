@@ -10,6 +10,9 @@ use Rattle.perfect_queues.specs.declared.endpoint.Endpoint.{Endpoint}
 use Rattle.incarnation.specs.declared.place.Place.{Place}
 use Rattle.engine.specs.declared.call.Call.{Call}
 use Rattle.engine.specs.declared.call.Reply.{Reply}
+use Rattle.engine.specs.declared.call.Reply.TheVariants as replies
+use Rattle.engine.specs.declared.refused.Refused.{Refused}
+use Rattle.engine.specs.Calls.{CallGives}
 use Rattle.engine.specs.EngineState.{EngineState, opening}
 use Rattle.requests.specs.declared.outcome.Outcome.{Outcome}
 use Rattle.pure_network.specs.Core.{Core, Effect, new_core, view}
@@ -23,6 +26,7 @@ use Rattle.pure_network.proofs.QuietKept.{is_run}
 use Rattle.engine_view.specs.Rows.{held_of}
 use Rattle.engine_view.specs.Seen.{call_seen, sent_by, told_call, told_completion}
 use Rattle.engine_view.specs.Shown.{IsShown}
+use Rattle.engine_steps.specs.Refused.{IsReason, RefusedCallsHaveReasons}
 use Rattle.engine_steps.specs.Steps.{ArrivalsAreShown, CallsAreShown, IsCalled, IsFromOther, OpeningIsShown, WordsAreShown}
 use Rattle.link_truth.specs.Events.{CallsAreTrue, DatagramsAreTrue, HandsUp, IdleIsStill, IsAt, IsHeard, Knows, Learns, LeavesTrue, OnlySessions, OpeningIsTrue, RefusalsAreTrue, RestartsAreTrue, TicksAreTrue, emptied, opening_engines}
 use Rattle.link_truth.specs.Sessions.{Links}
@@ -270,8 +274,19 @@ knows_too n engines datagrams w s d j current knows e there =
     let shown : IsShown e (w.core s) = subst (λ (i : ℕ). IsShown e (w.core (at s.rank i))) (sym current) (j.shown s.rank e there) in
     sym (shown.known d.rank) ∙ knows
 
-pub following_is_run : IdleIsStill → FollowingIsRun
-following_is_run idle n engines datagrams history f =
+-- what an engine refuses, it refuses for a reason that the machine has too
+refuses_too : RefusedCallsHaveReasons → (n r : ℕ) (engines : List EngineState) (datagrams : List (ℕ × List ℕ)) (w : Network) (e mid : EngineState) (call back : Call) (why : Refused)
+    (found : Option ℕ) → IsJoined n engines datagrams w → slice_get engines r ≡ Some e → CallGives e call (replies.Refused why back) mid →
+    found ≡ fault n (view blank (w.core e.place.endpoint)) (call_seen call) → IsReason found e call why
+refuses_too reasons n r engines datagrams w e mid call back why found j there gives is =
+    let place = (place_is n r engines datagrams w e j there).1 in
+    let shown : IsShown e (w.core e.place.endpoint) = subst (λ (p : Place). IsShown e (w.core p.endpoint)) (sym place) (j.shown r e there) in
+    let size_is : fault e.place.size (view blank (w.core e.place.endpoint)) (call_seen call) ≡ fault n (view blank (w.core e.place.endpoint)) (call_seen call) =
+    ap (λ (p : Place). fault p.size (view blank (w.core e.place.endpoint)) (call_seen call)) place in
+    subst (λ (o : Option ℕ). IsReason o e call why) (size_is ∙ sym is) (reasons e mid (w.core e.place.endpoint) call back why shown gives)
+
+pub following_is_run : IdleIsStill → RefusedCallsHaveReasons → FollowingIsRun
+following_is_run idle reasons n engines datagrams history f =
     let w : Network = run n f.happenings new_network in
     let m = is_run n f.happenings in
     record {
@@ -282,6 +297,8 @@ following_is_run idle n engines datagrams history f =
       knows = λ r e there x.
           m.knows e.place.endpoint x ∙ ap (λ (p : Place). (w.core p.endpoint).known x) (place_is n r engines datagrams w e f.joined there).1
           ∙ (f.joined.shown r e there).known x;
+      refuses = λ r e mid call back why there gives.
+          refuses_too reasons n r engines datagrams w e mid call back why _ f.joined there gives (m.faults e.place.endpoint (call_seen call));
       quiet = λ still. m.quiet (λ s d s_is d_is d_knows s_knows.
           idle n engines datagrams w.link w.current f.joined.links still s d s_is d_is
           (knows_too n engines datagrams w s d f.joined s_is s_knows) (knows_too n engines datagrams w d s f.joined d_is d_knows));

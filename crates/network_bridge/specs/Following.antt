@@ -3,6 +3,7 @@ use Rattle.std.specs.Prelude.{◌≡◌, ℕ, suc, ◌<◌, ◌≤◌, List, [],
 use Rattle.incarnation.specs.declared.place.Place.{Place}
 use Rattle.engine.specs.declared.call.Call.{Call}
 use Rattle.engine.specs.declared.call.Reply.{Reply}
+use Rattle.engine.specs.declared.call.Reply.TheVariants as replies
 use Rattle.engine.specs.declared.refused.Refused.{Refused}
 use Rattle.engine.specs.Calls.{CallGives, IsTaken, IsWithin}
 use Rattle.engine.specs.Datagrams.{DatagramGives, GivesUnless}
@@ -12,7 +13,9 @@ use Rattle.perfect_queues.specs.Events as machine
 use Rattle.perfect_queues.specs.Quiet.{IsAtRest}
 use Rattle.perfect_queues.specs.Runs.{IsRun, after_run, seen}
 use Rattle.perfect_queues.specs.State as machine_state
-use Rattle.engine_view.specs.Seen.{told_call, told_completion}
+use Rattle.perfect_queues.specs.Refusals.{fault}
+use Rattle.engine_view.specs.Seen.{call_seen, told_call, told_completion}
+use Rattle.engine_steps.specs.Refused.{IsReason}
 use Rattle.link_truth.specs.Events.{AreQuiet, emptied, opening_engines}
 use Rattle.network_bridge.specs.Joined.{IsFollowed}
 
@@ -82,8 +85,8 @@ RestartsFollow =
     (history ++ machine.Restarted r ∷ [])
 
 -- A history is seen of a run of the machine of perfect queues among n ranks. The run ends with each rank at the
--- incarnation of its engine, which knows there what its engine knows; and where the engines are quiet, it has come to a
--- state that meets the machine's quiet clause
+-- incarnation of its engine, which knows there what its engine knows and refuses there what its engine refuses; and where
+-- the engines are quiet, it has come to a state that meets the machine's quiet clause
 pub record IsSeenOfMachine (n : ℕ) (engines : List EngineState) (history : List machine.Entry) : Type 0 where
   pub events : List machine.Event
   pub run : IsRun n machine_state.opening events
@@ -96,6 +99,11 @@ pub record IsSeenOfMachine (n : ℕ) (engines : List EngineState) (history : Lis
   pub knows :
       (r : ℕ) (e : EngineState) → slice_get engines r ≡ Some e → (x : ℕ) →
       ((after_run machine_state.opening events).at e.place.endpoint).known x ≡ slice_index e.known x
+  -- a call that the engine refuses has the fault there that the engine tells, or another of the known reasons
+  pub refuses :
+      (r : ℕ) (e mid : EngineState) (call back : Call) (why : Refused) → slice_get engines r ≡ Some e →
+      CallGives e call (replies.Refused why back) mid →
+      IsReason (fault n ((after_run machine_state.opening events).at e.place.endpoint) (call_seen call)) e call why
   pub quiet : AreQuiet engines → IsAtRest (after_run machine_state.opening events)
 
 -- wherever engines follow the network, what was seen of them is seen of a run of the machine

@@ -19,6 +19,7 @@ use Rattle.pure_network.specs.Jobs.{Closed, Collecting, Job, Offering, Over, Wai
 use Rattle.pure_network.specs.Links.{in_flight}
 use Rattle.pure_network.specs.Network.{Happening, IsQuiet, IsRunOfMachine, Network, new_network, run}
 use Rattle.pure_network.proofs.EngineSteps.{none_fit_map}
+use Rattle.pure_network.proofs.EventKept.{fault_blank}
 use Rattle.pure_network.proofs.Flow.{GoOn, count_at, flow, is_yes, promise, yes_count}
 use Rattle.pure_network.proofs.Flowing.{Flowing}
 use Rattle.pure_network.proofs.HonestValues.{IsHonestJob, IsInParts}
@@ -27,7 +28,7 @@ use Rattle.pure_network.proofs.JobLemmas.{All_filter, posted_job}
 use Rattle.pure_network.proofs.Links.{among, coming}
 use Rattle.pure_network.proofs.Pairs.{token}
 use Rattle.pure_network.proofs.RunKept.{new_kept, run_kept}
-use Rattle.pure_network.proofs.Simulation.{Sim, is_stale}
+use Rattle.pure_network.proofs.Simulation.{Sim, fault_same, is_stale}
 use Rattle.pure_network.proofs.Tokens.{count, is_cts, is_part_from, is_rts, one, parts, same_sym}
 
 -- a request that the machine has as sending is a job that offers
@@ -197,5 +198,6 @@ is_run n hs =
       tells = k.seen.tells;
       current = λ r. ap (λ (f : ℕ → ℕ). f r) k.seen.joined.now;
       knows = λ e x. ap (λ (f : ℕ → ℕ). f x) (k.seen.joined.each e).known;
+      faults = λ e c. fault_same _ _ _ n c (k.seen.joined.each e) ∙ fault_blank V n ((run n hs new_network).core e) c;
       quiet = quiet_kept n V (run n hs new_network) k;
     }

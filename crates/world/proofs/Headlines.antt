@@ -20,7 +20,7 @@ use Rattle.world.specs.declared.event.Entry.{Entry}
 pub is_run_of_machine : (w : WorldState) → IsSound w.engines w.datagrams w.history → IsRunOfPerfectQueues w
 is_run_of_machine w s =
     let m = following_is_run (length w.engines) w.engines w.datagrams (history_seen w.history) s.followed in
-    record { run_events = m.events; run = m.run; tells = m.tells; now = m.now; knows = m.knows; quiet = m.quiet }
+    record { run_events = m.events; run = m.run; tells = m.tells; now = m.now; knows = m.knows; refuses = m.refuses; quiet = m.quiet }
 
 -- the law of a session, of all sessions
 pub sessions_are_true : (w : WorldState) → IsSound w.engines w.datagrams w.history → SessionsAreTrue w

@@ -7,3 +7,4 @@ pub mod Refusals
 pub mod Answering
 pub mod Headlines
 pub mod QuietPairs
+pub mod Strays

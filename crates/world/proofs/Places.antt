@@ -36,4 +36,4 @@ below_last n engines d h r e f there none = not_last e.place.endpoint.incarnatio
 pub sound_placed : (engines : List EngineState) (d : List (ℕ × List ℕ)) (h : List Entry) → IsSound engines d h → ArePlaced engines
 sound_placed engines d h s r e there =
     let place = (s.followed.joined.links.tells r e there).place in
-    record { size = ap (λ (p : Place). p.size) place; rank = ap (λ (p : Place). p.endpoint.rank) place }
+    record { size = ap (λ (p : Place). p.size) place; rank = ap (λ (p : Place). p.endpoint.rank) place; job = ap (λ (p : Place). p.job) place }

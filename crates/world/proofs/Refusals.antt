@@ -80,6 +80,14 @@ text_keeps : (t : Result DatagramText reading.Refused) (old new : EngineState) (
 text_keeps (Err e) old new why g = same_out old new g.1
 text_keeps (Ok d) old new why g = judged_keeps (judgement (knowledge old) d.header) old new d why g
 
+-- out of an engine that had nothing to hand out, a refusal hands out just what it emitted for it
+pub refused_gives : (old mid : EngineState) (bytes : List ℕ) (why : Refused) (out : List (ℕ × List ℕ)) → old.out ≡ [] → out ≡ mid.out →
+    DatagramGives {X = ℕ} old bytes (Err why) mid → DatagramGives {X = ℕ} old bytes (Err why) (record old { out = old.out ++ out })
+refused_gives old mid bytes why out none all g =
+    let kept : mid ≡ record old { out = mid.out } = text_keeps (datagram_of bytes) old mid why g in
+    let added : old.out ++ out ≡ mid.out = ap (λ (x : List (ℕ × List ℕ)). x ++ out) none ∙ all in
+    subst (λ (e : EngineState). DatagramGives {X = ℕ} old bytes (Err why) e) (kept ∙ ap (λ (x : List (ℕ × List ℕ)). record old { out = x }) (sym added)) g
+
 -- once what it emitted is taken out, the engine is as it was
 pub refused_is_old : (old mid : EngineState) (bytes : List ℕ) (why : Refused) → old.out ≡ [] → DatagramGives {X = ℕ} old bytes (Err why) mid → record mid { out = [] } ≡ old
 refused_is_old old mid bytes why none g =
@@ -124,13 +132,14 @@ datagram_followed : (old : List EngineState) (d : List (ℕ × List ℕ)) (h : L
 datagram_followed old d h number rank bytes denial f emitted (inl none) = silent (length old) old d h denial.out none f
 datagram_followed old d h number rank bytes denial f emitted (inr g) =
     let r = g.2 in
-    let mid : EngineState = r.ran.1.0 in
+    let mid : EngineState = record r.engine { out = r.engine.out ++ g.0.out } in
+    let clean : IsClean r.engine = f.joined.clean rank r.engine r.there in
     let engines_are : slice_set old rank (emptied mid) ≡ old =
-    ap (slice_set old rank) (emptied_is_old r.engine mid bytes g.0.refused (f.joined.clean rank r.engine r.there) r.ran.1.1 ∙ sym r.ran.0) ∙ sym r.others in
-    let out_is : denial.out ≡ mid.out = g.1 ∙ r.ran.1.2 in
+    ap (slice_set old rank) (emptied_is_old r.engine mid bytes g.0.refused clean r.ran.1 ∙ sym r.ran.0) ∙ sym r.others in
+    let out_is : denial.out ≡ mid.out = g.1 ∙ ap (λ (x : List (ℕ × List ℕ)). x ++ g.0.out) (sym clean.out) in
     subst (λ (x : List (ℕ × List ℕ)). IsFollowed (length old) old (d ++ x) h) (sym out_is)
     (subst (λ (x : List EngineState). IsFollowed (length old) x (d ++ mid.out) h) engines_are
-    (refusals_follow (length old) rank number bytes old d h r.engine mid g.0.refused f r.there emitted r.ran.1.1))
+    (refusals_follow (length old) rank number bytes old d h r.engine mid g.0.refused f r.there emitted r.ran.1))
 
 event_followed : (old : List EngineState) (d : List (ℕ × List ℕ)) (h : List machine.Entry) (event : Event) (denial : Denial) →
     IsFollowed (length old) old d h → EventGives old d event (Err denial) old → IsFollowed (length old) old (d ++ denial.out) h
@@ -141,7 +150,7 @@ event_followed old d h (events.Deliver number) denial f g = go (slice_get d numb
     go None is n = silent (length old) old d h denial.out (ap (λ (x : Denial). x.out) n.0) f
     go (Some (r, bytes)) is n = datagram_followed old d h number r bytes denial f is (rank_gives _ old r denial n)
 event_followed old d h (events.Stray r bytes) denial f (same, inl a) = silent (length old) old d h denial.out (ap (λ (x : Denial). x.out) a.1) f
-event_followed old d h (events.Stray r bytes) denial f (same, inr a) = silent (length old) old d h denial.out (ap (λ (x : Denial). x.out) a.1) f
+event_followed old d h (events.Stray r bytes) denial f (same, inr a) = silent (length old) old d h denial.out (ap (λ (x : Denial). x.out) a.plain) f
 event_followed old d h (events.Tick r now) denial f g = silent (length old) old d h denial.out (tick_silent old r now denial (rank_gives _ old r denial g)) f
 event_followed old d h (events.Restart r) denial f g = silent (length old) old d h denial.out (restart_silent old r denial (rank_gives _ old r denial g)) f
 

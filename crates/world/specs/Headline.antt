@@ -4,12 +4,18 @@ use Rattle.perfect_queues.specs.declared.endpoint.Endpoint.{Endpoint}
 use Rattle.engine.specs.EngineState.{EngineState}
 use Rattle.engine.specs.Peers.{peer_at}
 use Rattle.reliable_link.specs.SenderState.{SenderState, next_number}
+use Rattle.engine.specs.Calls.{CallGives}
+use Rattle.engine.specs.declared.call.Call.{Call}
 use Rattle.engine.specs.declared.call.Reply.{Reply}
+use Rattle.engine.specs.declared.call.Reply.TheVariants as replies
+use Rattle.engine.specs.declared.refused.Refused.{Refused}
 use Rattle.perfect_queues.specs.Events as machine
 use Rattle.perfect_queues.specs.Quiet.{IsAtRest}
+use Rattle.perfect_queues.specs.Refusals.{fault}
 use Rattle.perfect_queues.specs.Runs.{IsRun, after_run, seen}
 use Rattle.perfect_queues.specs.State.{opening}
-use Rattle.engine_view.specs.Seen.{told_call, told_completion}
+use Rattle.engine_steps.specs.Refused.{IsReason}
+use Rattle.engine_view.specs.Seen.{call_seen, told_call, told_completion}
 use Rattle.link_truth.specs.Events.{AreQuiet}
 use Rattle.link_truth.specs.Sessions.{Links}
 use Rattle.link_truth.specs.Truth.{AreTrue}
@@ -36,8 +42,9 @@ abbrev pub history_seen : List Entry → List machine.Entry
 history_seen entries = flat_map entry_seen entries
 
 -- THE HEADLINE. There is a run of the machine of perfect queues, among as many ranks, whose visible history is the world's.
--- It ends with each rank at the incarnation of its engine, which knows there what its engine knows; and where the world is
--- quiet, it has come to a state that meets the machine's quiet clause
+-- It ends with each rank at the incarnation of its engine, which knows there what its engine knows, and finds with a call
+-- the fault by which its engine refuses it; and where the world is quiet, it has come to a state that meets the machine's
+-- quiet clause
 pub record IsRunOfPerfectQueues (w : WorldState) : Type 0 where
   pub run_events : List machine.Event
   pub run : IsRun (length w.engines) opening run_events
@@ -48,6 +55,12 @@ pub record IsRunOfPerfectQueues (w : WorldState) : Type 0 where
   pub knows :
       (r : ℕ) (e : EngineState) → slice_get w.engines r ≡ Some e → (x : ℕ) →
       ((after_run opening run_events).at e.place.endpoint).known x ≡ slice_index e.known x
+  -- a call that the engine refuses is refused by the number of the machine's first fault with it; where the machine finds
+  -- none, since a limit was reached or memory was wanting, or by one of the few rules by which the engine is narrower for now
+  pub refuses :
+      (r : ℕ) (e mid : EngineState) (call back : Call) (why : Refused) → slice_get w.engines r ≡ Some e →
+      CallGives e call (replies.Refused why back) mid →
+      IsReason (fault (length w.engines) ((after_run opening run_events).at e.place.endpoint) (call_seen call)) e call why
   pub quiet : AreQuiet w.engines → IsAtRest (after_run opening run_events)
 
 -- THE LAW OF A SESSION, for all sessions that ever were. For each two endpoints there are the frames that the one's side

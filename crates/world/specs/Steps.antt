@@ -1,5 +1,5 @@
 -- What an event does to a world: the engine of one rank goes on, what it emits is numbered, and what it answers stands in the history.
-use Rattle.std.specs.Prelude.{◌≡◌, ℕ, ◌<◌, ◌≤◌, ◌⊎◌, List, [], ◌∷◌, ◌++◌, length, Option, Some, None, Result, Ok, Err, slice_get, slice_set, ◌==◌, if◌then◌else◌}
+use Rattle.std.specs.Prelude.{◌≡◌, ℕ, ◌<◌, ◌≤◌, ◌⊎◌, false, List, [], ◌∷◌, ◌++◌, length, Option, Some, None, Result, Ok, Err, slice_get, slice_set, ◌==◌, if◌then◌else◌}
 use Rattle.perfect_queues.specs.declared.endpoint.Endpoint.{Endpoint}
 use Rattle.perfect_queues.specs.Events.{last_incarnation}
 use Rattle.incarnation.specs.declared.place.Place.{Place}
@@ -24,7 +24,7 @@ use Rattle.world.specs.declared.refused.Refused.TheVariants as refusals
 use Rattle.link_truth.specs.Events.{emptied}
 use Rattle.network_bridge.specs.Following.{next_place}
 use Rattle.world.specs.WorldState.{WorldState}
-use Rattle.world.specs.Strays.{stray_fault}
+use Rattle.world.specs.Strays.{EngineRefuses, carries_job, stray_fault}
 
 -- WHAT AN ENGINE GIVES
 
@@ -65,11 +65,11 @@ RanCall old call (Ok gave) new = Ran (Answers old call) gave new
 RanCall old call (Err e) new =
     (new ≡ old) × (e.out ≡ []) × ((back : Call) × CallGives old call (replies.Refused e.refused back) old)
 
--- a datagram that is taken in; or a refusal, with which just what the engine then emitted goes out: nothing, or a reset
+-- a datagram that is taken in; or a refusal, with which just what the engine emitted for it goes out: nothing, or one reset
 abbrev pub RanDatagram : EngineState → List ℕ → Result Gave Refusal → EngineState → Type 0
 RanDatagram old bytes (Ok gave) new = Ran (TakesIn old bytes) gave new
 RanDatagram old bytes (Err e) new =
-    (new ≡ old) × ((mid : EngineState) × DatagramGives {X = ℕ} old bytes (Err e.refused) mid × (e.out ≡ mid.out))
+    (new ≡ old) × DatagramGives {X = ℕ} old bytes (Err e.refused) (record old { out = old.out ++ e.out })
 
 abbrev pub RanTick : EngineState → ℕ → Result Gave Refusal → EngineState → Type 0
 RanTick old now (Ok gave) new = Ran (Ticks old now) gave new
@@ -124,12 +124,18 @@ NumberGives (Some (rank, bytes)) old result new = RankGives (λ e. RanDatagram e
 NumberGives None old (Ok x) new = ⊥
 NumberGives None old (Err denial) new = IsPlain denial refusals.NoSuchDatagram × (new ≡ old)
 
+-- stray bytes are refused: those of the world's own job by the world; any other just as the rank's engine refuses them
+pub record IsStrayAt (old : List EngineState) (rank : ℕ) (bytes : List ℕ) (denial : Denial) : Type 0 where
+  pub engine : EngineState
+  pub there : slice_get old rank ≡ Some engine
+  pub plain : IsPlain denial (stray_fault bytes)
+  pub alike : carries_job bytes ≡ false → EngineRefuses engine bytes (stray_fault bytes)
+
 -- Stray bytes are always refused.
 abbrev pub StrayGives : List EngineState → ℕ → List ℕ → Result (Endpoint × Gave) Denial → List EngineState → Type 0
 StrayGives old rank bytes (Ok x) new = ⊥
 StrayGives old rank bytes (Err denial) new =
-    (new ≡ old) ×
-    (((length old ≤ rank) × IsPlain denial refusals.NoSuchRank) ⊎ ((rank < length old) × IsPlain denial (stray_fault bytes)))
+    (new ≡ old) × (((length old ≤ rank) × IsPlain denial refusals.NoSuchRank) ⊎ IsStrayAt old rank bytes denial)
 
 -- What an event does to the engines, by the datagrams that were emitted before.
 abbrev pub EventGives : List EngineState → List (ℕ × List ℕ) → Event → Result (Endpoint × Gave) Denial → List EngineState → Type 0

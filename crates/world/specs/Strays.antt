@@ -1,8 +1,11 @@
 -- Why stray bytes are refused.
-use Rattle.std.specs.Prelude.{ℕ, ◌==◌, ◌&&◌, Bool, nat_le, List, length, Result, Ok, Err, if◌then◌else◌}
+use Rattle.std.specs.Prelude.{◌≡◌, ℕ, ◌==◌, ◌&&◌, Bool, nat_le, List, length, Result, Ok, Err, if◌then◌else◌}
 use Rattle.datagram.specs.declared.refused.Refused as lowest
 use Rattle.datagram.specs.Spelling.{DatagramText}
 use Rattle.datagram.specs.Reading.{datagram_of, number_at}
+use Rattle.engine.specs.Datagrams.{DatagramGives}
+use Rattle.engine.specs.EngineState.{EngineState}
+use Rattle.engine.specs.declared.refused.Refused as lower
 use Rattle.engine.specs.declared.refused.Refused.TheVariants as engines
 use Rattle.engine.specs.Refusals.{of_datagram}
 use Rattle.world.specs.declared.refused.Refused.{Refused}
@@ -19,3 +22,9 @@ fault_of_text (Ok d) = Engine engines.ForeignJob
 -- they carry the world's job number; or they spell no datagram; or one of another job
 abbrev pub stray_fault : List ℕ → Refused
 stray_fault bytes = if carries_job bytes then CarriesJob else fault_of_text (datagram_of bytes)
+
+-- whatever memory there is, the engine would refuse the bytes by this number, and stay as it was
+abbrev pub EngineRefuses : EngineState → List ℕ → Refused → Type 0
+EngineRefuses e bytes why =
+    (result : Result (Unit {0}) lower.Refused) (new : EngineState) → DatagramGives e bytes result new →
+    (new ≡ e) × ((x : lower.Refused) × (result ≡ Err x) × (why ≡ Engine x))

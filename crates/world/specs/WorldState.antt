@@ -25,10 +25,11 @@ pub record StandsIn (n : ℕ) (e : EngineState) : Type 0 where
   pub size : e.place.size ≡ n
   pub clean : IsClean e
 
--- the engine's place is that of rank r among n
+-- the engine's place is that of rank r among n, in the world's job
 pub record IsPlaced (n r : ℕ) (e : EngineState) : Type 0 where
   pub size : e.place.size ≡ n
   pub rank : e.place.endpoint.rank ≡ r
+  pub job : e.place.job ≡ 1
 
 -- each engine stands at its own rank
 abbrev pub ArePlaced : List EngineState → Type 0
