@@ -44,8 +44,8 @@ IsNarrower old call why = ⊥
 abbrev pub IsOutOfRoom : Refused → Type 0
 IsOutOfRoom why = (why ≡ refusals.Limit) ⊎ (why ≡ refusals.OutOfMemory)
 
--- Where the machine finds this fault or none, a call is refused by that number; or where it finds none, since there was no
--- room; or since the engine is narrower for now
+-- Where the machine finds this fault or none: the call is refused by the number of that fault; or the machine finds none, and
+-- there was no room; or the engine is narrower for now, whatever the machine finds
 abbrev pub IsReason : (found : Option ℕ) → EngineState → Call → Refused → Type 0
 IsReason found old call why =
     (found ≡ Some (number_of_refusal why)) ⊎ ((IsOutOfRoom why × (found ≡ None)) ⊎ IsNarrower old call why)

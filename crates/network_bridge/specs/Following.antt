@@ -85,8 +85,8 @@ RestartsFollow =
     (history ++ machine.Restarted r ∷ [])
 
 -- A history is seen of a run of the machine of perfect queues among n ranks. The run ends with each rank at the
--- incarnation of its engine, which knows there what its engine knows and refuses there what its engine refuses; and where
--- the engines are quiet, it has come to a state that meets the machine's quiet clause
+-- incarnation of its engine, which knows there what its engine knows; a call that its engine refuses has a reason there; and
+-- where the engines are quiet, the run has come to a state that meets the machine's quiet clause
 pub record IsSeenOfMachine (n : ℕ) (engines : List EngineState) (history : List machine.Entry) : Type 0 where
   pub events : List machine.Event
   pub run : IsRun n machine_state.opening events
@@ -99,7 +99,7 @@ pub record IsSeenOfMachine (n : ℕ) (engines : List EngineState) (history : Lis
   pub knows :
       (r : ℕ) (e : EngineState) → slice_get engines r ≡ Some e → (x : ℕ) →
       ((after_run machine_state.opening events).at e.place.endpoint).known x ≡ slice_index e.known x
-  -- a call that the engine refuses has the fault there that the engine tells, or another of the known reasons
+  -- a call that the engine refuses has the machine's first fault there, by its number, or one of the other reasons
   pub refuses :
       (r : ℕ) (e mid : EngineState) (call back : Call) (why : Refused) → slice_get engines r ≡ Some e →
       CallGives e call (replies.Refused why back) mid →

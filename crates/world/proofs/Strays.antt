@@ -1,6 +1,6 @@
 -- Why an engine of a world would refuse the bytes that the world refuses as stray ones.
 use Rattle.std.proofs.Common.{◌≡◌, ℕ, Bool, true, false, List, length, Result, refl, sym, ap, subst, ◌∙◌, arith, inl, inr}
-use Rattle.std.specs.Prelude.{Ok, Err, Some, ◌==◌, ◌&&◌, nat_le, slice_get, if◌then◌else◌}
+use Rattle.std.specs.Prelude.{Ok, Err, ◌==◌, ◌&&◌, nat_le, if◌then◌else◌}
 use Rattle.std.proofs.lemmas.Bool.{leb-false, leb-true, le-leb}
 use Rattle.std.proofs.lemmas.Grind.{common_steps}
 use Rattle.datagram.specs.declared.datagram.Header.{Header}
@@ -22,7 +22,7 @@ use Rattle.engine.specs.declared.refused.Refused.TheVariants as lowers
 use Rattle.link_truth.proofs.Lists.{get_within}
 use Rattle.world.specs.declared.refused.Refused.{Refused}
 use Rattle.world.specs.declared.refused.Refused.TheVariants.{CarriesJob, Engine, NoSuchRank}
-use Rattle.world.specs.Steps.{Denial, IsPlain, IsStrayAt, StrayGives}
+use Rattle.world.specs.Steps.{Denial, IsPlain, StrayGives}
 use Rattle.world.specs.Strays.{EngineRefuses, carries_job, fault_of_text, stray_fault}
 use Rattle.world.specs.WorldState.{ArePlaced}
 

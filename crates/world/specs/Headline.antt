@@ -42,9 +42,8 @@ abbrev pub history_seen : List Entry → List machine.Entry
 history_seen entries = flat_map entry_seen entries
 
 -- THE HEADLINE. There is a run of the machine of perfect queues, among as many ranks, whose visible history is the world's.
--- It ends with each rank at the incarnation of its engine, which knows there what its engine knows, and finds with a call
--- the fault by which its engine refuses it; and where the world is quiet, it has come to a state that meets the machine's
--- quiet clause
+-- It ends with each rank at the incarnation of its engine, which knows there what its engine knows; a call that its engine
+-- refuses has a reason there; and where the world is quiet, the run has come to a state that meets the machine's quiet clause
 pub record IsRunOfPerfectQueues (w : WorldState) : Type 0 where
   pub run_events : List machine.Event
   pub run : IsRun (length w.engines) opening run_events
@@ -55,8 +54,8 @@ pub record IsRunOfPerfectQueues (w : WorldState) : Type 0 where
   pub knows :
       (r : ℕ) (e : EngineState) → slice_get w.engines r ≡ Some e → (x : ℕ) →
       ((after_run opening run_events).at e.place.endpoint).known x ≡ slice_index e.known x
-  -- a call that the engine refuses is refused by the number of the machine's first fault with it; where the machine finds
-  -- none, since a limit was reached or memory was wanting, or by one of the few rules by which the engine is narrower for now
+  -- a call that the engine refuses has the machine's first fault, by its number; or the machine finds none, and a limit was
+  -- reached or memory was wanting; or the engine is narrower for now, whatever the machine finds
   pub refuses :
       (r : ℕ) (e mid : EngineState) (call back : Call) (why : Refused) → slice_get w.engines r ≡ Some e →
       CallGives e call (replies.Refused why back) mid →

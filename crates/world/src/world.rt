@@ -178,10 +178,11 @@ impl World {
     ///
     /// What is seen in it, calls with their replies, completions and restarts, is a run of the machine of perfect queues,
     /// which has come to rest where the world is quiet (MPI 3.1, 3.5 and 3.7; restarts are this project's own). With a call
-    /// that a rank would refuse now the machine finds the same fault; or none, where a limit is reached, memory is wanting,
-    /// or the rank's engine is narrower for now. In each session that ever was, what was handed up is a beginning of what
-    /// was accepted, and every frame below the lowest unacknowledged number was handed up (`law`; `sessions` says it in
-    /// numbers of ranks that know each other).
+    /// that a rank would refuse now the machine finds the same fault first; or it finds none, and a limit is reached or
+    /// memory is wanting; or the call breaks one of the few rules by which the rank's engine is narrower for now, whatever
+    /// the machine finds. In each session that ever was, what was handed up is a beginning of what was accepted, and every
+    /// frame below the lowest unacknowledged number was handed up (`law`; `sessions` says it in numbers of ranks that know
+    /// each other).
     pub fn history(&self) -> &[Entry]
         ensures entries { result.now ≡ self.now.history }
         ensures headline { IsRunOfPerfectQueues self.now }
