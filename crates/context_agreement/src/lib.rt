@@ -16,6 +16,3 @@ pub use given_once::contexts_are_given_once;
 pub use part::Part;
 pub use refused::Refused;
 pub use split::{SplitRow, split_plan};
-
-#[cfg(test)]
-mod tests;

@@ -9,9 +9,9 @@ use Rattle.byteorder.specs.Numbers.{big_from-lt, big_from-take}
 use Rattle.datagram.specs.declared.refused.Refused.{Refused}
 use Rattle.datagram.specs.declared.kinds.Kind.{Kind}
 use Rattle.datagram.specs.declared.kinds.Plane.{Plane}
-use Rattle.perfect_queues.specs.declared.basic_type.BasicType.{BasicType}
+use Rattle.vocabulary.specs.declared.basic_type.BasicType.{BasicType}
 use Rattle.datagram.specs.Kinds.{kind_code, kind_at, plane_code, plane_at}
-use Rattle.perfect_queues.specs.BasicTypes.{code_of, type_at}
+use Rattle.vocabulary.specs.BasicTypes.{code_of, type_at}
 use Rattle.datagram.specs.Reading.{◌>>=◌, guard, required, number_at}
 
 abbrev pub IsBytes : List ℕ → Type 0

@@ -12,12 +12,12 @@ use Rattle.datagram.specs.declared.kinds.Kind.{Kind}
 use Rattle.datagram.specs.declared.kinds.Kind.TheVariants as kinds
 use Rattle.datagram.specs.declared.kinds.Plane.{Plane}
 use Rattle.datagram.specs.declared.kinds.Plane.TheVariants.{PointToPoint, Collective}
-use Rattle.perfect_queues.specs.declared.basic_type.BasicType.{BasicType}
-use Rattle.perfect_queues.specs.declared.basic_type.BasicType.TheVariants as basics
+use Rattle.vocabulary.specs.declared.basic_type.BasicType.{BasicType}
+use Rattle.vocabulary.specs.declared.basic_type.BasicType.TheVariants as basics
 use Rattle.datagram.specs.declared.datagram.Header.{Header}
 use Rattle.datagram.specs.declared.datagram.Datagram.{Datagram}
 use Rattle.datagram.specs.Kinds.{kind_code, kind_at, plane_code, plane_at}
-use Rattle.perfect_queues.specs.BasicTypes.{code_of, type_at, size_of}
+use Rattle.vocabulary.specs.BasicTypes.{code_of, type_at, size_of}
 use Rattle.datagram.specs.Spelling.{EagerText, BodyText, EagerBody, AckBody, ResetBody, DatagramText, datagram_text, BasicFitsPlane, EagerFits, BodyFits, SequenceFits, HeaderIsWithinFields, EagerIsWithinFields, BodyIsWithinFields, DatagramFits, NoSpellingBeginsAnother, eager_spelling, body_spelling, kind_of_body, header_spelling, spelling}
 use Rattle.datagram.specs.Reading.{Gives, required, number_at, kind_of, length_fits, body_of, header_of, basic_fits_plane, eager_of, content_of, datagram_of}
 use Rattle.datagram.proofs.Fields.{IsBytes, IsBytes-drop, bind_ok, guard_ok, required_ok, ok_is, wide2, wide4, wide8, number_takes, byte_takes, number_fits, kind_back, plane_back, basic_back}

@@ -1,8 +1,8 @@
 -- What bytes say, field by field, with the first fault.
 use Rattle.std.specs.Prelude.{◌≡◌, ℕ, ◌*◌, List, length, drop, slice_index, Option, Some, None, Result, Ok, Err, Bool, true, nat_le, ◌==◌, if◌then◌else◌}
 use Rattle.byteorder.specs.Endian.{big_number}
-use Rattle.perfect_queues.specs.declared.basic_type.BasicType.{BasicType}
-use Rattle.perfect_queues.specs.BasicTypes.{code_of, size_of, type_at}
+use Rattle.vocabulary.specs.declared.basic_type.BasicType.{BasicType}
+use Rattle.vocabulary.specs.BasicTypes.{code_of, size_of, type_at}
 use Rattle.datagram.specs.declared.refused.Refused.{Refused}
 use Rattle.datagram.specs.declared.refused.Refused.TheVariants as refusals
 use Rattle.datagram.specs.declared.kinds.Kind.{Kind}

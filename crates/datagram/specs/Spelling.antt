@@ -1,10 +1,10 @@
 -- What a datagram says, apart from where it lies in memory, and its one spelling.
 use Rattle.std.specs.Prelude.{◌≡◌, ℕ, ◌*◌, ◌<◌, ◌≤◌, ◌^◌, List, [], ◌∷◌, ◌++◌, length}
 use Rattle.byteorder.specs.Endian.{big_bytes}
-use Rattle.perfect_queues.specs.declared.basic_type.BasicType.{BasicType}
-use Rattle.perfect_queues.specs.declared.basic_type.BasicType.TheVariants.{Byte}
-use Rattle.perfect_queues.specs.declared.endpoint.Endpoint.{Endpoint}
-use Rattle.perfect_queues.specs.BasicTypes.{code_of, size_of}
+use Rattle.vocabulary.specs.declared.basic_type.BasicType.{BasicType}
+use Rattle.vocabulary.specs.declared.basic_type.BasicType.TheVariants.{Byte}
+use Rattle.vocabulary.specs.declared.endpoint.Endpoint.{Endpoint}
+use Rattle.vocabulary.specs.BasicTypes.{code_of, size_of}
 use Rattle.datagram.specs.declared.kinds.Kind.{Kind}
 use Rattle.datagram.specs.declared.kinds.Kind.TheVariants as kinds
 use Rattle.datagram.specs.declared.kinds.Plane.{Plane}

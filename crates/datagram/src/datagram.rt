@@ -4,7 +4,7 @@ ghost use Rattle.std.specs.Prelude.{◌≡◌, ◌≤◌, ◌↔◌, length, IsT
 ghost use Rattle.datagram.specs.Spelling.{eager_text, frame_text, body_spelling, EagerFits, BodyFits};
 
 use crate::kinds::Plane;
-use perfect_queues::{BasicType, Endpoint};
+use vocabulary::{BasicType, Endpoint};
 
 /// What every datagram begins with, beside its kind and the length of its body.
 #[derive(Clone, Copy, Debug, PartialEq, Eq)]

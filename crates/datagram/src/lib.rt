@@ -16,6 +16,3 @@ pub use laws::no_spelling_begins_another;
 pub use reading::read;
 pub use refused::Refused;
 pub use writing::write;
-
-#[cfg(test)]
-mod tests;

@@ -8,7 +8,7 @@ use crate::datagram::{Content, Datagram, Eager, Frame, Header};
 use crate::kinds::{Kind, Plane};
 use crate::refused::Refused;
 use byteorder::{BigEndian, ByteOrder};
-use perfect_queues::{BasicType, Endpoint};
+use vocabulary::{BasicType, Endpoint};
 
 /// The first four bytes of every datagram.
 const MAGIC: u32 = 0x4d50_5544;

@@ -9,7 +9,7 @@ use Rattle.std.proofs.lemmas.List.FromFn.{length-map-range_with_len, get_or-map-
 use Rattle.datatypes.specs.Contents.{Contents, values_of, AreWhole}
 use Rattle.datatypes.specs.ContentLaws.{IsBytes-take, no_rest, values_of-append, values_of-take, values_of-drop}
 use Rattle.datatypes.proofs.BufferSteps.{AreWhole-append, AreWhole-drop, AreWhole-single, single_is, element_fits}
-use Rattle.perfect_queues.specs.BasicTypes.{code_of}
+use Rattle.vocabulary.specs.BasicTypes.{code_of}
 use Rattle.datatypes.specs.declared.refusal.Refusal.TheVariants.{WrongType, TooShort}
 use Rattle.datatypes.specs.Layouts.{Shape, extent_of, moved, places, copies_at, has_repeats}
 use Rattle.datatypes.specs.Pieces.{piece_at}

@@ -1,7 +1,7 @@
 -- The operations of a reduction, on the numbers of elements (MPI 3.1, 5.9.2).
 use Rattle.std.specs.Prelude.{ℕ, ◌+◌, ◌-◌, ◌*◌, ◌/◌, ◌%◌, ◌^◌, ◌==◌, nat_lt, Bool, true, false, bit_and, bit_or, bit_xor, if◌then◌else◌}
-use Rattle.perfect_queues.specs.declared.basic_type.BasicType.{BasicType}
-use Rattle.perfect_queues.specs.declared.basic_type.BasicType.TheVariants.{Uint64, Byte}
+use Rattle.vocabulary.specs.declared.basic_type.BasicType.{BasicType}
+use Rattle.vocabulary.specs.declared.basic_type.BasicType.TheVariants.{Uint64, Byte}
 use Rattle.datatypes.specs.declared.operation.Op.{Op}
 use Rattle.datatypes.specs.declared.operation.Op.TheVariants.{Max, Min, Sum, Prod, Land, Lor, Lxor, Band, Bor, Bxor, Affine}
 use Rattle.datatypes.specs.Elements.{has_sign, numbers_of}

@@ -3,16 +3,16 @@
 ghost use Rattle.std.specs.Prelude.{◌≡◌, ◌%◌, ◌*◌, ◌^◌, ◌<◌, ◌≤◌, ◌↔◌, ◌++◌, ◌∷◌, [], length, drop, replicate, slice_get, slice_index, slice_set, None, IsTrue, IfOk, OnOk, OnErr};
 ghost use Rattle.datatypes.specs.Layouts.{places};
 ghost use Rattle.datatypes.specs.Transfers.{send_fault, receive_fault, unpack_fault, elements_at, put_at, first_places, AreNear, PackGives, UnpackGives};
-ghost use Rattle.perfect_queues.specs.BasicTypes.{size_of};
+ghost use Rattle.vocabulary.specs.BasicTypes.{size_of};
 ghost use Rattle.datatypes.specs.Contents.{values_of, bytes_of, AreWithin};
 
 use crate::bytes::{append_copies, append_number, number_at, put_over};
 use crate::gathering::{append_places, put_number, put_places};
 use crate::layout::Layout;
 use crate::refusal::Refusal;
-use perfect_queues::BasicType;
 use std::alloc::{AllocError, Global};
 use std::marker::Model;
+use vocabulary::BasicType;
 
 /// Elements of one basic type, which are kept as bytes, the highest byte of each first.
 #[derive(Debug, Drop)]
@@ -22,7 +22,7 @@ pub struct Buffer {
 }
 
 impl Model for Buffer {
-    ghost use Rattle.perfect_queues.specs.BasicTypes.{size_of};
+    ghost use Rattle.vocabulary.specs.BasicTypes.{size_of};
     ghost use Rattle.datatypes.specs.Contents.{Contents, values_of, AreWhole};
 
     ghost Value = { Contents };

@@ -6,7 +6,7 @@ ghost use Rattle.datatypes.specs.Operations.{order_of, greater_by, lesser_by, lo
 
 use crate::element::{is_signed, largest_number};
 use crate::refusal::Refusal;
-use perfect_queues::BasicType;
+use vocabulary::BasicType;
 
 /// An operation of a reduction.
 #[derive(Clone, Copy, Debug, PartialEq, Eq)]
@@ -39,7 +39,7 @@ pub enum Op {
 /// What combines two elements of one basic type, associatively.
 pub trait ReduceOp {
     ghost use Rattle.std.specs.Prelude.{◌≡◌, ◌<◌, ℕ};
-    ghost use Rattle.perfect_queues.specs.declared.basic_type.BasicType.{BasicType};
+    ghost use Rattle.vocabulary.specs.declared.basic_type.BasicType.{BasicType};
     ghost use Rattle.datatypes.specs.Elements.{numbers_of};
 
     ghost basic_of: { Self → BasicType };

@@ -2,7 +2,7 @@
 use Rattle.std.proofs.Common.{◌≡◌, ◌<◌, ◌∙◌, ◌++◌, ℕ, List, [], ◌∷◌, length, max, refl, sym, ap, arith}
 use Rattle.std.specs.Prelude.{◌+◌, slice_index, slice_set}
 use Rattle.perfect_queues.proofs.ListLemmas.{get_set}
-use Rattle.perfect_queues.specs.declared.endpoint.Endpoint.{Endpoint}
+use Rattle.vocabulary.specs.declared.endpoint.Endpoint.{Endpoint}
 use Rattle.incarnation.specs.Knowing.{Knowledge, after_learn}
 use Rattle.match_queues.specs.declared.envelope.Message.{Message}
 use Rattle.match_queues.specs.State.{after_arrival, after_drop, keys_naming}

@@ -1,6 +1,6 @@
 -- What a call does to the engine.
 use Rattle.std.specs.Prelude.{◌≡◌, Option, Some, None, Ok, Err}
-use Rattle.perfect_queues.specs.BasicTypes.{size_of}
+use Rattle.vocabulary.specs.BasicTypes.{size_of}
 use Rattle.datatypes.specs.Contents.{AreWithin}
 use Rattle.requests.specs.declared.table.Request.{Request}
 use Rattle.engine.specs.declared.call.Send.{Send}

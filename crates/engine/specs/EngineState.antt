@@ -1,6 +1,6 @@
 -- What a rank's engine holds.
 use Rattle.std.specs.Prelude.{ℕ, List, [], Option, None, slice_index}
-use Rattle.perfect_queues.specs.declared.endpoint.Endpoint.{Endpoint}
+use Rattle.vocabulary.specs.declared.endpoint.Endpoint.{Endpoint}
 use Rattle.incarnation.specs.declared.place.Place.{Place}
 use Rattle.incarnation.specs.Knowing as knowing
 use Rattle.match_queues.specs.State.{State}

@@ -1,6 +1,6 @@
 -- What an engine does when it learns that a rank was started anew (MPI 3.1 has no restarts; this is our own).
 use Rattle.std.specs.Prelude.{ℕ, max, slice_index, slice_set, nat_lt, if◌then◌else◌}
-use Rattle.perfect_queues.specs.declared.endpoint.Endpoint.{Endpoint}
+use Rattle.vocabulary.specs.declared.endpoint.Endpoint.{Endpoint}
 use Rattle.match_queues.specs.State.{after_drop, keys_naming}
 use Rattle.requests.specs.Table.{after_replaces}
 use Rattle.engine.specs.EngineState.{EngineState}

@@ -1,8 +1,8 @@
 -- What a receive does to the engine (MPI 3.1, 3.2.4 and 3.7).
 use Rattle.std.specs.Prelude.{◌≡◌, ℕ, ◌+◌, nat_le, nat_lt, Bool, true, false, List, Option, Some, None, Result, Ok, Err, length, if◌then◌else◌}
-use Rattle.perfect_queues.specs.declared.envelope.Source.{Source}
-use Rattle.perfect_queues.specs.declared.envelope.Source.TheVariants as sources
-use Rattle.perfect_queues.specs.declared.envelope.Status.{Status}
+use Rattle.vocabulary.specs.declared.envelope.Source.{Source}
+use Rattle.vocabulary.specs.declared.envelope.Source.TheVariants as sources
+use Rattle.vocabulary.specs.declared.envelope.Status.{Status}
 use Rattle.datatypes.specs.Contents.{Contents}
 use Rattle.match_queues.specs.declared.envelope.Receive as posted
 use Rattle.match_queues.specs.declared.envelope.Message.{Message}

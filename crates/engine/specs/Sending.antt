@@ -1,7 +1,7 @@
 -- What a send does to the engine (MPI 3.1, 3.4 and 3.7).
 use Rattle.std.specs.Prelude.{◌≡◌, ℕ, ◌+◌, ◌*◌, ◌≤◌, nat_le, nat_lt, ◌==◌, List, [], ◌∷◌, ◌++◌, length, Option, Some, None, Result, Ok, Err, Bool, true, false, ◌||◌, if◌then◌else◌}
-use Rattle.perfect_queues.specs.declared.endpoint.Endpoint.{Endpoint}
-use Rattle.perfect_queues.specs.BasicTypes.{size_of}
+use Rattle.vocabulary.specs.declared.endpoint.Endpoint.{Endpoint}
+use Rattle.vocabulary.specs.BasicTypes.{size_of}
 use Rattle.datatypes.specs.Contents.{Contents, bytes_of}
 use Rattle.datagram.specs.declared.kinds.Plane.TheVariants.{PointToPoint}
 use Rattle.datagram.specs.declared.datagram.Header.{Header}

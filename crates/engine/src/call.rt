@@ -4,9 +4,9 @@ ghost use Rattle.std.specs.Prelude.{◌≡◌, IfOk};
 
 use crate::refused::Refused;
 use datatypes::Buffer;
-use perfect_queues::Source;
 use requests::{Outcome, Request};
 use std::alloc::{AllocError, Global};
+use vocabulary::Source;
 
 /// A standard send on `world` (MPI 3.1, 3.4 and 3.7.2).
 #[derive(Debug, Drop)]

@@ -3,7 +3,7 @@
 ghost use Rattle.std.specs.Prelude.{◌≡◌, ◌≤◌, ◌<◌, ◌+◌, ◌^◌, ◌↔◌, ◌||◌, length, OnOk, OnErr, IfErr, None, Ok, Err};
 ghost use Rattle.requests.specs.Table.{HasRoom, is_full};
 ghost use Rattle.engine.specs.Peers.{peer_at};
-ghost use Rattle.perfect_queues.specs.BasicTypes.{size_of};
+ghost use Rattle.vocabulary.specs.BasicTypes.{size_of};
 ghost use Rattle.datatypes.specs.Contents.{AreWithin};
 ghost use Rattle.engine.specs.Sending.{IsSmall, SendGives, SendToGives, SendToItselfGives, is_worn_out};
 ghost use Rattle.engine.specs.Receiving.{ReceiveGives, receive_fault};

@@ -16,8 +16,8 @@ use crate::refused::Refused;
 use crate::sending::ack_bytes;
 use datagram::{Content, Eager, Frame, Header, Plane};
 use match_queues::{Arrival, Message};
-use perfect_queues::Endpoint;
 use requests::Requests;
+use vocabulary::Endpoint;
 
 /// The rank is known at the endpoint's incarnation, its session starts anew, and the receives under these keys end.
 fn begin_anew(

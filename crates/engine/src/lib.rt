@@ -23,6 +23,3 @@ pub use incarnation::Place;
 pub use peers::Peer;
 pub use place::MOST_RANKS;
 pub use refused::Refused;
-
-#[cfg(test)]
-mod tests;

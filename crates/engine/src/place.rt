@@ -7,7 +7,7 @@ ghost use Rattle.engine.specs.Places.{place_fault};
 
 use crate::refused::Refused;
 use incarnation::{Peers, Place};
-use perfect_queues::Endpoint;
+use vocabulary::Endpoint;
 
 /// The most ranks of a job.
 pub const MOST_RANKS: u16 = 256;

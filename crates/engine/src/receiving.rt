@@ -11,9 +11,9 @@ use crate::sending::GREATEST_TAG;
 use datagram::{Eager, Header};
 use datatypes::Buffer;
 use match_queues::Message;
-use perfect_queues::{Source, Status};
 use requests::{Progress, received};
 use std::alloc::Global;
+use vocabulary::{Source, Status};
 
 /// Whether the tag is above the greatest one.
 pub(crate) fn is_tag_above(tag: Option<u32>) -> bool

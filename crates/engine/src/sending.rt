@@ -3,7 +3,7 @@
 ghost use Rattle.std.specs.Prelude.{◌≡◌, ◌<◌, ◌≤◌, ◌+◌, ◌^◌, Some, None, IfOk, IfErr, IsTrue, length};
 ghost use Rattle.datagram.specs.Spelling.{datagram_text, content_text, spelling, BodyFits, SequenceFits};
 ghost use Rattle.engine.specs.Datagrams.{ack_bytes, reset_bytes};
-ghost use Rattle.perfect_queues.specs.BasicTypes.{size_of};
+ghost use Rattle.vocabulary.specs.BasicTypes.{size_of};
 ghost use Rattle.datatypes.specs.Contents.{AreWithin};
 ghost use Rattle.engine.specs.Sending.{IsSmall, header_to, own_message, send_bytes, send_fault, target_fault};
 
@@ -12,8 +12,8 @@ use crate::refused::Refused;
 use datagram::{Bytes, Content, Datagram, Eager, Frame, Header, Plane};
 use incarnation::Place;
 use match_queues::Message;
-use perfect_queues::Endpoint;
 use std::alloc::Global;
+use vocabulary::Endpoint;
 
 /// The most bytes of data that a message in one frame has, and for now any message.
 const EAGER_LIMIT: usize = 1024;

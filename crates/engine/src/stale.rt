@@ -8,7 +8,7 @@ use crate::engine::Engine;
 use crate::refused::Refused;
 use crate::sending::reset_bytes;
 use datagram::{Content, Header};
-use perfect_queues::Endpoint;
+use vocabulary::Endpoint;
 
 impl Engine {
     /// The source of a datagram for a former incarnation is told of the present one, and the datagram is refused.

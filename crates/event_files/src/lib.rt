@@ -9,6 +9,3 @@ mod script;
 
 pub use parsing::parse;
 pub use script::{Action, Line, Named, ParseError, ReceiveLine, Script, SendLine, Statement};
-
-#[cfg(test)]
-mod tests;

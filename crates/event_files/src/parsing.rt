@@ -7,8 +7,8 @@ ghost use Rattle.event_files.specs.Sizes.{IsSize};
 use crate::numbers;
 use crate::script::{Action, Line, Named, ParseError, ReceiveLine, Script, SendLine, Statement};
 use datatypes::{Buffer, number_of};
-use perfect_queues::{BasicType, Source};
 use std::alloc::{AllocError, Global};
+use vocabulary::{BasicType, Source};
 
 /// The most ranks that a world has.
 const MOST_RANKS: u16 = 256;

@@ -2,8 +2,8 @@
 
 use datagram::Bytes;
 use datatypes::Buffer;
-use perfect_queues::Source;
 use thiserror::Error;
+use vocabulary::Source;
 
 /// Why a text is no file of events.
 #[derive(Clone, Copy, Debug, PartialEq, Eq, Error)]

@@ -11,6 +11,3 @@ mod selection;
 pub use comparison::Comparison;
 pub use group::Group;
 pub use refused::Refused;
-
-#[cfg(test)]
-mod tests;

@@ -14,6 +14,3 @@ pub use next::next_incarnation;
 pub use peers::Peers;
 pub use place::Place;
 pub use refused::Refused;
-
-#[cfg(test)]
-mod tests;

@@ -1,6 +1,6 @@
 //! Where a process stands.
 
-use perfect_queues::Endpoint;
+use vocabulary::Endpoint;
 
 /// Which process of which job this is.
 #[derive(Clone, Copy, Debug, PartialEq, Eq)]

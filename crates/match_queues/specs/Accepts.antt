@@ -1,7 +1,7 @@
 -- Which messages a receive accepts (MPI 3.1, 3.2.4).
 use Rattle.std.specs.Prelude.{ℕ, Bool, true, false, ◌&&◌, ◌==◌, Option, Some, None}
-use Rattle.perfect_queues.specs.declared.envelope.Source.{Source}
-use Rattle.perfect_queues.specs.declared.envelope.Source.TheVariants as sources
+use Rattle.vocabulary.specs.declared.envelope.Source.{Source}
+use Rattle.vocabulary.specs.declared.envelope.Source.TheVariants as sources
 use Rattle.match_queues.specs.declared.envelope.Receive.{Receive}
 use Rattle.match_queues.specs.declared.envelope.Message.{Message}
 

@@ -1,6 +1,6 @@
 -- The queues of a receiver, the oldest first, and what a receive and a message do to them (MPI 3.1, 3.5).
 use Rattle.std.specs.Prelude.{ℕ, not, List, [], ◌∷◌, ◌++◌, map, Option, Some, None, position, remove, slice_get, filter}
-use Rattle.perfect_queues.specs.Endpoints.{is_former}
+use Rattle.vocabulary.specs.Endpoints.{is_former}
 use Rattle.perfect_queues.specs.Receives.{names}
 use Rattle.match_queues.specs.declared.envelope.Receive.{Receive}
 use Rattle.match_queues.specs.declared.envelope.Message.{Message}

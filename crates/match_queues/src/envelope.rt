@@ -2,11 +2,11 @@
 
 ghost use Rattle.std.specs.Prelude.{◌≡◌};
 ghost use Rattle.match_queues.specs.Accepts.{accepts, is_from, has_tag};
-ghost use Rattle.perfect_queues.specs.Endpoints.{is_former};
+ghost use Rattle.vocabulary.specs.Endpoints.{is_former};
 ghost use Rattle.perfect_queues.specs.Receives.{names};
 
 use datatypes::Buffer;
-use perfect_queues::{Endpoint, Source};
+use vocabulary::{Endpoint, Source};
 
 /// A receive that was posted for a request (MPI 3.1, 3.2.4 and 3.7.2).
 #[derive(Clone, Copy, Debug, PartialEq, Eq)]

@@ -11,6 +11,3 @@ mod refused;
 pub use envelope::{Message, Receive};
 pub use queues::{Arrival, Queues, oldest_is_taken};
 pub use refused::{Handed, OutOfMemory};
-
-#[cfg(test)]
-mod tests;

@@ -2,7 +2,7 @@
 
 ghost use Rattle.std.specs.Prelude.{◌≡◌, ◌≤◌, ◌<◌, not, filter, [], IfOk, OnOk, OnErr, IfErr, position, Some, None};
 ghost use Rattle.std.specs.Vec.{vec_len, vec_capacity};
-ghost use Rattle.perfect_queues.specs.Endpoints.{is_former};
+ghost use Rattle.vocabulary.specs.Endpoints.{is_former};
 ghost use Rattle.perfect_queues.specs.Receives.{names};
 ghost use Rattle.match_queues.specs.State.{State, message_at, receive_at, message_for, receive_for, after_post, after_arrival, after_drop, keys_naming};
 ghost use Rattle.match_queues.specs.Arrivals.{arrival_of};

@@ -5,11 +5,11 @@
 //! one FILE; 3 where the output fails.
 #![tactic(auto)]
 
+use simulation::{SimulateError, simulate};
 use std::io::{BufWriter, ErrorKind, Write};
 use std::process::ExitCode;
 use std::rt::{Env, Files};
 use std::{env, fs, io};
-use world::{SimulateError, simulate};
 
 /// Says why nothing more runs, and answers the status.
 fn refused(rt: &impl Eprint, number: u8, line: Option<usize>) -> u8 {

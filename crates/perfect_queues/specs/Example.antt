@@ -6,9 +6,9 @@ use Rattle.perfect_queues.specs.Events.{Entry, Called}
 use Rattle.perfect_queues.specs.Outcomes.{Received}
 use Rattle.perfect_queues.specs.Receives.{Receive}
 use Rattle.perfect_queues.specs.Refusals.{world}
-use Rattle.perfect_queues.specs.declared.basic_type.BasicType.TheVariants.{Int32}
-use Rattle.perfect_queues.specs.declared.endpoint.Endpoint.{Endpoint}
-use Rattle.perfect_queues.specs.declared.envelope.Source.TheVariants.{Rank}
+use Rattle.vocabulary.specs.declared.basic_type.BasicType.TheVariants.{Int32}
+use Rattle.vocabulary.specs.declared.endpoint.Endpoint.{Endpoint}
+use Rattle.vocabulary.specs.declared.envelope.Source.TheVariants.{Rank}
 
 -- rank 0, never started anew
 abbrev pub rank_0 : Endpoint

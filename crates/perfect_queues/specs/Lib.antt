@@ -1,5 +1,3 @@
-pub mod BasicTypes
-pub mod Endpoints
 pub mod Layouts
 pub mod Messages
 pub mod Receives

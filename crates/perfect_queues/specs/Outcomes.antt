@@ -3,9 +3,9 @@ use Rattle.std.specs.Prelude.{ℕ, List, length, Option, Some, None, if◌then�
 use Rattle.perfect_queues.specs.Layouts.{written}
 use Rattle.perfect_queues.specs.Messages.{Message}
 use Rattle.perfect_queues.specs.Receives.{Receive, places, is_of_type, has_room}
-use Rattle.perfect_queues.specs.declared.basic_type.BasicType.{BasicType}
-use Rattle.perfect_queues.specs.declared.envelope.Source.TheVariants.{Rank, Null}
-use Rattle.perfect_queues.specs.declared.envelope.Status.{Status}
+use Rattle.vocabulary.specs.declared.basic_type.BasicType.{BasicType}
+use Rattle.vocabulary.specs.declared.envelope.Source.TheVariants.{Rank, Null}
+use Rattle.vocabulary.specs.declared.envelope.Status.{Status}
 
 -- How a request ends: a send that is finished; a receive with its status and buffer; a receive that ended with 2 or
 -- 10, with the status of the message that it used up; an operation whose rank was replaced (11), which hands back a

@@ -1,11 +1,11 @@
 -- Receives, and which messages they accept (MPI 3.1, 3.2.4).
 use Rattle.std.specs.Prelude.{ℕ, Bool, true, false, ◌&&◌, List, length, Option, Some, None, ◌==◌, nat_le}
-use Rattle.perfect_queues.specs.BasicTypes.{code_of}
+use Rattle.vocabulary.specs.BasicTypes.{code_of}
 use Rattle.perfect_queues.specs.Layouts.{places_of}
 use Rattle.perfect_queues.specs.Messages.{Message}
-use Rattle.perfect_queues.specs.declared.basic_type.BasicType.{BasicType}
-use Rattle.perfect_queues.specs.declared.envelope.Source.{Source}
-use Rattle.perfect_queues.specs.declared.envelope.Source.TheVariants.{Any, Rank, Null}
+use Rattle.vocabulary.specs.declared.basic_type.BasicType.{BasicType}
+use Rattle.vocabulary.specs.declared.envelope.Source.{Source}
+use Rattle.vocabulary.specs.declared.envelope.Source.TheVariants.{Any, Rank, Null}
 
 -- A receive: its source, its tag (none is any) and its context; and the buffer that it was handed, with the layout
 -- and the number of copies by which the values take their places in it

@@ -47,13 +47,3 @@ pub fn definitions_hold_together()
     ensures former_gets_nothing { FormerGetsNothing }
     ensures learning_forgets { LearningForgetsFormer }
 {}
-
-#[cfg(test)]
-mod tests {
-    use super::*;
-
-    #[test]
-    fn laws_return() {
-        definitions_hold_together();
-    }
-}

@@ -13,6 +13,3 @@ pub use out_frame::OutFrame;
 pub use receiver::{Receiver, Verdict};
 pub use refused::{Handed, Refused};
 pub use sender::Sender;
-
-#[cfg(test)]
-mod tests;

@@ -1,7 +1,7 @@
 -- How a receive ends (MPI 3.1, 3.2.4 and 3.3.1).
 use Rattle.std.specs.Prelude.{ℕ, ◌++◌, ◌==◌, length, drop, nat_le, if◌then◌else◌}
-use Rattle.perfect_queues.specs.BasicTypes.{code_of}
-use Rattle.perfect_queues.specs.declared.envelope.Status.{Status}
+use Rattle.vocabulary.specs.BasicTypes.{code_of}
+use Rattle.vocabulary.specs.declared.envelope.Status.{Status}
 use Rattle.datatypes.specs.Contents.{Contents}
 use Rattle.requests.specs.declared.outcome.Failure.{Failure}
 use Rattle.requests.specs.declared.outcome.Failure.TheVariants.{WrongType, Truncated}

@@ -1,6 +1,6 @@
 -- The table of requests.
 use Rattle.std.specs.Prelude.{◌≡◌, ◌≢◌, ℕ, ◌+◌, ◌≤◌, nat_le, Bool, ◌||◌, List, [], ◌∷◌, Option, Some, None, is_some, count_by, slice_index_or, slice_set, ◌==◌, if◌then◌else◌}
-use Rattle.perfect_queues.specs.declared.envelope.Status.{Status}
+use Rattle.vocabulary.specs.declared.envelope.Status.{Status}
 use Rattle.datatypes.specs.Contents.{Contents}
 use Rattle.requests.specs.declared.table.Entry.{Entry}
 use Rattle.requests.specs.declared.table.Progress.{Progress}

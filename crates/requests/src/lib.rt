@@ -10,6 +10,3 @@ mod table;
 pub use outcome::{Failure, Outcome, received};
 pub use refused::Refused;
 pub use table::{Entry, Progress, Request, Requests, Taken};
-
-#[cfg(test)]
-mod tests;

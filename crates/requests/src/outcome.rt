@@ -4,7 +4,7 @@ ghost use Rattle.std.specs.Prelude.{◌≡◌};
 ghost use Rattle.requests.specs.Outcomes.{outcome_of, number_of_failure};
 
 use datatypes::Buffer;
-use perfect_queues::Status;
+use vocabulary::Status;
 
 /// Why a receive ended without its message's data (MPI 3.1, 3.2.4 and 3.3.1).
 #[derive(Clone, Copy, Debug, PartialEq, Eq)]

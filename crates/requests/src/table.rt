@@ -6,11 +6,11 @@ ghost use Rattle.requests.specs.Table.{Table, HasRoom, is_full, entry_at, IsSet,
 use crate::outcome::{Outcome, received};
 use crate::refused::Refused;
 use datatypes::Buffer;
-use perfect_queues::Status;
 use slab::Slab;
 use std::alloc::Global;
 use std::marker::Model;
 use std::mem;
+use vocabulary::Status;
 
 /// The most requests that a rank has at one time, those that are finished and not yet answered included.
 const MOST_REQUESTS: usize = 65_536;

@@ -2,17 +2,17 @@
 use Rattle.std.proofs.Common.{◌≡◌, ℕ, ◌≤◌, List, length, ap, subst, ◌∙◌, arith}
 use Rattle.std.specs.Prelude.{slice_index}
 use Rattle.std.proofs.lemmas.Option.{slice_get_within}
-use Rattle.perfect_queues.specs.declared.endpoint.Endpoint.{Endpoint}
+use Rattle.vocabulary.specs.declared.endpoint.Endpoint.{Endpoint}
 use Rattle.engine.specs.EngineState.{EngineState}
 use Rattle.engine.specs.Peers.{peer_at}
 use Rattle.incarnation.specs.declared.place.Place.{Place}
-use Rattle.pure_network.specs.Links.{Link}
-use Rattle.pure_network.specs.Network.{Network, new_network, run}
-use Rattle.link_truth.proofs.Lists.{false_sym}
-use Rattle.link_truth.proofs.Senders.{next_is}
-use Rattle.link_truth.specs.Sessions.{SenderTells}
-use Rattle.link_truth.specs.Wire.{at}
-use Rattle.network_bridge.proofs.Closed.{following_is_run}
+use Rattle.proof_pure_network.specs.Links.{Link}
+use Rattle.proof_pure_network.specs.Network.{Network, new_network, run}
+use Rattle.proof_link_truth.proofs.Lists.{false_sym}
+use Rattle.proof_link_truth.proofs.Senders.{next_is}
+use Rattle.proof_link_truth.specs.Sessions.{SenderTells}
+use Rattle.proof_link_truth.specs.Wire.{at}
+use Rattle.proof_network_bridge.proofs.Closed.{following_is_run}
 use Rattle.world.specs.Headline.{IsRunOfPerfectQueues, IsSound, SessionsAreInOrder, SessionsAreTrue, history_seen}
 use Rattle.world.specs.WorldState.{WorldState}
 use Rattle.world.specs.declared.event.Entry.{Entry}

@@ -6,7 +6,7 @@ use Rattle.perfect_queues.specs.Events as machine
 use Rattle.engine.specs.EngineState.{EngineState}
 use Rattle.engine.specs.declared.refused.Refused.TheVariants as lowers
 use Rattle.incarnation.specs.declared.place.Place.{Place}
-use Rattle.network_bridge.specs.Joined.{IsFollowed}
+use Rattle.proof_network_bridge.specs.Joined.{IsFollowed}
 use Rattle.world.specs.Headline.{IsSound}
 use Rattle.world.specs.Steps.{restart_fault}
 use Rattle.world.specs.WorldState.{ArePlaced}

@@ -7,7 +7,7 @@ use Rattle.engine.specs.EngineState.{EngineState}
 use Rattle.engine.specs.Peers.{IsIdlePeer, peer_at}
 use Rattle.incarnation.specs.declared.place.Place.{Place}
 use Rattle.incarnation.specs.Judging.{is_other}
-use Rattle.link_truth.specs.Events.{AreQuiet}
+use Rattle.proof_link_truth.specs.Events.{AreQuiet}
 use Rattle.world.specs.Quiet.{AreQuietTowards, IsQuietTowards}
 use Rattle.world.specs.WorldState.{ArePlaced}
 

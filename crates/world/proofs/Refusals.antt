@@ -14,15 +14,15 @@ use Rattle.incarnation.specs.declared.refused.Refused as judging
 use Rattle.incarnation.specs.declared.refused.Refused.TheVariants as judgings
 use Rattle.incarnation.specs.Judging.{judgement}
 use Rattle.perfect_queues.specs.Events as machine
-use Rattle.perfect_queues.specs.declared.endpoint.Endpoint.{Endpoint}
+use Rattle.vocabulary.specs.declared.endpoint.Endpoint.{Endpoint}
 use Rattle.engine.specs.Datagrams.{BodyGives, DatagramGives, EagerGivesAt, FirstWordGives, JudgedGives, ResetGives, StaleGives, TextGives}
 use Rattle.engine.specs.EngineState.{EngineState, knowledge}
 use Rattle.engine.specs.Peers.{peer_at}
 use Rattle.engine.specs.declared.call.Call.{Call}
 use Rattle.engine.specs.declared.refused.Refused.{Refused}
-use Rattle.link_truth.specs.Events.{emptied}
-use Rattle.network_bridge.specs.Joined.{IsClean, IsFollowed}
-use Rattle.network_bridge.proofs.Closed.{refusals_follow}
+use Rattle.proof_link_truth.specs.Events.{emptied}
+use Rattle.proof_network_bridge.specs.Joined.{IsClean, IsFollowed}
+use Rattle.proof_network_bridge.proofs.Closed.{refusals_follow}
 use Rattle.world.specs.Headline.{IsSound, history_seen}
 use Rattle.requests.specs.declared.outcome.Outcome.{Outcome}
 use Rattle.world.specs.WorldState.{WorldState}

@@ -3,17 +3,17 @@ use Rattle.std.proofs.Common.{◌≡◌, ℕ, zero, suc, ◌<◌, ◌≤◌, Lis
 use Rattle.std.specs.Prelude.{Ok, slice_get, slice_index_or, slice_set}
 use Rattle.std.proofs.lemmas.Grind.{flat_map-append}
 use Rattle.std.proofs.lemmas.List.{length-set}
-use Rattle.perfect_queues.specs.declared.endpoint.Endpoint.{Endpoint}
+use Rattle.vocabulary.specs.declared.endpoint.Endpoint.{Endpoint}
 use Rattle.engine.specs.EngineState.{EngineState, opening}
 use Rattle.engine.specs.declared.call.Call.{Call}
 use Rattle.engine.specs.declared.call.Reply.{Reply}
 use Rattle.requests.specs.declared.outcome.Outcome.{Outcome}
 use Rattle.perfect_queues.specs.Events as machine
-use Rattle.engine_view.specs.Seen.{told_call, told_completion}
-use Rattle.link_truth.specs.Events.{emptied, opening_engines}
-use Rattle.network_bridge.specs.Following.{LeavesFollowed, next_place}
-use Rattle.network_bridge.specs.Joined.{IsFollowed}
-use Rattle.network_bridge.proofs.Closed.{calls_follow, datagrams_follow, opening_follows, restarts_follow, ticks_follow}
+use Rattle.proof_engine_view.specs.Seen.{told_call, told_completion}
+use Rattle.proof_link_truth.specs.Events.{emptied, opening_engines}
+use Rattle.proof_network_bridge.specs.Following.{LeavesFollowed, next_place}
+use Rattle.proof_network_bridge.specs.Joined.{IsFollowed}
+use Rattle.proof_network_bridge.proofs.Closed.{calls_follow, datagrams_follow, opening_follows, restarts_follow, ticks_follow}
 use Rattle.world.specs.WorldState.{IsWorld, StandsIn}
 use Rattle.world.specs.Headline.{IsSound, entry_seen, history_seen}
 use Rattle.world.specs.Steps.{Answers, EventGives, Gave, NumberGives, RanAt, RanCall, RanDatagram, RanRestart, RanTick, TakesIn, Ticks, entry_of}

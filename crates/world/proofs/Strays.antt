@@ -19,7 +19,7 @@ use Rattle.engine.specs.EngineState.{EngineState, knowledge}
 use Rattle.engine.specs.Refusals.{of_datagram}
 use Rattle.engine.specs.declared.refused.Refused as lower
 use Rattle.engine.specs.declared.refused.Refused.TheVariants as lowers
-use Rattle.link_truth.proofs.Lists.{get_within}
+use Rattle.proof_link_truth.proofs.Lists.{get_within}
 use Rattle.world.specs.declared.refused.Refused.{Refused}
 use Rattle.world.specs.declared.refused.Refused.TheVariants.{CarriesJob, Engine, NoSuchRank}
 use Rattle.world.specs.Steps.{Denial, IsPlain, StrayGives}

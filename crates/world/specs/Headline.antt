@@ -1,6 +1,6 @@
 -- The headline: what is seen of a world is a run of the machine of perfect queues.
 use Rattle.std.specs.Prelude.{◌≡◌, ℕ, ◌≤◌, false, List, [], ◌∷◌, ◌++◌, length, Option, Some, flat_map, ◌==◌, slice_get, slice_index}
-use Rattle.perfect_queues.specs.declared.endpoint.Endpoint.{Endpoint}
+use Rattle.vocabulary.specs.declared.endpoint.Endpoint.{Endpoint}
 use Rattle.engine.specs.EngineState.{EngineState}
 use Rattle.engine.specs.Peers.{peer_at}
 use Rattle.reliable_link.specs.SenderState.{SenderState, next_number}
@@ -14,12 +14,12 @@ use Rattle.perfect_queues.specs.Quiet.{IsAtRest}
 use Rattle.perfect_queues.specs.Refusals.{fault}
 use Rattle.perfect_queues.specs.Runs.{IsRun, after_run, seen}
 use Rattle.perfect_queues.specs.State.{opening}
-use Rattle.engine_steps.specs.Refused.{IsReason}
-use Rattle.engine_view.specs.Seen.{call_seen, told_call, told_completion}
-use Rattle.link_truth.specs.Events.{AreQuiet}
-use Rattle.link_truth.specs.Sessions.{Links}
-use Rattle.link_truth.specs.Truth.{AreTrue}
-use Rattle.network_bridge.specs.Joined.{IsFollowed}
+use Rattle.proof_engine_steps.specs.Refused.{IsReason}
+use Rattle.proof_engine_view.specs.Seen.{call_seen, told_call, told_completion}
+use Rattle.proof_link_truth.specs.Events.{AreQuiet}
+use Rattle.proof_link_truth.specs.Sessions.{Links}
+use Rattle.proof_link_truth.specs.Truth.{AreTrue}
+use Rattle.proof_network_bridge.specs.Joined.{IsFollowed}
 use Rattle.world.specs.WorldState.{WorldState, IsWorld}
 use Rattle.world.specs.declared.event.Entry.{Entry}
 use Rattle.world.specs.declared.event.Event.{Event}

@@ -1,6 +1,6 @@
 -- What an event does to a world: the engine of one rank goes on, what it emits is numbered, and what it answers stands in the history.
 use Rattle.std.specs.Prelude.{◌≡◌, ℕ, ◌<◌, ◌≤◌, ◌⊎◌, false, List, [], ◌∷◌, ◌++◌, length, Option, Some, None, Result, Ok, Err, slice_get, slice_set, ◌==◌, if◌then◌else◌}
-use Rattle.perfect_queues.specs.declared.endpoint.Endpoint.{Endpoint}
+use Rattle.vocabulary.specs.declared.endpoint.Endpoint.{Endpoint}
 use Rattle.perfect_queues.specs.Events.{last_incarnation}
 use Rattle.incarnation.specs.declared.place.Place.{Place}
 use Rattle.engine.specs.EngineState.{EngineState, opening}
@@ -21,8 +21,8 @@ use Rattle.world.specs.declared.event.Failed.{Failed}
 use Rattle.world.specs.declared.event.Stepped.{Stepped}
 use Rattle.world.specs.declared.refused.Refused.{Refused}
 use Rattle.world.specs.declared.refused.Refused.TheVariants as refusals
-use Rattle.link_truth.specs.Events.{emptied}
-use Rattle.network_bridge.specs.Following.{next_place}
+use Rattle.proof_link_truth.specs.Events.{emptied}
+use Rattle.proof_network_bridge.specs.Following.{next_place}
 use Rattle.world.specs.WorldState.{WorldState}
 use Rattle.world.specs.Strays.{EngineRefuses, carries_job, stray_fault}
 

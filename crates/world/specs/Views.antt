@@ -1,6 +1,6 @@
 -- What a function of the program gave, as the definitions see it.
 use Rattle.std.specs.Prelude.{Result, Ok, Err}
-use Rattle.perfect_queues.specs.declared.endpoint.Endpoint.{Endpoint}
+use Rattle.vocabulary.specs.declared.endpoint.Endpoint.{Endpoint}
 use Rattle.world.specs.declared.engines.Denied.{Denied}
 use Rattle.world.specs.declared.one_engine.Given.{Given}
 use Rattle.world.specs.declared.one_engine.Rejected.{Rejected}

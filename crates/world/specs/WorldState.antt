@@ -1,8 +1,8 @@
 -- A world: its engines, every datagram that they emitted, and what happened.
 use Rattle.std.specs.Prelude.{◌≡◌, ℕ, ◌≤◌, Bool, ◌||◌, ◌==◌, nat_lt, List, [], length, All, Some, slice_get}
 use Rattle.engine.specs.EngineState.{EngineState}
-use Rattle.link_truth.specs.Events.{opening_engines}
-use Rattle.network_bridge.specs.Joined.{IsClean}
+use Rattle.proof_link_truth.specs.Events.{opening_engines}
+use Rattle.proof_network_bridge.specs.Joined.{IsClean}
 use Rattle.world.specs.declared.event.Entry.{Entry}
 
 -- a world

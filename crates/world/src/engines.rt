@@ -3,8 +3,8 @@
 ghost use Rattle.std.specs.Prelude.{◌≡◌, ◌≤◌, ◌<◌, ◌+◌, ◌*◌, option_map, IfOk, IfErr, OnErr, slice_get, vec_len, nat_le, if◌then◌else◌};
 ghost use Rattle.engine.specs.declared.refused.Refused.TheVariants as lowers;
 ghost use Rattle.engine.specs.EngineState.{opening};
-ghost use Rattle.link_truth.specs.Events.{opening_engines};
-ghost use Rattle.link_truth.specs.Wire.{at, place_of};
+ghost use Rattle.proof_link_truth.specs.Events.{opening_engines};
+ghost use Rattle.proof_link_truth.specs.Wire.{at, place_of};
 ghost use Rattle.world.specs.WorldState.{IsWorld, ArePlaced};
 ghost use Rattle.world.specs.Steps.{RanCall, RanDatagram, RanTick, RanRestart, RankGives, NumberGives, EventGives, IsPlain};
 ghost use Rattle.world.specs.Strays.{stray_fault};
@@ -18,8 +18,8 @@ use crate::refused::Refused;
 use byteorder::{BigEndian, ByteOrder};
 use datagram::Bytes;
 use engine::{Call, Engine, Place};
-use perfect_queues::Endpoint;
 use std::alloc::Global;
+use vocabulary::Endpoint;
 
 const OUT_OF_MEMORY: Refused = Refused::Engine(engine::Refused::OutOfMemory);
 

@@ -3,8 +3,8 @@
 use crate::refused::Refused;
 use datagram::Bytes;
 use engine::{Call, Reply};
-use perfect_queues::Endpoint;
 use requests::Outcome;
+use vocabulary::Endpoint;
 
 /// What may happen in a world.
 #[derive(Debug, Drop)]

@@ -6,13 +6,8 @@ mod event;
 mod one_engine;
 mod quiet;
 mod refused;
-mod simulation;
 mod world;
 
 pub use event::{Entry, Event, Failed, Stepped};
 pub use refused::Refused;
-pub use simulation::{SimulateError, simulate};
 pub use world::World;
-
-#[cfg(test)]
-mod tests;

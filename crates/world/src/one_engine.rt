@@ -1,7 +1,7 @@
 //! What one event does to one engine.
 
 ghost use Rattle.std.specs.Prelude.{◌≡◌, ◌≤◌, ◌<◌, ◌+◌, ◌*◌, [], IfOk, IfErr, vec_len};
-ghost use Rattle.link_truth.specs.Events.{emptied};
+ghost use Rattle.proof_link_truth.specs.Events.{emptied};
 ghost use Rattle.world.specs.WorldState.{StandsIn};
 ghost use Rattle.world.specs.Steps.{RanCall, RanDatagram, RanTick, RanRestart};
 ghost use Rattle.world.specs.Views.{gave_of};
@@ -9,9 +9,9 @@ ghost use Rattle.world.specs.Views.{gave_of};
 use datagram::Bytes;
 use engine::{Call, Engine, Place, Reply};
 use incarnation::next_incarnation;
-use perfect_queues::Endpoint;
 use requests::Outcome;
 use std::alloc::Global;
+use vocabulary::Endpoint;
 
 /// What an engine gave in an event.
 #[derive(Debug, Drop)]

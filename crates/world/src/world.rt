@@ -2,7 +2,7 @@
 
 ghost use Rattle.std.specs.Prelude.{◌≡◌, ◌≤◌, ◌+◌, ◌*◌, [], ◌∷◌, ◌++◌, length, Option, option_map, IfOk, IfErr, IsTrue, slice_get, Err, vec_len, vec_capacity, ◌↔◌, ◌⊎◌};
 ghost use Rattle.engine.specs.declared.refused.Refused.TheVariants as lowers;
-ghost use Rattle.link_truth.specs.Events.{AreQuiet};
+ghost use Rattle.proof_link_truth.specs.Events.{AreQuiet};
 ghost use Rattle.world.specs.WorldState.{is_outside, opening_world};
 ghost use Rattle.world.specs.Headline.{IsRunOfPerfectQueues, IsSound, SessionsAreInOrder, SessionsAreTrue};
 ghost use Rattle.world.specs.Steps.{StepGives, RunGives, entry_of, first_of};
@@ -15,9 +15,9 @@ use crate::quiet::are_quiet;
 use crate::refused::Refused;
 use datagram::Bytes;
 use engine::{Engine, MOST_RANKS};
-use perfect_queues::Endpoint;
 use std::alloc::Global;
 use std::marker::Model;
+use vocabulary::Endpoint;
 
 const OUT_OF_MEMORY: Refused = Refused::Engine(engine::Refused::OutOfMemory);
 

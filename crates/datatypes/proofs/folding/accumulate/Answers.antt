@@ -1,5 +1,5 @@
 use Rattle.std.proofs.Common.{◌≡◌, ◌<◌, ◌+◌, ℕ, List, length, get_or, set, ap, ◌∙◌, arith}
-use Rattle.perfect_queues.specs.declared.basic_type.BasicType.{BasicType}
+use Rattle.vocabulary.specs.declared.basic_type.BasicType.{BasicType}
 use Rattle.datatypes.specs.Contents.{Contents}
 use Rattle.datatypes.proofs.BufferSteps.{contents_of}
 use Rattle.datatypes.proofs.FoldLaws.{combined_to, combined_to-at, combined_to-more, length-combined_to}

@@ -1,5 +1,5 @@
 use Rattle.std.proofs.Common.{◌≡◌, ◌*◌, length, ap, ◌∙◌, arith}
-use Rattle.perfect_queues.specs.BasicTypes.{size_of}
+use Rattle.vocabulary.specs.BasicTypes.{size_of}
 use Rattle.datatypes.specs.ContentLaws.{length-bytes_of}
 use Rattle.engine.proofs.sending.send_bytes.Goals as goal
 

@@ -1,0 +1,5 @@
+//! Worked rows of one rank and of two.
+#![tactic(auto)]
+
+#[cfg(test)]
+mod tests;

@@ -1,0 +1,250 @@
+//! Worked rows of one rank and of two. Helpers take engines by `&mut` and answer plain values, or nothing where a step
+//! failed; a test makes the engines, calls one helper and compares.
+
+use datatypes::Buffer;
+use engine::{Call, Engine, Place, Receive, Refused, Reply, Send, Session};
+use requests::{Outcome, Request};
+use std::alloc::Global;
+use vocabulary::{BasicType, Endpoint, Source};
+
+fn rank_of_two(alloc: Global, rank: u16, incarnation: u16) -> Result<Engine, Refused> {
+    let place = Place {
+        endpoint: Endpoint { rank, incarnation },
+        size: 2,
+        job: 1,
+    };
+    Engine::new(alloc, place)
+}
+
+fn add_rank(alloc: Global, ranks: &mut Vec<Engine>, rank: u16, incarnation: u16) -> Option<()> {
+    ranks.push(rank_of_two(alloc, rank, incarnation).ok()?).ok()
+}
+
+/// Ranks 0 and 1 at these incarnations.
+fn two_ranks(alloc: Global, first: u16, second: u16) -> Option<Vec<Engine>> {
+    let mut ranks = Vec::new(alloc);
+    add_rank(alloc, &mut ranks, 0, first)?;
+    add_rank(alloc, &mut ranks, 1, second)?;
+    Some(ranks)
+}
+
+fn copies(alloc: Global, number: u8, count: usize) -> Option<Buffer> {
+    let mut elements = Buffer::new(alloc, BasicType::Uint8);
+    elements.push_copies(u64::from(number), count).ok()?;
+    Some(elements)
+}
+
+fn started(reply: Reply) -> Option<Request> {
+    match reply {
+        Reply::Started(request) => Some(request),
+        _ => None,
+    }
+}
+
+fn start_send(alloc: Global, engine: &mut Engine) -> Option<Request> {
+    let call = Call::Isend(Send {
+        target: Some(1),
+        tag: 3,
+        elements: copies(alloc, 7, 1)?,
+    });
+    started(engine.call(call.try_clone(alloc).ok()?))
+}
+
+fn start_receive(alloc: Global, engine: &mut Engine, source: Source) -> Option<Request> {
+    let call = Call::Irecv(Receive {
+        source,
+        tag: None,
+        buffer: copies(alloc, 0, 2)?,
+    });
+    started(engine.call(call))
+}
+
+/// Each datagram that one engine emitted comes to another.
+fn deliver(from: &mut Engine, to: &mut Engine) -> Option<()> {
+    for (_target, bytes) in from.take_out() {
+        to.on_datagram(bytes.as_slice()).ok()?;
+    }
+    Some(())
+}
+
+fn is_stale(engine: &mut Engine, bytes: &[u8]) -> bool {
+    matches!(engine.on_datagram(bytes), Err(Refused::StaleTarget))
+}
+
+/// How many datagrams were refused as ones for a former incarnation.
+fn stale_count(from: &mut Engine, to: &mut Engine) -> usize {
+    let mut refused = 0usize;
+    for (_target, bytes) in from.take_out() {
+        if is_stale(to, bytes.as_slice()) {
+            refused = refused.wrapping_add(1);
+        }
+    }
+    refused
+}
+
+/// Each datagram comes twice.
+fn deliver_twice(from: &mut Engine, to: &mut Engine) -> Option<()> {
+    for (_target, bytes) in from.take_out() {
+        to.on_datagram(bytes.as_slice()).ok()?;
+        to.on_datagram(bytes.as_slice()).ok()?;
+    }
+    Some(())
+}
+
+fn received_count(outcome: Option<Outcome>) -> Option<u64> {
+    match outcome {
+        Some(Outcome::Received(status, _buffer)) => Some(status.count),
+        _ => None,
+    }
+}
+
+fn is_replaced(outcome: Option<Outcome>) -> bool {
+    match outcome {
+        Some(Outcome::Replaced(Some(_buffer))) => true,
+        _ => false,
+    }
+}
+
+fn done_count(reply: Reply) -> Option<u64> {
+    match reply {
+        Reply::Done(outcome) => received_count(Some(outcome)),
+        _ => None,
+    }
+}
+
+/// Whether a wait for the request is not answered at once.
+fn is_blocked(engine: &mut Engine, request: Request) -> bool {
+    match engine.call(Call::Wait(Some(request))) {
+        Reply::Blocked => true,
+        _ => false,
+    }
+}
+
+fn incarnation_of(session: Option<Session>) -> Option<u16> {
+    Some(session?.incarnation)
+}
+
+fn is_clean(session: Option<Session>) -> bool {
+    matches!(&session, Some(Session { idle: true, .. }))
+}
+
+/// Whether a wait blocked, how many elements a receive from any got of a message, and whether the sender is idle then.
+fn pass_message(
+    alloc: Global,
+    sender: &mut Engine,
+    receiver: &mut Engine,
+) -> Option<(bool, Option<u64>, bool)> {
+    let _sent = start_send(alloc, sender)?;
+    let wanted = start_receive(alloc, receiver, Source::Any)?;
+    let blocked = is_blocked(receiver, wanted);
+    deliver(sender, receiver)?;
+    let count = received_count(receiver.take_completion());
+    deliver(receiver, sender)?;
+    Some((blocked, count, sender.is_idle()))
+}
+
+fn message_between(alloc: Global) -> Option<(bool, Option<u64>, bool)> {
+    let mut ranks = two_ranks(alloc, 0, 0)?;
+    match ranks.as_mut_slice() {
+        [sender, receiver] => pass_message(alloc, sender, receiver),
+        _ => None,
+    }
+}
+
+#[test]
+fn a_message_goes_through(rt: HostRuntime) {
+    assert_eq!(rt; message_between(rt.alloc()), Some((true, Some(1), true)));
+}
+
+/// The rank, whether its session is clean, and how a tick back in time is refused.
+fn clock(alloc: Global) -> Option<(u16, bool, bool, Option<u8>)> {
+    let mut engine = rank_of_two(alloc, 1, 0).ok()?;
+    let rank = engine.place().endpoint.rank;
+    let clean = is_clean(engine.session(0));
+    let ticked = engine.tick(20).is_ok();
+    let back = engine.tick(19).err().map(Refused::number);
+    Some((rank, clean, ticked, back))
+}
+
+#[test]
+fn a_clock_does_not_go_back(rt: HostRuntime) {
+    assert_eq!(rt; clock(rt.alloc()), Some((1, true, true, Some(41))));
+}
+
+/// Whether a receive that names the restarted sender waited and ended, how many elements one from any got, the sender's
+/// incarnation as it is known, and whether the sender is idle.
+fn learn_by_message(
+    alloc: Global,
+    sender: &mut Engine,
+    receiver: &mut Engine,
+) -> Option<(bool, bool, Option<u64>, Option<u16>, bool)> {
+    let named = start_receive(alloc, receiver, Source::Rank(0))?;
+    let any = start_receive(alloc, receiver, Source::Any)?;
+    let _sent = start_send(alloc, sender)?;
+    let blocked = is_blocked(receiver, named);
+    deliver(sender, receiver)?;
+    deliver(receiver, sender)?;
+    let replaced = is_replaced(receiver.take_completion());
+    let count = done_count(receiver.call(Call::Wait(Some(any))));
+    let incarnation = incarnation_of(receiver.session(0));
+    Some((blocked, replaced, count, incarnation, sender.is_idle()))
+}
+
+fn learnt(alloc: Global) -> Option<(bool, bool, Option<u64>, Option<u16>, bool)> {
+    let mut ranks = two_ranks(alloc, 1, 0)?;
+    match ranks.as_mut_slice() {
+        [sender, receiver] => learn_by_message(alloc, sender, receiver),
+        _ => None,
+    }
+}
+
+#[test]
+fn a_restarted_sender_is_learnt(rt: HostRuntime) {
+    assert_eq!(rt;
+        learnt(rt.alloc()),
+        Some((true, true, Some(1), Some(1), true))
+    );
+}
+
+/// How many datagrams the restarted rank refused, what the sender knows of it then, and how many answers a second message
+/// has.
+fn learn_by_reset(
+    alloc: Global,
+    sender: &mut Engine,
+    restarted: &mut Engine,
+) -> Option<(usize, Option<u16>, bool, usize)> {
+    let _first = start_send(alloc, sender)?;
+    let stale = stale_count(sender, restarted);
+    deliver_twice(restarted, sender)?;
+    let incarnation = incarnation_of(sender.session(1));
+    let clean = is_clean(sender.session(1));
+    let _second = start_send(alloc, sender)?;
+    deliver(sender, restarted)?;
+    Some((stale, incarnation, clean, restarted.take_out().len()))
+}
+
+fn reset(alloc: Global) -> Option<(usize, Option<u16>, bool, usize)> {
+    let mut ranks = two_ranks(alloc, 0, 1)?;
+    match ranks.as_mut_slice() {
+        [sender, restarted] => learn_by_reset(alloc, sender, restarted),
+        _ => None,
+    }
+}
+
+#[test]
+fn a_reset_teaches_a_sender(rt: HostRuntime) {
+    assert_eq!(rt; reset(rt.alloc()), Some((1, Some(1), true, 1)));
+}
+
+#[test]
+fn numbers_of_refusals(rt: HostRuntime) {
+    for (refused, number) in [
+        (Refused::Rank, 5),
+        (Refused::of_datagram(datagram::Refused::Short), 21),
+        (Refused::of_judging(incarnation::Refused::StaleSource), 28),
+        (Refused::StaleTarget, 29),
+    ] {
+        assert_eq!(rt; refused.number(), number);
+    }
+    assert_eq!(rt; rank_of_two(rt.alloc(), 2, 0).err(), Some(Refused::Rank));
+}

@@ -1,0 +1,187 @@
+//! What is launched.
+
+ghost use Rattle.std.specs.Prelude.{◌≡◌, ◌≤◌, ◌+◌, ◌<◌, [], ◌∷◌, ◌++◌, slice_get, IfOk, OnOk, MatchOption};
+ghost use Rattle.std.specs.Option.{option_copied};
+ghost use Rattle.launch.specs.Launches.{processes, rank_count, launch_with, limited, option_words, words_of_rank};
+ghost use Rattle.launch.specs.Results.{GivesExactly};
+
+use crate::given::Given;
+use crate::process_set::ProcessSet;
+use crate::refused::Refused;
+use crate::word::Word;
+use crate::words::Words;
+use std::alloc::{AllocError, Global};
+use std::marker::Model;
+
+/// The most ranks of a launch.
+const MOST_RANKS: u32 = 256;
+
+/// What is launched: the values of the own options, and the program and arguments of each rank.
+///
+/// Ranks are numbered from 0 through the sets in their order. A plan has at most 256 ranks, and no
+/// port of a rank is above 65,535.
+#[derive(Debug, Drop)]
+pub struct Plan {
+    job: u64,
+    base_port: u16,
+    restarts: u16,
+    patience: Option<u32>,
+    size: u16,
+    sets: Vec<ProcessSet>,
+}
+
+impl Model for Plan {
+    ghost use Rattle.std.specs.Prelude.{◌≡◌, ◌≤◌, ◌+◌};
+    ghost use Rattle.launch.specs.Launches.{Launch, rank_count};
+
+    ghost Value = { Launch };
+
+    ghost view = { λ p. record {
+      job = p.job;
+      base_port = p.base_port;
+      restarts = p.restarts;
+      patience = p.patience;
+      sets = p.sets.items;
+    } };
+
+    ghost invariant = { λ p. (p.size ≡ rank_count p.sets.items) × (p.size ≤ 256)
+        × (p.base_port + p.size ≤ 65536) };
+}
+
+/// The number of all processes, or `None` if it is above the limit.
+fn size_of(sets: &[ProcessSet]) -> Option<u16>
+    ensures { MatchOption result (256 < rank_count sets.now)
+        (λ n. (n ≡ rank_count sets.now) × (n ≤ 256)) }
+{
+    let mut size: u32 = 0;
+    for set in sets {
+        size += u32::from(set.count);
+        if size > MOST_RANKS {
+            return None;
+        }
+    }
+    Some(size as u16)
+}
+
+/// The process of a rank: the rank-th through the sets.
+fn process_of(sets: &[ProcessSet], rank: u16) -> Option<&ProcessSet>
+    ensures { option_copied result ≡ slice_get (processes sets.now) rank }
+{
+    let mut left = rank;
+    for set in sets {
+        if left < set.count {
+            return Some(set);
+        }
+        left -= set.count;
+    }
+    None
+}
+
+fn push_bytes(alloc: Global, words: &mut Words, bytes: &[u8]) -> Result<(), AllocError>
+    ensures { OnOk result (words.new ≡ words.old ++ bytes.now ∷ []) }
+{
+    words.push(Word::from_slice(alloc, bytes)?)?;
+    Ok(())
+}
+
+fn push_option(alloc: Global, words: &mut Words, name: &[u8], number: u64) -> Result<(), AllocError>
+    ensures { OnOk result (words.new ≡ words.old ++ option_words name.now number) }
+{
+    push_bytes(alloc, words, name)?;
+    words.push(Word::from_number(alloc, number)?)?;
+    Ok(())
+}
+
+impl Plan {
+    /// The plan of these sets, with the defaults of the options that were not given; 57 where it
+    /// has more than 256 ranks or a port above 65,535.
+    #[tactic(auto, unfolding(crate::specs::Launches::limited))]
+    pub(crate) fn new(given: Given, sets: Vec<ProcessSet>) -> Result<Plan, Refused>
+        ensures { GivesExactly (λ plan. plan) result (limited (launch_with given sets.items)) }
+    {
+        let base_port = given.base_port.unwrap_or(47_000);
+        let Some(size) = size_of(&sets) else {
+            return Err(Refused::OverLimit);
+        };
+        if u32::from(base_port) + u32::from(size) > 65_536 {
+            return Err(Refused::OverLimit);
+        }
+        Ok(Plan {
+            job: given.job.unwrap_or(1),
+            base_port,
+            restarts: given.restarts.unwrap_or(0),
+            patience: given.patience,
+            size,
+            sets,
+        })
+    }
+
+    /// The job's number.
+    pub fn job(&self) -> u64
+        ensures { result ≡ self.now.job }
+    {
+        self.job
+    }
+
+    /// The port of rank 0.
+    pub fn base_port(&self) -> u16
+        ensures { result ≡ self.now.base_port }
+    {
+        self.base_port
+    }
+
+    /// How often each rank may be started again.
+    pub fn restarts(&self) -> u16
+        ensures { result ≡ self.now.restarts }
+    {
+        self.restarts
+    }
+
+    /// How long the ranks wait, in milliseconds, where it was given.
+    pub fn patience(&self) -> Option<u32>
+        ensures { result ≡ self.now.patience }
+    {
+        self.patience
+    }
+
+    /// The number of ranks.
+    pub fn size(&self) -> u16
+        ensures exact { result ≡ rank_count self.now.sets }
+        ensures few { result ≤ 256 }
+        ensures ports { self.now.base_port + result ≤ 65536 }
+    {
+        self.size
+    }
+
+    /// The words by which a rank is started at an incarnation: its program, `--rank`, `--size`,
+    /// `--inc`, `--job` and `--port` with their numbers, `--patience` where it was given, and then
+    /// the program's own arguments. `None` for a rank that the plan lacks.
+    ///
+    /// A rank's port is the base port and the rank, at each incarnation. Only want of memory is an
+    /// error.
+    pub fn words(
+        &self,
+        alloc: Global,
+        rank: u16,
+        incarnation: u16,
+    ) -> Result<Option<Words>, AllocError>
+        ensures { IfOk result (λ words. words ≡ words_of_rank self.now rank incarnation) }
+    {
+        let Some(process) = process_of(&self.sets, rank) else {
+            return Ok(None);
+        };
+        let mut words = Words::new(alloc);
+        push_bytes(alloc, &mut words, process.program.as_bytes())?;
+        push_option(alloc, &mut words, b"--rank", u64::from(rank))?;
+        push_option(alloc, &mut words, b"--size", u64::from(self.size))?;
+        push_option(alloc, &mut words, b"--inc", u64::from(incarnation))?;
+        push_option(alloc, &mut words, b"--job", self.job)?;
+        let port = u64::from(self.base_port) + u64::from(rank);
+        push_option(alloc, &mut words, b"--port", port)?;
+        if let Some(patience) = self.patience {
+            push_option(alloc, &mut words, b"--patience", u64::from(patience))?;
+        }
+        words.extend(alloc, process.arguments.as_slice())?;
+        Ok(Some(words))
+    }
+}

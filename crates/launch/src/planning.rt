@@ -1,0 +1,73 @@
+//! From words to a plan.
+
+ghost use Rattle.std.specs.Prelude.{◌≡◌, IfOk, Ok};
+ghost use Rattle.std.specs.Option.{option_copied};
+ghost use Rattle.launch.specs.Launches.{Launch};
+ghost use Rattle.launch.specs.Grammar.{AskFor};
+ghost use Rattle.launch.specs.Planning.{sets_behind, launch_of};
+ghost use Rattle.launch.specs.Openings.{opening_text};
+ghost use Rattle.launch.specs.Faults.{FaultsStay};
+ghost use Rattle.launch.specs.Results.{Gives};
+
+use crate::configuration::sets_of_file;
+use crate::opening::{Opening, opening_of};
+use crate::plan::Plan;
+use crate::process_set::ProcessSet;
+use crate::refused::Refused;
+use crate::sets::sets_of;
+use crate::word::Word;
+use std::alloc::Global;
+
+/// The sets behind an opening, from the words or from the configuration file.
+#[tactic(auto, unfolding(crate::specs::Planning::sets_behind))]
+fn sets_behind(
+    alloc: Global,
+    opening: Opening<'_>,
+    config: Option<&[u8]>,
+) -> Result<Vec<ProcessSet>, Refused>
+    ensures { Gives (λ sets. sets.items) result
+        (sets_behind (opening_text opening.entry) (option_copied config.entry)) }
+{
+    if opening.file.is_none() {
+        return sets_of(alloc, opening.rest);
+    }
+    let sets = sets_of_file(alloc, config)?;
+    if !opening.rest.is_empty() {
+        return Err(Refused::WrongOption);
+    }
+    Ok(sets)
+}
+
+/// What the words of the launcher ask for, or the first fault from left to right: 52 to 59, and 14
+/// for want of memory. `config` is what the configuration file that the words name holds, or `None`
+/// where it can't be read.
+///
+/// MPI 3.1, 8.8 has the two forms of the words. The faults of the configuration file come at its
+/// name, and 57 is judged last.
+pub fn plan(alloc: Global, words: &[Word], config: Option<&[u8]>) -> Result<Plan, Refused>
+    // What is answered belongs to the words and to the file that they name.
+    ensures found { IfOk result (λ plan. AskFor words.now (option_copied config.entry) plan) }
+    // Where the words ask for a launch it is answered, unless memory runs out.
+    ensures only { (launch : Launch) → AskFor words.now (option_copied config.entry) launch
+        → Gives (λ plan. plan) result (Ok launch) }
+    // Which fault it is: the first from left to right, and the limits last.
+    ensures exact { Gives (λ plan. plan) result (launch_of words.now (option_copied config.entry)) }
+{
+    plan_of(alloc, words, config)
+}
+
+#[tactic(auto, unfolding(crate::specs::Planning::launch_of))]
+fn plan_of(alloc: Global, words: &[Word], config: Option<&[u8]>) -> Result<Plan, Refused>
+    ensures { Gives (λ plan. plan) result (launch_of words.now (option_copied config.entry)) }
+{
+    let opening = opening_of(words)?;
+    let sets = sets_behind(alloc, opening, config)?;
+    Plan::new(opening.given, sets)
+}
+
+/// No word behind a fault matters: where the words in front have a fault that is of a word and not
+/// of a missing one, it is the fault of the words with any others behind them. So the fault that
+/// `plan` answers is the first from the left.
+pub fn first_fault_stays()
+    ensures { FaultsStay }
+{}

@@ -1,0 +1,76 @@
+//! Why the launcher's words can't be followed.
+
+ghost use Rattle.std.specs.Prelude.{◌≡◌};
+ghost use Rattle.launch.specs.declared.refused.Refused.TheVariants.{OutOfMemory};
+ghost use Rattle.launch.specs.Refusals.{number_of_refusal};
+
+use std::alloc::{AllocError, AllocFailed};
+use thiserror::Error;
+
+/// Why words were refused: the first fault from left to right, or want of memory.
+#[derive(Clone, Copy, Debug, PartialEq, Eq, Error)]
+pub enum Refused {
+    /// A growth was refused: 14.
+    #[error("out of memory")]
+    OutOfMemory,
+    /// No set at all, or an empty set before, between or after `:`: 52.
+    #[error("a set is missing")]
+    NoSet,
+    /// An unknown, repeated or misplaced option; words after the configuration file's name; a word
+    /// `:` in a configuration file: 53.
+    #[error("an option is unknown, repeated or misplaced")]
+    WrongOption,
+    /// An option's value is missing or out of its range: 54.
+    #[error("an option's value is missing or out of its range")]
+    WrongValue,
+    /// A program without `-n` before it in its set: 55.
+    #[error("a program without -n before it")]
+    NoCount,
+    /// A set ends without a program: 56.
+    #[error("a set ends without a program")]
+    NoProgram,
+    /// More than 256 ranks, or a port above 65,535: 57.
+    #[error("too many ranks, or a port above 65535")]
+    OverLimit,
+    /// One of the options of MPI 3.1, 8.8 that this launcher leaves out: 58.
+    #[error("an option that is left out")]
+    LeftOut,
+    /// The configuration file can't be read: 59.
+    #[error("the configuration file can't be read")]
+    UnreadableFile,
+}
+
+impl Refused {
+    /// The number of this refusal: 14, or 52 to 59.
+    pub fn number(self) -> u8
+        ensures { result ≡ number_of_refusal self }
+    {
+        match self {
+            Refused::OutOfMemory => 14,
+            Refused::NoSet => 52,
+            Refused::WrongOption => 53,
+            Refused::WrongValue => 54,
+            Refused::NoCount => 55,
+            Refused::NoProgram => 56,
+            Refused::OverLimit => 57,
+            Refused::LeftOut => 58,
+            Refused::UnreadableFile => 59,
+        }
+    }
+}
+
+impl From<AllocError> for Refused {
+    ghost from_gives = { λ _ e. e ≡ OutOfMemory };
+
+    fn from(_error: AllocError) -> Refused {
+        Refused::OutOfMemory
+    }
+}
+
+impl<T: Drop> From<AllocFailed<T>> for Refused {
+    ghost from_gives = { λ _ e. e ≡ OutOfMemory };
+
+    fn from(_error: AllocFailed<T>) -> Refused {
+        Refused::OutOfMemory
+    }
+}

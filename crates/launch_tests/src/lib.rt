@@ -1,0 +1,5 @@
+//! Worked rows of the launcher's words.
+#![tactic(auto)]
+
+#[cfg(test)]
+mod tests;

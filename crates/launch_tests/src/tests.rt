@@ -1,0 +1,408 @@
+//! Worked rows of the launcher's words: tables whose rows one helper tries.
+
+use launch::planning::plan;
+use launch::{After, Keeper, Plan, Word, Words, config_name, join};
+use std::alloc::Global;
+use std::process::Abort;
+
+fn add_word(alloc: Global, words: &mut Vec<Word>, bytes: &[u8]) -> Option<()> {
+    words.push(Word::from_slice(alloc, bytes).ok()?).ok()
+}
+
+/// The words of a line, apart by single spaces. Two spaces in a row have an empty word between them.
+fn words(alloc: Global, line: &str) -> Option<Vec<Word>> {
+    let mut words = Vec::new(alloc);
+    if !line.is_empty() {
+        for word in line.split(' ') {
+            add_word(alloc, &mut words, word.as_bytes())?;
+        }
+    }
+    Some(words)
+}
+
+fn planned(alloc: Global, line: &str, config: Option<&[u8]>) -> Option<Plan> {
+    plan(alloc, &words(alloc, line)?, config).ok()
+}
+
+/// The number of the refusal, or 0 for a plan.
+fn outcome(alloc: Global, line: &str, config: Option<&[u8]>) -> Option<u8> {
+    match plan(alloc, &words(alloc, line)?, config) {
+        Ok(_) => Some(0),
+        Err(refused) => Some(refused.number()),
+    }
+}
+
+fn assert_outcome(rt: &impl Abort, alloc: Global, line: &str, config: Option<&[u8]>, want: u8) {
+    assert_eq!(rt;
+        outcome(alloc, line, config),
+        Some(want),
+        "{line}: {config:?}"
+    );
+}
+
+#[test]
+fn lines_have_their_outcomes(rt: HostRuntime) {
+    for (line, want) in [
+        ("", 52),
+        ("-n 1 a :", 52),
+        ("-x", 53),
+        ("-n 0 a", 54),
+        ("echo hi", 55),
+        ("-n 2", 56),
+        ("-n 200 a : -n 57 b", 57),
+        ("-n 1 -host h a", 58),
+        ("-job 0 -n 1 a", 0),
+        ("-job 18446744073709551615 -n 1 a", 0),
+        ("-job 18446744073709551616 -n 1 a", 54),
+        ("-job 99999999999999999999 -n 1 a", 54),
+        ("-job 00 -n 1 a", 54),
+        ("-job 01 -n 1 a", 54),
+        ("-job +1 -n 1 a", 54),
+        ("-job  -n 1 a", 54),
+        ("-job x -n 1 a", 54),
+        ("-job", 54),
+        ("-job -n 1 a", 54),
+        ("-baseport 0 -n 1 a", 54),
+        ("-baseport 1 -n 1 a", 0),
+        ("-baseport 65535 -n 1 a", 0),
+        ("-baseport 65536 -n 1 a", 54),
+        ("-restart 0 -n 1 a", 0),
+        ("-restart 65535 -n 1 a", 0),
+        ("-restart 65536 -n 1 a", 54),
+        ("-patience 0 -n 1 a", 54),
+        ("-patience 1 -n 1 a", 0),
+        ("-patience 3600000 -n 1 a", 0),
+        ("-patience 3600001 -n 1 a", 54),
+        ("-n 1 a", 0),
+        ("-n 256 a", 0),
+        ("-n 257 a", 54),
+        ("-n 01 a", 54),
+        ("-n 00000000000000000001 a", 54),
+        ("-n -1 a", 54),
+        ("-n", 54),
+        ("-patience 5 -restart 2 -baseport 100 -job 9 -n 1 a", 0),
+        ("-job 1 -job 2 -n 1 a", 53),
+        ("-job 1 -job", 53),
+        ("-job 1 -job x -n 1 a", 53),
+        ("-patience 1 -restart 1 -patience 1 -n 1 a", 53),
+        ("-n 1 -job 1 a", 53),
+        ("-n 1 a : -job 1 -n 1 b", 53),
+        ("-n 1 -n 1 a", 53),
+        ("-n 1 -configfile f", 53),
+        ("-n 1 a : -configfile f", 53),
+        ("-", 53),
+        ("-n 1 -", 53),
+        ("-n 1 --rank a", 53),
+        ("-soft 1 -n 1 a", 58),
+        ("-n 1 -wdir d a", 58),
+        ("-n 1 a : -path p b", 58),
+        ("-arch", 58),
+        ("-job 1 -file f", 58),
+        ("-n 1 a -host h -n x -y", 0),
+        ("a -n 1", 55),
+        (" a", 55),
+        ("-n 1 ", 0),
+        ("-n 1 a  b", 0),
+        (":", 52),
+        (": -n 1 a", 52),
+        ("-job 5 :", 52),
+        ("-job 5", 52),
+        ("-n 1 a : : -n 1 b", 52),
+        ("-n :", 54),
+        ("-n : 1 a", 54),
+        ("-n 1 :", 56),
+        ("-n 1 : a", 56),
+        ("-n 1 a : b", 55),
+        ("-n 1 a :b", 0),
+        ("-n 256 a : -n 1 b", 57),
+        ("-n 256 a : -n 1", 56),
+        ("-n 200 a : -n 57 b : -x", 53),
+        ("-baseport 65535 -n 2 a", 57),
+        ("-baseport 65534 -n 1 a : -n 1 b", 0),
+        ("-baseport 65534 -n 1 a : -n 2 b", 57),
+        ("-baseport 65280 -n 256 a", 0),
+        ("-baseport 65281 -n 256 a", 57),
+    ] {
+        assert_outcome(&rt, rt.alloc(), line, None, want);
+    }
+}
+
+#[test]
+fn words_round_a_file(rt: HostRuntime) {
+    let good: Option<&[u8]> = Some(b"-n 1 a\n");
+    let bad: Option<&[u8]> = Some(b"a\n");
+    let full: Option<&[u8]> = Some(b"-n 256 a\n-n 1 b\n");
+    for (line, config, want) in [
+        ("-configfile", good, 54),
+        ("-configfile f", None, 59),
+        ("-configfile f x", None, 59),
+        ("-configfile f", good, 0),
+        ("-configfile f x", good, 53),
+        ("-configfile f -job 1", good, 53),
+        ("-configfile f x", bad, 55),
+        ("-configfile f", full, 57),
+        ("-configfile f x", full, 53),
+        ("-configfile :", good, 0),
+        ("-configfile -n", good, 0),
+        ("-job -configfile f", good, 54),
+        ("-job 1 -configfile f", good, 0),
+        ("-baseport 65535 -configfile f", good, 0),
+    ] {
+        assert_outcome(&rt, rt.alloc(), line, config, want);
+    }
+}
+
+#[test]
+fn files_have_their_outcomes(rt: HostRuntime) {
+    let rows: [(&[u8], u8); 25] = [
+        (b"", 52),
+        (b"\n \t\n", 52),
+        (b"# only\n", 52),
+        (b"#\\\n", 52),
+        (b"# c \\\n-n 1 a\n", 0),
+        (b"-n 1 a \\", 0),
+        (b"-n 1 \\", 56),
+        (b"-n 1\t\ta \tb\n", 0),
+        (b" # x\n", 55),
+        (b"-n 1 a : -n 1 b\n", 53),
+        (b"-n 1 a :\n", 53),
+        (b"-n :\n", 54),
+        (b"-n 1 :\n", 53),
+        (b":\n", 53),
+        (b"-job 1\n", 53),
+        (b"-configfile g\n", 53),
+        (b"-host h\n", 58),
+        (b"-n 1 a\n-n 2\n", 56),
+        (b"-n 1 a \\\r\n b", 55),
+        (b"-n 1 \xff\xfe\n", 0),
+        (b"-n 257 a\n", 54),
+        (b"-n 256 a\n-n 1 b\n", 57),
+        (b"\\\n-n 1 a", 0),
+        (b"-n 1 \\\n\\\na", 0),
+        (b"-n 1\\\n# a\n", 0),
+    ];
+    for (file, want) in rows {
+        assert_outcome(&rt, rt.alloc(), "-configfile f", Some(file), want);
+    }
+}
+
+/// Appends the words of a rank in one line, apart by spaces.
+fn append_line(line: &mut Vec<u8>, words: &Words) -> Option<()> {
+    for word in words.as_slice() {
+        if !line.is_empty() {
+            line.push(b' ').ok()?;
+        }
+        line.extend_from_slice(word.as_bytes()).ok()?;
+    }
+    Some(())
+}
+
+/// The words of a rank in one line; nothing for a rank that the plan lacks.
+fn line_of(alloc: Global, plan: &Plan, rank: u16, inc: u16) -> Option<Vec<u8>> {
+    let mut line = Vec::new(alloc);
+    if let Some(words) = plan.words(alloc, rank, inc).ok()? {
+        append_line(&mut line, &words)?;
+    }
+    Some(line)
+}
+
+fn line_planned(
+    alloc: Global,
+    line: &str,
+    config: Option<&[u8]>,
+    rank: u16,
+    inc: u16,
+) -> Option<Vec<u8>> {
+    line_of(alloc, &planned(alloc, line, config)?, rank, inc)
+}
+
+fn assert_line(
+    rt: &impl Abort,
+    alloc: Global,
+    line: &str,
+    config: Option<&[u8]>,
+    at: (u16, u16),
+    want: &[u8],
+) {
+    match line_planned(alloc, line, config, at.0, at.1) {
+        Some(found) => assert_eq!(rt; found.as_slice(), want, "{line}: {config:?} {at:?}"),
+        None => assert!(rt; false, "{line}: no plan"),
+    }
+}
+
+#[test]
+fn ranks_have_their_words(rt: HostRuntime) {
+    let two = "-job 5 -n 1 echo hi : -n 1 echo ho";
+    let sets: &[u8] = b"# two sets\n-n 1 echo \\\na b\n-n 2 echo c\n";
+    let restarts = "-restart 3 -patience 250 -baseport 100 -n 2 run x  y";
+    let rows: [(&str, Option<&[u8]>, (u16, u16), &[u8]); 12] = [
+        (
+            two,
+            None,
+            (0, 0),
+            b"echo --rank 0 --size 2 --inc 0 --job 5 --port 47000 hi",
+        ),
+        (
+            two,
+            None,
+            (1, 0),
+            b"echo --rank 1 --size 2 --inc 0 --job 5 --port 47001 ho",
+        ),
+        (two, None, (2, 0), b""),
+        (
+            "-configfile f",
+            Some(sets),
+            (0, 0),
+            b"echo --rank 0 --size 3 --inc 0 --job 1 --port 47000 a b",
+        ),
+        (
+            "-configfile f",
+            Some(sets),
+            (1, 0),
+            b"echo --rank 1 --size 3 --inc 0 --job 1 --port 47001 c",
+        ),
+        (
+            "-configfile f",
+            Some(sets),
+            (2, 0),
+            b"echo --rank 2 --size 3 --inc 0 --job 1 --port 47002 c",
+        ),
+        ("-configfile f", Some(sets), (3, 0), b""),
+        (
+            restarts,
+            None,
+            (1, 65_535),
+            b"run --rank 1 --size 2 --inc 65535 --job 1 --port 101 --patience 250 x  y",
+        ),
+        (
+            "-configfile f",
+            Some(b"-n 1 \xff \xfe\r\n"),
+            (0, 0),
+            b"\xff --rank 0 --size 1 --inc 0 --job 1 --port 47000 \xfe\r",
+        ),
+        (
+            "-configfile f",
+            Some(b"-n 1\\\n# a\n"),
+            (0, 0),
+            b"# --rank 0 --size 1 --inc 0 --job 1 --port 47000 a",
+        ),
+        (
+            "-configfile f",
+            Some(b"-n 1 a\\\\\n b\n"),
+            (0, 0),
+            b"a\\ --rank 0 --size 1 --inc 0 --job 1 --port 47000 b",
+        ),
+        (
+            "-configfile f",
+            Some(b"-n 1 a b\\"),
+            (0, 0),
+            b"a --rank 0 --size 1 --inc 0 --job 1 --port 47000 b",
+        ),
+    ];
+    for (line, config, at, want) in rows {
+        assert_line(&rt, rt.alloc(), line, config, at, want);
+    }
+}
+
+/// The size, job, restarts, first port and patience of a plan.
+fn told(alloc: Global, line: &str) -> Option<(u16, u64, u16, u16, Option<u32>)> {
+    let plan = planned(alloc, line, None)?;
+    Some((
+        plan.size(),
+        plan.job(),
+        plan.restarts(),
+        plan.base_port(),
+        plan.patience(),
+    ))
+}
+
+#[test]
+fn plans_tell_what_was_asked_for(rt: HostRuntime) {
+    assert_eq!(rt;
+        told(
+            rt.alloc(),
+            "-restart 3 -patience 250 -baseport 100 -n 2 run x  y"
+        ),
+        Some((2, 1, 3, 100, Some(250)))
+    );
+}
+
+fn assert_name(rt: &impl Abort, alloc: Global, line: &str, want: &[u8]) {
+    match words(alloc, line) {
+        Some(words) => assert_eq!(rt; config_name(&words).unwrap_or(b""), want, "{line}"),
+        None => assert!(rt; false),
+    }
+}
+
+#[test]
+fn files_have_their_names(rt: HostRuntime) {
+    let rows: [(&str, &[u8]); 8] = [
+        ("-configfile sets.txt", b"sets.txt"),
+        ("-job 1 -configfile sets.txt x", b"sets.txt"),
+        ("-configfile :", b":"),
+        ("-configfile", b""),
+        ("-job 0x -configfile f", b""),
+        ("-job 1 -job 1 -configfile f", b""),
+        ("-n 1 -configfile f", b""),
+        ("", b""),
+    ];
+    for (line, want) in rows {
+        assert_name(&rt, rt.alloc(), line, want);
+    }
+}
+
+fn joined(alloc: Global, first: &[u8], second: &[u8]) -> Option<Vec<u8>> {
+    let mut outputs = Vec::new(alloc);
+    outputs.push(first.to_vec(alloc).ok()?).ok()?;
+    outputs.push(second.to_vec(alloc).ok()?).ok()?;
+    join(alloc, &outputs).ok()
+}
+
+fn assert_joined(rt: &impl Abort, alloc: Global, first: &[u8], second: &[u8], want: &[u8]) {
+    match joined(alloc, first, second) {
+        Some(text) => assert_eq!(rt; text.as_slice(), want),
+        None => assert!(rt; false),
+    }
+}
+
+#[test]
+fn outputs_are_joined(rt: HostRuntime) {
+    let rows: [(&[u8], &[u8], &[u8]); 5] = [
+        (b"a\nb", b"", b"[0] a\n[0] b\n"),
+        (b"", b"", b""),
+        (b"\n", b"x\n", b"[0] \n[1] x\n"),
+        (b"a\n\nb\n", b"", b"[0] a\n[0] \n[0] b\n"),
+        (b"", b"c", b"[1] c\n"),
+    ];
+    for (first, second, want) in rows {
+        assert_joined(&rt, rt.alloc(), first, second, want);
+    }
+}
+
+#[test]
+fn keepers(rt: HostRuntime) {
+    for (allowed, status, used, want) in [
+        (0, 1, 0, After::End(1)),
+        (1, 5, 0, After::Again(1)),
+        (1, 5, 1, After::End(5)),
+        (2, 0, 0, After::End(0)),
+        (65_535, 128, 65_534, After::Again(65_535)),
+        (65_535, 127, 65_535, After::End(127)),
+    ] {
+        assert_eq!(rt; Keeper::new(allowed).after(status, used), want, "at {used}");
+    }
+}
+
+/// Whether a new list is empty, how many words it has after one, and the bytes of another word.
+fn listed(alloc: Global) -> Option<(bool, usize, usize)> {
+    let mut words = Words::new(alloc);
+    let empty = words.is_empty();
+    words.push(Word::from_vec(b"one".to_vec(alloc).ok()?)).ok()?;
+    let bytes = Word::from_slice(alloc, b"two").ok()?.into_vec();
+    Some((empty, words.len(), bytes.len()))
+}
+
+#[test]
+fn lists_of_words(rt: HostRuntime) {
+    assert_eq!(rt; listed(rt.alloc()), Some((true, 1, 3)));
+}

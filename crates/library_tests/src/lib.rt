@@ -1,0 +1,19 @@
+//! Each call of the lower libraries on its happy path, and worked rows.
+#![tactic(auto)]
+
+#[cfg(test)]
+mod datagram_tests;
+#[cfg(test)]
+mod datatypes_tests;
+#[cfg(test)]
+mod incarnation_tests;
+#[cfg(test)]
+mod match_queues_tests;
+#[cfg(test)]
+mod perfect_queues_tests;
+#[cfg(test)]
+mod reliable_link_tests;
+#[cfg(test)]
+mod requests_tests;
+#[cfg(test)]
+mod vocabulary_tests;

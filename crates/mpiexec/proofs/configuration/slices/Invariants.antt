@@ -1,6 +1,0 @@
-use Rattle.std.proofs.Common.{◌≡◌, take}
-use Rattle.mpiexec.proofs.Lists.{shown}
-use Rattle.mpiexec.proofs.configuration.slices.Given as goal
-
-abbrev pub invariant-loop-line : goal.invariant-loop-line
-invariant-loop-line l = shown l.slices.items ≡ take l.line-index l.lines

@@ -1,0 +1,16 @@
+use Rattle.proof_engine_matching.proofs.ArrivalLemmas.{arrivals_match}
+use Rattle.proof_engine_matching.proofs.PostLemmas.{posts_match}
+use Rattle.proof_engine_matching.proofs.EndingLemmas.{outcomes_agree, receives_fit}
+use Rattle.proof_engine_matching.proofs.law.queues_match_alike.Goals as goal
+
+pub returns-clause-arrivals : goal.returns-clause-arrivals
+returns-clause-arrivals c = arrivals_match
+
+pub returns-clause-posts : goal.returns-clause-posts
+returns-clause-posts c = posts_match
+
+pub returns-clause-outcomes : goal.returns-clause-outcomes
+returns-clause-outcomes c = outcomes_agree
+
+pub returns-clause-receives : goal.returns-clause-receives
+returns-clause-receives c = receives_fit

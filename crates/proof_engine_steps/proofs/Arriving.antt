@@ -1,0 +1,212 @@
+-- A message that comes: to the queues, the slots and the rows of a rank, and to its core.
+use Rattle.std.proofs.Common.{◌≡◌, ℕ, List, [], ◌∷◌, ◌++◌, map, length, Option, Some, None, slice_get, slice_set, refl, sym, ap, ◌∙◌, subst, ◌⊎◌, inl, inr}
+use Rattle.std.proofs.lemmas.Bool.{cases_eq}
+use Rattle.std.proofs.lemmas.List.{length-set, map-append}
+use Rattle.std.proofs.lemmas.Option.{same_Some}
+use Rattle.datatypes.specs.Contents.{Contents}
+use Rattle.perfect_queues.proofs.ListLemmas.{get_set_other}
+use Rattle.perfect_queues.specs.Completions.{Awaited}
+use Rattle.perfect_queues.specs.Outcomes as machine
+use Rattle.perfect_queues.specs.Receives.{Receive}
+use Rattle.vocabulary.specs.declared.envelope.Status.{Status}
+use Rattle.match_queues.specs.declared.envelope.Message.{Message}
+use Rattle.match_queues.specs.declared.queues.Arrival.{Arrival}
+use Rattle.match_queues.specs.Arrivals.{arrival_of}
+use Rattle.match_queues.specs.State.{State, after_arrival}
+use Rattle.requests.specs.Outcomes.{outcome_of}
+use Rattle.requests.specs.Table.{after_finish, after_message, entry_after, progress_after, slot_at}
+use Rattle.requests.specs.declared.table.Entry.{Entry}
+use Rattle.requests.specs.declared.table.Progress.{Progress}
+use Rattle.requests.specs.declared.table.Progress.TheVariants.{Receiving, Finished}
+use Rattle.requests.specs.declared.table.Request.{Request}
+use Rattle.engine.specs.Datagrams.{handed_up}
+use Rattle.engine.specs.Receiving.{slots_on_arrival}
+use Rattle.engine.specs.EngineState.{EngineState}
+use Rattle.engine.specs.Learning.{met}
+use Rattle.engine.specs.Receiving.{status_of}
+use Rattle.proof_pure_network.proofs.JobLemmas.{get_set_same}
+use Rattle.proof_pure_network.specs.Core.{Core, Effect}
+use Rattle.proof_pure_network.specs.Engine as network
+use Rattle.proof_pure_network.specs.Held.{Held, full}
+use Rattle.proof_pure_network.specs.Jobs.{Job, Over, Waiting, oldest_posted}
+use Rattle.proof_pure_network.specs.Matching.{arrived, arrived_at}
+use Rattle.proof_engine_view.specs.Rows.{Fits, Holds, IsTable, IsWhole, Row, contents_of, held_of, jobs_of, posted_rows}
+use Rattle.proof_engine_view.specs.Seen.{outcome_seen}
+use Rattle.proof_engine_matching.specs.Matches.{ArrivalsMatch, IsKept, IsMatchedTo, OutcomesAgree}
+use Rattle.proof_engine_steps.specs.Steps.{ArrivalsAreShown}
+use Rattle.proof_engine_steps.proofs.RowLemmas.{set_jobs}
+use Rattle.proof_engine_steps.proofs.Meeting.{HoldBoth, met_holds}
+use Rattle.proof_engine_steps.proofs.Tables.{Says, changed_table, held_at, says_some, set_is_set}
+use Rattle.proof_engine_steps.proofs.Waking.{Holding, IsAwaited, IsOpen, IsSettled, known_still, settles}
+
+-- what a message leaves of the rows
+pub record Arrives (rows : List Row) (slots : List (Option Entry)) (queues : State) (core : Core) (after : Effect) : Type 0 where
+  pub left : List Row
+  pub jobs : after.core.jobs ≡ jobs_of left
+  pub count : length left ≡ length rows
+  pub table : IsTable slots left
+  pub posted : queues.posted ≡ posted_rows left
+  pub held : after.core.held ≡ map held_of queues.unexpected
+  pub blocked : after.core.blocked ≡ core.blocked
+  pub known : after.core.known ≡ core.known
+  pub sends : after.out ≡ []
+  pub waits : (k key : ℕ) → IsOpen rows k key → IsOpen left k key
+
+-- it waits behind the others
+arrives_kept : (rows : List Row) (slots : List (Option Entry)) (queues : State) (core : Core) (m : Message) →
+    core.jobs ≡ jobs_of rows → IsTable slots rows → queues.posted ≡ posted_rows rows → core.held ≡ map held_of queues.unexpected →
+    Arrives rows slots (record queues { unexpected = queues.unexpected ++ m ∷ [] }) core (arrived_at core (held_of m) None)
+arrives_kept rows slots queues core m js table po he =
+    record {
+      left = rows;
+      jobs = js;
+      count = refl;
+      table = table;
+      posted = po;
+      held = ap (λ (hs : List Held). hs ++ held_of m ∷ []) he ∙ sym (map-append held_of queues.unexpected (m ∷ []));
+      blocked = refl;
+      known = refl;
+      sends = refl;
+      waits = λ k key h. h;
+    }
+
+-- a receive that waits is into a whole buffer
+whole_of : (g : Progress) (p : Receive) → Fits g (Waiting p) → IsWhole p
+whole_of (Receiving b) p f = f.1
+whole_of (Finished o) p f = absurd f
+
+-- what the message makes of the entry is what it makes of the job
+finished_fits : (g : Progress) (p : Receive) (status : Status) (c : Contents) (x : machine.Outcome) → Fits g (Waiting p) → x ≡ outcome_seen (outcome_of (contents_of p) status c) →
+    Fits (progress_after g status c) (Over x)
+finished_fits (Receiving b) p status c x f h = h ∙ ap (λ (y : Contents). outcome_seen (outcome_of y status c)) (sym f.0)
+finished_fits (Finished o) p status c x f h = absurd f
+
+-- an entry with the serial, that fits the job, says the same
+says_entry : (t : Entry) (k : ℕ) (j : Job) → t.serial ≡ k → Fits t.progress j → Says (Some t) k j
+says_entry t k j e f = subst (λ (x : ℕ). Says (Some t) x j) e (says_some t.serial t.progress j f)
+
+-- the receive with serial k takes it
+arrives_matched : OutcomesAgree → (rows : List Row) (slots : List (Option Entry)) (queues : State) (core : Core) (m : Message) (k key : ℕ) (p : Receive) →
+    core.jobs ≡ jobs_of rows → IsTable slots rows → core.held ≡ map held_of queues.unexpected → slice_get rows k ≡ Some (record { key = key; job = Waiting p }) →
+    ((o : machine.Outcome) → queues.posted ≡ posted_rows (slice_set rows k (record { key = key; job = Over o }))) →
+    Arrives rows (after_finish slots key (status_of m) m.elements) queues core (arrived_at core (held_of m) (Some (k, p)))
+arrives_matched agree rows slots queues core m k key p js table he row po =
+    record {
+      left = slice_set rows k over;
+      jobs = ap (λ (ys : List Job). slice_set ys k (Over x)) js ∙ sym (set_jobs rows k key (Over x));
+      count = length-set rows k over;
+      table = subst (λ (t : List (Option Entry)). IsTable t (slice_set rows k over)) (sym finish)
+          (changed_table slots (slice_set slots key (Some after)) rows k key (Waiting p) (Over x) (Some after) table row (λ e. cc)
+          (set_is_set slots key mine.entry (Some after) mine.there)
+          (says_entry after k (Over x) mine.serial_is (finished_fits mine.entry.progress p (status_of m) m.elements x mine.fits (agree p m (whole_of mine.entry.progress p mine.fits)))));
+      posted = po x;
+      held = he;
+      blocked = refl;
+      known = refl;
+      sends = refl;
+      waits = λ j other h. stays j other (cases_eq j k) h;
+    }
+  where
+    x : machine.Outcome
+    x = machine.outcome p (full (held_of m) m.elements.values)
+
+    over : Row
+    over = record { key = key; job = Over x }
+
+    mine : Holds (slot_at slots key) k (Waiting p)
+    mine = held_at slots rows k key (Waiting p) table row (λ e. cc)
+
+    after : Entry
+    after = after_message mine.entry (status_of m) m.elements
+
+    finish : after_finish slots key (status_of m) m.elements ≡ slice_set slots key (Some after)
+    finish = ap (λ (s : Option Entry). entry_after s slots key (status_of m) m.elements) mine.there
+
+    waits : (j other : ℕ) (q : Receive) → (j ≡ k) ⊎ (j ≡ k → ⊥) → slice_get rows j ≡ Some (record { key = other; job = Waiting q }) → IsOpen (slice_set rows k over) j other
+    waits j other q (inl e) h =
+        let same : record { key = key; job = Waiting p } ≡ record { key = other; job = Waiting q } = same_Some (record { key = key; job = Waiting p }) (record { key = other; job = Waiting q }) (sym row ∙ (sym (ap (slice_get rows) e) ∙ h)) in
+        inr (
+          x,
+          subst (λ (i : ℕ). slice_get (slice_set rows k over) i ≡ Some (record { key = other; job = Over x })) (sym e)
+              (subst (λ (y : ℕ). slice_get (slice_set rows k over) k ≡ Some (record { key = y; job = Over x })) (ap (λ (r : Row). r.key) same) (get_set_same rows k (record { key = key; job = Waiting p }) over row)),
+        )
+    waits j other q (inr n) h = inl (q, get_set_other rows k j over (λ e. n (sym e)) ∙ h)
+
+    ends : (j other : ℕ) (y : machine.Outcome) → (j ≡ k) ⊎ (j ≡ k → ⊥) → slice_get rows j ≡ Some (record { key = other; job = Over y }) → IsOpen (slice_set rows k over) j other
+    ends j other y (inl e) h =
+        let same : Waiting p ≡ Over y =
+        ap (λ (r : Row). r.job) (same_Some (record { key = key; job = Waiting p }) (record { key = other; job = Over y }) (sym row ∙ (sym (ap (slice_get rows) e) ∙ h))) in
+        absurd cc
+    ends j other y (inr n) h = inr (y, get_set_other rows k j over (λ e. n (sym e)) ∙ h)
+
+    stays : (j other : ℕ) → (j ≡ k) ⊎ (j ≡ k → ⊥) → IsOpen rows j other → IsOpen (slice_set rows k over) j other
+    stays j other c (inl t) = waits j other t.0 c t.1
+    stays j other c (inr t) = ends j other t.0 c t.1
+
+-- a message comes, from a link or from the rank itself
+pub message_arrives : ArrivalsMatch → OutcomesAgree → (rows : List Row) (slots : List (Option Entry)) (queues : State) (core : Core) (m : Message) →
+    core.jobs ≡ jobs_of rows → IsTable slots rows → queues.posted ≡ posted_rows rows → core.held ≡ map held_of queues.unexpected →
+    Arrives rows (slots_on_arrival slots (arrival_of queues m)) (after_arrival queues m) core (arrived core (held_of m))
+message_arrives match agree rows slots queues core m js table po he = go (match rows queues m po)
+  where
+    oldest : (o : Option (ℕ × Receive)) → oldest_posted (held_of m) (jobs_of rows) ≡ o → arrived core (held_of m) ≡ arrived_at core (held_of m) o
+    oldest o e = ap (arrived_at core (held_of m)) (ap (oldest_posted (held_of m)) js ∙ e)
+
+    go : IsKept rows queues m ⊎ ((k : ℕ) × (key : ℕ) × (p : Receive) × IsMatchedTo rows queues m k key p) →
+        Arrives rows (slots_on_arrival slots (arrival_of queues m)) (after_arrival queues m) core (arrived core (held_of m))
+    go (inl kept) =
+        subst (λ (f : Effect). Arrives rows (slots_on_arrival slots (arrival_of queues m)) (after_arrival queues m) core f) (sym (oldest None kept.core))
+        (subst (λ (a : Arrival). Arrives rows (slots_on_arrival slots a) (after_arrival queues m) core (arrived_at core (held_of m) None)) (sym kept.arrival)
+        (subst (λ (s : State). Arrives rows slots s core (arrived_at core (held_of m) None)) (sym kept.queues) (arrives_kept rows slots queues core m js table po he)))
+    go (inr t) =
+        let h : IsMatchedTo rows queues m t.0 t.1 t.2 = t.3 in
+        subst (λ (f : Effect). Arrives rows (slots_on_arrival slots (arrival_of queues m)) (after_arrival queues m) core f) (sym (oldest (Some (t.0, t.2)) h.core))
+        (subst (λ (a : Arrival). Arrives rows (slots_on_arrival slots a) (after_arrival queues m) core (arrived_at core (held_of m) (Some (t.0, t.2)))) (sym h.arrival)
+        (arrives_matched agree rows slots (after_arrival queues m) core m t.0 t.1 t.2 js table (he ∙ ap (λ (ms : List Message). map held_of ms) (sym h.unexpected)) h.row h.posted))
+
+-- what a message leaves of an engine and of its core, before a blocked call is answered
+pub record IsHeldAfter (rows : List Row) (new : EngineState) (core : Core) (after : Effect) : Type 0 where
+  pub left : List Row
+  pub holding : Holding new after.core left
+  pub blocked : after.core.blocked ≡ core.blocked
+  pub sends : after.out ≡ []
+  pub waits : (k key : ℕ) → IsOpen rows k key → IsOpen left k key
+
+-- an engine takes a message into its queues and its slots, and its core takes it too
+pub message_holds : ArrivalsMatch → OutcomesAgree → (old new : EngineState) (core : Core) (rows : List Row) (m : Message) → Holding old core rows →
+    new.slots ≡ slots_on_arrival old.slots (arrival_of old.queues m) → new.queues ≡ after_arrival old.queues m → new.serial ≡ old.serial → new.place ≡ old.place → new.known ≡ old.known →
+    IsHeldAfter rows new core (arrived core (held_of m))
+message_holds match agree old new core rows m h slots queues serial place known =
+    let a : Arrives rows (slots_on_arrival old.slots (arrival_of old.queues m)) (after_arrival old.queues m) core (arrived core (held_of m)) =
+    message_arrives match agree rows old.slots old.queues core m h.jobs h.table h.posted h.held in
+    record {
+      left = a.left;
+      holding = record {
+        jobs = a.jobs;
+        count = a.count ∙ (h.count ∙ sym serial);
+        table = subst (λ (t : List (Option Entry)). IsTable t a.left) (sym slots) a.table;
+        posted = ap (λ (s : State). s.posted) queues ∙ a.posted;
+        held = a.held ∙ ap (λ (s : State). map held_of s.unexpected) (sym queues);
+        knowing = known_still old.place new.place old.known new.known core.known (arrived core (held_of m)).core.known h.knowing place known a.known;
+      };
+      blocked = a.blocked;
+      sends = a.sends;
+      waits = a.waits;
+    }
+
+-- the blocked call still waits for its request, or this is over
+still_awaited : (rows left : List Row) (b : Option Request) (x y : Option Awaited) → IsAwaited rows b x → y ≡ x → ((k key : ℕ) → IsOpen rows k key → IsOpen left k key) → IsAwaited left b y
+still_awaited rows left None x y h e w = e ∙ h
+still_awaited rows left (Some q) x y h e w = (e ∙ h.0, w q.serial q.key h.1)
+
+-- each message that comes keeps what an engine shows
+pub arrivals_are_shown : ArrivalsMatch → OutcomesAgree → ArrivalsAreShown
+unfolding handed_up
+arrivals_are_shown match agree old core s m shown free other =
+    let b : HoldBoth (met old s) (network.met core s) = met_holds old core s shown free other in
+    let a : IsHeldAfter b.rows (handed_up (met old s) s.rank m) (network.met core s) (arrived (network.met core s) (held_of m)) =
+    message_holds match agree (met old s) (handed_up (met old s) s.rank m) (network.met core s) b.rows m b.holding refl refl refl refl refl in
+    let t : IsSettled (handed_up (met old s) s.rank m) (arrived (network.met core s) (held_of m)).core =
+    settles (handed_up (met old s) s.rank m) (arrived (network.met core s) (held_of m)).core a.left a.holding
+    (still_awaited b.rows a.left (met old s).blocked (network.met core s).blocked (arrived (network.met core s) (held_of m)).core.blocked b.awaited a.blocked a.waits) b.free in
+    record { shown = t.shown; sends = a.sends; tells = t.tells old.place.endpoint }

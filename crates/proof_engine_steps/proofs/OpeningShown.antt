@@ -1,0 +1,20 @@
+-- A new engine holds what a new core holds.
+use Rattle.std.proofs.Common.{[], refl}
+use Rattle.proof_engine_steps.specs.Steps.{OpeningIsShown}
+use Rattle.proof_engine_steps.proofs.Knowing.{opening_known}
+
+pub opening_is_shown : OpeningIsShown
+opening_is_shown p inside =
+    let k = opening_known p inside in
+    record {
+      rows = [];
+      jobs = refl;
+      count = refl;
+      table = record { stands = λ k r is. absurd cc; entries = λ key t is. absurd cc };
+      posted = refl;
+      held = refl;
+      blocked = refl;
+      width = k.width;
+      known = k.same;
+      itself = k.itself;
+    }

@@ -1,0 +1,94 @@
+-- A call that starts a request: what it leaves of an engine and of its core.
+use Rattle.std.proofs.Common.{◌≡◌, ℕ, ◌+◌, Bool, true, false, List, [], ◌∷◌, ◌++◌, map, length, Option, Some, None, if◌then◌else◌, slice_get, refl, sym, ap, ◌∙◌, subst, arith, length-append}
+use Rattle.std.proofs.lemmas.List.{length-map}
+use Rattle.perfect_queues.specs.Calls as machine
+use Rattle.perfect_queues.specs.Completions.{Awaited}
+use Rattle.perfect_queues.specs.Events.{call_and_reply, told}
+use Rattle.perfect_queues.specs.Refusals.{fault, fault_by, first_fault, is_held, standing}
+use Rattle.proof_pure_network.specs.Core.{Core, Effect, view}
+use Rattle.proof_pure_network.specs.Engine.{called, core_ready, core_settled}
+use Rattle.proof_pure_network.specs.Held.{blank}
+use Rattle.proof_pure_network.specs.Jobs.{Job, request_of}
+use Rattle.requests.specs.Table.{IsSet, slot_at}
+use Rattle.requests.specs.declared.table.Progress.{Progress}
+use Rattle.requests.specs.declared.table.Request.{Request}
+use Rattle.engine.specs.declared.call.Call.{Call}
+use Rattle.engine.specs.declared.call.Reply.TheVariants as replies
+use Rattle.engine.specs.declared.refused.Refused.{Refused}
+use Rattle.engine.specs.EngineState.{EngineState}
+use Rattle.proof_engine_view.specs.Rows.{Fits, Row, held_of, posted_job, posted_rows}
+use Rattle.proof_engine_view.specs.Seen.{call_seen, sent_by}
+use Rattle.proof_engine_view.specs.Shown.{IsBlocked, IsShown}
+use Rattle.proof_engine_steps.specs.Steps.{IsCalled}
+use Rattle.proof_engine_steps.proofs.RowLemmas.{posted_push, push_jobs}
+use Rattle.proof_engine_steps.proofs.Settling.{settled_free}
+use Rattle.proof_engine_steps.proofs.Tables.{Says, says_some, started_table}
+use Rattle.proof_engine_steps.proofs.Waking.{Holding, known_still, shown_with}
+
+-- what is shown is held
+pub holding_of : (e : EngineState) (core : Core) → (s : IsShown e core) → Holding e core s.rows
+holding_of e core s =
+    record {
+      jobs = s.jobs;
+      count = s.count;
+      table = s.table;
+      posted = s.posted;
+      held = s.held;
+      knowing = record { width = s.width; same = s.known; itself = s.itself };
+    }
+
+-- where the engine's call is not blocked, the core's isn't
+pub core_free : (e : EngineState) (core : Core) → IsShown e core → e.blocked ≡ None → core.blocked ≡ None
+core_free e core s h = subst (λ (b : Option Request). IsBlocked s.rows b core.blocked) h s.blocked
+
+-- what is held is shown, where no call is blocked
+pub shown_free : (e : EngineState) (core : Core) (rows : List Row) → Holding e core rows → e.blocked ≡ None → core.blocked ≡ None → IsShown e core
+shown_free e core rows h a b = shown_with e core rows h (subst (λ (x : Option Request). IsBlocked rows x core.blocked) (sym a) b)
+
+-- the fault of a call while no other is blocked
+pub fault_free : (n : ℕ) (core : Core) (c : machine.Call) → core.blocked ≡ None → fault n (view blank core) c ≡ fault_by n false (λ k. standing (slice_get (map (request_of blank) core.jobs) k)) c
+fault_free n core c h = ap (λ (b : Option Awaited). fault_by n (is_held b) (λ k. standing (slice_get (map (request_of blank) core.jobs) k)) c) h
+
+-- no rule is broken
+pub no_fault : (a b c d e f : Bool) → a ≡ false → b ≡ false → c ≡ false → d ≡ false → e ≡ false → f ≡ false →
+    first_fault ((a, 6) ∷ (b, 4) ∷ (c, 2) ∷ (d, 1) ∷ (e, 3) ∷ (f, 5) ∷ (false, 7) ∷ (false, 9) ∷ (false, 11) ∷ []) ≡ None
+no_fault a b c d e f ha hb hc hd he hf = rw (ha, hb, hc, hd, he, hf)
+
+-- a fault function's first two rules are kept where it finds no fault
+pub two_tests : (a b : Bool) (x y : Refused) (o : Option Refused) → (if a then Some x else (if b then Some y else o)) ≡ None → (a ≡ false) × (b ≡ false) × (o ≡ None)
+two_tests true b x y o h = absurd (grind arith)
+two_tests false true x y o h = absurd (grind arith)
+two_tests false false x y o h = (refl, refl, h)
+
+-- one more request, in both
+pub holding_started : (e e' : EngineState) (core core' : Core) (rows : List Row) (key : ℕ) (g : Progress) (job : Job) → Holding e core rows → slot_at e.slots key ≡ None →
+    IsSet e.slots e'.slots key (Some (record { serial = e.serial; progress = g })) → Fits g job → core'.jobs ≡ core.jobs ++ job ∷ [] → e'.serial ≡ e.serial + 1 →
+    e'.queues.posted ≡ posted_rows rows ++ posted_job key job → core'.held ≡ map held_of e'.queues.unexpected → core'.known ≡ core.known → e'.place ≡ e.place → e'.known ≡ e.known →
+    Holding e' core' (rows ++ record { key = key; job = job } ∷ [])
+holding_started e e' core core' rows key g job h fresh set fits js se po he kn pl ek =
+    record {
+      jobs = js ∙ (ap (λ (ys : List Job). ys ++ job ∷ []) h.jobs ∙ sym (push_jobs rows key job));
+      count = length-append rows (record { key = key; job = job } ∷ []) ∙ (ap (λ (n : ℕ). n + 1) h.count ∙ sym se);
+      table = started_table e.slots e'.slots rows key job (Some (record { serial = e.serial; progress = g })) h.table fresh set
+          (subst (λ (n : ℕ). Says (Some (record { serial = e.serial; progress = g })) n job) (sym h.count) (says_some e.serial g job fits));
+      posted = po ∙ sym (posted_push rows key job);
+      held = he;
+      knowing = known_still e.place e'.place e.known e'.known core.known core'.known h.knowing pl ek kn;
+    }
+
+-- the serial that the machine gives
+pub serial_told : (e : EngineState) (core : Core) (q : Request) → IsShown e core → q.serial ≡ e.serial → length (map (request_of blank) core.jobs) ≡ q.serial
+serial_told e core q s h =
+    length-map core.jobs (request_of blank) ∙ (ap (λ (js : List Job). length js) s.jobs ∙ (length-map s.rows (λ (r : Row). r.job) ∙ (s.count ∙ sym h)))
+
+-- a call that starts a request is answered by its serial
+pub started_call : (old new : EngineState) (core : Core) (call : Call) (q : Request) (after : Effect) → called old.place.endpoint core (call_seen call) ≡ after →
+    fault old.place.size (view blank core) (call_seen call) ≡ None → after.core.blocked ≡ None → IsShown new after.core → after.out ≡ sent_by old call →
+    call_and_reply (view blank core) (Some (call_seen call)) ≡ Some (call_seen call, Some (machine.Started q.serial)) → IsCalled old core call (replies.Started q) new
+started_call old new core call q after is fit free shown sends reply =
+    record {
+      fit = fit;
+      shown = subst (λ (f : Effect). IsShown new (core_settled f.core)) (sym is) (subst (λ (c : Core). IsShown new c) (sym (settled_free after.core free)) shown);
+      sends = ap (λ (f : Effect). f.out) is ∙ sends;
+      tells = ap (λ (o : Option (machine.Call × Option machine.Reply)). told old.place.endpoint o (core_ready (called old.place.endpoint core (call_seen call)).core)) reply;
+    }

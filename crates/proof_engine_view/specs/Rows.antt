@@ -1,0 +1,90 @@
+-- An engine's requests by their serials, each with the key under which it stands in the table.
+use Rattle.std.specs.Prelude.{◌≡◌, ℕ, List, [], ◌∷◌, ◌++◌, length, map, Option, Some, slice_get}
+use Rattle.datatypes.specs.Contents.{Contents}
+use Rattle.match_queues.specs.declared.envelope.Receive as posted
+use Rattle.match_queues.specs.declared.envelope.Message.{Message}
+use Rattle.requests.specs.declared.table.Entry.{Entry}
+use Rattle.requests.specs.declared.table.Progress.{Progress}
+use Rattle.requests.specs.declared.table.Progress.TheVariants.{Receiving, Finished}
+use Rattle.requests.specs.Table.{slot_at}
+use Rattle.perfect_queues.specs.Receives.{Receive}
+use Rattle.proof_pure_network.specs.Held.{Held, Whole}
+use Rattle.proof_pure_network.specs.Jobs.{Job, Waiting, Collecting, Offering, Over, Closed}
+use Rattle.proof_engine_view.specs.Seen.{outcome_seen}
+
+-- a request: its key in the table, and its job
+pub record Row : Type 0 where
+  pub key : ℕ
+  pub job : Job
+
+-- the jobs of these requests, by their serials
+abbrev pub jobs_of : List Row → List Job
+jobs_of rows = map (λ (r : Row). r.job) rows
+
+-- the buffer of a receive
+abbrev pub contents_of : Receive → Contents
+contents_of p = record { basic = p.basic; values = p.buffer }
+
+-- the receive is into the whole buffer, on world
+pub record IsWhole (p : Receive) : Type 0 where
+  pub context : p.context ≡ 0
+  pub layout : p.layout ≡ 0 ∷ []
+  pub copies : p.copies ≡ length p.buffer
+
+-- how far the request is says what the job says
+abbrev pub Fits : Progress → Job → Type 0
+Fits (Receiving b) (Waiting p) = (b ≡ contents_of p) × IsWhole p
+Fits (Receiving b) (Collecting p h got) = ⊥
+Fits (Receiving b) (Offering d values) = ⊥
+Fits (Receiving b) (Over x) = ⊥
+Fits (Receiving b) Closed = ⊥
+Fits (Finished o) (Waiting p) = ⊥
+Fits (Finished o) (Collecting p h got) = ⊥
+Fits (Finished o) (Offering d values) = ⊥
+Fits (Finished o) (Over x) = x ≡ outcome_seen o
+Fits (Finished o) Closed = ⊥
+
+-- the slot holds the request with this serial
+pub record Holds (slot : Option Entry) (serial : ℕ) (job : Job) : Type 0 where
+  pub entry : Entry
+  pub there : slot ≡ Some entry
+  pub serial_is : entry.serial ≡ serial
+  pub fits : Fits entry.progress job
+
+-- what stands in the slot of a request whose outcome wasn't answered; for now none collects or offers
+abbrev pub Stands : Option Entry → (serial : ℕ) → Job → Type 0
+Stands slot k (Waiting p) = Holds slot k (Waiting p)
+Stands slot k (Over o) = Holds slot k (Over o)
+Stands slot k Closed = Unit {0}
+Stands slot k (Collecting p h got) = ⊥
+Stands slot k (Offering d values) = ⊥
+
+-- a slot's entry is that of a row
+pub record IsRow (rows : List Row) (key : ℕ) (t : Entry) : Type 0 where
+  pub row : Row
+  pub there : slice_get rows t.serial ≡ Some row
+  pub key_is : row.key ≡ key
+  pub fits : Fits t.progress row.job
+
+-- the table holds each request whose outcome wasn't answered under its key, and nothing else
+pub record IsTable (slots : List (Option Entry)) (rows : List Row) : Type 0 where
+  pub stands : (k : ℕ) (r : Row) → slice_get rows k ≡ Some r → Stands (slot_at slots r.key) k r.job
+  pub entries : (key : ℕ) (t : Entry) → slot_at slots key ≡ Some t → IsRow rows key t
+
+-- the receive of a request that waits, under its key
+abbrev pub posted_job : (key : ℕ) → Job → List posted.Receive
+posted_job key (Waiting p) = record { request = key; context = p.context; source = p.source; tag = p.tag } ∷ []
+posted_job key (Collecting p h got) = []
+posted_job key (Offering d values) = []
+posted_job key (Over o) = []
+posted_job key Closed = []
+
+-- the receives that wait, in the order of their serials
+abbrev pub posted_rows : List Row → List posted.Receive
+posted_rows [] = []
+posted_rows (r ∷ rs) = posted_job r.key r.job ++ posted_rows rs
+
+-- a message that waits for its receive
+abbrev pub held_of : Message → Held
+held_of m =
+    record { sender = m.sender; context = m.context; tag = m.tag; basic = m.elements.basic; body = Whole m.elements.values }

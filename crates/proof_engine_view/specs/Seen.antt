@@ -1,0 +1,75 @@
+-- What the machine of perfect queues sees of an engine's calls, replies and outcomes.
+use Rattle.std.specs.Prelude.{ℕ, List, [], ◌∷◌, length, Option, Some, None, if◌then◌else◌, ◌==◌, option_map}
+use Rattle.vocabulary.specs.declared.endpoint.Endpoint.{Endpoint}
+use Rattle.proof_pure_network.specs.Frames.{Eager, Frame}
+use Rattle.requests.specs.declared.outcome.Outcome.{Outcome}
+use Rattle.requests.specs.declared.outcome.Outcome.TheVariants as outcomes
+use Rattle.requests.specs.Outcomes.{number_of_failure}
+use Rattle.engine.specs.declared.call.Send.{Send}
+use Rattle.engine.specs.declared.call.Receive.{Receive}
+use Rattle.engine.specs.declared.call.Call.{Call}
+use Rattle.engine.specs.declared.call.Call.TheVariants as calls
+use Rattle.engine.specs.declared.call.Reply.{Reply}
+use Rattle.engine.specs.declared.call.Reply.TheVariants as replies
+use Rattle.engine.specs.EngineState.{EngineState, known_endpoint}
+use Rattle.perfect_queues.specs.Outcomes as machine_outcomes
+use Rattle.perfect_queues.specs.Receives as machine_receives
+use Rattle.perfect_queues.specs.Calls as machine
+use Rattle.perfect_queues.specs.Completions.{One, ForOne}
+use Rattle.perfect_queues.specs.Events.{Entry, Called, Completed}
+use Rattle.perfect_queues.specs.Refusals.{world}
+
+-- how an operation ended
+abbrev pub outcome_seen : Outcome → machine_outcomes.Outcome
+outcome_seen outcomes.Sent = machine_outcomes.Sent
+outcome_seen (outcomes.Received status b) = machine_outcomes.Received status b.values
+outcome_seen (outcomes.Ended why status b) = machine_outcomes.Ended (number_of_failure why) status b.values
+outcome_seen (outcomes.Replaced b) = machine_outcomes.Replaced (option_map (λ c. c.values) b)
+outcome_seen outcomes.Empty = machine_outcomes.Empty
+
+-- A receive into a whole buffer: its values take the buffer's places from the first on
+abbrev pub receive_seen : Receive → machine_receives.Receive
+receive_seen v =
+    record {
+      source = v.source;
+      tag = v.tag;
+      context = world;
+      basic = v.buffer.basic;
+      layout = 0 ∷ [];
+      copies = length v.buffer.values;
+      buffer = v.buffer.values;
+    }
+
+-- a request is named by its serial
+abbrev pub call_seen : Call → machine.Call
+call_seen (calls.Isend s) = machine.Isend world s.target s.tag s.elements.basic s.elements.values
+call_seen (calls.Irecv v) = machine.Irecv (receive_seen v)
+call_seen (calls.Wait None) = machine.Wait (One None)
+call_seen (calls.Wait (Some q)) = machine.Wait (One (Some q.serial))
+
+-- what is seen of a call at an endpoint that was answered so; of a refused one nothing is
+abbrev pub told_call : Endpoint → Call → Option Reply → List Entry
+told_call e call None = []
+told_call e call (Some (replies.Started q)) = Called e (call_seen call) (machine.Started q.serial) ∷ []
+told_call e call (Some (replies.Done o)) = Called e (call_seen call) (machine.Done (ForOne (outcome_seen o))) ∷ []
+told_call e call (Some replies.Blocked) = Called e (call_seen call) machine.Blocked ∷ []
+told_call e call (Some (replies.Refused why back)) = []
+
+-- what is seen of the answer to a call that was blocked
+abbrev pub told_completion : Endpoint → Option Outcome → List Entry
+told_completion e None = []
+told_completion e (Some o) = Completed e (ForOne (outcome_seen o)) ∷ []
+
+-- the frames that a call of rank `own` gives to links, each to the incarnation at which it knows its target; a send to
+-- the own rank gives none
+abbrev pub sent_to : (own : ℕ) (known : List ℕ) → Send → Option ℕ → List (Endpoint × Frame)
+sent_to own known s None = []
+sent_to own known s (Some target) =
+    if target == own then []
+    else (known_endpoint known target, Eager world s.tag s.elements.basic s.elements.values) ∷ []
+
+-- the frames that a call gives to links: those of a send alone
+abbrev pub sent_by : EngineState → Call → List (Endpoint × Frame)
+sent_by e (calls.Isend s) = sent_to e.place.endpoint.rank e.known s s.target
+sent_by e (calls.Irecv v) = []
+sent_by e (calls.Wait q) = []

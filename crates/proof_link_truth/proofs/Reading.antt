@@ -1,0 +1,121 @@
+-- What is read from the bytes of frames, acknowledgements and resets.
+use Rattle.std.proofs.Common.{◌≡◌, ℕ, ◌*◌, ◌<◌, ◌≤◌, ◌^◌, List, length, Result, Ok, Err, refl, sym, ap, ◌∙◌, arith}
+use Rattle.vocabulary.specs.BasicTypes.{size_of}
+use Rattle.vocabulary.specs.declared.basic_type.BasicType.{BasicType}
+use Rattle.vocabulary.specs.declared.endpoint.Endpoint.{Endpoint}
+use Rattle.datatypes.specs.ContentLaws.{length-bytes_of, sizes, values_of-bytes_of}
+use Rattle.datatypes.specs.Contents.{AreWithin, bytes_of}
+use Rattle.datagram.specs.declared.kinds.Plane.TheVariants.{PointToPoint}
+use Rattle.datagram.specs.declared.datagram.Frame.TheVariants as frames
+use Rattle.datagram.specs.declared.datagram.Content.{Content}
+use Rattle.datagram.specs.declared.datagram.Content.TheVariants as contents
+use Rattle.datagram.specs.declared.datagram.Datagram.{Datagram}
+use Rattle.datagram.specs.declared.refused.Refused as lower
+use Rattle.datagram.specs.Reading.{datagram_of}
+use Rattle.datagram.specs.Spelling.{AckBody, BodyText, DatagramFits, DatagramText, EagerBody, EagerText, HeaderIsWithinFields, ResetBody, content_text, datagram_text, spelling}
+use Rattle.datagram.proofs.Grammar.{is_only}
+use Rattle.engine.specs.Datagrams.{ack_bytes, message_of, reset_bytes}
+use Rattle.engine.specs.Sending.{header_to}
+use Rattle.proof_link_truth.specs.Wire.{IsSmall, place_of, text_of, wire}
+use Rattle.proof_pure_network.specs.Frames as net
+use Rattle.proof_pure_network.specs.Held.{Whole}
+use Rattle.proof_engine_view.specs.Rows.{held_of}
+
+-- two endpoints of n ranks whose numbers have the widths of a header
+pub record HaveWidths (n : ℕ) (s d : Endpoint) : Type 0 where
+  pub few : n ≤ 256
+  pub source_is : s.rank < n
+  pub target_is : d.rank < n
+  pub source_last : s.incarnation ≤ 65535
+  pub target_last : d.incarnation ≤ 65535
+
+-- a content that says this
+said : (b : BodyText) → (c : Content) × (content_text c ≡ b)
+said (EagerBody e) = (contents.Frame (frames.Eager (record { plane = e.plane; basic = e.basic; tag = e.tag; context = e.context; count = e.count; elements = record { ref_ptr = (0, 0); now = e.elements } })), refl)
+said AckBody = (contents.Ack, refl)
+said ResetBody = (contents.Reset, refl)
+
+-- what is spelled is read as it was spelled
+pub spelled_is_read : (d : DatagramText) → DatagramFits d → datagram_of (spelling d) ≡ Ok d
+spelled_is_read d fits = go (datagram_of (spelling d)) refl
+  where
+    go : (r : Result DatagramText lower.Refused) → datagram_of (spelling d) ≡ r → datagram_of (spelling d) ≡ Ok d
+    go (Ok t) is =
+        let c = said t.body in
+        let x : Datagram = record { header = t.header; content = c.0 } in
+        let same : datagram_text x ≡ t = ap (λ (b : BodyText). record { header = t.header; body = b }) c.1 in
+        let given : datagram_of (spelling d) ≡ Ok (datagram_text x) = is ∙ ap Ok (sym same) in
+        given ∙ sym (is_only (spelling d) (Ok x) given d fits refl)
+    go (Err e) is =
+        let same : Ok d ≡ Err e = is_only (spelling d) (Err e) is d fits refl in
+        absurd cc
+
+-- the widths of a header from one endpoint to another
+header_fits : (n : ℕ) (s d : Endpoint) (q : ℕ) → HaveWidths n s d → q < 2 ^ 64 → HeaderIsWithinFields (header_to (place_of n s) d q)
+header_fits n s d q w numbered = record {
+  source = record { rank = omega (arith, w.few, w.source_is); incarnation = omega (arith, w.source_last) };
+  target = record { rank = omega (arith, w.few, w.target_is); incarnation = omega (arith, w.target_last) };
+  job = omega arith;
+  sequence = numbered;
+}
+
+-- a frame that may be sent has the widths and keeps the rules
+eager_fits : (n : ℕ) (s d : Endpoint) (q c tag : ℕ) (basic : BasicType) (values : List ℕ) → IsSmall c tag basic values → HaveWidths n s d → q < 2 ^ 64
+    → DatagramFits (text_of n s d q (net.Eager c tag basic values))
+eager_fits n s d q c tag basic values small w numbered =
+    let sized : length (bytes_of (size_of basic) values) ≡ length values * size_of basic = length-bytes_of (size_of basic) values in
+    let size : 0 < size_of basic = (sizes basic).positive in
+    let least : length values ≤ length values * size_of basic = grind arith in
+    record {
+      header = header_fits n s d q w numbered;
+      width = record { context = omega (arith, small.context_is); count = omega (arith, least, small.size) };
+      body = record { tag = small.tag_is; size = sized; limit = omega (arith, sized, small.size); plane = tt };
+      sequence = tt;
+    }
+
+-- the bytes of a frame are read as the frame
+pub frame_is_read : (n : ℕ) (s d : Endpoint) (q c tag : ℕ) (basic : BasicType) (values : List ℕ) → IsSmall c tag basic values → HaveWidths n s d → q < 2 ^ 64
+    → datagram_of (wire n s d q (net.Eager c tag basic values)) ≡ Ok (text_of n s d q (net.Eager c tag basic values))
+unfolding wire
+frame_is_read n s d q c tag basic values small w numbered =
+    spelled_is_read (text_of n s d q (net.Eager c tag basic values)) (eager_fits n s d q c tag basic values small w numbered)
+
+-- what an acknowledgement says
+abbrev pub ack_text : (n : ℕ) (s d : Endpoint) (k : ℕ) → DatagramText
+ack_text n s d k = record { header = header_to (place_of n s) d k; body = AckBody }
+
+-- the bytes of an acknowledgement are read as it
+pub ack_is_read : (n : ℕ) (s d : Endpoint) (k : ℕ) → HaveWidths n s d → k < 2 ^ 64 → datagram_of (ack_bytes (place_of n s) d k) ≡ Ok (ack_text n s d k)
+unfolding ack_bytes
+ack_is_read n s d k w numbered =
+    spelled_is_read (ack_text n s d k) (record { header = header_fits n s d k w numbered; width = tt; body = tt; sequence = tt })
+
+-- what a reset says
+abbrev pub reset_text : (n : ℕ) (s d : Endpoint) → DatagramText
+reset_text n s d = record { header = header_to (place_of n s) d 0; body = ResetBody }
+
+-- the bytes of a reset are read as it
+pub reset_is_read : (n : ℕ) (s d : Endpoint) → HaveWidths n s d → datagram_of (reset_bytes (place_of n s) d) ≡ Ok (reset_text n s d)
+unfolding reset_bytes
+reset_is_read n s d w =
+    spelled_is_read (reset_text n s d) (record { header = header_fits n s d 0 w (omega arith); width = tt; body = tt; sequence = refl })
+
+-- what a frame says behind its header
+abbrev pub eager_said : (c tag : ℕ) (basic : BasicType) (values : List ℕ) → EagerText
+eager_said c tag basic values = record {
+  plane = PointToPoint;
+  basic = basic;
+  tag = tag;
+  context = c;
+  count = length values;
+  elements = bytes_of (size_of basic) values;
+}
+
+-- the message of a frame, as it is held
+pub message_is_held : (n : ℕ) (s d : Endpoint) (q c tag : ℕ) (basic : BasicType) (values : List ℕ) → AreWithin (size_of basic) values
+    → held_of (message_of (header_to (place_of n s) d q) (eager_said c tag basic values))
+    ≡ record { sender = s; context = c; tag = tag; basic = basic; body = Whole values }
+unfolding message_of
+message_is_held n s d q c tag basic values within =
+    ap (λ (v : List ℕ). record { sender = s; context = c; tag = tag; basic = basic; body = Whole v })
+    (values_of-bytes_of (size_of basic) values (sizes basic).positive within)

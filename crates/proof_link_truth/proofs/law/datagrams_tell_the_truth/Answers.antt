@@ -1,0 +1,29 @@
+use Rattle.proof_link_truth.proofs.Calls.{calls_are_true}
+use Rattle.proof_link_truth.proofs.Datagrams.{datagrams_are_true}
+use Rattle.proof_link_truth.proofs.Idle.{idle_is_still}
+use Rattle.proof_link_truth.proofs.Openings.{opening_is_true}
+use Rattle.proof_link_truth.proofs.Refusals.{refusals_are_true}
+use Rattle.proof_link_truth.proofs.Restarts.{restarts_are_true}
+use Rattle.proof_link_truth.proofs.Ticks.{ticks_are_true}
+use Rattle.proof_link_truth.proofs.law.datagrams_tell_the_truth.Goals as goal
+
+pub returns-clause-opening : goal.returns-clause-opening
+returns-clause-opening c = opening_is_true
+
+pub returns-clause-calls : goal.returns-clause-calls
+returns-clause-calls c = calls_are_true
+
+pub returns-clause-datagrams : goal.returns-clause-datagrams
+returns-clause-datagrams c = datagrams_are_true
+
+pub returns-clause-refusals : goal.returns-clause-refusals
+returns-clause-refusals c = refusals_are_true
+
+pub returns-clause-ticks : goal.returns-clause-ticks
+returns-clause-ticks c = ticks_are_true
+
+pub returns-clause-restarts : goal.returns-clause-restarts
+returns-clause-restarts c = restarts_are_true
+
+pub returns-clause-idle : goal.returns-clause-idle
+returns-clause-idle c = idle_is_still

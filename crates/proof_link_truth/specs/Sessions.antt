@@ -1,0 +1,54 @@
+-- What an engine's sessions hold of the links of the pure network.
+use Rattle.std.specs.Prelude.{◌≡◌, ℕ, ◌<◌, ◌≤◌, ◌^◌, Bool, false, ◌&&◌, not, List, [], map, drop, length, ◌==◌, nat_lt, slice_index}
+use Rattle.std.specs.List.{AllByRecursion}
+use Rattle.vocabulary.specs.declared.endpoint.Endpoint.{Endpoint}
+use Rattle.reliable_link.specs.declared.out_frame.OutFrame.{OutFrame}
+use Rattle.reliable_link.specs.SenderState.{SenderState}
+use Rattle.engine.specs.declared.peers.Peer.{Peer}
+use Rattle.engine.specs.EngineState.{EngineState}
+use Rattle.engine.specs.Peers.{peer_at}
+use Rattle.proof_pure_network.specs.Links.{Link}
+use Rattle.proof_link_truth.specs.Wire.{IsSent, at, place_of, wires}
+
+-- each direction between two endpoints
+abbrev pub Links : Type 0
+Links = Endpoint → Endpoint → Link
+
+-- no more is handed up than was accepted, and each number has 64 bits
+pub record IsLink (link : Link) : Type 0 where
+  pub reach : link.handed ≤ length link.accepted
+  pub sent : AllByRecursion IsSent link.accepted
+  pub numbered : length link.accepted < 2 ^ 64
+
+-- the bytes of the frames that a sender keeps
+abbrev pub bytes_kept : List OutFrame → List (List ℕ)
+bytes_kept frames = map (λ (f : OutFrame). f.bytes) frames
+
+-- the sender keeps what was accepted from its lowest number on, and all below it was handed up
+pub record SenderTells (n : ℕ) (s d : Endpoint) (sender : SenderState) (link : Link) : Type 0 where
+  pub kept : bytes_kept sender.frames ≡ drop sender.lowest (wires n s d 0 link.accepted)
+  pub below : sender.lowest ≤ link.handed
+
+-- The session of an endpoint with rank x, which it knows at incarnation k; those with later incarnations of x have not
+-- begun
+pub record PeerTells (n : ℕ) (current : ℕ → ℕ) (own : Endpoint) (x k : ℕ) (p : Peer) (links : Links) : Type 0 where
+  pub begun : k ≤ current x
+  pub sender : SenderTells n own (at x k) p.sender (links own (at x k))
+  pub receiver : p.receiver ≡ (links (at x k) own).handed
+  pub no_accepted : (i : ℕ) → k < i → (links own (at x i)).accepted ≡ []
+  pub no_handed : (i : ℕ) → k < i → (links (at x i) own).handed ≡ 0
+
+-- the engine of rank r, which is at its current incarnation
+pub record EngineTells (n : ℕ) (current : ℕ → ℕ) (r : ℕ) (e : EngineState) (links : Links) : Type 0 where
+  pub place : e.place ≡ place_of n (at r (current r))
+  pub each : length e.peers ≡ n
+  pub width : length e.known ≡ n
+  pub peers :
+      (x : ℕ) → x < n → (x == r) ≡ false →
+      PeerTells n current (at r (current r)) x (slice_index e.known x) (peer_at e.peers x) links
+  -- the session with itself stays empty
+  pub itself : (peer_at e.peers r).sender.frames ≡ []
+
+-- endpoints of two ranks of n
+abbrev pub is_pair : (n : ℕ) → Endpoint → Endpoint → Bool
+is_pair n s d = not (s.rank == d.rank) && (nat_lt s.rank n && nat_lt d.rank n)

@@ -1,0 +1,23 @@
+-- The links of a world: what its engines hold of them, and what its datagrams tell.
+use Rattle.std.specs.Prelude.{◌≡◌, ℕ, ◌<◌, ◌≤◌, false, List, [], length, Some, slice_get}
+use Rattle.std.specs.List.{AllByRecursion}
+use Rattle.vocabulary.specs.declared.endpoint.Endpoint.{Endpoint}
+use Rattle.perfect_queues.specs.Events.{last_incarnation}
+use Rattle.engine.specs.EngineState.{EngineState}
+use Rattle.proof_link_truth.specs.Sessions.{EngineTells, IsLink, Links, is_pair}
+use Rattle.proof_link_truth.specs.Told.{IsTold}
+
+-- sessions hold what the links carried, and datagrams tell of it; `current` is the incarnation of each rank
+pub record AreTrue (n : ℕ) (engines : List EngineState) (datagrams : List (ℕ × List ℕ)) (links : Links) (current : ℕ → ℕ)
+    : Type 0 where
+  pub count : length engines ≡ n
+  pub few : n ≤ 256
+  pub last : (r : ℕ) → current r ≤ last_incarnation
+  pub tells : (r : ℕ) (e : EngineState) → slice_get engines r ≡ Some e → EngineTells n current r e links
+  pub sound : (s d : Endpoint) → IsLink (links s d)
+  -- nothing goes from or to anyone else
+  pub strangers : (s d : Endpoint) → is_pair n s d ≡ false → (links s d).accepted ≡ []
+  -- endpoints that are to come have done nothing
+  pub none_accepted : (s d : Endpoint) → current s.rank < s.incarnation → (links s d).accepted ≡ []
+  pub none_handed : (s d : Endpoint) → current d.rank < d.incarnation → (links s d).handed ≡ 0
+  pub told : AllByRecursion (IsTold n links current) datagrams

@@ -1,0 +1,113 @@
+-- A world of engines follows the pure network, event by event.
+use Rattle.std.specs.Prelude.{◌≡◌, ℕ, suc, ◌<◌, ◌≤◌, List, [], ◌∷◌, ◌++◌, Some, Ok, Err, slice_get, slice_set, slice_index}
+use Rattle.incarnation.specs.declared.place.Place.{Place}
+use Rattle.engine.specs.declared.call.Call.{Call}
+use Rattle.engine.specs.declared.call.Reply.{Reply}
+use Rattle.engine.specs.declared.call.Reply.TheVariants as replies
+use Rattle.engine.specs.declared.refused.Refused.{Refused}
+use Rattle.engine.specs.Calls.{CallGives, IsTaken, IsWithin}
+use Rattle.engine.specs.Datagrams.{DatagramGives, GivesUnless}
+use Rattle.engine.specs.EngineState.{EngineState, opening}
+use Rattle.engine.specs.Ticks.{after_tick, clock_fault}
+use Rattle.perfect_queues.specs.Events as machine
+use Rattle.perfect_queues.specs.Quiet.{IsAtRest}
+use Rattle.perfect_queues.specs.Runs.{IsRun, after_run, seen}
+use Rattle.perfect_queues.specs.State as machine_state
+use Rattle.perfect_queues.specs.Refusals.{fault}
+use Rattle.proof_engine_view.specs.Seen.{call_seen, told_call, told_completion}
+use Rattle.proof_engine_steps.specs.Refused.{IsReason}
+use Rattle.proof_link_truth.specs.Events.{AreQuiet, emptied, opening_engines}
+use Rattle.proof_network_bridge.specs.Joined.{IsFollowed}
+
+-- what was done leaves a world in which the engine at r is the new one, out of which what it gave was taken
+abbrev pub LeavesFollowed :
+    (n : ℕ) → List EngineState → List (ℕ × List ℕ) → (r : ℕ) → EngineState → List machine.Entry → Type 0
+LeavesFollowed n engines datagrams r mid history =
+    IsFollowed n (slice_set engines r (emptied mid)) (datagrams ++ mid.out) history
+
+-- at most 256 engines at their start follow the network, and nothing was seen
+abbrev pub OpeningFollows : Type 0
+OpeningFollows = (n : ℕ) → n ≤ 256 → IsFollowed n (opening_engines n 0 n) [] []
+
+-- A call that a rank takes is followed, and what is seen of it is the call, its reply and what it completes
+abbrev pub CallsFollow : Type 0
+CallsFollow =
+    (n r : ℕ) (engines : List EngineState) (datagrams : List (ℕ × List ℕ)) (history : List machine.Entry)
+    (old mid : EngineState) (call : Call) (reply : Reply) →
+    IsFollowed n engines datagrams history → slice_get engines r ≡ Some old → IsWithin call → IsTaken reply →
+    CallGives old call reply mid →
+    LeavesFollowed n engines datagrams r mid
+    (history ++ (told_call old.place.endpoint call (Some reply) ++ told_completion old.place.endpoint mid.completion))
+
+-- A datagram that a rank takes in is followed, and what is seen of it is the answer to a call that was blocked
+abbrev pub DatagramsFollow : Type 0
+DatagramsFollow =
+    (n r number : ℕ) (bytes : List ℕ) (engines : List EngineState) (datagrams : List (ℕ × List ℕ))
+    (history : List machine.Entry) (old mid : EngineState) →
+    IsFollowed n engines datagrams history → slice_get engines r ≡ Some old →
+    slice_get datagrams number ≡ Some (r, bytes) → DatagramGives {X = ℕ} old bytes (Ok 0) mid →
+    LeavesFollowed n engines datagrams r mid (history ++ told_completion old.place.endpoint mid.completion)
+
+-- nothing is seen of a datagram that is refused, though a reset may go out
+abbrev pub RefusalsFollow : Type 0
+RefusalsFollow =
+    (n r number : ℕ) (bytes : List ℕ) (engines : List EngineState) (datagrams : List (ℕ × List ℕ))
+    (history : List machine.Entry) (old mid : EngineState) (why : Refused) →
+    IsFollowed n engines datagrams history → slice_get engines r ≡ Some old →
+    slice_get datagrams number ≡ Some (r, bytes) → DatagramGives {X = ℕ} old bytes (Err why) mid →
+    LeavesFollowed n engines datagrams r mid history
+
+-- A tick that a rank takes is followed, and what is seen of it is the answer to a call that was blocked
+abbrev pub TicksFollow : Type 0
+TicksFollow =
+    (n r now : ℕ) (engines : List EngineState) (datagrams : List (ℕ × List ℕ)) (history : List machine.Entry)
+    (old mid : EngineState) →
+    IsFollowed n engines datagrams history → slice_get engines r ≡ Some old →
+    GivesUnless {X = ℕ} (clock_fault old.clock now) old (after_tick old now) (Ok 0) mid →
+    LeavesFollowed n engines datagrams r mid (history ++ told_completion old.place.endpoint mid.completion)
+
+-- the place of the next incarnation of a rank
+abbrev pub next_place : Place → Place
+next_place p = record {
+  endpoint = record { rank = p.endpoint.rank; incarnation = suc p.endpoint.incarnation };
+  size = p.size;
+  job = p.job;
+}
+
+-- a rank is started anew
+abbrev pub RestartsFollow : Type 0
+RestartsFollow =
+    (n r : ℕ) (engines : List EngineState) (datagrams : List (ℕ × List ℕ)) (history : List machine.Entry)
+    (old : EngineState) →
+    IsFollowed n engines datagrams history → slice_get engines r ≡ Some old →
+    old.place.endpoint.incarnation < machine.last_incarnation →
+    IsFollowed n (slice_set engines r (opening (next_place old.place))) datagrams
+    (history ++ machine.Restarted r ∷ [])
+
+-- A history is seen of a run of the machine of perfect queues among n ranks. The run ends with each rank at the
+-- incarnation of its engine, which knows there what its engine knows; a call that its engine refuses has a reason there; and
+-- where the engines are quiet, the run has come to a state that meets the machine's quiet clause
+pub record IsSeenOfMachine (n : ℕ) (engines : List EngineState) (history : List machine.Entry) : Type 0 where
+  pub events : List machine.Event
+  pub run : IsRun n machine_state.opening events
+  pub tells : seen machine_state.opening events ≡ history
+  -- each rank is at the incarnation of its engine
+  pub now :
+      (r : ℕ) (e : EngineState) → slice_get engines r ≡ Some e →
+      (after_run machine_state.opening events).current r ≡ e.place.endpoint.incarnation
+  -- the endpoint there knows each rank at the incarnation at which its engine knows it
+  pub knows :
+      (r : ℕ) (e : EngineState) → slice_get engines r ≡ Some e → (x : ℕ) →
+      ((after_run machine_state.opening events).at e.place.endpoint).known x ≡ slice_index e.known x
+  -- a call that the engine refuses has the machine's first fault there, by its number, or one of the other reasons
+  pub refuses :
+      (r : ℕ) (e mid : EngineState) (call back : Call) (why : Refused) → slice_get engines r ≡ Some e →
+      CallGives e call (replies.Refused why back) mid →
+      IsReason (fault n ((after_run machine_state.opening events).at e.place.endpoint) (call_seen call)) e call why
+  pub quiet : AreQuiet engines → IsAtRest (after_run machine_state.opening events)
+
+-- wherever engines follow the network, what was seen of them is seen of a run of the machine
+abbrev pub FollowingIsRun : Type 0
+FollowingIsRun =
+    (n : ℕ) (engines : List EngineState) (datagrams : List (ℕ × List ℕ)) (history : List machine.Entry) →
+    IsFollowed n engines datagrams history → IsSeenOfMachine n engines history

@@ -1,0 +1,193 @@
+use Rattle.std.proofs.Common.{◌≡◌, ℕ, suc, ◌≤◌, ◌<◌, Bool, true, false, ◌&&◌, List, [], ◌∷◌, ◌++◌, length, Option, Some, None, if◌then◌else◌, ◌==◌, not, nat_lt, slice_get, slice_set, refl, sym, ap, subst, arith, le_trans}
+use Rattle.std.specs.List.{AllByRecursion}
+use Rattle.std.proofs.lemmas.Bool.{and_parts, eqb-true, ltb-true, ltb-false, eq-eqb}
+use Rattle.perfect_queues.specs.Calls.{Call, Cancel, Irecv, Isend, Test, Wait, is_eager, receiver}
+use Rattle.perfect_queues.specs.Completions.{Answer, One, completion}
+use Rattle.vocabulary.specs.Endpoints.{is_former, is_same}
+use Rattle.perfect_queues.specs.Outcomes.{Sent}
+use Rattle.perfect_queues.specs.Receives.{Receive}
+use Rattle.vocabulary.specs.declared.endpoint.Endpoint.{Endpoint}
+use Rattle.vocabulary.specs.declared.envelope.Source.{Source}
+use Rattle.vocabulary.specs.declared.envelope.Source.TheVariants.{Any, Null, Rank}
+use Rattle.perfect_queues.proofs.EndpointLemmas.{same_eq}
+use Rattle.proof_pure_network.specs.Core.{Core, Effect, effect, with_jobs}
+use Rattle.proof_pure_network.specs.Engine.{called, came, core_tested, learned, met, own_message, pushed_over, sends}
+use Rattle.proof_pure_network.specs.Frames.{Cts, Data, Eager, Frame, Rts}
+use Rattle.proof_pure_network.specs.Held.{Body, Held, Part, Whole}
+use Rattle.proof_pure_network.specs.Jobs.{Closed, Collecting, Job, Offering, Over, Waiting, collecting, oldest_posted, over_at, with_more}
+use Rattle.proof_pure_network.specs.Links.{Link, accept, accept_all, handed_on}
+use Rattle.proof_pure_network.specs.Matching.{answer, arrived, arrived_at, found, posted, posted_at, receives}
+use Rattle.proof_pure_network.specs.Transfers.{answered, collected, data_frames, data_of, pieces}
+use Rattle.proof_pure_network.proofs.JobLemmas.{All_append, All_filter, All_left, All_right}
+use Rattle.proof_pure_network.proofs.Oldest.{First, some_found}
+
+-- EACH ENGINE KNOWS WHOM IT SPEAKS TO
+
+abbrev pub IsKnown : (ℕ → ℕ) → Endpoint → Type 0
+IsKnown g x = x.incarnation ≤ g x.rank
+
+abbrev pub HeldKnown : (ℕ → ℕ) → List Held → Type 0
+HeldKnown g hs = AllByRecursion (λ h. IsKnown g h.sender) hs
+
+abbrev pub Told : (ℕ → ℕ) → List (Endpoint × Frame) → Type 0
+Told g out = AllByRecursion (λ x. IsKnown g x.0) out
+
+-- what an engine's work leaves held, and sends
+pub record Speaks (g : ℕ → ℕ) (d : Effect) : Type 0 where
+  pub held : HeldKnown g d.core.held
+  pub told : Told g d.out
+
+answer_told : (g : ℕ → ℕ) (p : Receive) (h : Held) (b : Body) → IsKnown g h.sender → Told g (answer p h b)
+answer_told g p h (Whole values) k = tt
+answer_told g p h (Part j n) k = (k, tt)
+
+arrived_speaks : (g : ℕ → ℕ) (core : Core) (h : Held) → IsKnown g h.sender → HeldKnown g core.held → Speaks g (arrived core h)
+arrived_speaks g core h k old = go (oldest_posted h core.jobs)
+  where
+    go : (o : Option (ℕ × Receive)) → Speaks g (arrived_at core h o)
+    go None = record { held = All_append (λ x. IsKnown g x.sender) core.held (h ∷ []) old (k, tt); told = tt }
+    go (Some t) = record { held = old; told = answer_told g t.1 h h.body k }
+
+posted_speaks : (g : ℕ → ℕ) (core : Core) (p : Receive) → HeldKnown g core.held → Speaks g (posted core p)
+posted_speaks g core p old = go (found p core.held) refl
+  where
+    go : (o : Option (List Held × Held × List Held)) → found p core.held ≡ o → Speaks g (posted_at core p o)
+    go None x = record { held = old; told = tt }
+    go (Some t) x = record {
+      held = All_append (λ y. IsKnown g y.sender) t.0 t.2 (All_left (λ y. IsKnown g y.sender) t.0 (t.1 ∷ t.2) all) (All_right (λ y. IsKnown g y.sender) t.0 (t.1 ∷ t.2) all).1;
+      told = answer_told g p t.1 t.1.body (All_right (λ y. IsKnown g y.sender) t.0 (t.1 ∷ t.2) all).0;
+    }
+      where
+        f : First p core.held t
+        f = some_found p core.held t x
+
+        all : HeldKnown g (t.0 ++ t.1 ∷ t.2)
+        all = subst (λ (hs : List Held). HeldKnown g hs) f.parts old
+
+pub called_speaks : (e : Endpoint) (core : Core) (c : Call) → IsKnown core.known e → HeldKnown core.known core.held → Speaks core.known (called e core c)
+called_speaks e core (Isend c None tag basic values) own old = record { held = old; told = tt }
+called_speaks e core (Isend c (Some to) tag basic values) own old = go (is_same (receiver core.known to) e) (is_eager e (receiver core.known to) basic values)
+  where
+    go : (o small : Bool) → Speaks core.known (sends e core (receiver core.known to) o c tag basic values small)
+    go true small = arrived_speaks core.known (pushed_over core) (own_message e c tag basic values) own old
+    go false true = record { held = old; told = (omega arith, tt) }
+    go false false = record { held = old; told = (omega arith, tt) }
+called_speaks e core (Irecv p) own old = go p.source
+  where
+    go : (src : Source) → Speaks core.known (receives core p src)
+    go Null = record { held = old; told = tt }
+    go Any = posted_speaks core.known core p old
+    go (Rank r) = posted_speaks core.known core p old
+called_speaks e core (Wait a) own old = record { held = old; told = tt }
+called_speaks e core (Test r) own old = go (completion (over_at core.jobs) (One r))
+  where
+    go : (o : Option (Answer × List ℕ)) → Speaks core.known (effect (core_tested core o) [])
+    go None = record { held = old; told = tt }
+    go (Some t) = record { held = old; told = tt }
+called_speaks e core (Cancel None) own old = record { held = old; told = tt }
+called_speaks e core (Cancel (Some k)) own old = record { held = old; told = tt }
+
+data_told : (g : ℕ → ℕ) (d : Endpoint) (k : ℕ) (ps : List (ℕ × List ℕ)) → IsKnown g d → Told g (data_frames d k ps)
+data_told g d k [] h = tt
+data_told g d k (p ∷ ps) h = (h, data_told g d k ps h)
+
+of_told : (g : ℕ → ℕ) (d : Endpoint) (k : ℕ) (values : List ℕ) (w : Bool) → IsKnown g d → Told g (data_of d k values w)
+of_told g d k values true h = data_told g d k (pieces (length values) 127 0 values) h
+of_told g d k values false h = tt
+
+pub came_speaks : (core : Core) (a : Endpoint) (f : Frame) → IsKnown core.known a → HeldKnown core.known core.held → Speaks core.known (came core a f)
+came_speaks core a (Eager c tag basic values) h old = arrived_speaks core.known core (record { sender = a; context = c; tag = tag; basic = basic; body = Whole values }) h old
+came_speaks core a (Rts c tag basic k n) h old = arrived_speaks core.known core (record { sender = a; context = c; tag = tag; basic = basic; body = Part k n }) h old
+came_speaks core a (Cts k w) h old = go (slice_get core.jobs k)
+  where
+    still : Speaks core.known (effect core [])
+    still = record { held = old; told = tt }
+
+    go : (o : Option Job) → Speaks core.known (answered core a k w o)
+    go None = still
+    go (Some (Waiting p)) = still
+    go (Some (Collecting p u got)) = still
+    go (Some (Over o)) = still
+    go (Some Closed) = still
+    go (Some (Offering d values)) = at (is_same d a) refl
+      where
+        at : (t : Bool) → is_same d a ≡ t → Speaks core.known (if t then effect (with_jobs core (slice_set core.jobs k (Over Sent))) (data_of d k values w) else effect core [])
+        at false x = still
+        at true x = record { held = old; told = of_told core.known d k values w (subst (λ (z : Endpoint). IsKnown core.known z) (sym (same_eq d a x)) h) }
+came_speaks core a (Data k o values) h old = go (collecting a k core.jobs)
+  where
+    still : Speaks core.known (effect core [])
+    still = record { held = old; told = tt }
+
+    go : (t : Option (ℕ × Job)) → Speaks core.known (effect (collected core o values t) [])
+    go None = still
+    go (Some (j, Waiting p)) = still
+    go (Some (j, Offering d vs)) = still
+    go (Some (j, Over u)) = still
+    go (Some (j, Closed)) = still
+    go (Some (j, Collecting p u got)) = at (length got == o)
+      where
+        at : (t : Bool) → Speaks core.known (effect (if t then with_jobs core (slice_set core.jobs j (with_more p u (got ++ values))) else core) [])
+        at true = record { held = old; told = tt }
+        at false = still
+
+-- hearing a word makes its endpoint known, and forgets none
+pub met_grows : (core : Core) (a : Endpoint) (r : ℕ) → core.known r ≤ (met core a).known r
+met_grows core a r = go (nat_lt (core.known a.rank) a.incarnation) refl
+  where
+    go : (t : Bool) → nat_lt (core.known a.rank) a.incarnation ≡ t → core.known r ≤ (if t then learned core a.rank a.incarnation else core).known r
+    go false h = omega arith
+    go true h = at (r == a.rank) refl
+      where
+        at : (u : Bool) → (r == a.rank) ≡ u → core.known r ≤ (if u then a.incarnation else core.known r)
+        at false q = omega arith
+        at true q =
+            let e : core.known r ≡ core.known a.rank = ap core.known (eqb-true r a.rank q) in
+            let lt : core.known a.rank < a.incarnation = ltb-true (core.known a.rank) a.incarnation h in
+            omega arith
+
+pub met_knows : (core : Core) (a : Endpoint) → IsKnown (met core a).known a
+met_knows core a = go (nat_lt (core.known a.rank) a.incarnation) refl
+  where
+    go : (t : Bool) → nat_lt (core.known a.rank) a.incarnation ≡ t → IsKnown (if t then learned core a.rank a.incarnation else core).known a
+    go false h = ltb-false (core.known a.rank) a.incarnation h
+    go true h = rw (eq-eqb a.rank a.rank refl) (omega arith)
+
+known_more : (g g' : ℕ → ℕ) (hs : List Held) → ((r : ℕ) → g r ≤ g' r) → HeldKnown g hs → HeldKnown g' hs
+known_more g g' [] le a = tt
+known_more g g' (h ∷ hs) le a = (le_trans a.0 (le h.sender.rank), known_more g g' hs le a.1)
+
+pub met_held : (core : Core) (a : Endpoint) → HeldKnown core.known core.held → HeldKnown (met core a).known (met core a).held
+met_held core a old = known_more core.known (met core a).known (met core a).held (met_grows core a) (go (nat_lt (core.known a.rank) a.incarnation))
+  where
+    go : (t : Bool) → HeldKnown core.known (if t then learned core a.rank a.incarnation else core).held
+    go true = All_filter (λ h. IsKnown core.known h.sender) (λ h. not (is_former a.rank a.incarnation h.sender)) core.held old
+    go false = old
+
+-- so nothing was ever sent to an endpoint that the sender does not know
+abbrev pub Untold : (Endpoint → ℕ → ℕ) → (Endpoint → Endpoint → Link) → Type 0
+Untold known links = (s d : Endpoint) → known s d.rank < d.incarnation → (links s d).accepted ≡ []
+
+one_untold : (known : Endpoint → ℕ → ℕ) (links : Endpoint → Endpoint → Link) (e : Endpoint) (o : Endpoint × Frame) → IsKnown (known e) o.0 → Untold known links → Untold known (accept links e o)
+one_untold known links e o k old s d late = go (is_same s e && is_same d o.0) refl
+  where
+    go : (t : Bool) → (is_same s e && is_same d o.0) ≡ t → (if t then record (links e o.0) { accepted = (links e o.0).accepted ++ o.1 ∷ [] } else links s d).accepted ≡ []
+    go false h = old s d late
+    go true h =
+        let p = and_parts (is_same s e) (is_same d o.0) h in
+        let l1 : known e d.rank < d.incarnation = subst (λ (z : Endpoint). known z d.rank < d.incarnation) (same_eq s e p.0) late in
+        let l2 : known e o.0.rank < o.0.incarnation = subst (λ (z : Endpoint). known e z.rank < z.incarnation) (same_eq d o.0 p.1) l1 in
+        absurd (omega (arith, k, l2))
+
+pub accept_untold : (known : Endpoint → ℕ → ℕ) (links : Endpoint → Endpoint → Link) (e : Endpoint) (out : List (Endpoint × Frame)) → Told (known e) out → Untold known links → Untold known (accept_all links e out)
+accept_untold known links e [] a old = old
+accept_untold known links e (o ∷ out) a old = accept_untold known (accept links e o) e out a.1 (one_untold known links e o a.0 old)
+
+pub hand_untold : (known : Endpoint → ℕ → ℕ) (links : Endpoint → Endpoint → Link) (a e : Endpoint) → Untold known links → Untold known (handed_on links a e)
+hand_untold known links a e old s d late = go (is_same s a && is_same d e) refl
+  where
+    go : (t : Bool) → (is_same s a && is_same d e) ≡ t → (if t then record (links a e) { handed = suc (links a e).handed } else links s d).accepted ≡ []
+    go false h = old s d late
+    go true h =
+        let p = and_parts (is_same s a) (is_same d e) h in
+        subst (λ (z : Endpoint). (links z e).accepted ≡ []) (same_eq s a p.0) (subst (λ (z : Endpoint). (links s z).accepted ≡ []) (same_eq d e p.1) (old s d late))

@@ -1,0 +1,96 @@
+-- What one rank does with a call, a word of another endpoint, and a frame that its link hands up.
+use Rattle.std.specs.Prelude.{ℕ, Bool, true, false, not, List, [], ◌∷◌, ◌++◌, length, map, Option, Some, None, if◌then◌else◌, nat_lt, slice_get, filter, option_and_then}
+use Rattle.perfect_queues.specs.Calls.{Call, Cancel, Irecv, Isend, Test, Wait, is_eager, receiver}
+use Rattle.perfect_queues.specs.Completions.{Answer, One, completion}
+use Rattle.vocabulary.specs.Endpoints.{is_former, is_same}
+use Rattle.perfect_queues.specs.Outcomes.{Sent}
+use Rattle.perfect_queues.specs.Requests.{all_changed, changed}
+use Rattle.perfect_queues.specs.State.{with_number}
+use Rattle.vocabulary.specs.declared.basic_type.BasicType.{BasicType}
+use Rattle.vocabulary.specs.declared.endpoint.Endpoint.{Endpoint}
+use Rattle.proof_pure_network.specs.Core.{Core, Effect, effect, with_jobs}
+use Rattle.proof_pure_network.specs.Frames.{Cts, Data, Eager, Frame, Rts}
+use Rattle.proof_pure_network.specs.Held.{Held, Part, Whole}
+use Rattle.proof_pure_network.specs.Jobs.{Offering, Over, closed, collecting, dropped, ended, over_at}
+use Rattle.proof_pure_network.specs.Matching.{arrived, receives}
+use Rattle.proof_pure_network.specs.Transfers.{answered, collected}
+
+-- one more request: a send that is finished
+abbrev pub pushed_over : Core → Core
+pushed_over core = with_jobs core (core.jobs ++ Over Sent ∷ [])
+
+-- a message of the endpoint to itself, which is there whole
+abbrev pub own_message : Endpoint → (context tag : ℕ) → BasicType → List ℕ → Held
+own_message e c tag basic values = record { sender = e; context = c; tag = tag; basic = basic; body = Whole values }
+
+-- a send: to the endpoint itself it comes at once; a small one goes out whole; of a large one the envelope goes out,
+-- and the values wait for the answer
+abbrev pub sends : Endpoint → Core → Endpoint → Bool → (context tag : ℕ) → BasicType → List ℕ → Bool → Effect
+sends e core d true c tag basic values eager = arrived (pushed_over core) (own_message e c tag basic values)
+sends e core d false c tag basic values true = effect (pushed_over core) ((d, Eager c tag basic values) ∷ [])
+sends e core d false c tag basic values false =
+    effect (with_jobs core (core.jobs ++ Offering d values ∷ [])) ((d, Rts c tag basic (length core.jobs) (length values)) ∷ [])
+
+-- a send to a rank, at the incarnation that is known; one to the null process is over at once (MPI 3.1, 3.11)
+abbrev pub sends_to : Endpoint → Core → (context : ℕ) → Option ℕ → (tag : ℕ) → BasicType → List ℕ → Effect
+sends_to e core c None tag basic values = effect (pushed_over core) []
+sends_to e core c (Some to) tag basic values =
+    sends e core (receiver core.known to) (is_same (receiver core.known to) e) c tag basic values (is_eager e (receiver core.known to) basic values)
+
+-- the requests with these serials are closed, since their outcomes were answered
+abbrev pub core_used : Core → List ℕ → Core
+core_used core ks = with_jobs core (all_changed closed core.jobs ks)
+
+-- a test closes its request where it answers an outcome (MPI 3.1, 3.7.3)
+abbrev pub core_tested : Core → Option (Answer × List ℕ) → Core
+core_tested core None = core
+core_tested core (Some (a, ks)) = core_used core ks
+
+-- a cancel ends a receive that waits (MPI 3.1, 3.8.4)
+abbrev pub core_cancels : Core → Option ℕ → Core
+core_cancels core None = core
+core_cancels core (Some k) = with_jobs core (changed dropped core.jobs k)
+
+-- what a rank does with a call
+abbrev pub called : Endpoint → Core → Call → Effect
+called e core (Isend c to tag basic values) = sends_to e core c to tag basic values
+called e core (Irecv p) = receives core p p.source
+called e core (Wait a) = effect (record core { blocked = Some a }) []
+called e core (Test r) = effect (core_tested core (completion (over_at core.jobs) (One r))) []
+called e core (Cancel r) = effect (core_cancels core r) []
+
+-- what a rank does with a frame of endpoint s
+abbrev pub came : Core → Endpoint → Frame → Effect
+came core s (Eager c tag basic values) =
+    arrived core (record { sender = s; context = c; tag = tag; basic = basic; body = Whole values })
+came core s (Rts c tag basic k count) =
+    arrived core (record { sender = s; context = c; tag = tag; basic = basic; body = Part k count })
+came core s (Cts k wanted) = answered core s k wanted (slice_get core.jobs k)
+came core s (Data k o values) = effect (collected core o values (collecting s k core.jobs)) []
+
+-- a higher incarnation of a rank is learnt: jobs end by it, and what is held from its former endpoints is dropped
+abbrev pub learned : Core → ℕ → ℕ → Core
+learned core r i =
+    record {
+      jobs = map (ended r i) core.jobs;
+      blocked = core.blocked;
+      known = with_number core.known r i;
+      held = filter (λ h. not (is_former r i h.sender)) core.held;
+    }
+
+-- a word of an endpoint at a higher incarnation than the known one is learnt (own)
+abbrev pub met : Core → Endpoint → Core
+met core s = if nat_lt (core.known s.rank) s.incarnation then learned core s.rank s.incarnation else core
+
+-- the answer to the blocked call, once it is ready
+abbrev pub core_ready : Core → Option (Answer × List ℕ)
+core_ready core = option_and_then (completion (over_at core.jobs)) core.blocked
+
+-- the blocked call is answered: its requests are closed, and nothing is blocked (MPI 3.1, 3.7.3)
+abbrev pub core_settled_by : Core → Option (Answer × List ℕ) → Core
+core_settled_by core None = core
+core_settled_by core (Some (a, ks)) = record (core_used core ks) { blocked = None }
+
+-- the blocked call is answered where its answer is ready
+abbrev pub core_settled : Core → Core
+core_settled core = core_settled_by core (core_ready core)

@@ -1,0 +1,2 @@
+pub mod BasicTypes
+pub mod Endpoints
