@@ -1,0 +1,51 @@
+"""Makes the few long files that reach a limit: they come seldom, since each takes as long as a hundred others."""
+
+
+def many_requests(random):
+    """As many requests at one time as there may be, and one more; then one is answered."""
+    lines = ["world 1", "0 buf a uint8 1"]
+    lines += [f"0 isend q world 0 {number % 3} a" for number in range(65535)]
+    lines += ["0 buf b uint8 0", "0 irecv r world 0 1 b", "0 isend q world 0 1 a", "0 buf c uint8 0",
+              "0 irecv s world 0 1 c", "0 isend q world 0 2147483648 a", "0 wait r", "0 irecv s world 0 1 c", "0 wait s",
+              "0 isend q world 0 1 a", "0 wait q"]
+    return lines
+
+
+def many_restarts(random):
+    """As many restarts of a rank as there may be, and one more."""
+    rank = random.randrange(2)
+    lines = ["world 2", f"{rank} buf a int32 1", f"{rank} isend q world {1 - rank} 0 a"]
+    lines += [f"restart {rank}"] * 65535
+    lines += ["deliver 0", f"restart {rank}", f"{rank} buf a int32 2", f"{rank} isend q world {1 - rank} 0 a", "deliver 1",
+              "deliver 0", "deliver 2", "deliver 3", f"tick {rank} 20", f"restart {1 - rank}", "deliver 1"]
+    return lines
+
+
+def many_frames(random):
+    """Thousands of frames of one session, sent and acknowledged."""
+    lines = ["world 2", "0 buf a int16 -3", "1 buf b int16 0"]
+    number = 0
+    for sent in range(random.choice([700, 3000])):
+        lines += [f"0 isend q world 1 {sent % 4} a", f"deliver {number}", f"deliver {number + 1}"]
+        number += 2
+        if sent % 50 == 49:
+            lines += [f"1 irecv r world any {random.randrange(4)} b", "1 wait r"]
+    return lines
+
+
+def whole_crowd(random):
+    """Everyone of 256 ranks sends to rank 0, which takes them in another order."""
+    lines = ["world 256", "0 buf b int32 0"]
+    for rank in range(1, 256):
+        lines += [f"{rank} buf a int32 {rank}", f"{rank} isend q world 0 {rank % 2} a"]
+    order = list(range(255))
+    random.shuffle(order)
+    lines += [f"deliver {number}" for number in order]
+    for _ in range(255):
+        lines += ["0 irecv r world any any b", "0 wait r"]
+    return lines + ["tick 7 20", "tick 255 19", "restart 255", "deliver 254"]
+
+
+def a_long_file(random):
+    lines = random.choice([many_requests, many_restarts, many_frames, whole_crowd])(random)
+    return ("\n".join(lines) + "\n").encode()

@@ -1,0 +1,378 @@
+"""Makes files of events at random, weighted so that the rare cases come often.
+
+A file has a theme, which says how large its world is and which lines are likely. While it is made, the plain model goes along, so
+that lines can be chosen that mean something: a datagram that is on its way, a request that isn't finished, a rank that waits.
+What is compared later is the model on the whole text, from its first byte on.
+"""
+
+import reading
+import rules
+import strays
+from reading import ANY, NULL, TYPES
+from rules import NotSet
+
+# How likely each kind of line is, by theme. What a theme doesn't name has the weight of `mixed`.
+MIXED = {
+    "send": 22, "receive": 18, "wait": 12, "deliver_new": 26, "deliver_any": 8, "deliver_late": 3, "lose": 3,
+    "tick": 5, "restart": 1, "stray": 1, "refused_call": 3, "refused_event": 2, "set_buffer": 2, "rename": 0.3, "unblock": 6,
+}
+THEMES = {
+    "mixed": (30, {}),
+    "wildcards": (12, {"receive": 30, "send": 30, "wait": 20, "restart": 0}),
+    "restarts": (16, {"restart": 8, "deliver_late": 8, "deliver_any": 12}),
+    "losses": (8, {"lose": 14, "tick": 16, "deliver_any": 14}),
+    "strays": (5, {"stray": 40}),
+    "refusals": (8, {"refused_call": 30, "refused_event": 12, "rename": 3}),
+    "window": (7, {"deliver_new": 40, "deliver_any": 12, "tick": 3}),
+    "queues": (4, {"receive": 40, "send": 40}),
+    "crowd": (4, {"restart": 2}),
+}
+TAGS = [0, 1, 2, 7]
+
+
+class Maker:
+    """A file of events that is being made."""
+
+    def __init__(self, random, theme):
+        self.random = random
+        self.theme = theme
+        self.size = self.a_size()
+        self.world = rules.World(self.size)
+        self.lines = [f"world {self.size}"]
+        self.is_over = False
+        self.new = []  # the numbers of datagrams that were neither delivered nor lost
+        self.named = 0
+
+    def a_size(self):
+        if self.theme == "crowd":
+            return self.random.choice([6, 8, 16, 40, 100, 255, 256])
+        if self.theme in ("window", "queues"):
+            return self.random.choice([2, 2, 3])
+        return self.random.choices([1, 2, 3, 4, 5], [1, 8, 6, 3, 2])[0]
+
+    # Lines.
+
+    def add(self, text):
+        """One more line, which the model runs at once; what it prints."""
+        self.lines.append(text)
+        before = len(self.world.datagrams)
+        try:
+            printed = self.world.line(reading.event(text.split()))
+        except NotSet:
+            self.is_over = True
+            return []
+        self.new += range(before, len(self.world.datagrams))
+        return printed
+
+    def a_line(self):
+        """A line of a kind that the theme likes."""
+        weights = {**MIXED, **THEMES[self.theme][1]}
+        kind = self.random.choices(list(weights), list(weights.values()))[0]
+        if kind in ("send", "receive", "wait") and self.random.random() < 0.5 * len(self.blocked_ranks()) / self.size:
+            kind = "unblock"
+        getattr(self, kind)()
+
+    def blocked_ranks(self):
+        return [rank.number for rank in self.world.ranks if rank.blocked is not None]
+
+    def text(self):
+        return ("\n".join(self.lines) + "\n").encode()
+
+    # What lines speak of.
+
+    def a_rank(self):
+        """A rank that is there; one that isn't blocked, mostly."""
+        ranks = [self.random.randrange(self.size) for _ in range(3)]
+        free = [rank for rank in ranks if self.world.ranks[rank].blocked is None]
+        return free[0] if free and self.random.random() < 0.95 else ranks[0]
+
+    def a_name(self, first):
+        """A name that is new, or now and then one of 16 letters and digits or one that was used before."""
+        kind = self.random.random()
+        if kind < 0.04:
+            return first
+        self.named += 1
+        if kind < 0.06:
+            return (first + str(self.named)).ljust(16, "x")
+        return first + str(self.named)
+
+    def a_type(self):
+        return self.random.choice(list(TYPES)) if self.random.random() < 0.4 else "int32"
+
+    def a_value(self, kind):
+        low, high = reading.lowest(kind), reading.highest(kind)
+        return self.random.choice([low, high, 0, 1, 2, 3, 9, self.random.randint(low, high)])
+
+    def a_tag(self):
+        return self.random.choice(TAGS + [rules.HIGHEST_TAG] if self.random.random() < 0.1 else TAGS)
+
+    def a_length(self):
+        return self.random.choices([0, 1, 2, 3, 5], [1, 6, 3, 2, 1])[0]
+
+    def a_buffer(self, rank, kind=None, length=None):
+        """Sets a buffer that isn't lent, and gives its name."""
+        kind = self.a_type() if kind is None else kind
+        length = self.a_length() if length is None else length
+        lent = self.world.names_of(rank).lent
+        name = self.a_name("b")
+        while name in lent:
+            name = self.a_name("b")
+        if length > 4 or self.random.random() < 0.1:
+            first = self.random.randint(0, length)
+            words = [f"{first}*{self.a_value(kind)}", f"{length - first}*{self.a_value(kind)}"]
+        else:
+            words = [str(self.a_value(kind)) for _ in range(length)]
+        self.add(" ".join([str(rank), "buf", name, kind] + words))
+        return name
+
+    def a_set_buffer(self, rank):
+        """A buffer that is set and isn't lent; one that is there, or a new one."""
+        names = self.world.names_of(rank)
+        free = [name for name in names.buffers if name not in names.lent]
+        if free and self.random.random() < 0.5:
+            return self.random.choice(free)
+        return self.a_buffer(rank)
+
+    # Calls.
+
+    def set_buffer(self):
+        self.a_buffer(self.a_rank(), length=self.random.choice([0, 1, 4, 40]))
+
+    def send(self):
+        rank = self.a_rank()
+        target = rank if self.size == 1 or self.random.random() < 0.06 else self.another(rank)
+        if self.random.random() < 0.04:
+            kind = self.a_type()
+            buffer = self.a_buffer(rank, kind, 1024 // TYPES[kind][0])
+        else:
+            buffer = self.a_set_buffer(rank)
+        self.add(f"{rank} isend {self.a_name('q')} world {target} {self.a_tag()} {buffer}")
+
+    def another(self, rank):
+        if self.theme in ("window", "queues") and self.random.random() < 0.9:
+            return 0 if rank == 1 else 1
+        return self.random.choice([other for other in (self.random.randrange(self.size) for _ in range(8)) if other != rank]
+                                  or [(rank + 1) % self.size])
+
+    def receive(self):
+        """A receive: of a message that is there or on its way, mostly, and then sometimes of another type or too short."""
+        rank = self.a_rank()
+        message = self.a_message_for(rank)
+        if message is None or self.random.random() < 0.3:
+            source = ANY if self.random.random() < 0.4 else self.random.randrange(self.size)
+            tag = ANY if self.random.random() < 0.4 else self.a_tag()
+            buffer = self.a_set_buffer(rank)
+        else:
+            source = ANY if self.random.random() < 0.4 else message.source
+            tag = ANY if self.random.random() < 0.4 else message.tag
+            kind = self.a_type() if self.random.random() < 0.1 else message.type
+            longer = self.random.choices([-1, 0, 1, 2], [2, 8, 2, 1])[0]
+            buffer = self.a_buffer(rank, kind, max(0, len(message.values) + longer))
+        self.add(f"{rank} irecv {self.a_name('r')} world {source} {tag} {buffer}")
+
+    def a_message_for(self, rank):
+        messages = [self.world.datagrams[number].message for number in self.new[-30:]
+                    if self.world.datagrams[number].target == rank and self.world.datagrams[number].kind == "EAGER"]
+        messages += self.world.ranks[rank].unexpected[:5]
+        return self.random.choice(messages) if messages else None
+
+    def wait(self, rank=None):
+        """A wait: for a finished request more often than for one that blocks the rank."""
+        rank = self.a_rank() if rank is None else rank
+        requests = self.world.names_of(rank).requests
+        finished = [name for name, request in requests.items() if request is not None and request.outcome is not None]
+        receives = [name for name in finished if requests[name].values is not None]
+        waiting = [name for name, request in requests.items() if request is not None and request.outcome is None]
+        ended = [name for name, request in requests.items() if request is None]
+        pools = [(receives, 40), (finished, 20), (waiting, 14), (ended, 4), ([NULL], 2)]
+        pools = [(pool, weight) for pool, weight in pools if pool]
+        pool = self.random.choices([pool for pool, _ in pools], [weight for _, weight in pools])[0]
+        self.add(f"{rank} wait {self.random.choice(pool)}")
+
+    def unblock(self):
+        """Somebody sends what a blocked rank waits for, or what comes near it, and the network brings all of it."""
+        blocked = self.blocked_ranks()
+        if not blocked:
+            return
+        rank = self.random.choice(blocked)
+        receive = self.world.ranks[rank].blocked
+        source = self.another(rank) if receive.source == ANY and self.size > 1 else receive.source
+        if source in (rank, ANY) or self.world.ranks[source].blocked is not None:
+            self.restart_one_of(blocked)
+            return
+        tag = self.a_tag() if receive.tag == ANY or self.random.random() < 0.1 else receive.tag
+        kind = self.a_type() if self.random.random() < 0.15 else receive.type
+        shorter = self.random.choices([-1, 0, 1], [1, 6, 2])[0]
+        buffer = self.a_buffer(source, kind, min(1024 // TYPES[kind][0], max(0, len(receive.values) - shorter)))
+        if not self.is_over:
+            self.add(f"{source} isend {self.a_name('q')} world {rank} {tag} {buffer}")
+            self.bring(source, rank)
+
+    def bring(self, source, rank):
+        """Delivers what is on its way between two ranks, the oldest first."""
+        for _ in range(12):
+            here = [number for number in self.new
+                    if {self.world.datagrams[number].source, self.world.datagrams[number].target} == {source, rank}]
+            if not here or self.is_over:
+                return
+            self.new.remove(here[0])
+            self.deliver(here[0])
+
+    def restart_one_of(self, blocked):
+        """Nobody can send to a rank that waits for itself, or for one that is blocked: one of them is started anew."""
+        if self.random.random() < 0.15:
+            self.add(f"restart {self.random.choice(blocked)}")
+
+    def is_owed(self, rank):
+        """Whether a request of this rank has a name and is finished."""
+        return any(request is not None and request.outcome is not None for request in self.world.names_of(rank).requests.values())
+
+    def rename(self):
+        """A request's name that is set again while its receive isn't answered."""
+        rank = self.a_rank()
+        open_names = [name for name, request in self.world.names_of(rank).requests.items() if request is not None]
+        if open_names:
+            buffer = self.a_set_buffer(rank)
+            what = self.random.choice(["irecv", "isend"])
+            self.add(f"{rank} {what} {self.random.choice(open_names)} world {self.random.randrange(self.size)} 1 {buffer}")
+
+    def refused_call(self):
+        """A call with a fault, or with several."""
+        rank = self.a_rank()
+        blocked = self.blocked_ranks()
+        if blocked and self.random.random() < 0.4:
+            rank = self.random.choice(blocked)
+        kind = self.random.choice(["long", "tag", "tag", "rank", "rank", "several", "absent", "plain"])
+        target, tag = self.random.randrange(self.size), self.a_tag()
+        length = None
+        if kind in ("tag", "several"):
+            tag = self.random.choice([2**31, 2**31 + 7, 2**32 + 7, 2**64 + 1, 10**30])
+        if kind in ("rank", "several"):
+            target = self.random.choice([self.size, self.size + 1, 256, 257, 2**16, 2**32, 2**64, 10**25, NULL])
+        if kind == "absent":
+            rank = self.random.choice([self.size, self.size + 3, 256, 2**32])
+        sends = self.random.random() < 0.55
+        if sends and (kind == "long" or (kind == "several" and self.random.random() < 0.3)):
+            length = self.random.choice([1024, 1025, 1100, 2000])
+        buffer = self.a_buffer(rank, "uint8" if length else None, length)
+        if sends:
+            if kind == "tag" and self.random.random() < 0.4:
+                tag = ANY
+            self.add(f"{rank} isend {self.a_name('q')} world {target} {tag} {buffer}")
+        elif kind == "absent" and self.random.random() < 0.3:
+            self.add(f"{rank} wait {NULL}")
+        else:
+            self.add(f"{rank} irecv {self.a_name('r')} world {target} {tag} {buffer}")
+
+    # Events.
+
+    def deliver(self, number):
+        self.add(f"deliver {number}")
+
+    def deliver_new(self):
+        """A datagram that is on its way: the oldest one, mostly."""
+        if self.new:
+            place = 0 if self.random.random() < 0.75 else self.random.randrange(len(self.new))
+            self.deliver(self.new.pop(place))
+
+    def deliver_any(self):
+        """Any datagram of the last ones, which may have been delivered before."""
+        count = len(self.world.datagrams)
+        if count:
+            self.deliver(self.random.randrange(max(0, count - 12), count))
+
+    def deliver_late(self):
+        """Any datagram at all."""
+        if self.world.datagrams:
+            self.deliver(self.random.randrange(len(self.world.datagrams)))
+
+    def lose(self):
+        if self.new:
+            self.new.pop(self.random.randrange(len(self.new)))
+
+    def tick(self):
+        rank = self.a_rank()
+        step = self.random.choices([0, 1, 19, 20, 21, 40, 10**6], [1, 2, 3, 6, 2, 1, 0.2])[0]
+        self.add(f"tick {rank} {min(self.world.ranks[rank].clock + step, reading.LARGEST_TIME)}")
+
+    def restart(self):
+        self.add(f"restart {self.a_rank()}")
+
+    def stray(self):
+        rank = self.random.randrange(self.size + 1) if self.random.random() < 0.1 else self.a_rank()
+        self.add(f"stray {rank} {strays.a_stray(self.random, self.size).hex()}")
+
+    def refused_event(self):
+        """An event at a rank or of a datagram that isn't there, or a clock that goes back."""
+        absent = self.random.choice([self.size, self.size + 1, 256, 2**16, 2**32, 2**64])
+        kind = self.random.choice(["restart", "tick", "deliver", "clock", "clock"])
+        rank = self.a_rank()
+        clock = self.world.ranks[rank].clock
+        if kind == "restart":
+            self.add(f"restart {absent}")
+        elif kind == "tick":
+            self.add(f"tick {absent} {self.random.choice([0, 20, reading.LARGEST_TIME])}")
+        elif kind == "deliver":
+            self.add(f"deliver {self.random.choice([len(self.world.datagrams), 2**32, 2**64, 10**40])}")
+        elif clock > 0:
+            self.add(f"tick {rank} {self.random.choice([0, clock - 1, self.random.randrange(clock)])}")
+
+
+def fill_window(maker):
+    """More sends of one rank to another than are out at one time."""
+    buffer = maker.a_buffer(0, "int32", 1)
+    count = maker.random.choice([64, 65, 66, 90, 130, 200])
+    for number in range(count):
+        maker.add(f"0 isend q{number} world 1 {number % 5} {buffer}")
+        if maker.random.random() < 0.1:
+            maker.a_line()
+    for _ in range(maker.random.choice([0, 3, 40])):
+        maker.deliver_new()
+
+
+def fill_queues(maker):
+    """Many receives that wait, or many messages."""
+    count = maker.random.choice([30, 65, 70, 100])
+    if maker.random.random() < 0.5:
+        for _ in range(count):
+            maker.a_buffer(1, "int32", 1)
+            buffer = next(reversed(maker.world.names_of(1).buffers))
+            if buffer in maker.world.names_of(1).lent:
+                continue
+            source = maker.random.choice([ANY, 0, 0, 1])
+            maker.add(f"1 irecv {maker.a_name('r')} world {source} {maker.random.choice(TAGS + [ANY])} {buffer}")
+    else:
+        buffer = maker.a_buffer(0, "int32", 1)
+        for number in range(count):
+            maker.add(f"0 isend q{number} world 1 {maker.random.choice(TAGS)} {buffer}")
+            maker.deliver_new()
+            if maker.random.random() < 0.9:
+                maker.deliver_new()
+
+
+def finish(maker):
+    """Delivers what is on its way, and waits for what is finished, so that most outcomes are seen."""
+    for _ in range(min(60, len(maker.new))):
+        maker.deliver_new()
+    for rank in range(min(maker.size, 8)):
+        for _ in range(4):
+            if maker.world.ranks[rank].blocked is None and maker.is_owed(rank):
+                maker.wait(rank)
+    for _ in range(2):
+        maker.unblock()
+
+
+def a_world(random):
+    """The bytes of a file whose lines are all well formed."""
+    theme = random.choices(list(THEMES), [weight for weight, _ in THEMES.values()])[0]
+    maker = Maker(random, theme)
+    if theme == "window":
+        fill_window(maker)
+    if theme == "queues":
+        fill_queues(maker)
+    for _ in range(random.choice([5, 20, 40, 80, 120])):
+        if not maker.is_over:
+            maker.a_line()
+    if not maker.is_over:
+        finish(maker)
+    return maker.text()

@@ -1,0 +1,245 @@
+"""Reads a file of events by the rules of docs/EVENT_FILES.md, without a look at the code of `event_files`.
+
+A file is read whole before anything runs: the first line that is at fault is the answer. What a line says is kept in one
+of the small classes below, and `rules.py` says what each of them does.
+"""
+
+import re
+from dataclasses import dataclass
+
+# Each basic type by its name: its size in bytes, whether it has a sign, and its code in a frame.
+TYPES = {
+    "int8": (1, True, 1),
+    "int16": (2, True, 2),
+    "int32": (4, True, 3),
+    "int64": (8, True, 4),
+    "uint8": (1, False, 5),
+    "uint16": (2, False, 6),
+    "uint32": (4, False, 7),
+    "uint64": (8, False, 8),
+    "byte": (1, False, 9),
+}
+
+RESERVED = {"world", "self", "null"} | set(TYPES)
+NAME = re.compile(r"[a-z][a-z0-9]{0,15}")
+NUMBER = re.compile(r"0|[1-9][0-9]*")
+HEX = re.compile(r"([0-9a-f][0-9a-f])+")
+
+ANY = "any"
+NULL = "null"
+LARGEST_TIME = 2**64 - 1
+MOST_RANKS = 256
+
+
+class Refused(Exception):
+    """The file is refused with this number, at this line."""
+
+    def __init__(self, number, line):
+        super().__init__(f"refused {number} line {line}")
+        self.number = number
+        self.line = line
+
+
+class Faulty(Exception):
+    """These words are no line of a file of events."""
+
+
+@dataclass
+class SetBuffer:
+    rank: int
+    name: str
+    type: str
+    values: list
+
+
+@dataclass
+class Isend:
+    rank: int
+    request: str
+    communicator: str
+    target: object
+    tag: object
+    buffer: str
+
+
+@dataclass
+class Irecv:
+    rank: int
+    request: str
+    communicator: str
+    source: object
+    tag: object
+    buffer: str
+
+
+@dataclass
+class Wait:
+    rank: int
+    request: str
+
+
+@dataclass
+class Deliver:
+    number: int
+
+
+@dataclass
+class Tick:
+    rank: int
+    now: int
+
+
+@dataclass
+class Restart:
+    rank: int
+
+
+@dataclass
+class Stray:
+    rank: int
+    bytes: bytes
+
+
+def lowest(type_name):
+    """The lowest value of a basic type."""
+    size, signed, _ = TYPES[type_name]
+    return -(2 ** (8 * size - 1)) if signed else 0
+
+
+def highest(type_name):
+    """The highest value of a basic type."""
+    size, signed, _ = TYPES[type_name]
+    return 2 ** (8 * size - 1) - 1 if signed else 2 ** (8 * size) - 1
+
+
+def number(word):
+    """A number in decimal digits, without leading zeros and of any length."""
+    if NUMBER.fullmatch(word) is None:
+        raise Faulty
+    return int(word)
+
+
+def number_or(word, *others):
+    """A number, or one of the words that may stand in its place."""
+    return word if word in others else number(word)
+
+
+def name(word):
+    """A name of a buffer or of a request."""
+    if NAME.fullmatch(word) is None or word in RESERVED:
+        raise Faulty
+    return word
+
+
+def value(type_name, word):
+    """A value in the range of its type; only signed types have a `-`, and they have `-0` too."""
+    negative = word.startswith("-")
+    if negative and not TYPES[type_name][1]:
+        raise Faulty
+    found = -number(word[1:]) if negative else number(word)
+    if not lowest(type_name) <= found <= highest(type_name):
+        raise Faulty
+    return found
+
+
+def values(type_name, words):
+    """The values of a buffer; `N*V` stands for N copies of V."""
+    found = []
+    for word in words:
+        copies, star, one = word.partition("*")
+        if star:
+            found += [value(type_name, one)] * number(copies)
+        else:
+            found.append(value(type_name, word))
+    return found
+
+
+def statement(rank, words):
+    """What a rank is told to do."""
+    kind, rest = words[0], words[1:]
+    if kind == "buf" and len(rest) >= 2:
+        if rest[1] not in TYPES:
+            raise Faulty
+        return SetBuffer(rank, name(rest[0]), rest[1], values(rest[1], rest[2:]))
+    if kind == "isend" and len(rest) == 5:
+        request, communicator, target, tag, buffer = rest
+        return Isend(rank, name(request), a_communicator(communicator), number_or(target, NULL), number_or(tag, ANY),
+                     name(buffer))
+    if kind == "irecv" and len(rest) == 5:
+        request, communicator, source, tag, buffer = rest
+        return Irecv(rank, name(request), a_communicator(communicator), number_or(source, ANY, NULL),
+                     number_or(tag, ANY), name(buffer))
+    if kind == "wait" and len(rest) == 1:
+        return Wait(rank, rest[0] if rest[0] == NULL else name(rest[0]))
+    raise Faulty
+
+
+def a_communicator(word):
+    """`world`, `self` or a name."""
+    return word if word in ("world", "self") else name(word)
+
+
+def event(words):
+    """What a line behind the first one says."""
+    kind = words[0]
+    if kind == "deliver" and len(words) == 2:
+        return Deliver(number(words[1]))
+    if kind == "tick" and len(words) == 3:
+        now = number(words[2])
+        if now > LARGEST_TIME:
+            raise Faulty
+        return Tick(number(words[1]), now)
+    if kind == "restart" and len(words) == 2:
+        return Restart(number(words[1]))
+    if kind == "stray" and len(words) == 3:
+        if HEX.fullmatch(words[2]) is None:
+            raise Faulty
+        return Stray(number(words[1]), bytes.fromhex(words[2]))
+    if len(words) < 2:
+        raise Faulty
+    return statement(number(kind), words[1:])
+
+
+def size_of_world(words):
+    """The number of ranks, from the first line that isn't skipped."""
+    if len(words) != 2 or words[0] != "world":
+        raise Faulty
+    size = number(words[1])
+    if not 1 <= size <= MOST_RANKS:
+        raise Faulty
+    return size
+
+
+def lines_of(text):
+    """The lines of a file; the last one may lack its line feed."""
+    lines = text.split(b"\n")
+    if lines[-1] == b"":
+        lines.pop()
+    return lines
+
+
+def words_of(line):
+    """The words of one line, which has no byte but spaces and visible ASCII."""
+    if any(byte < 32 or byte > 126 for byte in line):
+        raise Faulty
+    return [word for word in line.decode("ascii").split(" ") if word]
+
+
+def read(text):
+    """The number of ranks and the events, each with its line; or `Refused` with 51 and the first faulty line."""
+    size, events = None, []
+    lines = lines_of(text)
+    for place, line in enumerate(lines, start=1):
+        try:
+            words = words_of(line)
+            if not words or words[0].startswith("#"):
+                continue
+            if size is None:
+                size = size_of_world(words)
+            else:
+                events.append((place, event(words)))
+        except Faulty:
+            raise Refused(51, place) from None
+    if size is None:
+        raise Refused(51, len(lines) + 1)
+    return size, events

@@ -1,0 +1,475 @@
+"""A plain model of what a world of ranks does: each rule as it is said in docs/EVENT_FILES.md and docs/ARCHITECTURE.md.
+
+It shares nothing with the Rattle code: one Python class for a rank, lists for its queues and its sessions, and no memory that
+could be wanting. `answer(text)` is what `mpisim` must print on a file.
+
+The rules that are narrower for now stand in constants and in functions of their own (`fault_of_send`, `fault_of_receive`,
+`is_frame`), so that they are found when a rule grows.
+"""
+
+from dataclasses import dataclass, field
+
+import reading
+from reading import ANY, NULL, TYPES
+
+JOB = 1
+MAGIC = bytes.fromhex("4d505544")
+HEADER = 32
+LONGEST_BODY = 1200
+MOST_EAGER_BYTES = 1024
+HIGHEST_TAG = 2**31 - 1
+WINDOW = 64
+RESEND_AFTER = 20
+MOST_REQUESTS = 65536
+LAST_INCARNATION = 65535
+
+
+@dataclass
+class Message:
+    """What a send puts on its way: its envelope and its elements."""
+
+    source: int
+    incarnation: int
+    tag: int
+    type: str
+    values: list
+
+
+@dataclass
+class Datagram:
+    """What an engine emitted, from one endpoint to another; only a frame has a message."""
+
+    source: int
+    source_incarnation: int
+    target: int
+    target_incarnation: int
+    kind: str
+    sequence: int
+    message: object = None
+
+    def text(self, number):
+        return (f"+{number} {self.source}.{self.source_incarnation}>{self.target}.{self.target_incarnation}"
+                f" {self.kind} {self.sequence}")
+
+
+@dataclass
+class Session:
+    """One rank's side of what passes between its endpoint and another one, in both directions."""
+
+    frames: list = field(default_factory=list)  # every message that was accepted for sending, by its sequence
+    sent_at: list = field(default_factory=list)  # when each frame that came into the window was last sent
+    lowest: int = 0  # the lowest number that isn't acknowledged
+    next: int = 0  # the number that is taken next from the other side
+
+    def fill_window(self, now):
+        """Emits what has room in the window, and gives the numbers."""
+        new = range(len(self.sent_at), min(len(self.frames), self.lowest + WINDOW))
+        self.sent_at += [now] * len(new)
+        return new
+
+    def due(self, now):
+        """The numbers of the frames that are sent again at this time."""
+        return [n for n in range(self.lowest, len(self.sent_at)) if now - self.sent_at[n] >= RESEND_AFTER]
+
+
+@dataclass
+class Request:
+    """A send or a receive that was started; `outcome` is None while it isn't finished."""
+
+    serial: int
+    outcome: object = None
+    buffer_name: object = None
+    type: object = None
+    values: object = None
+    source: object = None
+    tag: object = None
+
+
+@dataclass
+class Rank:
+    """One endpoint: what its engine holds."""
+
+    number: int
+    incarnation: int = 0
+    clock: int = 0
+    known: dict = field(default_factory=dict)  # the incarnation of each rank that isn't known at 0
+    sessions: dict = field(default_factory=dict)
+    posted: list = field(default_factory=list)  # receives that wait, the oldest first
+    unexpected: list = field(default_factory=list)  # messages that wait, the oldest first
+    requests: dict = field(default_factory=dict)
+    serials: int = 0
+    blocked: object = None  # the request that is waited for
+
+    def incarnation_of(self, rank):
+        return self.incarnation if rank == self.number else self.known.get(rank, 0)
+
+    def session(self, rank):
+        return self.sessions.setdefault(rank, Session())
+
+
+@dataclass
+class Names:
+    """What one rank's statements named. A request that was answered is None, which is the null request."""
+
+    buffers: dict = field(default_factory=dict)
+    requests: dict = field(default_factory=dict)
+    lent: set = field(default_factory=set)
+
+
+class NotSet(Exception):
+    """A name isn't set, or is that of a buffer that is lent."""
+
+
+class RefusedEvent(Exception):
+    """An event is refused with this number; with 29 a reset may go out."""
+
+    def __init__(self, number, emitted=()):
+        super().__init__(number)
+        self.number = number
+        self.emitted = emitted
+
+
+def accepts(receive, message):
+    return receive.source in (ANY, message.source) and receive.tag in (ANY, message.tag)
+
+
+def finish(receive, message):
+    """How a receive ends by the message that it was matched with (MPI 3.1, 3.2.4 and 3.3.1)."""
+    status = f"source {message.source} tag {message.tag} count {len(message.values)}"
+    if receive.type != message.type:
+        receive.outcome = f"error 2 {status}"
+    elif len(message.values) > len(receive.values):
+        receive.outcome = f"error 10 {status}"
+    else:
+        receive.outcome = status
+        receive.values = message.values + receive.values[len(message.values):]
+
+
+def text_of(request):
+    """The text of a finished request."""
+    if request.values is None:
+        return request.outcome
+    return " ".join([request.outcome, "data"] + [str(value) for value in request.values])
+
+
+def is_frame(body):
+    """Whether these bytes are a frame; for now there are only those of messages that come whole."""
+    if len(body) < 20 or body[0] != 1 or body[1] > 1 or body[3] != 0:
+        return False
+    sizes = [size for size, _, code in TYPES.values() if code == body[2]]
+    if not sizes or (body[1] == 1 and body[2] != TYPES["byte"][2]):
+        return False
+    if int.from_bytes(body[4:8], "big") > HIGHEST_TAG:
+        return False
+    length = int.from_bytes(body[16:20], "big") * sizes[0]
+    return length <= MOST_EAGER_BYTES and len(body) == 20 + length
+
+
+def fault_of_bytes(data):
+    """Why stray bytes are refused: they carry the world's job number, are no datagram, or are of another job."""
+    if data[16:24] == JOB.to_bytes(8, "big"):
+        return 63
+    if len(data) < HEADER:
+        return 21
+    if data[:4] != MAGIC:
+        return 22
+    if data[4] != 1:
+        return 23
+    if data[5] not in (1, 2, 3):
+        return 24
+    length = int.from_bytes(data[14:16], "big")
+    if length != len(data) - HEADER or length > LONGEST_BODY or (data[5] != 1 and length != 0):
+        return 25
+    if data[5] == 1 and not is_frame(data[HEADER:]):
+        return 30
+    if data[5] == 3 and any(data[24:32]):
+        return 30
+    return 26
+
+
+class World:
+    """A world of ranks, and the names of its statements."""
+
+    def __init__(self, size):
+        self.ranks = [Rank(number) for number in range(size)]
+        self.names = {}
+        self.datagrams = []
+
+    # Lines.
+
+    def line(self, event):
+        """What a line prints; `NotSet` where a name isn't set when it is reached."""
+        done = getattr(self, "on_" + type(event).__name__.lower())
+        try:
+            answer, emitted, completion = done(event)
+        except RefusedEvent as refused:
+            answer, emitted, completion = f"refused {refused.number}", refused.emitted, None
+        if answer is None:
+            return []
+        lines = [answer]
+        for datagram in emitted:
+            lines.append(datagram.text(len(self.datagrams)))
+            self.datagrams.append(datagram)
+        return lines + ([completion] if completion else [])
+
+    def names_of(self, rank):
+        return self.names.setdefault(rank, Names())
+
+    def buffer(self, event):
+        """The buffer that a statement uses, which is set and not lent."""
+        names = self.names_of(event.rank)
+        if event.buffer not in names.buffers or event.buffer in names.lent:
+            raise NotSet
+        return names.buffers[event.buffer]
+
+    def rank(self, number):
+        if number >= len(self.ranks):
+            raise RefusedEvent(61)
+        return self.ranks[number]
+
+    def caller(self, number):
+        """The rank of a call: it is there, and no earlier call of it is blocked."""
+        rank = self.rank(number)
+        if rank.blocked is not None:
+            raise RefusedEvent(6)
+        return rank
+
+    # Calls.
+
+    def on_setbuffer(self, event):
+        names = self.names_of(event.rank)
+        if event.name in names.lent:
+            raise NotSet
+        names.buffers[event.name] = (event.type, event.values)
+        return None, [], None
+
+    def on_isend(self, event):
+        kind, values = self.buffer(event)
+        if event.communicator != "world":
+            raise NotSet
+        rank = self.caller(event.rank)
+        self.check(self.fault_of_send(event, kind, values))
+        request = self.start(rank)
+        request.outcome = "sent"
+        self.names_of(event.rank).requests[event.request] = request
+        message = Message(rank.number, rank.incarnation, event.tag, kind, values)
+        emitted = []
+        if event.target == rank.number:
+            self.arrive(rank, message)
+        else:
+            session = rank.session(event.target)
+            session.frames.append(message)
+            emitted = self.frames(rank, event.target, session.fill_window(rank.clock))
+        return f"request {request.serial}", emitted, None
+
+    def on_irecv(self, event):
+        kind, values = self.buffer(event)
+        if event.communicator != "world":
+            raise NotSet
+        rank = self.caller(event.rank)
+        self.check(self.fault_of_receive(event))
+        request = self.start(rank)
+        request.buffer_name, request.type, request.values = event.buffer, kind, values
+        request.source, request.tag = event.source, event.tag
+        names = self.names_of(event.rank)
+        names.requests[event.request] = request
+        names.lent.add(event.buffer)
+        self.post(rank, request)
+        return f"request {request.serial}", [], None
+
+    def on_wait(self, event):
+        names = self.names_of(event.rank)
+        if event.request != NULL and event.request not in names.requests:
+            raise NotSet
+        request = None if event.request == NULL else names.requests[event.request]
+        rank = self.caller(event.rank)
+        if request is None:
+            return "source any tag any count 0", [], None
+        if request.outcome is None:
+            rank.blocked = request
+            return "blocked", [], None
+        return self.hand_out(rank, request), [], None
+
+    def fault_of_send(self, event, kind, values):
+        if len(values) * TYPES[kind][0] > MOST_EAGER_BYTES:
+            return 1
+        if event.tag == ANY or event.tag > HIGHEST_TAG:
+            return 3
+        if event.target == NULL or event.target >= len(self.ranks):
+            return 5
+        return 13 if self.is_full(event.rank) else None
+
+    def fault_of_receive(self, event):
+        if event.tag != ANY and event.tag > HIGHEST_TAG:
+            return 3
+        if event.source == NULL or (event.source != ANY and event.source >= len(self.ranks)):
+            return 5
+        return 13 if self.is_full(event.rank) else None
+
+    def is_full(self, rank):
+        return len(self.ranks[rank].requests) == MOST_REQUESTS
+
+    @staticmethod
+    def check(fault):
+        if fault is not None:
+            raise RefusedEvent(fault)
+
+    @staticmethod
+    def start(rank):
+        request = Request(rank.serials)
+        rank.serials += 1
+        rank.requests[request.serial] = request
+        return request
+
+    def hand_out(self, rank, request):
+        """Answers a finished request, whose name is null from now on and whose buffer comes back."""
+        del rank.requests[request.serial]
+        names = self.names_of(rank.number)
+        for name in [name for name, named in names.requests.items() if named is request]:
+            names.requests[name] = None
+        if request.buffer_name is not None:
+            names.lent.discard(request.buffer_name)
+            names.buffers[request.buffer_name] = (request.type, request.values)
+        return text_of(request)
+
+    # Matching: the oldest that fits (MPI 3.1, 3.5).
+
+    @staticmethod
+    def post(rank, receive):
+        for place, message in enumerate(rank.unexpected):
+            if accepts(receive, message):
+                del rank.unexpected[place]
+                finish(receive, message)
+                return
+        rank.posted.append(receive)
+
+    @staticmethod
+    def arrive(rank, message):
+        for place, receive in enumerate(rank.posted):
+            if accepts(receive, message):
+                del rank.posted[place]
+                finish(receive, message)
+                return
+        rank.unexpected.append(message)
+
+    # The network.
+
+    def on_tick(self, event):
+        rank = self.rank(event.rank)
+        if event.now < rank.clock:
+            raise RefusedEvent(41)
+        rank.clock = event.now
+        emitted = []
+        for other in sorted(rank.sessions):
+            session = rank.sessions[other]
+            due = session.due(event.now)
+            for number in due:
+                session.sent_at[number] = event.now
+            emitted += self.frames(rank, other, due)
+        return "ok", emitted, None
+
+    def on_restart(self, event):
+        rank = self.rank(event.rank)
+        if rank.incarnation == LAST_INCARNATION:
+            raise RefusedEvent(13)
+        self.ranks[event.rank] = Rank(event.rank, rank.incarnation + 1)
+        self.names.pop(event.rank, None)
+        return "ok", [], None
+
+    def on_stray(self, event):
+        self.rank(event.rank)
+        raise RefusedEvent(fault_of_bytes(event.bytes))
+
+    def on_deliver(self, event):
+        if event.number >= len(self.datagrams):
+            raise RefusedEvent(62)
+        datagram = self.datagrams[event.number]
+        rank = self.ranks[datagram.target]
+        known = rank.incarnation_of(datagram.source)
+        if datagram.source_incarnation < known:
+            raise RefusedEvent(28)
+        if datagram.target_incarnation < rank.incarnation:
+            raise RefusedEvent(29, self.reset_for(rank, datagram))
+        learns = datagram.source_incarnation > known
+        session = Session() if learns else rank.session(datagram.source)
+        self.check(self.fault_of_sequence(session, datagram))
+        if learns:
+            self.learn(rank, datagram.source, datagram.source_incarnation)
+        emitted = self.handle(rank, datagram)
+        return "ok", emitted, self.wake(rank)
+
+    @staticmethod
+    def fault_of_sequence(session, datagram):
+        """A frame behind the next one, and an acknowledgement of what wasn't sent, are outside the window."""
+        if datagram.kind == "EAGER" and datagram.sequence > session.next:
+            return 31
+        if datagram.kind == "ACK" and datagram.sequence > len(session.sent_at):
+            return 31
+        return None
+
+    @staticmethod
+    def reset_for(rank, datagram):
+        """What goes out where a datagram is for a former incarnation; none answers a reset."""
+        if datagram.kind == "RESET":
+            return []
+        return [Datagram(rank.number, rank.incarnation, datagram.source, datagram.source_incarnation, "RESET", 0)]
+
+    @staticmethod
+    def learn(rank, other, incarnation):
+        """The other rank was started anew: what was under way between the two is over."""
+        rank.known[other] = incarnation
+        rank.sessions[other] = Session()
+        for receive in [receive for receive in rank.posted if receive.source == other]:
+            receive.outcome = "error 11"
+            rank.posted.remove(receive)
+        rank.unexpected = [message for message in rank.unexpected
+                           if message.source != other or message.incarnation == incarnation]
+
+    def handle(self, rank, datagram):
+        """Takes a datagram in that is neither refused nor late, and gives what goes out."""
+        session = rank.session(datagram.source)
+        if datagram.kind == "EAGER":
+            if datagram.sequence == session.next:
+                session.next += 1
+                self.arrive(rank, datagram.message)
+            return [self.to(rank, datagram.source, "ACK", session.next)]
+        if datagram.kind == "ACK":
+            session.lowest = max(session.lowest, datagram.sequence)
+            return self.frames(rank, datagram.source, session.fill_window(rank.clock))
+        return []
+
+    def wake(self, rank):
+        """Answers the blocked call of a rank once its request is finished."""
+        request = rank.blocked
+        if request is None or request.outcome is None:
+            return None
+        rank.blocked = None
+        return f"{rank.number} {self.hand_out(rank, request)}"
+
+    @staticmethod
+    def to(rank, other, kind, sequence, message=None):
+        return Datagram(rank.number, rank.incarnation, other, rank.incarnation_of(other), kind, sequence, message)
+
+    def frames(self, rank, other, numbers):
+        frames = rank.session(other).frames
+        return [self.to(rank, other, "EAGER", number, frames[number]) for number in numbers]
+
+
+def answer(text):
+    """What `mpisim` must do with a file of these bytes: its output, its standard error and its status."""
+    printed = []
+    try:
+        size, events = reading.read(text)
+        world = World(size)
+        for line, event in events:
+            try:
+                printed += world.line(event)
+            except NotSet:
+                raise reading.Refused(51, line) from None
+    except reading.Refused as refused:
+        return lines(printed), f"mpisim: refused {refused.number} line {refused.line}\n".encode(), 1
+    return lines(printed), b"", 0
+
+
+def lines(printed):
+    return "".join(line + "\n" for line in printed).encode()

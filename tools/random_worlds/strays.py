@@ -1,0 +1,111 @@
+"""Makes stray bytes: datagrams of another job, and what is left when one or two of their fields are spoilt."""
+
+from reading import TYPES
+
+
+def header(random, size, kind, body):
+    """A header of another job, whose other fields an engine could have written."""
+    return b"".join([
+        bytes.fromhex("4d505544"),
+        bytes([1, kind]),
+        random.randrange(size).to_bytes(2, "big"),
+        random.randrange(size).to_bytes(2, "big"),
+        random.randrange(2).to_bytes(2, "big"),
+        random.randrange(2).to_bytes(2, "big"),
+        len(body).to_bytes(2, "big"),
+        random.choice([0, 2, 256, 2**32 + 1, 2**64 - 1]).to_bytes(8, "big"),
+        (0 if kind == 3 else random.choice([0, 1, 2**64 - 1])).to_bytes(8, "big"),
+    ])
+
+
+def a_frame(random):
+    """A frame of a message that comes whole: of a rank's calls, or of a collective."""
+    plane = random.choice([0, 0, 1])
+    kind = "byte" if plane == 1 else random.choice(list(TYPES))
+    size, _, code = TYPES[kind]
+    count = random.choice([0, 1, 3, 1024 // size])
+    return frame(random, plane, code, count) + random.randbytes(count * size)
+
+
+def frame(random, plane, code, count, tag=None):
+    tag = random.choice([0, 7, 2**31 - 1]) if tag is None else tag
+    return bytes([1, plane, code, 0]) + tag.to_bytes(4, "big") + bytes(8) + count.to_bytes(4, "big")
+
+
+def a_bad_frame(random):
+    """A body that is no frame that is taken."""
+    good = a_frame(random)
+    kind = random.randrange(12)
+    if kind == 0:
+        return b""
+    if kind == 1:
+        return good[:random.randrange(20)]
+    if kind == 2:
+        return bytes([random.choice([0, 5, 255])]) + good[1:]
+    if kind == 3:
+        return good[:1] + bytes([random.choice([2, 255])]) + good[2:]
+    if kind == 4:
+        return good[:2] + bytes([random.choice([0, 10, 255])]) + good[3:]
+    if kind == 5:
+        return good[:3] + bytes([random.choice([1, 255])]) + good[4:]
+    if kind == 6:
+        return good[:4] + (2**31 + random.choice([0, 5])).to_bytes(4, "big") + good[8:]
+    if kind == 7:
+        return good + bytes(random.choice([1, 8]))
+    if kind == 8:
+        return frame(random, 0, 5, 1025) + bytes(1025)
+    if kind == 9:
+        return frame(random, 1, 3, 2) + bytes(8)
+    if kind == 10:
+        return frame(random, 0, 8, random.choice([2**29, 2**32 - 1])) + bytes(8)
+    return a_later_frame(random)
+
+
+def a_later_frame(random):
+    """A frame of a message whose data come apart: none is taken for now."""
+    kind = random.randrange(3)
+    if kind == 0:
+        return b"\x02\x00\x05\x00" + bytes(12) + (1025).to_bytes(4, "big") + bytes(4)
+    if kind == 1:
+        return bytes([3, random.randrange(2), 0, 0]) + bytes(4)
+    return b"\x04\x00\x00\x00" + bytes(8) + bytes(random.choice([1, 1024]))
+
+
+def a_datagram(random, size):
+    kind = random.choice([1, 1, 2, 3])
+    body = a_frame(random) if kind == 1 else b""
+    return header(random, size, kind, body) + body
+
+
+def a_stray(random, size):
+    """Bytes with no fault but their job, or with a few faults; never empty."""
+    data = a_datagram(random, size)
+    for _ in range(random.choice([0, 1, 1, 1, 2])):
+        data = spoilt(random, size, data)
+    return data or b"\x4d"
+
+
+def spoilt(random, size, data):
+    kind = random.randrange(10)
+    if kind == 0:
+        return data[:random.choice([1, 4, 16, 23, 24, 31, max(1, len(data) - 1)])]
+    if kind == 1:
+        place = random.randrange(4)
+        return data[:place] + bytes([random.randrange(256)]) + data[place + 1:]
+    if kind == 2:
+        return data[:4] + bytes([random.choice([0, 2, 255])]) + data[5:]
+    if kind == 3:
+        return data[:5] + bytes([random.choice([0, 1, 2, 3, 4, 255])]) + data[6:]
+    if kind == 4:
+        return data[:14] + random.choice([0, 1, 1200, 1201, len(data)]).to_bytes(2, "big") + data[16:]
+    if kind == 5:
+        return data + bytes(random.choice([1, 5, 1200]))
+    if kind == 6:
+        return data[:16] + (1).to_bytes(8, "big") + data[24:]
+    if kind == 7:
+        return data[:24] + random.choice([1, 2**63]).to_bytes(8, "big") + data[32:]
+    if kind == 8:
+        body = a_bad_frame(random)
+        return header(random, size, 1, body) + body
+    length = random.choice([1200, 1201])
+    return header(random, size, 1, bytes(length)) + bytes(length)
