@@ -4,4 +4,3 @@ pub mod SpanLaws
 pub mod TransferLaws
 pub mod PieceLaws
 pub mod PlaceLaws
-pub mod FoldLaws

@@ -21,10 +21,10 @@ use Rattle.requests.specs.declared.table.Progress.{Progress}
 use Rattle.requests.specs.declared.table.Progress.TheVariants.{Receiving, Finished}
 use Rattle.requests.specs.declared.table.Request.{Request}
 use Rattle.requests.specs.Table.{progress_at}
-use Rattle.engine.specs.declared.refused.Refused.{Refused}
+use Rattle.rank_core.specs.declared.refused.Refused.{Refused}
 use Rattle.engine.specs.EngineState.{EngineState, knowledge}
 use Rattle.engine.specs.Learning.{met, learned}
-use Rattle.engine.specs.Peers.{peer_at}
+use Rattle.sessions.specs.Peers.{peer_at}
 use Rattle.engine.specs.Waiting.{woken, woken_at, woken_by}
 use Rattle.engine.specs.Datagrams.{handed_up, message_of, EagerGivesAt, BodyGives, FirstWordGives, StaleGives, JudgedGives, TextGives, DatagramGives, SourceIsKnown}
 
@@ -72,17 +72,17 @@ first_knows old new h (EagerBody t) x g =
 -- ---- what is learnt
 
 -- the source is where it is known
-is_current : (old : EngineState) (h : Header) → judgement (knowledge old) h ≡ Ok Current →
+pub is_current : (old : EngineState) (h : Header) → judgement (knowledge old) h ≡ Ok Current →
     slice_index old.known h.source.rank ≡ h.source.incarnation
 unfolding judgement
 is_current old h current = grind (arith, common_steps, current)
 
 -- the source is above where it is known
-record IsLater (old : EngineState) (h : Header) : Type 0 where
-  there : h.source.rank < old.place.size
-  above : slice_index old.known h.source.rank < h.source.incarnation
+pub record IsLater (old : EngineState) (h : Header) : Type 0 where
+  pub there : h.source.rank < old.place.size
+  pub above : slice_index old.known h.source.rank < h.source.incarnation
 
-is_later : (old : EngineState) (h : Header) (i : ℕ) → judgement (knowledge old) h ≡ Ok (Learn i) → IsLater old h
+pub is_later : (old : EngineState) (h : Header) (i : ℕ) → judgement (knowledge old) h ≡ Ok (Learn i) → IsLater old h
 unfolding judgement
 is_later old h i learn =
     record { there = grind (arith, common_steps, learn); above = grind (arith, common_steps, learn) }

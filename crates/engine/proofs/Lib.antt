@@ -1,3 +1,6 @@
-pub mod PeerLemmas
-pub mod FirstWords
 pub mod Heard
+pub mod Joining
+pub mod Current
+pub mod Anew
+pub mod Judged
+pub mod CallLemmas

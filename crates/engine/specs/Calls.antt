@@ -1,15 +1,13 @@
 -- What a call does to the engine.
 use Rattle.std.specs.Prelude.{◌≡◌, Option, Some, None, Ok, Err}
-use Rattle.vocabulary.specs.BasicTypes.{size_of}
-use Rattle.datatypes.specs.Contents.{AreWithin}
 use Rattle.requests.specs.declared.table.Request.{Request}
-use Rattle.engine.specs.declared.call.Send.{Send}
-use Rattle.engine.specs.declared.call.Receive.{Receive}
-use Rattle.engine.specs.declared.call.Call.{Call}
-use Rattle.engine.specs.declared.call.Call.TheVariants as calls
-use Rattle.engine.specs.declared.call.Reply.{Reply}
-use Rattle.engine.specs.declared.call.Reply.TheVariants as replies
-use Rattle.engine.specs.declared.refused.Refused.TheVariants as refusals
+use Rattle.rank_core.specs.declared.call.Send.{Send}
+use Rattle.rank_core.specs.declared.call.Receive.{Receive}
+use Rattle.rank_core.specs.declared.call.Call.{Call}
+use Rattle.rank_core.specs.declared.call.Call.TheVariants as calls
+use Rattle.rank_core.specs.declared.call.Reply.{Reply}
+use Rattle.rank_core.specs.declared.call.Reply.TheVariants as replies
+use Rattle.rank_core.specs.declared.refused.Refused.TheVariants as refusals
 use Rattle.requests.specs.declared.outcome.Outcome.TheVariants as outcomes
 use Rattle.engine.specs.EngineState.{EngineState}
 use Rattle.engine.specs.Sending.{SendGives}
@@ -60,9 +58,3 @@ IsTaken (replies.Refused e back) = ⊥
 IsTaken (replies.Started r) = Unit {0}
 IsTaken (replies.Done o) = Unit {0}
 IsTaken replies.Blocked = Unit {0}
-
--- each element that a call hands in has the width of its type
-abbrev pub IsWithin : Call → Type 0
-IsWithin (calls.Isend s) = AreWithin (size_of s.elements.basic) s.elements.values
-IsWithin (calls.Irecv v) = Unit {0}
-IsWithin (calls.Wait q) = Unit {0}

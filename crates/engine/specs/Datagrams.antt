@@ -10,7 +10,7 @@ use Rattle.datagram.specs.declared.refused.Refused as lower
 use Rattle.datagram.specs.declared.kinds.Plane.{Plane}
 use Rattle.datagram.specs.declared.kinds.Plane.TheVariants.{PointToPoint, Collective}
 use Rattle.datagram.specs.declared.datagram.Header.{Header}
-use Rattle.datagram.specs.Spelling.{EagerText, BodyText, EagerBody, AckBody, ResetBody, DatagramText, spelling}
+use Rattle.datagram.specs.Spelling.{EagerText, BodyText, EagerBody, AckBody, ResetBody, DatagramText}
 use Rattle.datagram.specs.Reading.{datagram_of}
 use Rattle.match_queues.specs.declared.envelope.Message.{Message}
 use Rattle.match_queues.specs.State.{after_arrival}
@@ -18,29 +18,19 @@ use Rattle.match_queues.specs.Arrivals.{arrival_of}
 use Rattle.reliable_link.specs.SenderState.{SenderState, out_end, after_ack, entered_on_ack}
 use Rattle.incarnation.specs.declared.judgement.Judgement.{Judgement}
 use Rattle.incarnation.specs.declared.judgement.Judgement.TheVariants.{Current, Learn}
-use Rattle.incarnation.specs.declared.place.Place.{Place}
 use Rattle.incarnation.specs.declared.refused.Refused as judging
 use Rattle.incarnation.specs.declared.refused.Refused.TheVariants as judgings
 use Rattle.incarnation.specs.Judging.{judgement}
-use Rattle.engine.specs.declared.refused.Refused.{Refused}
-use Rattle.engine.specs.declared.refused.Refused.TheVariants as refusals
-use Rattle.engine.specs.Refusals.{of_datagram, of_judging, IsRefusal}
-use Rattle.engine.specs.EngineState.{EngineState, knowledge, known_endpoint}
+use Rattle.rank_core.specs.declared.refused.Refused.{Refused}
+use Rattle.rank_core.specs.declared.refused.Refused.TheVariants as refusals
+use Rattle.rank_core.specs.Refusals.{of_datagram, of_judging, IsRefusal}
+use Rattle.engine.specs.EngineState.{EngineState, knowledge}
+use Rattle.sessions.specs.SessionsState.{known_endpoint}
 use Rattle.engine.specs.Learning.{met}
-use Rattle.engine.specs.Peers.{peer_at, with_sender, with_receiver, frames_out}
-use Rattle.engine.specs.Sending.{header_to}
-use Rattle.engine.specs.Receiving.{slots_on_arrival}
+use Rattle.sessions.specs.Peers.{peer_at, with_sender, with_receiver, frames_out}
+use Rattle.sessions.specs.Spellings.{ack_bytes, reset_bytes}
+use Rattle.rank_core.specs.Receiving.{slots_on_arrival}
 use Rattle.engine.specs.Waiting.{woken}
-
--- WHAT GOES OUT
-
--- an acknowledgement of all frames of an endpoint below n
-unfoldable pub ack_bytes : Place → Endpoint → ℕ → List ℕ
-ack_bytes p target n = spelling (record { header = header_to p target n; body = AckBody })
-
--- a reset, which tells an endpoint at which incarnation the rank is now
-unfoldable pub reset_bytes : Place → Endpoint → List ℕ
-reset_bytes p target = spelling (record { header = header_to p target 0; body = ResetBody })
 
 -- AN ACKNOWLEDGEMENT
 

@@ -1,14 +1,15 @@
--- What a rank's engine holds.
-use Rattle.std.specs.Prelude.{ℕ, List, [], Option, None, slice_index}
-use Rattle.vocabulary.specs.declared.endpoint.Endpoint.{Endpoint}
+-- What a rank's engine holds: a core and its sessions, seen as one.
+use Rattle.std.specs.Prelude.{ℕ, List, [], Option, None}
 use Rattle.incarnation.specs.declared.place.Place.{Place}
 use Rattle.incarnation.specs.Knowing as knowing
 use Rattle.match_queues.specs.State.{State}
 use Rattle.requests.specs.declared.table.Entry.{Entry}
 use Rattle.requests.specs.declared.table.Request.{Request}
 use Rattle.requests.specs.declared.outcome.Outcome.{Outcome}
-use Rattle.engine.specs.declared.peers.Peer.{Peer}
-use Rattle.engine.specs.Peers.{new_peers}
+use Rattle.rank_core.specs.CoreState.{CoreState}
+use Rattle.sessions.specs.declared.peers.Peer.{Peer}
+use Rattle.sessions.specs.Peers.{new_peers}
+use Rattle.sessions.specs.SessionsState.{SessionsState}
 
 -- the engine of one rank: where it stands, what it knows, and what is pending
 pub record EngineState : Type 0 where
@@ -47,6 +48,34 @@ opening p = record {
 abbrev pub knowledge : EngineState → knowing.Knowledge
 knowledge e = record { place = e.place; known = e.known }
 
--- a rank at the incarnation at which it is known
-abbrev pub known_endpoint : (known : List ℕ) → (rank : ℕ) → Endpoint
-known_endpoint known rank = record { rank = rank; incarnation = slice_index known rank }
+-- THE TWO HALVES
+
+-- what its core holds
+abbrev pub core_of : EngineState → CoreState
+core_of e = record {
+  place = e.place;
+  queues = e.queues;
+  slots = e.slots;
+  serial = e.serial;
+  blocked = e.blocked;
+  completion = e.completion;
+}
+
+-- what its sessions hold
+abbrev pub sessions_of : EngineState → SessionsState
+sessions_of e = record { place = e.place; known = e.known; peers = e.peers; clock = e.clock; out = e.out }
+
+-- the engine of a core and its sessions, which stand at the same place
+abbrev pub joined : CoreState → SessionsState → EngineState
+joined c s = record {
+  place = s.place;
+  known = s.known;
+  queues = c.queues;
+  slots = c.slots;
+  serial = c.serial;
+  peers = s.peers;
+  clock = s.clock;
+  blocked = c.blocked;
+  out = s.out;
+  completion = c.completion;
+}

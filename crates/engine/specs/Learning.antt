@@ -4,7 +4,7 @@ use Rattle.vocabulary.specs.declared.endpoint.Endpoint.{Endpoint}
 use Rattle.match_queues.specs.State.{after_drop, keys_naming}
 use Rattle.requests.specs.Table.{after_replaces}
 use Rattle.engine.specs.EngineState.{EngineState}
-use Rattle.engine.specs.Peers.{with_new_session}
+use Rattle.sessions.specs.Peers.{with_new_session}
 
 -- The rank is known at this incarnation. Both directions of the session start anew; receives that name the rank end, their
 -- buffers as they were; messages from former incarnations that were not received are dropped

@@ -1,7 +1,5 @@
 pub mod Refusals
 pub mod Places
-pub mod Invariant
-pub mod Peers
 pub mod EngineState
 pub mod Sessions
 pub mod Receiving
@@ -11,6 +9,7 @@ pub mod Learning
 pub mod Calls
 pub mod Datagrams
 pub mod Ticks
+pub mod Halves
 pub use Rattle.datagram.specs.Spelling
 pub use Rattle.datagram.specs.Reading
 pub use Rattle.match_queues.specs.State

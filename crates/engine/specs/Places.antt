@@ -1,9 +1,10 @@
 -- Where an engine may stand.
-use Rattle.std.specs.Prelude.{Option, Some, None, nat_le, nat_lt, if◌then◌else◌}
+use Rattle.std.specs.Prelude.{Option}
 use Rattle.incarnation.specs.declared.place.Place.{Place}
-use Rattle.engine.specs.declared.refused.Refused.{Refused}
-use Rattle.engine.specs.declared.refused.Refused.TheVariants.{Rank, Limit}
+use Rattle.rank_core.specs.declared.refused.Refused.{Refused}
+use Rattle.sessions.specs.Places as lower
+use Rattle.engine.specs.Refusals.{fault_of_sessions}
 
 -- a rank below the size, among at most 256
 abbrev pub place_fault : Place → Option Refused
-place_fault p = if nat_le p.size p.endpoint.rank then Some Rank else (if nat_lt 256 p.size then Some Limit else None)
+place_fault p = fault_of_sessions (lower.place_fault p)

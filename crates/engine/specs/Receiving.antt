@@ -1,37 +1,15 @@
 -- What a receive does to the engine (MPI 3.1, 3.2.4 and 3.7).
-use Rattle.std.specs.Prelude.{◌≡◌, ℕ, ◌+◌, nat_le, nat_lt, Bool, true, false, List, Option, Some, None, Result, Ok, Err, length, if◌then◌else◌}
-use Rattle.vocabulary.specs.declared.envelope.Source.{Source}
-use Rattle.vocabulary.specs.declared.envelope.Source.TheVariants as sources
-use Rattle.vocabulary.specs.declared.envelope.Status.{Status}
-use Rattle.datatypes.specs.Contents.{Contents}
-use Rattle.match_queues.specs.declared.envelope.Receive as posted
-use Rattle.match_queues.specs.declared.envelope.Message.{Message}
-use Rattle.match_queues.specs.declared.queues.Arrival.{Arrival}
-use Rattle.match_queues.specs.declared.queues.Arrival.TheVariants.{Kept, Matched}
+use Rattle.std.specs.Prelude.{◌≡◌, ◌+◌, Option, Some, None, Result, Ok, Err, if◌then◌else◌}
 use Rattle.match_queues.specs.State.{message_at, message_for, after_post}
-use Rattle.requests.specs.declared.table.Entry.{Entry}
 use Rattle.requests.specs.declared.table.Request.{Request}
-use Rattle.requests.specs.declared.table.Progress.{Progress}
-use Rattle.requests.specs.declared.table.Progress.TheVariants.{Receiving, Finished}
-use Rattle.requests.specs.Outcomes.{outcome_of}
-use Rattle.requests.specs.Table.{slot_at, IsSet, after_finish, is_full}
-use Rattle.engine.specs.declared.call.Receive.{Receive}
-use Rattle.engine.specs.declared.call.Handed.{Handed}
-use Rattle.engine.specs.declared.refused.Refused.{Refused}
-use Rattle.engine.specs.declared.refused.Refused.TheVariants as refusals
-use Rattle.engine.specs.Refusals.{IsRefusal}
+use Rattle.requests.specs.Table.{slot_at, IsSet, is_full}
+use Rattle.rank_core.specs.declared.call.Receive.{Receive}
+use Rattle.rank_core.specs.declared.call.Handed.{Handed}
+use Rattle.rank_core.specs.declared.refused.Refused.{Refused}
+use Rattle.rank_core.specs.declared.refused.Refused.TheVariants as refusals
+use Rattle.rank_core.specs.Refusals.{IsRefusal}
+use Rattle.rank_core.specs.Receiving.{is_tag_above, is_no_source, posted_by, progress_on_post}
 use Rattle.engine.specs.EngineState.{EngineState}
-
--- whether a tag is above the highest, 2,147,483,647 (our own); the wildcard isn't
-abbrev pub is_tag_above : Option ℕ → Bool
-is_tag_above None = false
-is_tag_above (Some tag) = nat_lt 2147483647 tag
-
--- for now no receive names the null process
-abbrev pub is_no_source : ℕ → Source → Bool
-is_no_source size sources.Any = false
-is_no_source size (sources.Rank rank) = nat_le size rank
-is_no_source size sources.Null = true
 
 -- the first rule or limit that a receive meets
 unfoldable pub receive_fault : EngineState → Receive → Option Refused
@@ -40,24 +18,6 @@ receive_fault e v =
     else (if is_no_source e.place.size v.source then Some refusals.Rank
     else (if is_full e.slots e.serial then Some refusals.Limit
     else None))
-
--- the receive as it stands in the queue, under its key in the table; it is on world, whose context is 0
-abbrev pub posted_by : ℕ → Receive → posted.Receive
-posted_by key v = record { request = key; context = 0; source = v.source; tag = v.tag }
-
--- the status that a message gives (MPI 3.1, 3.2.5)
-abbrev pub status_of : Message → Status
-status_of m = record { source = sources.Rank m.sender.rank; tag = Some m.tag; count = length m.elements.values }
-
--- the table once a message came: the receive that took it has ended
-abbrev pub slots_on_arrival : List (Option Entry) → Arrival → List (Option Entry)
-slots_on_arrival slots (Matched r m) = after_finish slots r.request (status_of m) m.elements
-slots_on_arrival slots Kept = slots
-
--- how far a receive is once it was posted: it waits, or it has ended with the message that was found
-abbrev pub progress_on_post : Contents → Option Message → Progress
-progress_on_post b None = Receiving b
-progress_on_post b (Some m) = Finished (outcome_of b (status_of m) m.elements)
 
 -- the receive has the next serial and a key that was free; it has ended with the oldest message that it accepts, or it
 -- waits (MPI 3.1, 3.5)

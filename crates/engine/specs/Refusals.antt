@@ -1,53 +1,34 @@
--- The number of each refusal, and what a call or an event may be refused with.
-use Rattle.std.specs.Prelude.{◌≡◌, ℕ, Option, Some, None}
-use Rattle.datagram.specs.declared.refused.Refused as lower
-use Rattle.datagram.specs.declared.refused.Refused.TheVariants as lowers
-use Rattle.incarnation.specs.declared.refused.Refused as judging
-use Rattle.incarnation.specs.declared.refused.Refused.TheVariants as judgings
-use Rattle.engine.specs.declared.refused.Refused.{Refused}
-use Rattle.engine.specs.declared.refused.Refused.TheVariants.{Count, Tag, Rank, Request, Limit, OutOfMemory, Short, Magic, Version, Kind, Length, ForeignJob, NotForMe, StaleSource, StaleTarget, BadFrame, OutOfWindow, ClockBack}
+-- The refusals of the sessions, as the engine's.
+use Rattle.std.specs.Prelude.{Option, Some, None}
+use Rattle.rank_core.specs.declared.refused.Refused.{Refused}
+use Rattle.rank_core.specs.declared.refused.Refused.TheVariants.{Rank, Limit, OutOfMemory, Short, Magic, Version, Kind, Length, ForeignJob, NotForMe, StaleSource, StaleTarget, BadFrame, OutOfWindow, ClockBack}
+use Rattle.sessions.specs.declared.refused.Refused as lower
+use Rattle.sessions.specs.declared.refused.Refused.TheVariants as lowers
 
--- the number that a call or an event answers
-abbrev pub number_of_refusal : Refused → ℕ
-number_of_refusal Count = 1
-number_of_refusal Tag = 3
-number_of_refusal Rank = 5
-number_of_refusal Request = 6
-number_of_refusal Limit = 13
-number_of_refusal OutOfMemory = 14
-number_of_refusal Short = 21
-number_of_refusal Magic = 22
-number_of_refusal Version = 23
-number_of_refusal Kind = 24
-number_of_refusal Length = 25
-number_of_refusal ForeignJob = 26
-number_of_refusal NotForMe = 27
-number_of_refusal StaleSource = 28
-number_of_refusal StaleTarget = 29
-number_of_refusal BadFrame = 30
-number_of_refusal OutOfWindow = 31
-number_of_refusal ClockBack = 41
+-- a refusal of the sessions
+abbrev pub of_sessions : lower.Refused → Refused
+of_sessions lowers.Rank = Rank
+of_sessions lowers.Limit = Limit
+of_sessions lowers.OutOfMemory = OutOfMemory
+of_sessions lowers.Short = Short
+of_sessions lowers.Magic = Magic
+of_sessions lowers.Version = Version
+of_sessions lowers.Kind = Kind
+of_sessions lowers.Length = Length
+of_sessions lowers.ForeignJob = ForeignJob
+of_sessions lowers.NotForMe = NotForMe
+of_sessions lowers.StaleSource = StaleSource
+of_sessions lowers.StaleTarget = StaleTarget
+of_sessions lowers.BadFrame = BadFrame
+of_sessions lowers.OutOfWindow = OutOfWindow
+of_sessions lowers.ClockBack = ClockBack
 
--- the refusal of bytes that are no datagram
-abbrev pub of_datagram : lower.Refused → Refused
-of_datagram lowers.OutOfMemory = OutOfMemory
-of_datagram lowers.Short = Short
-of_datagram lowers.Magic = Magic
-of_datagram lowers.Version = Version
-of_datagram lowers.Kind = Kind
-of_datagram lowers.Length = Length
-of_datagram lowers.BadFrame = BadFrame
+-- a rule or limit of the sessions, where one is broken
+abbrev pub fault_of_sessions : Option lower.Refused → Option Refused
+fault_of_sessions None = None
+fault_of_sessions (Some e) = Some (of_sessions e)
 
--- the refusal of a datagram by its endpoints
-abbrev pub of_judging : judging.Refused → Refused
-of_judging judgings.Limit = Limit
-of_judging judgings.OutOfMemory = OutOfMemory
-of_judging judgings.ForeignJob = ForeignJob
-of_judging judgings.NotForMe = NotForMe
-of_judging judgings.StaleSource = StaleSource
-of_judging judgings.StaleTarget = StaleTarget
-
--- A refusal is by the first rule that is broken; where none is, only for want of memory.
-abbrev pub IsRefusal : Option Refused → Refused → Type 0
-IsRefusal (Some fault) refused = refused ≡ fault
-IsRefusal None refused = refused ≡ OutOfMemory
+-- the first of two
+abbrev pub first_fault : Option Refused → Option Refused → Option Refused
+first_fault (Some e) other = Some e
+first_fault None other = other

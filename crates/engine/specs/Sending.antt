@@ -1,83 +1,39 @@
 -- What a send does to the engine (MPI 3.1, 3.4 and 3.7).
-use Rattle.std.specs.Prelude.{◌≡◌, ℕ, ◌+◌, ◌*◌, ◌≤◌, nat_le, nat_lt, ◌==◌, List, [], ◌∷◌, ◌++◌, length, Option, Some, None, Result, Ok, Err, Bool, true, false, ◌||◌, if◌then◌else◌}
+use Rattle.std.specs.Prelude.{◌≡◌, ℕ, ◌+◌, ◌==◌, List, ◌++◌, Option, Some, None, Result, Ok, Err, Bool, true, false, ◌||◌, if◌then◌else◌}
 use Rattle.vocabulary.specs.declared.endpoint.Endpoint.{Endpoint}
-use Rattle.vocabulary.specs.BasicTypes.{size_of}
-use Rattle.datatypes.specs.Contents.{Contents, bytes_of}
-use Rattle.datagram.specs.declared.kinds.Plane.TheVariants.{PointToPoint}
-use Rattle.datagram.specs.declared.datagram.Header.{Header}
-use Rattle.datagram.specs.Spelling.{DatagramText, EagerBody, spelling}
-use Rattle.match_queues.specs.declared.envelope.Message.{Message}
+use Rattle.datagram.specs.Spelling.{DatagramText, spelling}
 use Rattle.match_queues.specs.Arrivals.{arrival_of}
 use Rattle.match_queues.specs.State.{after_arrival}
-use Rattle.reliable_link.specs.SenderState.{SenderState, after_accept, next_number}
+use Rattle.reliable_link.specs.SenderState.{after_accept, next_number}
 use Rattle.requests.specs.declared.table.Entry.{Entry}
 use Rattle.requests.specs.declared.table.Request.{Request}
 use Rattle.requests.specs.declared.table.Progress.TheVariants.{Finished}
 use Rattle.requests.specs.declared.outcome.Outcome.TheVariants.{Sent}
 use Rattle.requests.specs.Table.{slot_at, IsSet, is_full}
 use Rattle.incarnation.specs.declared.place.Place.{Place}
-use Rattle.engine.specs.declared.call.Send.{Send}
-use Rattle.engine.specs.declared.refused.Refused.{Refused}
-use Rattle.engine.specs.declared.refused.Refused.TheVariants as refusals
-use Rattle.engine.specs.Refusals.{IsRefusal}
-use Rattle.engine.specs.EngineState.{EngineState, known_endpoint}
-use Rattle.engine.specs.Peers.{peer_at, with_sender}
-use Rattle.engine.specs.Receiving.{slots_on_arrival}
-
--- the header of a datagram to an endpoint, under this number
-abbrev pub header_to : Place → Endpoint → ℕ → Header
-header_to p target n = record { source = p.endpoint; target = target; job = p.job; sequence = n }
-
--- the bytes of data of a send
-abbrev pub byte_count : Contents → ℕ
-byte_count c = length c.values * size_of c.basic
-
--- what a send to another rank is, for now: it goes in one frame
-pub record IsSmall (s : Send) : Type 0 where
-  pub count : byte_count s.elements ≤ 1024
-  pub tag : s.tag ≤ 2147483647
+use Rattle.rank_core.specs.declared.call.Send.{Send}
+use Rattle.rank_core.specs.declared.refused.Refused.{Refused}
+use Rattle.rank_core.specs.declared.refused.Refused.TheVariants as refusals
+use Rattle.rank_core.specs.Refusals.{IsRefusal}
+use Rattle.engine.specs.EngineState.{EngineState}
+use Rattle.sessions.specs.SessionsState.{known_endpoint}
+use Rattle.sessions.specs.Peers.{peer_at, with_sender}
+use Rattle.sessions.specs.Spellings.{header_to}
+use Rattle.sessions.specs.Events.{is_worn_out, out_on_accept}
+use Rattle.rank_core.specs.Receiving.{slots_on_arrival}
+use Rattle.rank_core.specs.Sending.{body_of, send_fault, own_message}
 
 -- the datagram of a send to an endpoint, under a number of their session
 abbrev pub send_text : Place → Endpoint → Send → ℕ → DatagramText
-send_text p target s n = record {
-  header = header_to p target n;
-  body = EagerBody (record {
-    plane = PointToPoint;
-    basic = s.elements.basic;
-    tag = s.tag;
-    context = 0;
-    count = length s.elements.values;
-    elements = bytes_of (size_of s.elements.basic) s.elements.values;
-  });
-}
+send_text p target s n = record { header = header_to p target n; body = body_of s }
 
 -- the bytes of a send's datagram
 unfoldable pub send_bytes : Place → Endpoint → Send → ℕ → List ℕ
 send_bytes p target s n = spelling (send_text p target s n)
 
--- no frame can be numbered any more
-abbrev pub is_worn_out : SenderState → Bool
-is_worn_out s = nat_le 18446744073709551615 (next_number s)
-
--- for now a send goes to a rank of the job, and not to the null process
-abbrev pub target_fault : Place → Option ℕ → Option Refused
-target_fault p None = Some refusals.Rank
-target_fault p (Some target) = if nat_lt target p.size then None else Some refusals.Rank
-
--- the first rule that a send breaks; for now it has at most 1,024 bytes, also to the own rank
-unfoldable pub send_fault : Place → Send → Option Refused
-send_fault p s =
-    if nat_lt 1024 (byte_count s.elements) then Some refusals.Count
-    else (if nat_lt 2147483647 s.tag then Some refusals.Tag
-    else target_fault p s.target)
-
 -- the first rule or limit that a send to a rank meets
 abbrev pub send_limit : EngineState → ℕ → Option Refused
 send_limit e target = if is_full e.slots e.serial || is_worn_out (peer_at e.peers target).sender then Some refusals.Limit else None
-
--- a frame goes out at once where fewer than 64 are out
-abbrev pub out_on_accept : SenderState → ℕ → List ℕ → List (ℕ × List ℕ)
-out_on_accept s target bytes = if nat_lt (length s.frames) 64 then (target, bytes) ∷ [] else []
 
 -- the message is meant for the incarnation at which the target is known
 pub record IsSentTo (old : EngineState) (target : ℕ) (s : Send) (r : Request) (new : EngineState) : Type 0 where
@@ -101,10 +57,6 @@ SendToGives old target s (Ok r) new = IsSentTo old target s r new
 SendToGives old target s (Err e) new = (new ≡ old) × IsRefusal (send_limit old target) e
 
 -- A SEND TO THE OWN RANK, which goes into its own queues without a datagram
-
--- the message of a send to the own rank, on world
-abbrev pub own_message : Place → Send → Message
-own_message p s = record { sender = p.endpoint; context = 0; tag = s.tag; elements = s.elements }
 
 -- the first limit that it meets
 abbrev pub own_limit : EngineState → Option Refused

@@ -1,9 +1,9 @@
 -- What a tick does to the engine.
 use Rattle.std.specs.Prelude.{ℕ, ◌++◌, nat_lt, Option, Some, None, if◌then◌else◌}
-use Rattle.engine.specs.declared.refused.Refused.{Refused}
-use Rattle.engine.specs.declared.refused.Refused.TheVariants as refusals
+use Rattle.rank_core.specs.declared.refused.Refused.{Refused}
+use Rattle.rank_core.specs.declared.refused.Refused.TheVariants as refusals
 use Rattle.engine.specs.EngineState.{EngineState}
-use Rattle.engine.specs.Peers.{due_out, after_all_due}
+use Rattle.sessions.specs.Peers.{due_out, after_all_due}
 
 -- the clock never goes back
 abbrev pub clock_fault : ℕ → ℕ → Option Refused

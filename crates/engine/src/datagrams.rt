@@ -1,185 +1,76 @@
 //! How an engine takes datagrams in.
 
-ghost use Rattle.std.specs.Prelude.{◌≡◌, ◌≤◌, ◌<◌, ◌+◌, ◌^◌, length, OnOk, None};
-ghost use Rattle.std.specs.Ordering.{nat_cmp};
-ghost use Rattle.datagram.specs.Spelling.{content_text, eager_text, BodyFits, EagerFits};
-ghost use Rattle.engine.specs.Peers.{peer_at};
-ghost use Rattle.engine.specs.Waiting.{woken};
-ghost use Rattle.engine.specs.Datagrams.{GivesUnless, EagerGivesAt, BodyGives, DatagramGives, SourceIsKnown, RefusedDatagramLeaves, ack_fault, after_acked, handed_up, repeated, message_of, frame_fault};
+ghost use Rattle.std.specs.Prelude.{◌≡◌, ◌≤◌, ◌<◌, ◌+◌, length, OnOk, Some};
+ghost use Rattle.rank_core.specs.Hearing.{frame_option};
+ghost use Rattle.sessions.specs.Heard.{heard_text, word_text, CanHear, WordFits};
+ghost use Rattle.engine.specs.Datagrams.{DatagramGives, SourceIsKnown, RefusedDatagramLeaves};
+ghost use Rattle.engine.specs.Halves.{HeardGives, frame_in, says_nothing};
 
 use crate::engine::Engine;
-use crate::peers;
-use crate::place::known_endpoint;
-use crate::receiving::{message_of, status_of};
-use crate::refused::Refused;
-use crate::sending::ack_bytes;
-use datagram::{Content, Eager, Frame, Header, Plane};
-use incarnation::Judgement;
-use match_queues::{Arrival, Message};
-use requests::Taken;
+use crate::refusals::of_sessions;
+use datagram::Frame;
+use rank_core::{Core, News, Refused};
+use sessions::{Heard, Sessions, Word};
+
+/// The frame that is handed up, if one is.
+fn frame_in<'a>(word: Word<'a>) -> Option<Frame<'a>>
+    ensures { frame_option result ≡ frame_in (word_text word.entry) }
+{
+    match word {
+        Word::Hands(frame) => Some(frame),
+        Word::Acknowledges(_) => None,
+        Word::Repeats => None,
+        Word::Nothing => None,
+    }
+}
+
+/// Whether it says nothing new: no lesson and no word.
+fn says_nothing(heard: Heard<'_>) -> bool
+    ensures { result ≡ says_nothing heard.entry.lesson (word_text heard.entry.word) }
+{
+    if heard.lesson {
+        return false;
+    }
+    match heard.word {
+        Word::Nothing => true,
+        Word::Hands(_) => false,
+        Word::Acknowledges(_) => false,
+        Word::Repeats => false,
+    }
+}
+
+/// Both halves take in what is heard, or refuse it.
+fn hear(core: &mut Core, sessions: &mut Sessions, heard: Heard<'_>) -> Result<(), Refused>
+    requires can { CanHear sessions.old (Some (heard_text heard)) }
+    requires fits { WordFits (word_text heard.word) }
+    ensures exact { HeardGives core.old.state sessions.old (heard_text heard.entry) result core.new.state sessions.new }
+    ensures few { length sessions.new.out ≤ length sessions.old.out + 64 }
+    ensures core_placed { core.new.state.place ≡ core.old.state.place }
+    ensures placed { sessions.new.place ≡ sessions.old.place }
+{
+    if says_nothing(heard) {
+        return Ok(());
+    }
+    let news = News {
+        source: heard.source,
+        lesson: heard.lesson,
+        frame: frame_in(heard.word),
+    };
+    if let Some(fault) = core.fault_of_news(news) {
+        return Err(fault);
+    }
+    if let Some(limit) = sessions.limit_of(Some(heard), &[]) {
+        return Err(of_sessions(limit));
+    }
+    let ready = core.prepare_news(news)?;
+    if let Err(refused) = sessions.carry_out(Some(heard), &[]) {
+        return Err(of_sessions(refused));
+    }
+    core.take_news(heard.source, ready);
+    Ok(())
+}
 
 impl Engine {
-    /// Answers the blocked call, if its request is finished now.
-    #[tactic(auto, unfolding(crate::specs::Waiting::woken))]
-    pub(crate) fn wake(&mut self)
-        ensures exact { self.new ≡ woken self.old }
-        ensures few { self.new.out ≡ self.old.out }
-        ensures placed { self.new.place ≡ self.old.place }
-    {
-        if let Some(request) = self.blocked {
-            if let Taken::Done(outcome) = self.requests.take(request) {
-                self.blocked = None;
-                self.completion = Some(outcome);
-            }
-        }
-    }
-
-    /// A frame that came before is acknowledged once more.
-    fn on_repeated(&mut self, source: u16) -> Result<(), Refused>
-        requires { source < length self.old.peers }
-        ensures exact { GivesUnless None self.old (repeated self.old source) result self.new }
-        ensures few { length self.new.out ≤ length self.old.out + 1 }
-        ensures placed { self.new.place ≡ self.old.place }
-    {
-        let next = peers::peer_at(&self.peers, source).receiver.next();
-        let endpoint = known_endpoint(&self.known, source);
-        let ack = ack_bytes(self.alloc, self.known.place(), endpoint, next)?;
-        self.out
-            .push((source, ack))
-            .map_err(|_| Refused::OutOfMemory)?;
-        Ok(())
-    }
-
-    /// The message of the next frame is handed up.
-    #[tactic(auto, unfolding(crate::specs::Datagrams::handed_up))]
-    fn hand_up(&mut self, source: u16, message: Message) -> Result<(), Refused>
-        requires there { source < length self.old.peers }
-        requires next { (peer_at self.old.peers source).receiver + 1 < 2 ^ 64 }
-        ensures exact { GivesUnless None self.old (handed_up self.old source message) result self.new }
-        ensures few { length self.new.out ≤ length self.old.out + 1 }
-        ensures placed { self.new.place ≡ self.old.place }
-    {
-        let next = peers::peer_at(&self.peers, source).receiver.next();
-        let endpoint = known_endpoint(&self.known, source);
-        let ack = ack_bytes(self.alloc, self.known.place(), endpoint, next + 1)?;
-        self.out.reserve(1).map_err(|_| Refused::OutOfMemory)?;
-        let arrival = self
-            .queues
-            .arrive(message)
-            .map_err(|_| Refused::OutOfMemory)?;
-        // Nothing fails from here on.
-        peers::raise_at(&mut self.peers, source);
-        self.out.push((source, ack)).unwrap();
-        if let Arrival::Matched(receive, message) = arrival {
-            let status = status_of(&message);
-            self.requests
-                .finish(receive.request, status, &message.elements);
-        }
-        Ok(())
-    }
-
-    /// The rule or limit by which the next frame of a rank is not taken.
-    fn fault_of_frame(&self, source: u16, plane: Plane) -> Option<Refused>
-        requires { source < length self.now.peers }
-        ensures { result ≡ frame_fault self.now source plane }
-    {
-        match plane {
-            Plane::Collective => Some(Refused::BadFrame),
-            Plane::PointToPoint => {
-                if peers::peer_at(&self.peers, source).receiver.next() == u64::MAX {
-                    Some(Refused::Limit)
-                } else {
-                    None
-                }
-            }
-        }
-    }
-
-    fn on_eager(&mut self, header: Header, eager: &Eager) -> Result<(), Refused>
-        requires there { header.source.rank < length self.old.peers }
-        requires fits { EagerFits (eager_text eager.now) }
-        ensures exact { EagerGivesAt (nat_cmp header.sequence (peer_at self.old.peers header.source.rank).receiver)
-            self.old header (eager_text eager.now) result self.new }
-        ensures few { length self.new.out ≤ length self.old.out + 1 }
-        ensures placed { self.new.place ≡ self.old.place }
-    {
-        let source = header.source.rank;
-        let next = peers::peer_at(&self.peers, source).receiver.next();
-        if header.sequence < next {
-            return self.on_repeated(source);
-        }
-        if header.sequence > next {
-            return Err(Refused::OutOfWindow);
-        }
-        if let Some(fault) = self.fault_of_frame(source, eager.plane) {
-            return Err(fault);
-        }
-        let message = message_of(self.alloc, header, eager)?;
-        self.hand_up(source, message)?;
-        self.wake();
-        Ok(())
-    }
-
-    fn on_ack(&mut self, source: u16, n: u64) -> Result<(), Refused>
-        requires { source < length self.old.peers }
-        ensures exact { GivesUnless (ack_fault (peer_at self.old.peers source).sender n) self.old
-            (after_acked self.old source n) result self.new }
-        ensures few { length self.new.out ≤ length self.old.out + 64 }
-        ensures placed { self.new.place ≡ self.old.place }
-    {
-        let sender = &peers::peer_at(&self.peers, source).sender;
-        if !sender.allows(n) {
-            return Err(Refused::OutOfWindow);
-        }
-        let mut copies = peers::entering_copies(self.alloc, source, sender, n)?;
-        self.out
-            .reserve(copies.len())
-            .map_err(|_| Refused::OutOfMemory)?;
-        // Nothing fails from here on.
-        peers::acknowledge_at(&mut self.peers, source, n);
-        self.out
-            .append(&mut copies)
-            .map_err(|_| Refused::OutOfMemory)
-    }
-
-    /// Takes in what a datagram from the incarnation at which its source is known says.
-    fn on_current(&mut self, header: Header, content: &Content) -> Result<(), Refused>
-        requires there { header.source.rank < length self.old.peers }
-        requires fits { BodyFits (content_text content.now) }
-        ensures exact { BodyGives self.old header (content_text content.now) result self.new }
-        ensures unchanged { RefusedDatagramLeaves result self.old self.new }
-        ensures few { length self.new.out ≤ length self.old.out + 64 }
-        ensures placed { self.new.place ≡ self.old.place }
-    {
-        match content {
-            Content::Ack => self.on_ack(header.source.rank, header.sequence),
-            // It says at which incarnation its source is, and that is known.
-            Content::Reset => Ok(()),
-            Content::Frame(Frame::Eager(eager)) => self.on_eager(header, eager),
-        }
-    }
-
-    /// Reads a datagram, judges it by both of its endpoints, and takes in what it says.
-    fn take_in(&mut self, bytes: &[u8]) -> Result<(), Refused>
-        ensures exact { DatagramGives self.old bytes.now result self.new }
-        ensures unchanged { RefusedDatagramLeaves result self.old self.new }
-        ensures few { length self.new.out ≤ length self.old.out + 64 }
-        ensures placed { self.new.place ≡ self.old.place }
-    {
-        let datagram = match datagram::read(bytes) {
-            Ok(datagram) => datagram,
-            Err(refused) => return Err(Refused::of_datagram(refused)),
-        };
-        match self.known.judge(datagram.header) {
-            Ok(Judgement::Current) => self.on_current(datagram.header, &datagram.content),
-            Ok(Judgement::Learn(_)) => self.on_first_word(datagram.header, &datagram.content),
-            Err(incarnation::Refused::StaleTarget) => {
-                self.on_stale(datagram.header, &datagram.content)
-            }
-            Err(refused) => Err(Refused::of_judging(refused)),
-        }
-    }
-
     /// Takes a datagram in.
     ///
     /// Refused is the first that holds of: 21 to 25 and 30 (the bytes spell no datagram), 26 (another job), 27 (for
@@ -201,8 +92,11 @@ impl Engine {
         ensures few { length self.new.out ≤ length self.old.out + 64 }
         ensures placed { self.new.place ≡ self.old.place }
     {
-        // The place shows that there is one known incarnation for each rank.
-        let _place = self.known.place();
-        self.take_in(bytes)
+        // The place shows that there is a session and a known incarnation for each rank.
+        let _place = self.sessions.place();
+        match self.sessions.judge(bytes) {
+            Ok(heard) => hear(&mut self.core, &mut self.sessions, heard),
+            Err(unheard) => Err(of_sessions(self.sessions.turn_away(unheard))),
+        }
     }
 }

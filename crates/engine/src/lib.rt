@@ -3,23 +3,21 @@
 //! An engine knows no socket, no clock, no thread and no file. It takes calls, datagrams and ticks of a clock that is
 //! handed in, and gives replies, completions and datagrams. Each of these events is handled whole or refused, and a
 //! refusal changes nothing, but for the reset that answers a datagram for a former incarnation of the rank.
+//!
+//! It has two halves: a core, which knows calls, requests and messages, and sessions, which know bytes, numbers and time.
+//! An event goes through both: each finds the rule or limit that it breaks, then the core makes room, then the sessions
+//! carry it out or find no memory, and then the core does its part, which cannot fail.
 #![tactic(auto)]
 
-mod call;
 mod calls;
 mod datagrams;
 mod engine;
-mod learning;
-mod peers;
-mod place;
-mod receiving;
-mod refused;
-mod sending;
-mod stale;
+mod refusals;
 
-pub use call::{Call, Handed, Receive, Reply, Send};
-pub use engine::{Engine, Session};
+pub use datatypes::Buffer;
+pub use engine::Engine;
 pub use incarnation::Place;
-pub use peers::Peer;
-pub use place::MOST_RANKS;
-pub use refused::Refused;
+pub use rank_core::{Call, Handed, Receive, Refused, Reply, Send};
+pub use requests::{Outcome, Request};
+pub use sessions::{MOST_RANKS, Peer, Session};
+pub use vocabulary::{Source, Status};

@@ -59,6 +59,15 @@ fn start_receive(alloc: Global, engine: &mut Engine, source: Source) -> Option<R
     started(engine.call(call))
 }
 
+/// A send of rank 0 to itself, of no elements.
+fn send_to_itself(alloc: Global) -> Call {
+    Call::Isend(Send {
+        target: Some(0),
+        tag: 3,
+        elements: Buffer::new(alloc, BasicType::Uint8),
+    })
+}
+
 /// Each datagram that one engine emitted comes to another.
 fn deliver(from: &mut Engine, to: &mut Engine) -> Option<()> {
     for (_target, bytes) in from.take_out() {
@@ -234,6 +243,49 @@ fn reset(alloc: Global) -> Option<(usize, Option<u16>, bool, usize)> {
 #[test]
 fn a_reset_teaches_a_sender(rt: HostRuntime) {
     assert_eq!(rt; reset(rt.alloc()), Some((1, Some(1), true, 1)));
+}
+
+/// Starts so many sends of a rank to itself, and answers the last one's request.
+fn start_sends_to_itself(alloc: Global, engine: &mut Engine, count: u32) -> Option<Request> {
+    let mut last = None;
+    for _number in 0..count {
+        last = Some(started(engine.call(send_to_itself(alloc)))?);
+    }
+    last
+}
+
+fn number_of_refusal(reply: Reply) -> Option<u8> {
+    match reply {
+        Reply::Refused(refused, _call) => Some(refused.number()),
+        _ => None,
+    }
+}
+
+fn is_sent(reply: Reply) -> bool {
+    match reply {
+        Reply::Done(Outcome::Sent) => true,
+        _ => false,
+    }
+}
+
+/// The serial of the last request that there is room for, how one more is refused, whether the last one ends, and the serial
+/// of the next one then.
+fn reach_the_limit(alloc: Global, engine: &mut Engine) -> Option<(u64, Option<u8>, bool, u64)> {
+    let last = start_sends_to_itself(alloc, engine, 65_536)?;
+    let refused = number_of_refusal(engine.call(send_to_itself(alloc)));
+    let ended = is_sent(engine.call(Call::Wait(Some(last))));
+    let next = started(engine.call(send_to_itself(alloc)))?;
+    Some((last.serial, refused, ended, next.serial))
+}
+
+fn limit(alloc: Global) -> Option<(u64, Option<u8>, bool, u64)> {
+    let mut engine = rank_of_two(alloc, 0, 0).ok()?;
+    reach_the_limit(alloc, &mut engine)
+}
+
+#[test]
+fn a_rank_has_65536_requests_at_one_time(rt: HostRuntime) {
+    assert_eq!(rt; limit(rt.alloc()), Some((65_535, Some(13), true, 65_536)));
 }
 
 #[test]

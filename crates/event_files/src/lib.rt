@@ -3,9 +3,14 @@
 //! docs/EVENT_FILES.md describes them. Their language is this project's own.
 #![tactic(auto)]
 
-mod numbers;
+mod file;
+mod hexadecimal;
 mod parsing;
-mod script;
+mod reading;
+mod verb;
 
+pub use file::{EventFile, Line, Lines, Statement};
 pub use parsing::parse;
-pub use script::{Action, Line, Named, ParseError, ReceiveLine, Script, SendLine, Statement};
+pub use statements::{
+    Action, BufferLine, Communicator, Name, ParseError, Receiving, Requested, Sending, Tag, Target,
+};

@@ -1,23 +1,12 @@
 //! The worked contexts and splits, and each call with ample memory.
 
-use context_agreement::{Context, Contexts, Part, Refused, SplitRow, split_plan};
+use context_agreement::{Context, Contexts, Part, SplitRow, split_plan};
 use groups::Group;
-use std::process::Abort;
+use std::alloc::Global;
 
 /// The row of a member.
 fn row(rank: u16, colour: Option<u32>, key: i32) -> SplitRow {
     SplitRow { colour, key, rank }
-}
-
-/// The number of a context that was given.
-fn number(rt: &impl Abort, given: Result<Context, Refused>) -> u64 {
-    given.expect(rt, "a context").number()
-}
-
-/// A part has this colour, and these ranks in this order.
-fn expect_part(rt: &impl Abort, part: &Part, colour: u32, ranks: &[u16]) {
-    assert_eq!(rt; part.colour(), colour);
-    assert_eq!(rt; part.ranks(), ranks);
 }
 
 #[test]
@@ -31,75 +20,157 @@ fn contexts_have_numbers(rt: HostRuntime) {
     );
 }
 
+/// The number of the next context.
+fn next(contexts: &mut Contexts) -> Option<u64> {
+    match contexts.next() {
+        Ok(context) => Some(context.number()),
+        Err(_) => None,
+    }
+}
+
+/// How many serials are left, two contexts, and how many are left then.
+fn give_two(contexts: &mut Contexts) -> (u64, [Option<u64>; 2], u64) {
+    let before = contexts.serials_left();
+    let given = [next(contexts), next(contexts)];
+    (before, given, contexts.serials_left())
+}
+
 #[test]
-fn first_context_of_a_rank(rt: HostRuntime) {
+fn first_contexts_of_a_rank(rt: HostRuntime) {
     let mut contexts = Contexts::new(rt.alloc(), 2, 0, 4).expect(&rt, "contexts");
-    assert_eq!(rt; contexts.serials_left(), 0xffff_fffe);
-    assert_eq!(rt; number(&rt, contexts.next()), 0x0002_0000_0000_0002);
-    assert_eq!(rt; number(&rt, contexts.next()), 0x0002_0000_0000_0003);
-    assert_eq!(rt; contexts.serials_left(), 0xffff_fffc);
+    let given = [Some(0x0002_0000_0000_0002), Some(0x0002_0000_0000_0003)];
+    assert_eq!(rt; give_two(&mut contexts), (0xffff_fffe, given, 0xffff_fffc));
+}
+
+/// Whether the group of a context has just these ranks.
+fn has_group(contexts: &Contexts, context: Context, ranks: &[u16]) -> bool {
+    match contexts.group_of(context) {
+        Some(group) => group.ranks() == ranks,
+        None => false,
+    }
+}
+
+/// The number of the context at a place, and whether its group has just these ranks.
+fn at(contexts: &Contexts, place: usize, ranks: &[u16]) -> Option<(u64, bool)> {
+    let own = contexts.communicator(place)?;
+    Some((own.context.number(), own.group.ranks() == ranks))
+}
+
+/// How many communicators there are, whether there is no room for more, and whether world and self are as they should be.
+fn first_two(contexts: &Contexts) -> (usize, bool, bool, Option<(u64, bool)>) {
+    (
+        contexts.communicator_count(),
+        contexts.is_full(),
+        has_group(contexts, Context::WORLD, &[0, 1, 2, 3]),
+        at(contexts, 1, &[3]),
+    )
 }
 
 #[test]
 fn a_rank_begins_with_world_and_self(rt: HostRuntime) {
     let contexts = Contexts::new(rt.alloc(), 3, 1, 4).expect(&rt, "contexts");
-    assert_eq!(rt;
-        (contexts.communicator_count(), contexts.is_full()),
-        (2, false)
-    );
-    let world = contexts.group_of(Context::WORLD).expect(&rt, "world");
-    assert_eq!(rt; world.ranks(), [0, 1, 2, 3].as_slice());
-    let own = contexts.communicator(1).expect(&rt, "self");
-    assert_eq!(rt; own.context.number(), 0x0003_0001_0000_0001);
-    assert_eq!(rt; own.group.ranks(), [3].as_slice());
+    let own = Some((0x0003_0001_0000_0001, true));
+    assert_eq!(rt; first_two(&contexts), (2, false, true, own));
+}
+
+/// The place of a new communicator of one rank, or the number of the refusal and whether the group came back.
+fn install(
+    alloc: Global,
+    contexts: &mut Contexts,
+    number: u64,
+    rank: u16,
+) -> Result<usize, (u8, bool)> {
+    match contexts.install(Context::from_number(number), Group::of_rank(alloc, rank)) {
+        Ok(place) => Ok(place),
+        Err(failed) => Err((
+            failed.refused.number(),
+            failed.group.ranks() == [rank].as_slice(),
+        )),
+    }
+}
+
+/// The place of a new communicator, the places of its context and of another, and whether it has its group.
+fn install_one(
+    alloc: Global,
+    contexts: &mut Contexts,
+) -> (Result<usize, (u8, bool)>, [Option<usize>; 2], bool) {
+    let place = install(alloc, contexts, 4, 7);
+    let places = [
+        contexts.place_of(Context::from_number(4)),
+        contexts.place_of(Context::from_number(5)),
+    ];
+    (
+        place,
+        places,
+        has_group(contexts, Context::from_number(4), &[7]),
+    )
 }
 
 #[test]
 fn communicators_have_places_in_order(rt: HostRuntime) {
     let mut contexts = Contexts::new(rt.alloc(), 2, 0, 4).expect(&rt, "contexts");
-    let context = Context::from_number(4);
-    let place = contexts.install(context, Group::of_rank(rt.alloc(), 7));
-    assert_eq!(rt; place.map_err(|failed| failed.refused), Ok(2));
-    assert_eq!(rt; contexts.place_of(context), Some(2));
-    assert_eq!(rt; contexts.place_of(Context::from_number(5)), None);
-    let group = contexts.group_of(context).expect(&rt, "the group");
-    assert_eq!(rt; group.ranks(), [7].as_slice());
+    assert_eq!(rt;
+        install_one(rt.alloc(), &mut contexts),
+        (Ok(2), [Some(2), None], true)
+    );
 }
 
-#[test]
-fn a_rank_holds_so_many_communicators(rt: HostRuntime) {
-    let mut contexts = Contexts::new(rt.alloc(), 0, 0, 1).expect(&rt, "contexts");
+/// How many of 4,094 further communicators there is room for, whether it is all then, and how one more is refused.
+fn fill(alloc: Global, contexts: &mut Contexts) -> (u32, bool, Result<usize, (u8, bool)>) {
+    let mut installed = 0u32;
     for serial in 2..4096 {
-        let place = contexts.install(Context::from_number(serial), Group::of_rank(rt.alloc(), 0));
-        assert!(rt; place.is_ok());
+        if install(alloc, contexts, serial, 0).is_ok() {
+            installed = installed.wrapping_add(1);
+        }
     }
-    assert!(rt; contexts.is_full());
-    let refused = contexts.install(Context::from_number(4096), Group::of_rank(rt.alloc(), 9));
-    let failed = refused.err().expect(&rt, "a refusal");
-    assert_eq!(rt; failed.refused.number(), 13);
-    assert_eq!(rt; failed.group.ranks(), [9].as_slice());
+    (
+        installed,
+        contexts.is_full(),
+        install(alloc, contexts, 4096, 9),
+    )
 }
 
 #[test]
-fn split_by_colour_and_key(rt: HostRuntime) {
+fn a_rank_holds_4096_communicators(rt: HostRuntime) {
+    let mut contexts = Contexts::new(rt.alloc(), 0, 0, 1).expect(&rt, "contexts");
+    assert_eq!(rt;
+        fill(rt.alloc(), &mut contexts),
+        (4094, true, Err((13, true)))
+    );
+}
+
+/// Whether a plan has just these parts, each with its colour and its ranks in order.
+fn is_planned(alloc: Global, rows: &[SplitRow], parts: &[(u32, &[u16])]) -> bool {
+    match split_plan(alloc, rows) {
+        Ok(plan) => plan.len() == parts.len() && plan.iter().zip(parts).all(is_part),
+        Err(_) => false,
+    }
+}
+
+fn is_part(both: (&Part, &(u32, &[u16]))) -> bool {
+    let (part, wanted) = both;
+    part.colour() == wanted.0 && part.ranks() == wanted.1
+}
+
+#[test]
+fn rows_are_split_by_colour_and_key(rt: HostRuntime) {
     let rows = [
         row(0, Some(1), 5),
         row(1, Some(0), 0),
         row(2, Some(1), 5),
         row(3, None, 0),
     ];
-    let plan = split_plan(rt.alloc(), &rows).expect(&rt, "a plan");
-    assert_eq!(rt; plan.len(), 2);
-    expect_part(&rt, &plan[0], 0, &[1]);
-    expect_part(&rt, &plan[1], 1, &[0, 2]);
+    let parts = [(0, [1].as_slice()), (1, [0, 2].as_slice())];
+    assert!(rt; is_planned(rt.alloc(), &rows, &parts));
 }
 
 #[test]
-fn split_by_negative_keys_of_rows_in_any_order(rt: HostRuntime) {
+fn negative_keys_come_first(rt: HostRuntime) {
     let rows = [row(2, Some(7), 3), row(1, Some(7), -4), row(0, Some(7), 3)];
-    let plan = split_plan(rt.alloc(), &rows).expect(&rt, "a plan");
-    assert_eq!(rt; plan.len(), 1);
-    expect_part(&rt, &plan[0], 7, &[1, 0, 2]);
-    let none = split_plan(rt.alloc(), &[row(0, None, 1)]).expect(&rt, "a plan");
-    assert!(rt; none.is_empty());
+    assert!(rt; is_planned(rt.alloc(), &rows, &[(7, [1, 0, 2].as_slice())]));
+}
+
+#[test]
+fn no_colour_gives_no_part(rt: HostRuntime) {
+    assert!(rt; is_planned(rt.alloc(), &[row(0, None, 1)], &[]));
 }

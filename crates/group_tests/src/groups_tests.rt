@@ -9,89 +9,148 @@ fn group(rt: &impl Abort, alloc: Global, ranks: &[u16]) -> Group {
     Group::from_ranks(alloc, ranks).expect(rt, "a group")
 }
 
-/// A group that was made holds these ranks in this order.
-fn expect_ranks(rt: &impl Abort, made: Result<Group, Refused>, want: &[u16]) {
-    let made = made.expect(rt, "a group");
-    assert_eq!(rt; made.ranks(), want);
+/// Whether a group that was made holds just these ranks, in this order.
+fn has(made: Result<Group, Refused>, ranks: &[u16]) -> bool {
+    match made {
+        Ok(group) => group.ranks() == ranks,
+        Err(_) => false,
+    }
 }
 
-/// A group was refused with this number.
-fn expect_refused(rt: &impl Abort, made: Result<Group, Refused>, number: u8) {
-    assert_eq!(rt; made.err().map(Refused::number), Some(number));
+/// The number with which a group was refused.
+fn number(made: Result<Group, Refused>) -> Option<u8> {
+    match made {
+        Ok(_) => None,
+        Err(refused) => Some(refused.number()),
+    }
+}
+
+/// Whether the union, the intersection and the difference of 3, 1, 4 and 4, 0, 3, 2 are the worked ones.
+fn of_two(a: &Group, b: &Group) -> [bool; 3] {
+    [
+        has(a.union(b), &[3, 1, 4, 0, 2]),
+        has(a.intersection(b), &[3, 4]),
+        has(a.difference(b), &[1]),
+    ]
 }
 
 #[test]
 fn groups_are_made_of_two(rt: HostRuntime) {
     let a = group(&rt, rt.alloc(), &[3, 1, 4]);
     let b = group(&rt, rt.alloc(), &[4, 0, 3, 2]);
-    expect_ranks(&rt, a.union(&b), &[3, 1, 4, 0, 2]);
-    expect_ranks(&rt, a.intersection(&b), &[3, 4]);
-    expect_ranks(&rt, a.difference(&b), &[1]);
+    assert_eq!(rt; of_two(&a, &b), [true; 3]);
+}
+
+/// The places in another group of the members 0 to 3.
+fn translated(a: &Group, b: &Group) -> [Option<u16>; 4] {
+    [
+        a.translate(0, b),
+        a.translate(1, b),
+        a.translate(2, b),
+        a.translate(3, b),
+    ]
 }
 
 #[test]
 fn ranks_are_translated(rt: HostRuntime) {
     let a = group(&rt, rt.alloc(), &[3, 1, 4]);
     let b = group(&rt, rt.alloc(), &[4, 0, 3, 2]);
-    for (position, want) in [(0, Some(2)), (1, None), (2, Some(0)), (3, None)] {
-        assert_eq!(rt; a.translate(position, &b), want);
-    }
+    assert_eq!(rt; translated(&a, &b), [Some(2), None, Some(0), None]);
+}
+
+/// How a group of these ranks compares with another.
+fn compared(rt: &impl Abort, alloc: Global, a: &Group, ranks: &[u16]) -> Comparison {
+    a.compare(&group(rt, alloc, ranks))
 }
 
 #[test]
 fn groups_are_compared(rt: HostRuntime) {
     let a = group(&rt, rt.alloc(), &[3, 1, 4]);
-    for (ranks, want) in [
-        ([3, 1, 4], Comparison::Ident),
-        ([1, 3, 4], Comparison::Similar),
-        ([1, 3, 5], Comparison::Unequal),
-    ] {
-        assert_eq!(rt; a.compare(&group(&rt, rt.alloc(), ranks.as_slice())), want);
-    }
+    let answers = [
+        compared(&rt, rt.alloc(), &a, &[3, 1, 4]),
+        compared(&rt, rt.alloc(), &a, &[1, 3, 4]),
+        compared(&rt, rt.alloc(), &a, &[1, 3, 5]),
+    ];
+    assert_eq!(rt;
+        answers,
+        [Comparison::Ident, Comparison::Similar, Comparison::Unequal]
+    );
+}
+
+fn selected(a: &Group) -> [bool; 2] {
+    [has(a.incl(&[2, 0]), &[4, 3]), has(a.excl(&[2, 0]), &[1])]
 }
 
 #[test]
 fn members_are_selected_by_position(rt: HostRuntime) {
     let a = group(&rt, rt.alloc(), &[3, 1, 4]);
-    expect_ranks(&rt, a.incl(&[2, 0]), &[4, 3]);
-    expect_ranks(&rt, a.excl(&[2, 0]), &[1]);
+    assert_eq!(rt; selected(&a), [true; 2]);
+}
+
+/// The numbers with which a selection is refused.
+fn refused(a: &Group, positions: &[u16]) -> [Option<u8>; 2] {
+    [number(a.incl(positions)), number(a.excl(positions))]
 }
 
 #[test]
 fn a_missing_position_comes_before_a_repeated_one(rt: HostRuntime) {
     let a = group(&rt, rt.alloc(), &[3, 1, 4]);
-    for (positions, number) in [([1, 1, 3], 5), ([3, 0, 0], 5), ([0, 1, 0], 8)] {
-        expect_refused(&rt, a.incl(positions.as_slice()), number);
-        expect_refused(&rt, a.excl(positions.as_slice()), number);
-    }
+    let numbers = [
+        refused(&a, &[1, 1, 3]),
+        refused(&a, &[3, 0, 0]),
+        refused(&a, &[0, 1, 0]),
+    ];
+    assert_eq!(rt; numbers, [[Some(5); 2], [Some(5); 2], [Some(8); 2]]);
 }
 
 #[test]
 fn groups_are_made(rt: HostRuntime) {
-    expect_refused(&rt, Group::from_ranks(rt.alloc(), &[3, 1, 3]), 8);
-    expect_ranks(&rt, Ok(Group::of_rank(rt.alloc(), 7)), &[7]);
-    expect_ranks(&rt, Group::of_first_ranks(rt.alloc(), 3), &[0, 1, 2]);
-    expect_ranks(
-        &rt,
-        group(&rt, rt.alloc(), &[65535, 1]).try_clone(),
-        &[65535, 1],
-    );
+    assert_eq!(rt; number(Group::from_ranks(rt.alloc(), &[3, 1, 3])), Some(8));
+    assert!(rt; has(Ok(Group::of_rank(rt.alloc(), 7)), &[7]));
+    assert!(rt; has(Group::of_first_ranks(rt.alloc(), 3), &[0, 1, 2]));
+}
+
+#[test]
+fn groups_are_copied(rt: HostRuntime) {
+    let a = group(&rt, rt.alloc(), &[65535, 1]);
+    assert!(rt; has(a.try_clone(), &[65535, 1]));
+}
+
+/// How many members there are, some by position, some positions by rank, and whether some are there.
+fn read(a: &Group) -> ((usize, bool), [Option<u16>; 4], [bool; 2]) {
+    let places = [
+        a.member(2),
+        a.member(3),
+        a.position_of(65535),
+        a.position_of(2),
+    ];
+    (
+        (a.len(), a.is_empty()),
+        places,
+        [a.contains(1), a.contains(2)],
+    )
 }
 
 #[test]
 fn groups_are_read(rt: HostRuntime) {
     let a = group(&rt, rt.alloc(), &[65535, 1, 4]);
-    assert_eq!(rt; (a.len(), a.is_empty()), (3, false));
-    assert_eq!(rt; (a.member(2), a.member(3)), (Some(4), None));
-    assert_eq!(rt; (a.position_of(65535), a.position_of(2)), (Some(0), None));
-    assert_eq!(rt; (a.contains(1), a.contains(2)), (true, false));
+    assert_eq!(rt;
+        read(&a),
+        ((3, false), [Some(4), None, Some(0), None], [true, false])
+    );
+}
+
+/// How many members there are once all stand behind one of them, and how that compares.
+fn turned(last: &Group, world: &Group) -> Option<(usize, Comparison)> {
+    match last.union(world) {
+        Ok(turned) => Some((turned.len(), turned.compare(world))),
+        Err(_) => None,
+    }
 }
 
 #[test]
 fn a_thousand_members_need_an_allocation(rt: HostRuntime) {
     let world = Group::of_first_ranks(rt.alloc(), 1024).expect(&rt, "a group");
     let last = Group::of_rank(rt.alloc(), 1023);
-    let turned = last.union(&world).expect(&rt, "a group");
-    assert_eq!(rt; turned.len(), 1024);
-    assert_eq!(rt; turned.compare(&world), Comparison::Similar);
+    assert_eq!(rt; turned(&last, &world), Some((1024, Comparison::Similar)));
 }

@@ -5,7 +5,7 @@ use Rattle.std.specs.List.{slice_split, onto_first}
 use Rattle.std.proofs.lemmas.List.{append-nil}
 use Rattle.std.proofs.lemmas.List.Elements.{filter-append}
 use Rattle.std.proofs.lemmas.List.Splits.{length-slice_split}
-use Rattle.launch.specs.Symbols.{Word}
+use Rattle.keeping.specs.Words.{Word}
 use Rattle.launch.specs.Configuration.{is_blank, is_nonempty, words_of, is_comment, goes_on, with_space, before_first_line, joined_lines, onto, pending}
 
 onto_first_append : {A : Type 0} (x : A) (parts others : List (List A)) → 0 < length parts → onto_first x (parts ++ others) ≡ onto_first x parts ++ others
@@ -27,12 +27,12 @@ split_at_blank (x ∷ front) back =
     ] in
     go (is_blank x)
 
-words_at_blank : (front back : List ℕ) → words_of (front ++ 32 ∷ back) ≡ words_of front ++ words_of back
+pub words_at_blank : (front back : List ℕ) → words_of (front ++ 32 ∷ back) ≡ words_of front ++ words_of back
 unfolding words_of
 words_at_blank front back =
     ap (filter is_nonempty) (split_at_blank front back) ∙ filter-append is_nonempty (slice_split is_blank front) (slice_split is_blank back)
 
-no_words : words_of [] ≡ []
+pub no_words : words_of [] ≡ []
 unfolding words_of
 no_words = refl
 

@@ -8,8 +8,9 @@ use Rattle.launch.specs.declared.symbol.Symbol.{Symbol}
 use Rattle.launch.specs.declared.symbol.Symbol.TheVariants as symbols
 use Rattle.launch.specs.declared.given.Given.{Given}
 use Rattle.launch.specs.declared.process_set.ProcessSet.{ProcessSet}
-use Rattle.launch.specs.Numbers.{number_between}
-use Rattle.launch.specs.Symbols.{Word, is_separator, symbol_of}
+use Rattle.keeping.specs.Numbers.{number_between}
+use Rattle.keeping.specs.Words.{Word}
+use Rattle.launch.specs.Symbols.{is_separator, symbol_of}
 use Rattle.launch.specs.Results.{◌>>=◌, required}
 use Rattle.launch.specs.Sets.{program_with, where_program, program_of, counted, where_set, set_of, each_set, sets_of}
 use Rattle.launch.specs.Options.{nothing_given, is_given, with_value, Opening, at_sets, at_file, where_last, where_option, opening_of}

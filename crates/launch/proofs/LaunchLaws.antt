@@ -5,14 +5,17 @@ use Rattle.std.proofs.lemmas.Bool.{leb-true, le-leb}
 use Rattle.launch.specs.declared.refused.Refused.{Refused}
 use Rattle.launch.specs.declared.refused.Refused.TheVariants as refusals
 use Rattle.launch.specs.declared.process_set.ProcessSet.{ProcessSet}
-use Rattle.launch.specs.Symbols.{Word}
-use Rattle.launch.specs.Results.{◌>>=◌, Gives}
+use Rattle.keeping.specs.Words.{Word}
+use Rattle.launch.specs.declared.given.Given.{Given}
+use Rattle.launch.specs.Judging.{size_behind}
+use Rattle.launch.specs.Results.{◌>>=◌, HasNoFault, Fails, Gives}
+use Rattle.launch.proofs.SetLoop.{fails_with, fails_on}
 use Rattle.launch.specs.Options.{nothing_given, Opening, at_sets, at_file, opening_of}
 use Rattle.launch.specs.Configuration.{lines_of, sets_of_lines, sets_of_file}
 use Rattle.launch.specs.Launches.{Launch, rank_count, launch_with, IsWithinLimits, limited}
 use Rattle.launch.specs.Planning.{if_ended, sets_where, sets_behind, launch_of}
 use Rattle.launch.specs.Grammar.{AreLineSets, AreSets, IsFile, file_option, Names, AskFor}
-use Rattle.launch.proofs.GrammarLaws.{bind_ok, done, lines_take, lines_again}
+use Rattle.launch.proofs.GrammarLaws.{bind_ok, done, ok_is, lines_take, lines_again}
 use Rattle.launch.proofs.SetsLaws.{sets_begin, sets_of_take, sets_of_again}
 use Rattle.launch.proofs.OptionLaws.{behind_of, opening_takes, options_again, file_opens, sets_open}
 
@@ -129,6 +132,64 @@ launch_again words config launch ask =
           let opened : opening_of nothing_given words ≡ Ok (at_file ask.given f.0 []) = start ∙ ap (opening_of ask.given) f.2 ∙ file_opens ask.given f.0 [] in
           launch_from words config (at_file ask.given f.0 []) launch opened (from_file config (at_file ask.given f.0 []) f.0 f.1 launch.sets refl f.3 f.4) ask.values ask.limits
     ]
+
+-- ---- what judging says of it
+
+-- the sets that were judged, where they are so many ranks
+record IsSized (opening : Opening) (config : Option (List ℕ)) (size : ℕ) : Type 0 where
+  sets : List ProcessSet
+  read : sets_behind opening config ≡ Ok sets
+  limits : IsWithinLimits (launch_with opening.given sets)
+  size_is : rank_count sets ≡ size
+
+judged : (opening : Opening) (config : Option (List ℕ)) (size : ℕ) → size_behind opening config ≡ Ok size → IsSized opening config size
+judged opening config size e =
+    let a = bind_ok (sets_behind opening config) (λ sets. limited (launch_with opening.given sets) >>= λ launch. Ok (rank_count launch.sets)) size e in
+    let made = launch_with opening.given a.0 in
+    let b = bind_ok (limited made) (λ launch. Ok (rank_count launch.sets)) size a.2 in
+    let l = limited_takes made b.0 b.1 in
+    record { sets = a.0; read = a.1; limits = l.0; size_is = ap (λ (launch : Launch). rank_count launch.sets) l.1 ∙ ok_is (rank_count b.0.sets) size b.2 }
+
+same_sets : (opening : Opening) (config : Option (List ℕ)) (size : ℕ) (sets : List ProcessSet) (is : IsSized opening config size) → sets_behind opening config ≡ Ok sets → is.sets ≡ sets
+same_sets opening config size sets is e = ok_is is.sets sets (sym is.read ∙ e)
+
+pub no_fault : (opening : Opening) (config : Option (List ℕ)) (size : ℕ) → size_behind opening config ≡ Ok size → HasNoFault (sets_behind opening config)
+no_fault opening config size e = let is = judged opening config size e in rw is.read tt
+
+pub is_sized : (opening : Opening) (config : Option (List ℕ)) (size : ℕ) (sets : List ProcessSet) → size_behind opening config ≡ Ok size → sets_behind opening config ≡ Ok sets → size ≡ rank_count sets
+is_sized opening config size sets e read = let is = judged opening config size e in sym is.size_is ∙ ap rank_count (same_sets opening config size sets is read)
+
+pub is_limited : (opening : Opening) (config : Option (List ℕ)) (size : ℕ) (sets : List ProcessSet) → size_behind opening config ≡ Ok size → sets_behind opening config ≡ Ok sets → IsWithinLimits (launch_with opening.given sets)
+is_limited opening config size sets e read =
+    let is = judged opening config size e in
+    subst (λ (s : List ProcessSet). IsWithinLimits (launch_with opening.given s)) (same_sets opening config size sets is read) is.limits
+
+pub is_planned : (words : List Word) (config : Option (List ℕ)) (opening : Opening) (size : ℕ) (sets : List ProcessSet) → opening_of nothing_given words ≡ Ok opening → size_behind opening config ≡ Ok size → sets_behind opening config ≡ Ok sets
+    → launch_of words config ≡ Ok (launch_with opening.given sets)
+unfolding launch_of
+is_planned words config opening size sets opened e read = rw (opened, read) (limited_again (launch_with opening.given sets) (is_limited opening config size sets e read))
+
+pub opening_fails : (words : List Word) (config : Option (List ℕ)) (e : Refused) → opening_of nothing_given words ≡ Err e → Fails e (launch_of words config)
+unfolding launch_of
+opening_fails words config e opened = fails_with e (launch_of words config) (rw opened refl)
+
+launch_fault : (read : Result Launch Refused) (e : Refused) → (read >>= λ launch. Ok (rank_count launch.sets)) ≡ Err e → read ≡ Err e
+launch_fault (Ok launch) e h = absurd cc
+launch_fault (Err f) e h = cc
+
+size_fault : (sets : Result (List ProcessSet) Refused) (given : Given) (e : Refused) → (sets >>= λ s. limited (launch_with given s) >>= λ launch. Ok (rank_count launch.sets)) ≡ Err e → (sets >>= λ s. limited (launch_with given s)) ≡ Err e
+size_fault (Ok sets) given e h = launch_fault (limited (launch_with given sets)) e h
+size_fault (Err f) given e h = cc
+
+pub size_fails : (words : List Word) (config : Option (List ℕ)) (opening : Opening) (e : Refused) → opening_of nothing_given words ≡ Ok opening → size_behind opening config ≡ Err e → Fails e (launch_of words config)
+unfolding launch_of
+size_fails words config opening e opened h = fails_with e (launch_of words config) (rw opened (size_fault (sets_behind opening config) opening.given e h))
+
+pub sets_fail : (words : List Word) (config : Option (List ℕ)) (opening : Opening) (size : ℕ) (e : Refused) → opening_of nothing_given words ≡ Ok opening → size_behind opening config ≡ Ok size → Fails e (sets_behind opening config) → Fails e (launch_of words config)
+sets_fail words config opening size e opened h fails =
+    let is = judged opening config size h in
+    let planned = is_planned words config opening size is.sets opened h is.read in
+    fails_on e (sets_behind opening config) (launch_of words config) (rw planned tt) (λ f. let clash : Ok is.sets ≡ Err e = sym is.read ∙ f in absurd cc) fails
 
 -- ---- what is answered
 

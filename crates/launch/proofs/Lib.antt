@@ -1,13 +1,14 @@
-pub mod Numerals
 pub mod OpeningLaws
 pub mod SetLoop
 pub mod Lists
 pub mod ConfigurationLaws
 pub mod RankLaws
-pub mod JoinLaws
 pub mod SymbolLaws
 pub mod GrammarLaws
 pub mod SetsLaws
 pub mod OptionLaws
 pub mod LaunchLaws
 pub mod FaultLaws
+pub mod JudgingLaws
+pub mod CutLaws
+pub mod SpellingLaws

@@ -4,7 +4,8 @@ use Rattle.launch.specs.declared.refused.Refused.{Refused}
 use Rattle.launch.specs.declared.symbol.OwnOption.{OwnOption}
 use Rattle.launch.specs.declared.symbol.Symbol.TheVariants as symbols
 use Rattle.launch.specs.declared.given.Given.{Given}
-use Rattle.launch.specs.Symbols.{Word, symbol_of}
+use Rattle.keeping.specs.Words.{Word}
+use Rattle.launch.specs.Symbols.{symbol_of}
 use Rattle.launch.specs.Options.{is_given, with_value, Opening, opening_of}
 
 -- behind an option and its value reading goes on

@@ -4,8 +4,8 @@ use Rattle.std.proofs.lemmas.List.{append-nil}
 use Rattle.launch.specs.declared.refused.Refused.{Refused}
 use Rattle.launch.specs.declared.refused.Refused.TheVariants as refusals
 use Rattle.launch.specs.declared.process_set.ProcessSet.{ProcessSet}
-use Rattle.launch.specs.Symbols.{Word}
-use Rattle.launch.specs.Results.{◌>>=◌, Fails}
+use Rattle.keeping.specs.Words.{Word}
+use Rattle.launch.specs.Results.{◌>>=◌, HasNoFault, Fails}
 use Rattle.launch.specs.Sets.{set_of, each_set}
 
 -- the sets that were read before, and those that are still read
@@ -25,7 +25,7 @@ each_goes_on front words others set total read so_far =
 
 -- a refusal is for want of memory, or what reading gave
 pub fails_with : {Y : Type 0} (e : Refused) (read : Result Y Refused) → read ≡ Err e → Fails e read
-fails_with refusals.OutOfMemory read h = tt
+fails_with refusals.OutOfMemory read h = rw h tt
 fails_with refusals.NoSet read h = h
 fails_with refusals.WrongOption read h = h
 fails_with refusals.WrongValue read h = h
@@ -35,23 +35,23 @@ fails_with refusals.OverLimit read h = h
 fails_with refusals.LeftOut read h = h
 fails_with refusals.UnreadableFile read h = h
 
--- what failed with this refusal fails so too, where it is read from it
-pub fails_on : {Y Z : Type 0} (e : Refused) (read : Result Y Refused) (next : Result Z Refused) → (read ≡ Err e → next ≡ Err e) → Fails e read → Fails e next
-fails_on refusals.OutOfMemory read next go h = tt
-fails_on refusals.NoSet read next go h = go h
-fails_on refusals.WrongOption read next go h = go h
-fails_on refusals.WrongValue read next go h = go h
-fails_on refusals.NoCount read next go h = go h
-fails_on refusals.NoProgram read next go h = go h
-fails_on refusals.OverLimit read next go h = go h
-fails_on refusals.LeftOut read next go h = go h
-fails_on refusals.UnreadableFile read next go h = go h
+-- what failed with this refusal fails so too, where it is read from it and has no fault
+pub fails_on : {Y Z : Type 0} (e : Refused) (read : Result Y Refused) (next : Result Z Refused) → HasNoFault next → (read ≡ Err e → next ≡ Err e) → Fails e read → Fails e next
+fails_on refusals.OutOfMemory read next fine go h = fine
+fails_on refusals.NoSet read next fine go h = go h
+fails_on refusals.WrongOption read next fine go h = go h
+fails_on refusals.WrongValue read next fine go h = go h
+fails_on refusals.NoCount read next fine go h = go h
+fails_on refusals.NoProgram read next fine go h = go h
+fails_on refusals.OverLimit read next fine go h = go h
+fails_on refusals.LeftOut read next fine go h = go h
+fails_on refusals.UnreadableFile read next fine go h = go h
 
-pub each_ends : (e : Refused) (front : List ProcessSet) (words : List Word) (others : List (List Word)) (total : Result (List ProcessSet) Refused) → Fails e (set_of words)
+pub each_ends : (e : Refused) (front : List ProcessSet) (words : List Word) (others : List (List Word)) (total : Result (List ProcessSet) Refused) → HasNoFault total → Fails e (set_of words)
     → with_front front (each_set (words ∷ others)) ≡ total → Fails e total
 unfolding each_set
-each_ends e front words others total fails so_far =
-    fails_on e (set_of words) total (λ h. sym so_far ∙ (let one : with_front front (each_set (words ∷ others)) ≡ Err e = rw h refl in one)) fails
+each_ends e front words others total fine fails so_far =
+    fails_on e (set_of words) total fine (λ h. sym so_far ∙ (let one : with_front front (each_set (words ∷ others)) ≡ Err e = rw h refl in one)) fails
 
 pub each_is_done : (front : List ProcessSet) (total : Result (List ProcessSet) Refused) → with_front front (each_set []) ≡ total → total ≡ Ok front
 unfolding each_set

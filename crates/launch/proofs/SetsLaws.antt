@@ -8,10 +8,11 @@ use Rattle.std.proofs.lemmas.Bool.{false≢true}
 use Rattle.std.proofs.lemmas.List.Elements.{All-from_recursion}
 use Rattle.std.proofs.lemmas.List.Splits.{slice_split_none, slice_split_at, length-slice_split}
 use Rattle.launch.specs.declared.process_set.ProcessSet.{ProcessSet}
-use Rattle.launch.specs.Symbols.{Word, is_separator}
+use Rattle.keeping.specs.Words.{Word}
+use Rattle.launch.specs.Symbols.{is_separator}
 use Rattle.launch.specs.Sets.{sets_of}
 use Rattle.launch.specs.Grammar.{colon, IsSet, AreSets, AreLineSets}
-use Rattle.launch.proofs.Numerals.{decimal_is}
+use Rattle.keeping.proofs.Numerals.{decimal_is}
 use Rattle.launch.proofs.SymbolLaws.{same_word, other_word, differs}
 use Rattle.launch.proofs.GrammarLaws.{HasNoColon, lines_take, lines_again}
 

@@ -8,7 +8,8 @@ use Rattle.launch.specs.declared.symbol.OwnOption.{OwnOption}
 use Rattle.launch.specs.declared.symbol.OwnOption.TheVariants.{Job, BasePort, Restart, Patience}
 use Rattle.launch.specs.declared.symbol.Symbol.{Symbol}
 use Rattle.launch.specs.declared.symbol.Symbol.TheVariants as symbols
-use Rattle.launch.specs.Symbols.{Word, is_separator, is_left_out, is_dashed, symbol_of}
+use Rattle.keeping.specs.Words.{Word}
+use Rattle.launch.specs.Symbols.{is_separator, is_left_out, is_dashed, symbol_of}
 use Rattle.launch.specs.Grammar.{colon, IsProgram, name_of, file_option}
 
 pub same_word : (word name : Word) → bytes_eq word name ≡ true → word ≡ name

@@ -4,7 +4,7 @@ use Rattle.std.specs.List.{slice_split}
 use Rattle.launch.specs.declared.refused.Refused.{Refused}
 use Rattle.launch.specs.declared.refused.Refused.TheVariants as refusals
 use Rattle.launch.specs.declared.process_set.ProcessSet.{ProcessSet}
-use Rattle.launch.specs.Symbols.{Word}
+use Rattle.keeping.specs.Words.{Word}
 use Rattle.launch.specs.Sets.{each_set}
 
 -- a line ends at byte 10

@@ -2,7 +2,7 @@
 use Rattle.std.specs.Prelude.{◌≡◌, List, ◌++◌, Option, ℕ, Err}
 use Rattle.launch.specs.declared.refused.Refused.{Refused}
 use Rattle.launch.specs.declared.refused.Refused.TheVariants as refusals
-use Rattle.launch.specs.Symbols.{Word}
+use Rattle.keeping.specs.Words.{Word}
 use Rattle.launch.specs.Planning.{launch_of}
 
 -- these faults are of a word that stands there, and not of one that is missing

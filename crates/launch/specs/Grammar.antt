@@ -6,7 +6,8 @@ use Rattle.launch.specs.declared.symbol.OwnOption.{OwnOption}
 use Rattle.launch.specs.declared.symbol.OwnOption.TheVariants.{Job, BasePort, Restart, Patience}
 use Rattle.launch.specs.declared.given.Given.{Given}
 use Rattle.launch.specs.declared.process_set.ProcessSet.{ProcessSet}
-use Rattle.launch.specs.Symbols.{Word, least_of, greatest_of}
+use Rattle.keeping.specs.Words.{Word}
+use Rattle.launch.specs.Symbols.{least_of, greatest_of}
 use Rattle.launch.specs.Options.{nothing_given, given_of, with_number}
 use Rattle.launch.specs.Configuration.{lines_of}
 use Rattle.launch.specs.Launches.{Launch, launch_with, IsWithinLimits}

@@ -1,5 +1,4 @@
 pub mod Refusals
-pub mod Numbers
 pub mod Symbols
 pub mod Results
 pub mod Sets
@@ -8,7 +7,9 @@ pub mod Openings
 pub mod Configuration
 pub mod Launches
 pub mod Planning
+pub mod Cuts
+pub mod Judging
 pub mod Grammar
 pub mod Faults
-pub mod Joined
-pub mod Keepers
+pub mod Statuses
+pub mod Spelling

@@ -3,7 +3,7 @@ use Rattle.std.specs.Prelude.{ℕ, List, [], ◌∷◌, Option, Some, None, Resu
 use Rattle.launch.specs.declared.refused.Refused.{Refused}
 use Rattle.launch.specs.declared.refused.Refused.TheVariants as refusals
 use Rattle.launch.specs.declared.process_set.ProcessSet.{ProcessSet}
-use Rattle.launch.specs.Symbols.{Word}
+use Rattle.keeping.specs.Words.{Word}
 use Rattle.launch.specs.Results.{◌>>=◌}
 use Rattle.launch.specs.Options.{Opening, nothing_given, opening_of}
 use Rattle.launch.specs.Sets.{sets_of}

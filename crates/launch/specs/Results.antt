@@ -9,12 +9,23 @@ abbrev pub ◌>>=◌ : {A B : Type 0} → Result A Refused → (A → Result B R
 (Ok x) >>= f = f x
 (Err e) >>= f = Err e
 
--- this refusal is what reading gives, unless it is for want of memory
+-- no rule gives this refusal
+abbrev pub IsOfMemory : Refused → Type 0
+IsOfMemory refusals.OutOfMemory = Unit {0}
+IsOfMemory e = ⊥
+
+-- reading meets no rule's fault
+abbrev pub HasNoFault : {Y : Type 0} → Result Y Refused → Type 0
+HasNoFault (Ok x) = Unit {0}
+HasNoFault (Err e) = IsOfMemory e
+
+-- This refusal is what reading gives; it is for want of memory only where reading meets no fault.
 abbrev pub Fails : {Y : Type 0} → Refused → Result Y Refused → Type 0
-Fails refusals.OutOfMemory read = Unit {0}
+Fails refusals.OutOfMemory read = HasNoFault read
 Fails e read = read ≡ Err e
 
--- what a function returned, seen by view, is what reading gives, unless memory ran out
+-- What a function returned, seen by view, is what reading gives; memory runs out only where reading
+-- meets no fault.
 abbrev pub Gives : {X Y : Type 0} → (X → Y) → Result X Refused → Result Y Refused → Type 0
 Gives view (Ok x) read = read ≡ Ok (view x)
 Gives view (Err e) read = Fails e read

@@ -6,8 +6,9 @@ use Rattle.launch.specs.declared.refused.Refused.TheVariants as refusals
 use Rattle.launch.specs.declared.symbol.Symbol.{Symbol}
 use Rattle.launch.specs.declared.symbol.Symbol.TheVariants as symbols
 use Rattle.launch.specs.declared.process_set.ProcessSet.{ProcessSet}
-use Rattle.launch.specs.Numbers.{number_between}
-use Rattle.launch.specs.Symbols.{Word, is_separator, symbol_of}
+use Rattle.keeping.specs.Numbers.{number_between}
+use Rattle.keeping.specs.Words.{Word}
+use Rattle.launch.specs.Symbols.{is_separator, symbol_of}
 use Rattle.launch.specs.Results.{◌>>=◌, required}
 
 -- a program and its arguments, among which no `:` stands

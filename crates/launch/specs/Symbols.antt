@@ -1,14 +1,11 @@
 -- What a word is where an option may stand.
-use Rattle.std.specs.Prelude.{ℕ, Bool, ◌||◌, ◌==◌, List, slice_index, codes, if◌then◌else◌}
+use Rattle.std.specs.Prelude.{ℕ, Bool, ◌||◌, ◌==◌, slice_index, codes, if◌then◌else◌}
 use Rattle.std.specs.Str.{bytes_eq}
+use Rattle.keeping.specs.Words.{Word}
 use Rattle.launch.specs.declared.symbol.OwnOption.{OwnOption}
 use Rattle.launch.specs.declared.symbol.OwnOption.TheVariants.{Job, BasePort, Restart, Patience}
 use Rattle.launch.specs.declared.symbol.Symbol.{Symbol}
 use Rattle.launch.specs.declared.symbol.Symbol.TheVariants.{Own, File, Count, LeftOut, Unknown, Separator, Program}
-
--- a word is a list of bytes
-abbrev pub Word : Type 0
-Word = List ℕ
 
 -- the word `:` stands between two sets
 abbrev pub is_separator : Word → Bool

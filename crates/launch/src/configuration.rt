@@ -4,13 +4,12 @@ ghost use Rattle.std.specs.Prelude.{◌≡◌, ◌-◌, ◌∷◌, [], ◌++◌,
 ghost use Rattle.std.specs.Option.{option_copied};
 ghost use Rattle.std.specs.List.{slice_split};
 ghost use Rattle.launch.specs.Configuration.{is_line_end, is_blank, is_comment, goes_on, is_nonempty, words_of, pending, lines_of, sets_of_file};
-ghost use Rattle.launch.specs.Results.{Gives};
+ghost use Rattle.launch.specs.Results.{Gives, HasNoFault};
 
 use crate::process_set::ProcessSet;
 use crate::refused::Refused;
 use crate::sets::each_set;
-use crate::word::Word;
-use crate::words::Words;
+use keeping::{Word, Words};
 use std::alloc::{AllocError, Global};
 use std::mem;
 
@@ -49,14 +48,14 @@ fn is_comment(line: &[u8]) -> bool
 }
 
 /// Whether the line is skipped: it is a comment, and no line goes on in it.
-fn is_skipped(begun: bool, line: &[u8]) -> bool
+pub(crate) fn is_skipped(begun: bool, line: &[u8]) -> bool
     ensures { result ≡ (not begun && is_comment line.now) }
 {
     !begun && is_comment(line)
 }
 
 /// What stands before the `\` at the line's end, where it has one.
-fn continued(line: &[u8]) -> Option<&[u8]>
+pub(crate) fn continued(line: &[u8]) -> Option<&[u8]>
     ensures { MatchOption result (goes_on line.now ≡ false)
         (λ front. (goes_on line.now ≡ true) × (front.now ≡ take (length line.now - 1) line.now)) }
 {
@@ -111,7 +110,7 @@ fn take_line(
 }
 
 /// The words of each line that has words.
-fn lines_of(alloc: Global, bytes: &[u8]) -> Result<Vec<Words>, AllocError>
+pub(crate) fn lines_of(alloc: Global, bytes: &[u8]) -> Result<Vec<Words>, AllocError>
     ensures { IfOk result (λ lines. lines.items ≡ lines_of bytes.now) }
 {
     let mut lines = Vec::new(alloc);
@@ -134,9 +133,10 @@ fn slices(alloc: Global, lines: &[Words]) -> Result<Vec<&[Word]>, AllocError>
     Ok(slices)
 }
 
-/// What the sets of the configuration file ask for, one set a line, or the first fault. A file that
-/// can't be read is `None`.
+/// What the sets of the configuration file ask for, one set a line, where it has no fault. A file
+/// that can't be read is `None`.
 pub(crate) fn sets_of_file(alloc: Global, config: Option<&[u8]>) -> Result<Vec<ProcessSet>, Refused>
+    requires { HasNoFault (sets_of_file (option_copied config)) }
     ensures { Gives (λ sets. sets.items) result (sets_of_file (option_copied config.entry)) }
 {
     let Some(bytes) = config else {

@@ -4,9 +4,12 @@ ghost use Rattle.std.specs.Prelude.{◌≡◌};
 ghost use Rattle.launch.specs.Options.{is_given, with_value, nothing_given};
 ghost use Rattle.launch.specs.Results.{GivesExactly};
 
-use crate::number::number_between;
 use crate::refused::Refused;
 use crate::symbol::OwnOption;
+use keeping::number_between;
+
+/// The port of rank 0 where none is given.
+pub(crate) const BASE_PORT: u16 = 47_000;
 
 /// The values of the own options that were given.
 #[derive(Clone, Copy, Debug)]

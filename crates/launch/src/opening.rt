@@ -3,7 +3,7 @@
 ghost use Rattle.std.specs.Prelude.{◌≡◌, Some, IfSome};
 ghost use Rattle.std.specs.Option.{option_copied};
 ghost use Rattle.launch.specs.Options.{nothing_given, opening_of, name_in};
-ghost use Rattle.launch.specs.Symbols.{Word};
+ghost use Rattle.keeping.specs.Words.{Word};
 ghost use Rattle.launch.specs.Grammar.{ReachesFile};
 ghost use Rattle.launch.specs.Openings.{opening_text};
 ghost use Rattle.launch.specs.Results.{GivesExactly};
@@ -11,7 +11,7 @@ ghost use Rattle.launch.specs.Results.{GivesExactly};
 use crate::given::Given;
 use crate::refused::Refused;
 use crate::symbol::{Symbol, symbol_of};
-use crate::word::Word;
+use keeping::Word;
 
 /// The own options, and what stands behind them.
 #[derive(Clone, Copy, Debug)]
@@ -75,7 +75,7 @@ pub fn config_name(words: &[Word]) -> Option<&[u8]>
     name_of(words)
 }
 
-fn name_of(words: &[Word]) -> Option<&[u8]>
+pub(crate) fn name_of(words: &[Word]) -> Option<&[u8]>
     ensures { option_copied result ≡ name_in (opening_of nothing_given words.now) }
 {
     match opening_of(words) {

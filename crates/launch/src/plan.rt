@@ -1,20 +1,14 @@
 //! What is launched.
 
-ghost use Rattle.std.specs.Prelude.{◌≡◌, ◌≤◌, ◌+◌, ◌<◌, [], ◌∷◌, ◌++◌, slice_get, IfOk, OnOk, MatchOption};
+ghost use Rattle.std.specs.Prelude.{◌≡◌, ◌≤◌, ◌+◌, [], ◌∷◌, ◌++◌, slice_get, IfOk, OnOk};
 ghost use Rattle.std.specs.Option.{option_copied};
-ghost use Rattle.launch.specs.Launches.{processes, rank_count, launch_with, limited, option_words, words_of_rank};
-ghost use Rattle.launch.specs.Results.{GivesExactly};
+ghost use Rattle.launch.specs.Launches.{processes, rank_count, launch_with, IsWithinLimits, option_words, words_of_rank};
 
-use crate::given::Given;
+use crate::given::{BASE_PORT, Given};
 use crate::process_set::ProcessSet;
-use crate::refused::Refused;
-use crate::word::Word;
-use crate::words::Words;
+use keeping::{Word, Words};
 use std::alloc::{AllocError, Global};
 use std::marker::Model;
-
-/// The most ranks of a launch.
-const MOST_RANKS: u32 = 256;
 
 /// What is launched: the values of the own options, and the program and arguments of each rank.
 ///
@@ -48,21 +42,6 @@ impl Model for Plan {
         × (p.base_port + p.size ≤ 65536) };
 }
 
-/// The number of all processes, or `None` if it is above the limit.
-fn size_of(sets: &[ProcessSet]) -> Option<u16>
-    ensures { MatchOption result (256 < rank_count sets.now)
-        (λ n. (n ≡ rank_count sets.now) × (n ≤ 256)) }
-{
-    let mut size: u32 = 0;
-    for set in sets {
-        size += u32::from(set.count);
-        if size > MOST_RANKS {
-            return None;
-        }
-    }
-    Some(size as u16)
-}
-
 /// The process of a rank: the rank-th through the sets.
 fn process_of(sets: &[ProcessSet], rank: u16) -> Option<&ProcessSet>
     ensures { option_copied result ≡ slice_get (processes sets.now) rank }
@@ -93,27 +72,21 @@ fn push_option(alloc: Global, words: &mut Words, name: &[u8], number: u64) -> Re
 }
 
 impl Plan {
-    /// The plan of these sets, with the defaults of the options that were not given; 57 where it
-    /// has more than 256 ranks or a port above 65,535.
-    #[tactic(auto, unfolding(crate::specs::Launches::limited))]
-    pub(crate) fn new(given: Given, sets: Vec<ProcessSet>) -> Result<Plan, Refused>
-        ensures { GivesExactly (λ plan. plan) result (limited (launch_with given sets.items)) }
+    /// The plan of these sets, which have so many processes, with the defaults of the options that
+    /// were not given.
+    pub(crate) fn new(given: Given, size: u16, sets: Vec<ProcessSet>) -> Plan
+        requires size { size ≡ rank_count sets.items }
+        requires limits { IsWithinLimits (launch_with given sets.items) }
+        ensures { result ≡ launch_with given sets.items }
     {
-        let base_port = given.base_port.unwrap_or(47_000);
-        let Some(size) = size_of(&sets) else {
-            return Err(Refused::OverLimit);
-        };
-        if u32::from(base_port) + u32::from(size) > 65_536 {
-            return Err(Refused::OverLimit);
-        }
-        Ok(Plan {
+        Plan {
             job: given.job.unwrap_or(1),
-            base_port,
+            base_port: given.base_port.unwrap_or(BASE_PORT),
             restarts: given.restarts.unwrap_or(0),
             patience: given.patience,
             size,
             sets,
-        })
+        }
     }
 
     /// The job's number.

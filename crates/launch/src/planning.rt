@@ -7,24 +7,27 @@ ghost use Rattle.launch.specs.Grammar.{AskFor};
 ghost use Rattle.launch.specs.Planning.{sets_behind, launch_of};
 ghost use Rattle.launch.specs.Openings.{opening_text};
 ghost use Rattle.launch.specs.Faults.{FaultsStay};
-ghost use Rattle.launch.specs.Results.{Gives};
+ghost use Rattle.launch.specs.Results.{Gives, HasNoFault};
 
 use crate::configuration::sets_of_file;
+use crate::judging::size_behind;
 use crate::opening::{Opening, opening_of};
 use crate::plan::Plan;
 use crate::process_set::ProcessSet;
 use crate::refused::Refused;
 use crate::sets::sets_of;
-use crate::word::Word;
+use keeping::Word;
 use std::alloc::Global;
 
-/// The sets behind an opening, from the words or from the configuration file.
+/// The sets behind an opening, from the words or from the configuration file, where they have no
+/// fault.
 #[tactic(auto, unfolding(crate::specs::Planning::sets_behind))]
 fn sets_behind(
     alloc: Global,
     opening: Opening<'_>,
     config: Option<&[u8]>,
 ) -> Result<Vec<ProcessSet>, Refused>
+    requires { HasNoFault (sets_behind (opening_text opening) (option_copied config)) }
     ensures { Gives (λ sets. sets.items) result
         (sets_behind (opening_text opening.entry) (option_copied config.entry)) }
 {
@@ -39,7 +42,7 @@ fn sets_behind(
 }
 
 /// What the words of the launcher ask for, or the first fault from left to right: 52 to 59, and 14
-/// for want of memory. `config` is what the configuration file that the words name holds, or `None`
+/// for want of memory, where there is no fault. `config` is what the configuration file that the words name holds, or `None`
 /// where it can't be read.
 ///
 /// MPI 3.1, 8.8 has the two forms of the words. The faults of the configuration file come at its
@@ -56,13 +59,14 @@ pub fn plan(alloc: Global, words: &[Word], config: Option<&[u8]>) -> Result<Plan
     plan_of(alloc, words, config)
 }
 
-#[tactic(auto, unfolding(crate::specs::Planning::launch_of))]
+#[tactic(auto, using(crate::proofs::LaunchLaws::opening_fails, crate::proofs::LaunchLaws::size_fails, crate::proofs::LaunchLaws::sets_fail, crate::proofs::LaunchLaws::no_fault, crate::proofs::LaunchLaws::is_sized, crate::proofs::LaunchLaws::is_limited, crate::proofs::LaunchLaws::is_planned))]
 fn plan_of(alloc: Global, words: &[Word], config: Option<&[u8]>) -> Result<Plan, Refused>
     ensures { Gives (λ plan. plan) result (launch_of words.now (option_copied config.entry)) }
 {
     let opening = opening_of(words)?;
+    let size = size_behind(opening, config)?;
     let sets = sets_behind(alloc, opening, config)?;
-    Plan::new(opening.given, sets)
+    Ok(Plan::new(opening.given, size, sets))
 }
 
 /// No word behind a fault matters: where the words in front have a fault that is of a word and not

@@ -3,17 +3,18 @@
 ghost use Rattle.std.specs.Prelude.{◌≡◌, map, IfOk};
 ghost use Rattle.std.specs.List.{slice_split};
 ghost use Rattle.launch.specs.Symbols.{is_separator};
-ghost use Rattle.launch.specs.Results.{Gives};
+ghost use Rattle.launch.specs.Results.{Gives, HasNoFault};
 ghost use Rattle.launch.specs.Sets.{each_set, sets_of};
 
 use crate::process_set::{ProcessSet, set_of};
 use crate::refused::Refused;
 use crate::symbol::is_separator;
-use crate::word::Word;
+use keeping::Word;
 use std::alloc::{AllocError, Global};
 
-/// What each of these lists of words asks for, or the first fault.
+/// What each of these lists of words asks for, where none has a fault.
 pub(crate) fn each_set(alloc: Global, lines: &[&[Word]]) -> Result<Vec<ProcessSet>, Refused>
+    requires { HasNoFault (each_set (map (λ line. line.now) lines.now)) }
     ensures { Gives (λ sets. sets.items) result (each_set (map (λ line. line.now) lines.now)) }
 {
     let mut sets = Vec::new(alloc);
@@ -33,8 +34,9 @@ fn parts(alloc: Global, words: &[Word]) -> Result<Vec<&[Word]>, AllocError>
         .collect(alloc)
 }
 
-/// What the sets ask for, which stand apart by words `:`, or the first fault.
+/// What the sets ask for, which stand apart by words `:`, where none has a fault.
 pub(crate) fn sets_of(alloc: Global, words: &[Word]) -> Result<Vec<ProcessSet>, Refused>
+    requires { HasNoFault (sets_of words.now) }
     ensures { Gives (λ sets. sets.items) result (sets_of words.now) }
 {
     each_set(alloc, &parts(alloc, words)?)

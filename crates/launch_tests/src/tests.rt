@@ -1,7 +1,8 @@
 //! Worked rows of the launcher's words: tables whose rows one helper tries.
 
+use keeping::{After, Keeper, Word, Words, join};
 use launch::planning::plan;
-use launch::{After, Keeper, Plan, Word, Words, config_name, join};
+use launch::{Plan, config_name};
 use std::alloc::Global;
 use std::process::Abort;
 
@@ -40,91 +41,107 @@ fn assert_outcome(rt: &impl Abort, alloc: Global, line: &str, config: Option<&[u
     );
 }
 
+/// Whether the row `NUMBER|LINE` tells the line's outcome.
+fn is_right(alloc: Global, row: &str) -> Option<bool> {
+    let (want, line) = row.split_once('|')?;
+    Some(outcome(alloc, line, None)? == want.parse::<u8>().ok()?)
+}
+
+/// The first row that tells another outcome than its line has.
+fn first_wrong(alloc: Global, rows: &str) -> Option<&str> {
+    for row in rows.lines() {
+        if is_right(alloc, row) != Some(true) {
+            return Some(row);
+        }
+    }
+    None
+}
+
+/// Rows `NUMBER|LINE`: the number of the line's refusal, or 0 for a plan.
+const LINES: &str = "\
+    52|\n\
+    52|-n 1 a :\n\
+    53|-x\n\
+    54|-n 0 a\n\
+    55|echo hi\n\
+    56|-n 2\n\
+    57|-n 200 a : -n 57 b\n\
+    58|-n 1 -host h a\n\
+    0|-job 0 -n 1 a\n\
+    0|-job 18446744073709551615 -n 1 a\n\
+    54|-job 18446744073709551616 -n 1 a\n\
+    54|-job 99999999999999999999 -n 1 a\n\
+    54|-job 00 -n 1 a\n\
+    54|-job 01 -n 1 a\n\
+    54|-job +1 -n 1 a\n\
+    54|-job  -n 1 a\n\
+    54|-job x -n 1 a\n\
+    54|-job\n\
+    54|-job -n 1 a\n\
+    54|-baseport 0 -n 1 a\n\
+    0|-baseport 1 -n 1 a\n\
+    0|-baseport 65535 -n 1 a\n\
+    54|-baseport 65536 -n 1 a\n\
+    0|-restart 0 -n 1 a\n\
+    0|-restart 65535 -n 1 a\n\
+    54|-restart 65536 -n 1 a\n\
+    54|-patience 0 -n 1 a\n\
+    0|-patience 1 -n 1 a\n\
+    0|-patience 3600000 -n 1 a\n\
+    54|-patience 3600001 -n 1 a\n\
+    0|-n 1 a\n\
+    0|-n 256 a\n\
+    54|-n 257 a\n\
+    54|-n 01 a\n\
+    54|-n 00000000000000000001 a\n\
+    54|-n -1 a\n\
+    54|-n\n\
+    0|-patience 5 -restart 2 -baseport 100 -job 9 -n 1 a\n\
+    53|-job 1 -job 2 -n 1 a\n\
+    53|-job 1 -job\n\
+    53|-job 1 -job x -n 1 a\n\
+    53|-patience 1 -restart 1 -patience 1 -n 1 a\n\
+    53|-n 1 -job 1 a\n\
+    53|-n 1 a : -job 1 -n 1 b\n\
+    53|-n 1 -n 1 a\n\
+    53|-n 1 -configfile f\n\
+    53|-n 1 a : -configfile f\n\
+    53|-\n\
+    53|-n 1 -\n\
+    53|-n 1 --rank a\n\
+    58|-soft 1 -n 1 a\n\
+    58|-n 1 -wdir d a\n\
+    58|-n 1 a : -path p b\n\
+    58|-arch\n\
+    58|-job 1 -file f\n\
+    0|-n 1 a -host h -n x -y\n\
+    55|a -n 1\n\
+    55| a\n\
+    0|-n 1 \n\
+    0|-n 1 a  b\n\
+    52|:\n\
+    52|: -n 1 a\n\
+    52|-job 5 :\n\
+    52|-job 5\n\
+    52|-n 1 a : : -n 1 b\n\
+    54|-n :\n\
+    54|-n : 1 a\n\
+    56|-n 1 :\n\
+    56|-n 1 : a\n\
+    55|-n 1 a : b\n\
+    0|-n 1 a :b\n\
+    57|-n 256 a : -n 1 b\n\
+    56|-n 256 a : -n 1\n\
+    53|-n 200 a : -n 57 b : -x\n\
+    57|-baseport 65535 -n 2 a\n\
+    0|-baseport 65534 -n 1 a : -n 1 b\n\
+    57|-baseport 65534 -n 1 a : -n 2 b\n\
+    0|-baseport 65280 -n 256 a\n\
+    57|-baseport 65281 -n 256 a";
+
 #[test]
 fn lines_have_their_outcomes(rt: HostRuntime) {
-    for (line, want) in [
-        ("", 52),
-        ("-n 1 a :", 52),
-        ("-x", 53),
-        ("-n 0 a", 54),
-        ("echo hi", 55),
-        ("-n 2", 56),
-        ("-n 200 a : -n 57 b", 57),
-        ("-n 1 -host h a", 58),
-        ("-job 0 -n 1 a", 0),
-        ("-job 18446744073709551615 -n 1 a", 0),
-        ("-job 18446744073709551616 -n 1 a", 54),
-        ("-job 99999999999999999999 -n 1 a", 54),
-        ("-job 00 -n 1 a", 54),
-        ("-job 01 -n 1 a", 54),
-        ("-job +1 -n 1 a", 54),
-        ("-job  -n 1 a", 54),
-        ("-job x -n 1 a", 54),
-        ("-job", 54),
-        ("-job -n 1 a", 54),
-        ("-baseport 0 -n 1 a", 54),
-        ("-baseport 1 -n 1 a", 0),
-        ("-baseport 65535 -n 1 a", 0),
-        ("-baseport 65536 -n 1 a", 54),
-        ("-restart 0 -n 1 a", 0),
-        ("-restart 65535 -n 1 a", 0),
-        ("-restart 65536 -n 1 a", 54),
-        ("-patience 0 -n 1 a", 54),
-        ("-patience 1 -n 1 a", 0),
-        ("-patience 3600000 -n 1 a", 0),
-        ("-patience 3600001 -n 1 a", 54),
-        ("-n 1 a", 0),
-        ("-n 256 a", 0),
-        ("-n 257 a", 54),
-        ("-n 01 a", 54),
-        ("-n 00000000000000000001 a", 54),
-        ("-n -1 a", 54),
-        ("-n", 54),
-        ("-patience 5 -restart 2 -baseport 100 -job 9 -n 1 a", 0),
-        ("-job 1 -job 2 -n 1 a", 53),
-        ("-job 1 -job", 53),
-        ("-job 1 -job x -n 1 a", 53),
-        ("-patience 1 -restart 1 -patience 1 -n 1 a", 53),
-        ("-n 1 -job 1 a", 53),
-        ("-n 1 a : -job 1 -n 1 b", 53),
-        ("-n 1 -n 1 a", 53),
-        ("-n 1 -configfile f", 53),
-        ("-n 1 a : -configfile f", 53),
-        ("-", 53),
-        ("-n 1 -", 53),
-        ("-n 1 --rank a", 53),
-        ("-soft 1 -n 1 a", 58),
-        ("-n 1 -wdir d a", 58),
-        ("-n 1 a : -path p b", 58),
-        ("-arch", 58),
-        ("-job 1 -file f", 58),
-        ("-n 1 a -host h -n x -y", 0),
-        ("a -n 1", 55),
-        (" a", 55),
-        ("-n 1 ", 0),
-        ("-n 1 a  b", 0),
-        (":", 52),
-        (": -n 1 a", 52),
-        ("-job 5 :", 52),
-        ("-job 5", 52),
-        ("-n 1 a : : -n 1 b", 52),
-        ("-n :", 54),
-        ("-n : 1 a", 54),
-        ("-n 1 :", 56),
-        ("-n 1 : a", 56),
-        ("-n 1 a : b", 55),
-        ("-n 1 a :b", 0),
-        ("-n 256 a : -n 1 b", 57),
-        ("-n 256 a : -n 1", 56),
-        ("-n 200 a : -n 57 b : -x", 53),
-        ("-baseport 65535 -n 2 a", 57),
-        ("-baseport 65534 -n 1 a : -n 1 b", 0),
-        ("-baseport 65534 -n 1 a : -n 2 b", 57),
-        ("-baseport 65280 -n 256 a", 0),
-        ("-baseport 65281 -n 256 a", 57),
-    ] {
-        assert_outcome(&rt, rt.alloc(), line, None, want);
-    }
+    assert_eq!(rt; first_wrong(rt.alloc(), LINES), None);
 }
 
 #[test]

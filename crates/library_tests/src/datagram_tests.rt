@@ -1,6 +1,8 @@
+//! Worked datagrams, and the faults of such as are none.
+
 use datagram::*;
 use std::alloc::Global;
-use std::test::Fail;
+use std::process::Abort;
 use vocabulary::{BasicType, Endpoint};
 
 /// Rank 0 sends 1, 2, 3 as INT32 with tag 7 to rank 1, in frame 0 of job 1.
@@ -22,98 +24,148 @@ const RESET: [u8; 32] = [
     0, 0, 0, 0,
 ];
 
-fn edited(alloc: Global, bytes: &[u8], at: usize, byte: u8) -> Result<Vec<u8>, Fail> {
-    let mut edited = Vec::from_slice(alloc, bytes)?;
-    if at < edited.len() {
-        edited[at] = byte;
-    } else {
-        edited.push(byte)?;
+/// Reads these bytes, and appends the spelling of what they spell.
+fn write_again(bytes: &[u8], out: &mut Vec<u8>) -> bool {
+    match read(bytes) {
+        Ok(datagram) => write(&datagram, out).is_ok(),
+        Err(_) => false,
     }
-    Ok(edited)
+}
+
+fn assert_written(rt: &impl Abort, alloc: Global, bytes: &[u8]) {
+    let mut out = Vec::new(alloc);
+    let is_written = write_again(bytes, &mut out);
+    assert_eq!(rt; (is_written, out.as_slice() == bytes), (true, true));
 }
 
 #[test]
-fn a_message_is_read_and_written(rt: HostRuntime) -> Result<(), Fail> {
-    let datagram = read(&MESSAGE)?;
-    let rank_0 = Endpoint {
-        rank: 0,
-        incarnation: 0,
-    };
-    assert_eq!(rt; datagram.header.source, rank_0);
-    assert_eq!(rt; datagram.header.target.rank, 1);
-    assert_eq!(rt; datagram.header.job, 1);
-    assert_eq!(rt; datagram.header.sequence, 0);
-    let Content::Frame(Frame::Eager(eager)) = datagram.content else {
-        return Err(Fail::from("no frame"));
-    };
-    assert_eq!(rt; eager.plane, Plane::PointToPoint);
-    assert_eq!(rt; eager.basic, BasicType::Int32);
-    assert_eq!(rt; (eager.tag, eager.context, eager.count), (7, 0, 3));
-    assert_eq!(rt;
-        eager.elements,
-        [0, 0, 0, 1, 0, 0, 0, 2, 0, 0, 0, 3].as_slice()
+fn what_is_read_is_written(rt: HostRuntime) {
+    assert_written(&rt, rt.alloc(), &MESSAGE);
+    assert_written(&rt, rt.alloc(), &ACKNOWLEDGEMENT);
+    assert_written(&rt, rt.alloc(), &RESET);
+}
+
+#[test]
+fn what_is_written_is_appended(rt: HostRuntime) {
+    let mut out = Vec::new(rt.alloc());
+    let is_written = write_again(&MESSAGE, &mut out) && write_again(&RESET, &mut out);
+    let parts = (
+        out.len(),
+        out.as_slice().starts_with(&MESSAGE),
+        out.as_slice().ends_with(&RESET),
     );
+    assert_eq!(rt; (is_written, parts), (true, (96, true, true)));
+}
+
+fn header_of(bytes: &[u8]) -> Option<Header> {
+    Some(read(bytes).ok()?.header)
+}
+
+/// The header of a datagram of job 1.
+fn header(source: (u16, u16), target: (u16, u16), sequence: u64) -> Option<Header> {
+    Some(Header {
+        source: Endpoint {
+            rank: source.0,
+            incarnation: source.1,
+        },
+        target: Endpoint {
+            rank: target.0,
+            incarnation: target.1,
+        },
+        job: 1,
+        sequence,
+    })
+}
+
+#[test]
+fn headers_are_read(rt: HostRuntime) {
+    assert_eq!(rt; header_of(&MESSAGE), header((0, 0), (1, 0), 0));
+    assert_eq!(rt; header_of(&ACKNOWLEDGEMENT), header((1, 0), (0, 0), 1));
+    assert_eq!(rt; header_of(&RESET), header((1, 1), (0, 0), 0));
+}
+
+/// The eager frame that is read.
+fn eager_of(bytes: &[u8]) -> Option<Eager<'_>> {
+    match read(bytes).ok()?.content {
+        Content::Frame(Frame::Eager(eager)) => Some(eager),
+        _ => None,
+    }
+}
+
+/// The plane, the type, the tag, the context and the count of an eager frame.
+fn envelope_of(bytes: &[u8]) -> Option<(Plane, BasicType, u32, u64, u32)> {
+    let eager = eager_of(bytes)?;
+    Some((
+        eager.plane,
+        eager.basic,
+        eager.tag,
+        eager.context,
+        eager.count,
+    ))
+}
+
+#[test]
+fn a_message_is_read(rt: HostRuntime) {
+    let envelope = (Plane::PointToPoint, BasicType::Int32, 7, 0, 3);
+    assert_eq!(rt; envelope_of(&MESSAGE), Some(envelope));
+    let eager = eager_of(&MESSAGE).expect(&rt, "a frame");
     assert!(rt; eager.fits());
-    let mut out = Vec::new(rt.alloc());
-    write(&datagram, &mut out)?;
-    assert_eq!(rt; out.as_slice(), MESSAGE.as_slice());
-    Ok(())
+    assert_eq!(rt; eager.elements, &MESSAGE[52..]);
 }
 
 #[test]
-fn an_acknowledgement_is_read_and_appended(rt: HostRuntime) -> Result<(), Fail> {
-    let datagram = read(&ACKNOWLEDGEMENT)?;
-    assert!(rt; matches!(datagram.content, Content::Ack));
-    assert_eq!(rt; datagram.header.source.rank, 1);
-    assert_eq!(rt; datagram.header.sequence, 1);
-    let mut out = vec![in rt.alloc(); 9]?;
-    write(&datagram, &mut out)?;
-    assert_eq!(rt; out.len(), 33);
-    assert_eq!(rt; out[0], 9);
-    assert_eq!(rt; &out[1..], ACKNOWLEDGEMENT.as_slice());
-    Ok(())
+fn other_kinds_are_read(rt: HostRuntime) {
+    assert!(rt;
+        matches!(
+            read(&ACKNOWLEDGEMENT).map(|read| read.content),
+            Ok(Content::Ack)
+        )
+    );
+    assert!(rt; matches!(read(&RESET).map(|read| read.content), Ok(Content::Reset)));
+}
+
+/// Sets the byte at a place, or appends it behind the last one.
+fn set(bytes: &mut Vec<u8>, at: usize, byte: u8) -> Option<()> {
+    if at < bytes.len() {
+        bytes[at] = byte;
+        Some(())
+    } else {
+        bytes.push(byte).ok()
+    }
+}
+
+/// Why these bytes are refused once the byte at a place is another one.
+fn fault_with(alloc: Global, bytes: &[u8], at: usize, byte: u8) -> Option<Refused> {
+    let mut edited = Vec::from_slice(alloc, bytes).ok()?;
+    set(&mut edited, at, byte)?;
+    read(&edited).err()
 }
 
 #[test]
-fn a_reset_is_read_and_written(rt: HostRuntime) -> Result<(), Fail> {
-    let datagram = read(&RESET)?;
-    assert!(rt; matches!(datagram.content, Content::Reset));
-    assert_eq!(rt; datagram.header.source.rank, 1);
-    assert_eq!(rt; datagram.header.source.incarnation, 1);
-    assert_eq!(rt; datagram.header.target.incarnation, 0);
-    assert_eq!(rt; datagram.header.sequence, 0);
-    let mut out = Vec::new(rt.alloc());
-    write(&datagram, &mut out)?;
-    assert_eq!(rt; out.as_slice(), RESET.as_slice());
-    Ok(())
-}
-
-#[test]
-fn a_reset_has_number_0_and_no_body(rt: HostRuntime) -> Result<(), Fail> {
-    let numbered = edited(rt.alloc(), &RESET, 31, 1)?;
-    assert_eq!(rt; read(&numbered).err(), Some(Refused::BadFrame));
-    let unannounced = edited(rt.alloc(), &RESET, 32, 0)?;
-    assert_eq!(rt; read(&unannounced).err(), Some(Refused::Length));
-    let with_body = edited(rt.alloc(), &unannounced, 15, 1)?;
-    assert_eq!(rt; read(&with_body).err(), Some(Refused::Length));
-    Ok(())
-}
-
-#[test]
-fn the_first_fault_is_answered(rt: HostRuntime) -> Result<(), Fail> {
-    assert!(rt; matches!(read(&ACKNOWLEDGEMENT[..31]), Err(Refused::Short)));
-    assert!(rt; matches!(read(&MESSAGE[..63]), Err(Refused::Length)));
-    let of_header = [
+fn the_first_fault_is_answered(rt: HostRuntime) {
+    for (at, byte, fault) in [
         (0, 0x4e, Refused::Magic),
         (4, 2, Refused::Version),
         (5, 4, Refused::Kind),
         (32, 0, Refused::Length),
-    ];
-    for (at, byte, fault) in of_header {
-        let bytes = edited(rt.alloc(), &ACKNOWLEDGEMENT, at, byte)?;
-        assert_eq!(rt; read(&bytes).err(), Some(fault), "byte {at}");
+    ] {
+        let found = fault_with(rt.alloc(), &ACKNOWLEDGEMENT, at, byte);
+        assert_eq!(rt; found, Some(fault), "byte {at}");
     }
-    let of_frame = [
+}
+
+#[test]
+fn what_lacks_bytes_is_refused(rt: HostRuntime) {
+    let faults = (
+        read(&ACKNOWLEDGEMENT[..31]).err(),
+        read(&MESSAGE[..63]).err(),
+    );
+    assert_eq!(rt; faults, (Some(Refused::Short), Some(Refused::Length)));
+}
+
+#[test]
+fn a_frame_has_its_form(rt: HostRuntime) {
+    for (at, byte) in [
         (32, 2),
         (33, 1),
         (33, 2),
@@ -121,17 +173,27 @@ fn the_first_fault_is_answered(rt: HostRuntime) -> Result<(), Fail> {
         (35, 1),
         (36, 0x80),
         (51, 2),
-    ];
-    for (at, byte) in of_frame {
-        let bytes = edited(rt.alloc(), &MESSAGE, at, byte)?;
-        assert_eq!(rt; read(&bytes).err(), Some(Refused::BadFrame), "byte {at}");
+    ] {
+        let found = fault_with(rt.alloc(), &MESSAGE, at, byte);
+        assert_eq!(rt; found, Some(Refused::BadFrame), "byte {at}");
     }
-    Ok(())
+}
+
+#[test]
+fn a_reset_has_number_0_and_no_body(rt: HostRuntime) {
+    for (at, byte, fault) in [
+        (31, 1, Refused::BadFrame),
+        (32, 0, Refused::Length),
+        (15, 1, Refused::Length),
+    ] {
+        let found = fault_with(rt.alloc(), &RESET, at, byte);
+        assert_eq!(rt; found, Some(fault), "byte {at}");
+    }
 }
 
 #[test]
 fn each_refusal_has_its_number(rt: HostRuntime) {
-    let numbers = [
+    for (refused, number) in [
         (Refused::OutOfMemory, 14),
         (Refused::Short, 21),
         (Refused::Magic, 22),
@@ -139,19 +201,20 @@ fn each_refusal_has_its_number(rt: HostRuntime) {
         (Refused::Kind, 24),
         (Refused::Length, 25),
         (Refused::BadFrame, 30),
-    ];
-    for (refused, number) in numbers {
+    ] {
         assert_eq!(rt; refused.number(), number);
     }
 }
 
+/// How many bytes are kept of a slice, and whether they are its bytes.
+fn copied(alloc: Global, bytes: &[u8]) -> Option<(usize, bool)> {
+    let copied = Bytes::from_slice(alloc, bytes).ok()?;
+    Some((copied.len(), copied.as_slice() == bytes))
+}
+
 #[test]
-fn bytes_keep_what_they_were_given(rt: HostRuntime) -> Result<(), Fail> {
-    let copied = Bytes::from_slice(rt.alloc(), &[1, 2, 3])?;
-    assert_eq!(rt; copied.as_slice(), [1, 2, 3].as_slice());
-    assert_eq!(rt; copied.len(), 3);
-    let taken = Bytes::from_vec(Vec::new(rt.alloc()));
-    assert!(rt; taken.is_empty());
+fn bytes_keep_what_they_were_given(rt: HostRuntime) {
+    assert_eq!(rt; copied(rt.alloc(), &[1, 2, 3]), Some((3, true)));
+    assert!(rt; Bytes::from_vec(Vec::new(rt.alloc())).is_empty());
     no_spelling_begins_another();
-    Ok(())
 }

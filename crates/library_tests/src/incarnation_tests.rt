@@ -1,8 +1,10 @@
+//! Who a datagram is from, and whom it is meant for, in the order of the rules.
+
 ghost use Rattle.std.specs.Prelude.{◌≡◌};
 
 use datagram::Header;
 use incarnation::*;
-use std::test::Fail;
+use std::alloc::Global;
 use vocabulary::Endpoint;
 
 fn endpoint(rank: u16, incarnation: u16) -> Endpoint
@@ -32,87 +34,110 @@ fn place(endpoint: Endpoint) -> Place
     }
 }
 
-#[test]
-fn a_restarted_sender_is_learnt_and_its_former_datagrams_are_stale(
-    rt: HostRuntime,
-) -> Result<(), Fail> {
-    let mut peers = Peers::new(rt.alloc(), place(endpoint(0, 0)))?;
+type Judged = Result<Judgement, Refused>;
+
+/// How datagrams of a former and a later incarnation of rank 1 are judged.
+fn judge_both(peers: &Peers) -> (Judged, Judged) {
     let former = header(endpoint(1, 0), endpoint(0, 0));
     let later = header(endpoint(1, 1), endpoint(0, 0));
-    assert_eq!(rt; peers.judge(former)?, Judgement::Current);
-    assert_eq!(rt; peers.judge(later)?, Judgement::Learn(1));
+    (peers.judge(former), peers.judge(later))
+}
+
+/// What is known of both ranks, and how datagrams of both incarnations of rank 1 are judged, before rank 1 is learnt at its
+/// later incarnation, then, and after a try to learn it at its former one.
+fn learn_later(alloc: Global) -> Option<([(Judged, Judged); 3], [(u16, u16); 3])> {
+    let mut peers = Peers::new(alloc, place(endpoint(0, 0))).ok()?;
+    let first = (peers.known(0), peers.known(1));
+    let before = judge_both(&peers);
     peers.learn(1, 1);
-    assert_eq!(rt; (peers.known(0), peers.known(1)), (0, 1));
-    assert_eq!(rt; peers.judge(later)?, Judgement::Current);
-    assert_eq!(rt; peers.judge(former).err(), Some(Refused::StaleSource));
+    let second = (peers.known(0), peers.known(1));
+    let after = judge_both(&peers);
     peers.learn(1, 0);
-    assert_eq!(rt; peers.known(1), 1);
-    Ok(())
+    let third = (peers.known(0), peers.known(1));
+    Some(([before, after, judge_both(&peers)], [first, second, third]))
 }
 
 #[test]
-fn a_restarted_receiver_takes_nothing_that_was_meant_for_its_former_self(
-    rt: HostRuntime,
-) -> Result<(), Fail> {
-    let peers = Peers::new(rt.alloc(), place(endpoint(1, 1)))?;
-    assert_eq!(rt; peers.place(), place(endpoint(1, 1)));
-    assert_eq!(rt; (peers.known(0), peers.known(1)), (0, 1));
-    let for_former = header(endpoint(0, 0), endpoint(1, 0));
-    assert_eq!(rt; peers.judge(for_former).err(), Some(Refused::StaleTarget));
-    let for_present = header(endpoint(0, 0), endpoint(1, 1));
-    assert_eq!(rt; peers.judge(for_present)?, Judgement::Current);
-    Ok(())
+fn a_restarted_sender_is_learnt_and_its_former_datagrams_are_stale(rt: HostRuntime) {
+    let before = (Ok(Judgement::Current), Ok(Judgement::Learn(1)));
+    let after = (Err(Refused::StaleSource), Ok(Judgement::Current));
+    assert_eq!(rt;
+        learn_later(rt.alloc()),
+        Some(([before, after, after], [(0, 0), (0, 1), (0, 1)]))
+    );
+}
+
+/// What a restarted rank 1 knows, and how datagrams for its former self and for its present one are judged.
+fn restarted(alloc: Global) -> Option<(Place, (u16, u16), Judged, Judged)> {
+    let peers = Peers::new(alloc, place(endpoint(1, 1))).ok()?;
+    let former = header(endpoint(0, 0), endpoint(1, 0));
+    let present = header(endpoint(0, 0), endpoint(1, 1));
+    let known = (peers.known(0), peers.known(1));
+    Some((
+        peers.place(),
+        known,
+        peers.judge(former),
+        peers.judge(present),
+    ))
 }
 
 #[test]
-fn the_first_broken_rule_is_answered(rt: HostRuntime) -> Result<(), Fail> {
-    let mut peers = Peers::new(rt.alloc(), place(endpoint(0, 1)))?;
+fn a_restarted_receiver_takes_nothing_that_was_meant_for_its_former_self(rt: HostRuntime) {
+    assert_eq!(rt;
+        restarted(rt.alloc()),
+        Some((
+            place(endpoint(1, 1)),
+            (0, 1),
+            Err(Refused::StaleTarget),
+            Ok(Judgement::Current)
+        ))
+    );
+}
+
+/// How a datagram is judged by rank 0 at incarnation 1, which knows rank 1 at incarnation 1.
+fn judged(alloc: Global, header: Header) -> Option<Judged> {
+    let mut peers = Peers::new(alloc, place(endpoint(0, 1))).ok()?;
     peers.learn(1, 1);
-    let of_job_2 = Header {
-        source: endpoint(1, 0),
-        target: endpoint(0, 0),
-        job: 2,
-        sequence: 0,
-    };
-    assert_eq!(rt; peers.judge(of_job_2).err(), Some(Refused::ForeignJob));
-    let not_for_me = [
-        header(endpoint(1, 0), endpoint(1, 0)),
-        header(endpoint(1, 0), endpoint(0, 2)),
-        header(endpoint(0, 0), endpoint(0, 0)),
-        header(endpoint(2, 0), endpoint(0, 0)),
-    ];
-    for header in not_for_me {
-        assert_eq!(rt; peers.judge(header).err(), Some(Refused::NotForMe));
-    }
-    let stale = header(endpoint(1, 0), endpoint(0, 0));
-    assert_eq!(rt; peers.judge(stale).err(), Some(Refused::StaleSource));
-    let for_former = header(endpoint(1, 2), endpoint(0, 0));
-    assert_eq!(rt; peers.judge(for_former).err(), Some(Refused::StaleTarget));
-    Ok(())
+    Some(peers.judge(header))
 }
 
 #[test]
-fn incarnations_end_at_65535(rt: HostRuntime) -> Result<(), Fail> {
-    assert_eq!(rt; next_incarnation(0)?, 1);
-    assert_eq!(rt; next_incarnation(65_534)?, 65_535);
-    assert_eq!(rt; next_incarnation(65_535).err(), Some(Refused::Limit));
+fn the_first_broken_rule_is_answered(rt: HostRuntime) {
+    let stale = header(endpoint(1, 0), endpoint(0, 0));
+    let foreign = Header { job: 2, ..stale };
+    for (header, fault) in [
+        (foreign, Refused::ForeignJob),
+        (header(endpoint(1, 0), endpoint(1, 0)), Refused::NotForMe),
+        (header(endpoint(1, 0), endpoint(0, 2)), Refused::NotForMe),
+        (header(endpoint(0, 0), endpoint(0, 0)), Refused::NotForMe),
+        (header(endpoint(2, 0), endpoint(0, 0)), Refused::NotForMe),
+        (stale, Refused::StaleSource),
+        (header(endpoint(1, 2), endpoint(0, 0)), Refused::StaleTarget),
+    ] {
+        assert_eq!(rt; judged(rt.alloc(), header), Some(Err(fault)));
+    }
+}
+
+#[test]
+fn incarnations_end_at_65535(rt: HostRuntime) {
+    assert_eq!(rt; next_incarnation(0), Ok(1));
+    assert_eq!(rt; next_incarnation(65_534), Ok(65_535));
+    assert_eq!(rt; next_incarnation(65_535), Err(Refused::Limit));
     known_never_falls();
     stale_sources_stay_stale();
     what_is_handled_is_known();
-    Ok(())
 }
 
 #[test]
 fn each_refusal_has_its_number(rt: HostRuntime) {
-    let numbers = [
+    for (refused, number) in [
         (Refused::Limit, 13),
         (Refused::OutOfMemory, 14),
         (Refused::ForeignJob, 26),
         (Refused::NotForMe, 27),
         (Refused::StaleSource, 28),
         (Refused::StaleTarget, 29),
-    ];
-    for (refused, number) in numbers {
+    ] {
         assert_eq!(rt; refused.number(), number);
     }
 }

@@ -4,16 +4,12 @@
 #[cfg(test)]
 mod datagram_tests;
 #[cfg(test)]
-mod datatypes_tests;
-#[cfg(test)]
 mod incarnation_tests;
-#[cfg(test)]
-mod match_queues_tests;
 #[cfg(test)]
 mod perfect_queues_tests;
 #[cfg(test)]
 mod reliable_link_tests;
 #[cfg(test)]
-mod requests_tests;
+mod sessions_tests;
 #[cfg(test)]
 mod vocabulary_tests;

@@ -1,3 +1,5 @@
+//! The laws of the definitions.
+
 use perfect_queues::definitions_hold_together;
 
 #[test]

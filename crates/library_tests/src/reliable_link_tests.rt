@@ -1,105 +1,224 @@
-ghost use Rattle.std.specs.Prelude.{◌≡◌};
+//! A window of 64 frames, when frames are due, and what is handed up.
 
 use datagram::Bytes;
 use reliable_link::*;
 use std::alloc::Global;
-use std::test::Fail;
 
-fn frame(alloc: Global, byte: u8) -> Result<Bytes, Fail> {
-    Ok(Bytes::from_slice(alloc, &[byte])?)
-}
-
-fn accepted(sender: &mut Sender, bytes: Bytes) -> Result<Option<u64>, Fail>
-    ensures { sender.new.clock ≡ sender.old.clock }
-{
-    sender.accept(bytes).map_err(|handed| {
-        let Handed { refused, value: _ } = handed;
-        Fail::from(refused)
-    })
-}
-
-#[test]
-fn the_65th_frame_waits_for_an_acknowledgement(rt: HostRuntime) -> Result<(), Fail> {
-    let mut sender = Sender::new(rt.alloc());
-    for number in 0..64u8 {
-        let entered = accepted(&mut sender, frame(rt.alloc(), number)?)?;
-        assert_eq!(rt; entered, Some(u64::from(number)));
+/// The number of the frame that comes into the window with one more frame: none where the frame was refused, and none
+/// within where no frame comes into the window.
+fn accepted(alloc: Global, sender: &mut Sender, byte: u8) -> Option<Option<u64>> {
+    let bytes = Bytes::from_slice(alloc, &[byte]).ok()?;
+    match sender.accept(bytes) {
+        Ok(entered) => Some(entered),
+        Err(_) => None,
     }
-    assert!(rt; sender.has_number_left());
-    assert_eq!(rt; accepted(&mut sender, frame(rt.alloc(), 64)?)?, None);
-    assert_eq!(rt; sender.next_number(), 65);
-    assert!(rt; sender.allows(64));
-    assert!(rt; !sender.allows(65));
-    assert_eq!(rt; sender.on_ack(65).err(), Some(Refused::OutOfWindow));
-    assert!(rt; sender.allows(1));
-    assert_eq!(rt; sender.frame(64), Some([64].as_slice()));
-    let entering = sender.entering(1);
-    assert_eq!(rt; (entering.start, entering.end), (64, 65));
-    let entered = sender.on_ack(1)?;
-    assert_eq!(rt; (entered.start, entered.end), (64, 65));
-    assert_eq!(rt; sender.frame(0), None);
-    assert_eq!(rt; sender.frame(64), Some([64].as_slice()));
-    let again = sender.on_ack(1)?;
-    assert_eq!(rt; (again.start, again.end), (65, 65));
-    let _ = sender.on_ack(65)?;
-    assert!(rt; sender.is_empty());
-    assert_eq!(rt; sender.next_number(), 65);
-    Ok(())
+}
+
+/// Accepts 64 frames, each of which comes into the window at once. Answers how many did.
+fn fill(alloc: Global, sender: &mut Sender) -> u64 {
+    let mut entered = 0u64;
+    for number in 0..64u8 {
+        if accepted(alloc, sender, number) == Some(Some(u64::from(number))) {
+            entered = entered.wrapping_add(1);
+        }
+    }
+    entered
+}
+
+/// The numbers that come into the window by an acknowledgement.
+fn entered_by(sender: &mut Sender, number: u64) -> Result<(u64, u64), Refused> {
+    let entered = sender.on_ack(number)?;
+    Ok((entered.start, entered.end))
+}
+
+/// Those that would.
+fn would_enter(sender: &Sender, number: u64) -> Option<(u64, u64)> {
+    if !sender.allows(number) {
+        return None;
+    }
+    let entering = sender.entering(number);
+    Some((entering.start, entering.end))
+}
+
+/// How many of 64 frames came into the window, what became of the 65th, whether there is a number left, and the next number.
+fn fill_beyond(alloc: Global, sender: &mut Sender) -> (u64, Option<Option<u64>>, bool, u64) {
+    let entered = fill(alloc, sender);
+    let last = accepted(alloc, sender, 64);
+    (
+        entered,
+        last,
+        sender.has_number_left(),
+        sender.next_number(),
+    )
 }
 
 #[test]
-fn a_frame_is_due_20_ms_after_it_was_sent(rt: HostRuntime) -> Result<(), Fail> {
+fn the_65th_frame_waits(rt: HostRuntime) {
     let mut sender = Sender::new(rt.alloc());
-    let _ = accepted(&mut sender, frame(rt.alloc(), 0)?)?;
-    assert_eq!(rt; sender.due(19)?.len(), 0);
-    sender.mark_sent(19);
-    let _ = accepted(&mut sender, frame(rt.alloc(), 1)?)?;
-    assert_eq!(rt; sender.due(20)?.as_slice(), [0].as_slice());
-    sender.mark_sent(20);
-    assert_eq!(rt; sender.due(20)?.len(), 0);
-    assert_eq!(rt; sender.due(19).err(), Some(Refused::ClockBack));
-    assert_eq!(rt; sender.due(39)?.as_slice(), [1].as_slice());
-    assert_eq!(rt; sender.due(40)?.as_slice(), [0, 1].as_slice());
-    assert_eq!(rt; sender.clock(), 20);
-    Ok(())
+    assert_eq!(rt;
+        fill_beyond(rt.alloc(), &mut sender),
+        (64, Some(None), true, 65)
+    );
+}
+
+type Entered = Result<(u64, u64), Refused>;
+
+/// What an acknowledgement beyond the window, of the first frame, of it again and of all bring into the window, and whether
+/// nothing is left then.
+fn acknowledge(alloc: Global, sender: &mut Sender) -> ([Entered; 4], bool, u64) {
+    let _filled = fill_beyond(alloc, sender);
+    let entered = [
+        entered_by(sender, 65),
+        entered_by(sender, 1),
+        entered_by(sender, 1),
+        entered_by(sender, 65),
+    ];
+    (entered, sender.is_empty(), sender.next_number())
 }
 
 #[test]
-fn a_new_session_begins_with_number_0(rt: HostRuntime) -> Result<(), Fail> {
+fn an_acknowledgement_lets_the_65th_frame_out(rt: HostRuntime) {
     let mut sender = Sender::new(rt.alloc());
-    let _ = accepted(&mut sender, frame(rt.alloc(), 0)?)?;
-    sender.mark_sent(7);
+    let entered = [
+        Err(Refused::OutOfWindow),
+        Ok((64, 65)),
+        Ok((65, 65)),
+        Ok((65, 65)),
+    ];
+    assert_eq!(rt; acknowledge(rt.alloc(), &mut sender), (entered, true, 65));
+}
+
+/// What would come into the window by acknowledgements of one frame and of 65, and whether the frames 0 and 64 are held
+/// before and after that of one.
+fn look(alloc: Global, sender: &mut Sender) -> ([Option<(u64, u64)>; 2], [bool; 4]) {
+    let _filled = fill_beyond(alloc, sender);
+    let entering = [would_enter(sender, 1), would_enter(sender, 65)];
+    let before = (is_held(sender, 0), is_held(sender, 64));
+    let _entered = entered_by(sender, 1);
+    let held = [before.0, before.1, is_held(sender, 0), is_held(sender, 64)];
+    (entering, held)
+}
+
+/// Whether the frame of this number is held, whose only byte is its number.
+fn is_held(sender: &Sender, number: u8) -> bool {
+    sender.frame(u64::from(number)) == Some([number].as_slice())
+}
+
+#[test]
+fn a_sender_shows_what_it_holds(rt: HostRuntime) {
+    let mut sender = Sender::new(rt.alloc());
+    assert_eq!(rt;
+        look(rt.alloc(), &mut sender),
+        ([Some((64, 65)), None], [true, true, false, true])
+    );
+}
+
+/// Whether just these frames are due.
+fn are_due(sender: &Sender, now: u64, numbers: &[u64]) -> bool {
+    match sender.due(now) {
+        Ok(due) => due.as_slice() == numbers,
+        Err(_) => false,
+    }
+}
+
+/// Frames that were due went out now. Answers the clock.
+fn mark(sender: &mut Sender, now: u64) -> u64 {
+    if sender.clock() <= now {
+        sender.mark_sent(now);
+    }
+    sender.clock()
+}
+
+/// Whether frames are due just when they should be, how a clock that goes back is refused, and the clock.
+fn resend(alloc: Global, sender: &mut Sender) -> ([bool; 5], Option<Refused>, [u64; 2]) {
+    let _first = accepted(alloc, sender, 0);
+    let early = are_due(sender, 19, &[]);
+    let first_clock = mark(sender, 19);
+    let _second = accepted(alloc, sender, 1);
+    let first = are_due(sender, 20, &[0]);
+    let second_clock = mark(sender, 20);
+    let due = [
+        early,
+        first,
+        are_due(sender, 20, &[]),
+        are_due(sender, 39, &[1]),
+        are_due(sender, 40, &[0, 1]),
+    ];
+    (due, sender.due(19).err(), [first_clock, second_clock])
+}
+
+#[test]
+fn a_frame_is_due_20_ms_after_it_was_sent(rt: HostRuntime) {
+    let mut sender = Sender::new(rt.alloc());
+    assert_eq!(rt;
+        resend(rt.alloc(), &mut sender),
+        ([true; 5], Some(Refused::ClockBack), [19, 20])
+    );
+}
+
+fn begin_anew(alloc: Global, sender: &mut Sender) -> (bool, u64, u64, Option<Option<u64>>) {
+    let _first = accepted(alloc, sender, 0);
+    let clock = mark(sender, 7);
     sender.reset();
-    assert!(rt; sender.is_empty());
-    assert_eq!(rt; (sender.next_number(), sender.clock()), (0, 7));
-    assert_eq!(rt; accepted(&mut sender, frame(rt.alloc(), 9)?)?, Some(0));
-    Ok(())
+    let is_empty = sender.is_empty();
+    let next = sender.next_number();
+    (is_empty, next, clock, accepted(alloc, sender, 9))
 }
 
 #[test]
-fn frames_are_handed_up_once_and_in_order(rt: HostRuntime) -> Result<(), Fail> {
-    let mut receiver = Receiver::new();
-    assert_eq!(rt; receiver.on_frame(1).err(), Some(Refused::OutOfWindow));
-    assert_eq!(rt; receiver.verdict(0)?, Verdict::Accepted);
-    assert_eq!(rt; receiver.on_frame(0)?, Verdict::Accepted);
-    assert_eq!(rt; receiver.on_frame(0)?, Verdict::Repeated);
-    assert_eq!(rt; receiver.on_frame(1)?, Verdict::Accepted);
-    assert_eq!(rt; receiver.next(), 2);
+fn a_new_session_begins_with_number_0(rt: HostRuntime) {
+    let mut sender = Sender::new(rt.alloc());
+    assert_eq!(rt;
+        begin_anew(rt.alloc(), &mut sender),
+        (true, 0, 7, Some(Some(0)))
+    );
+}
+
+type Judged = Result<Verdict, Refused>;
+
+/// What becomes of frame 1, of frame 0 twice, and of frame 1 again, and the number that is next then.
+fn hand_up(receiver: &mut Receiver) -> ([Judged; 4], u64) {
+    let verdicts = [
+        receiver.on_frame(1),
+        receiver.on_frame(0),
+        receiver.on_frame(0),
+        receiver.on_frame(1),
+    ];
+    (verdicts, receiver.next())
+}
+
+/// What a new session says of frame 0 and takes it for.
+fn begin_again(receiver: &mut Receiver) -> [Judged; 2] {
     receiver.reset();
-    assert_eq!(rt; receiver.on_frame(0)?, Verdict::Accepted);
+    [receiver.verdict(0), receiver.on_frame(0)]
+}
+
+#[test]
+fn frames_are_handed_up_once_and_in_order(rt: HostRuntime) {
+    let mut receiver = Receiver::new();
+    let handed = hand_up(&mut receiver);
+    let again = begin_again(&mut receiver);
+    let verdicts = [
+        Err(Refused::OutOfWindow),
+        Ok(Verdict::Accepted),
+        Ok(Verdict::Repeated),
+        Ok(Verdict::Accepted),
+    ];
+    assert_eq!(rt;
+        (handed, again),
+        ((verdicts, 2), [Ok(Verdict::Accepted); 2])
+    );
     frames_are_handed_up_in_order();
-    Ok(())
 }
 
 #[test]
 fn each_refusal_has_its_number(rt: HostRuntime) {
-    let numbers = [
+    for (refused, number) in [
         (Refused::Limit, 13),
         (Refused::OutOfMemory, 14),
         (Refused::OutOfWindow, 31),
         (Refused::ClockBack, 41),
-    ];
-    for (refused, number) in numbers {
+    ] {
         assert_eq!(rt; refused.number(), number);
     }
 }

@@ -11,6 +11,12 @@ pub record State : Type 0 where
   pub posted : List Receive
   pub unexpected : List Message
 
+-- the queues, and for how many more receives and messages there is memory
+pub record Held : Type 0 where
+  pub state : State
+  pub receives : ℕ
+  pub messages : ℕ
+
 -- the message at a place, where one was found
 abbrev pub message_at : List Message → Option ℕ → Option Message
 message_at ms (Some i) = slice_get ms i

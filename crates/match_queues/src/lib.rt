@@ -10,4 +10,4 @@ mod refused;
 
 pub use envelope::{Message, Receive};
 pub use queues::{Arrival, Queues, oldest_is_taken};
-pub use refused::{Handed, OutOfMemory};
+pub use refused::OutOfMemory;

@@ -1,6 +1,6 @@
 //! The queues.
 
-ghost use Rattle.std.specs.Prelude.{◌≡◌, ◌≤◌, ◌<◌, not, filter, [], IfOk, OnOk, OnErr, IfErr, position, Some, None};
+ghost use Rattle.std.specs.Prelude.{◌≡◌, ◌≤◌, ◌<◌, not, filter, [], IfOk, OnOk, position, Some, None};
 ghost use Rattle.std.specs.Vec.{vec_len, vec_capacity};
 ghost use Rattle.vocabulary.specs.Endpoints.{is_former};
 ghost use Rattle.perfect_queues.specs.Receives.{names};
@@ -11,7 +11,7 @@ ghost use Rattle.match_queues.specs.declared.envelope.Receive.{Receive};
 ghost use Rattle.match_queues.specs.declared.envelope.Message.{Message};
 
 use crate::envelope::{Message, Receive, is_former, names};
-use crate::refused::{Handed, OutOfMemory};
+use crate::refused::OutOfMemory;
 use std::alloc::Global;
 use std::marker::Model;
 
@@ -23,11 +23,17 @@ pub struct Queues {
 }
 
 impl Model for Queues {
-    ghost use Rattle.match_queues.specs.State.{State};
+    ghost use Rattle.std.specs.Prelude.{◌-◌};
+    ghost use Rattle.std.specs.Vec.{vec_len, vec_capacity};
+    ghost use Rattle.match_queues.specs.State.{Held};
 
-    ghost Value = { State };
+    ghost Value = { Held };
 
-    ghost view = { λ q. record { posted = q.posted.items; unexpected = q.unexpected.items } };
+    ghost view = { λ q. record {
+      state = record { posted = q.posted.items; unexpected = q.unexpected.items };
+      receives = vec_capacity q.posted - vec_len q.posted;
+      messages = vec_capacity q.unexpected - vec_len q.unexpected;
+    } };
 }
 
 /// What became of a message that came.
@@ -82,43 +88,6 @@ fn keys_among(alloc: Global, receives: &[Receive], rank: u16) -> Result<Vec<usiz
     }
 }
 
-/// Gives the message to the oldest receive that accepts it, or keeps it in the room that there is.
-fn give(posted: &mut Vec<Receive>, unexpected: &mut Vec<Message>, message: Message) -> Arrival
-    requires room { vec_len unexpected.old < vec_capacity unexpected.old }
-    ensures what { result ≡ arrival_of (record { posted = posted.old.items; unexpected = unexpected.old.items }) message }
-    ensures state { record { posted = posted.new.items; unexpected = unexpected.new.items } ≡
-        after_arrival (record { posted = posted.old.items; unexpected = unexpected.old.items }) message }
-{
-    match place_of_receive(&message, posted) {
-        Some(place) => Arrival::Matched(posted.remove(place), message),
-        None => {
-            let _ = unexpected.push(message);
-            Arrival::Kept
-        }
-    }
-}
-
-/// Drops what is of former incarnations of the rank, and then gives the message.
-fn give_anew(
-    posted: &mut Vec<Receive>,
-    unexpected: &mut Vec<Message>,
-    rank: u16,
-    incarnation: u16,
-    message: Message,
-) -> Arrival
-    requires room { vec_len unexpected.old < vec_capacity unexpected.old }
-    ensures what { result ≡
-        arrival_of (after_drop
-        (record { posted = posted.old.items; unexpected = unexpected.old.items }) rank incarnation) message }
-    ensures state { record { posted = posted.new.items; unexpected = unexpected.new.items } ≡
-        after_arrival (after_drop
-        (record { posted = posted.old.items; unexpected = unexpected.old.items }) rank incarnation) message }
-{
-    drop_receives(posted, rank);
-    drop_messages(unexpected, rank, incarnation);
-    give(posted, unexpected, message)
-}
-
 /// A law of `post` and `arrive`: what is taken is the oldest that fits, and what is kept, nothing there fits
 /// (MPI 3.1, 3.5).
 pub fn oldest_is_taken()
@@ -130,8 +99,8 @@ pub fn oldest_is_taken()
 impl Queues {
     /// Two empty queues. It takes no memory.
     pub fn new(alloc: Global) -> Self
-        ensures posted { result.posted ≡ [] }
-        ensures unexpected { result.unexpected ≡ [] }
+        ensures posted { result.state.posted ≡ [] }
+        ensures unexpected { result.state.unexpected ≡ [] }
     {
         Queues {
             posted: Vec::new(alloc),
@@ -139,53 +108,58 @@ impl Queues {
         }
     }
 
-    /// Takes the oldest unexpected message that the receive accepts, or posts the receive behind the others.
-    ///
-    /// Without memory for it the receive is handed back, and nothing changes.
-    pub fn post(&mut self, receive: Receive) -> Result<Option<Message>, Handed<Receive>>
-        ensures state { OnOk result (self.new ≡ after_post self.old receive) }
-        ensures found { IfOk result (λ found.
-            found ≡ message_at self.old.unexpected (message_for receive self.old.unexpected)) }
-        ensures back { IfErr result (λ e. e.value ≡ receive) }
-        ensures unchanged { OnErr result (self.new ≡ self.old) }
+    /// Makes room for one more receive, or finds that there is no memory. Nothing else changes.
+    pub fn reserve_receive(&mut self) -> Result<(), OutOfMemory>
+        ensures room { OnOk result (0 < self.new.receives) }
+        ensures kept { self.new ≡ record self.old { receives = self.new.receives } }
+    {
+        self.posted.reserve(1).map_err(|_| OutOfMemory {})
+    }
+
+    /// Makes room for one more message, or finds that there is no memory. Nothing else changes.
+    pub fn reserve_message(&mut self) -> Result<(), OutOfMemory>
+        ensures room { OnOk result (0 < self.new.messages) }
+        ensures kept { self.new ≡ record self.old { messages = self.new.messages } }
+    {
+        self.unexpected.reserve(1).map_err(|_| OutOfMemory {})
+    }
+
+    /// Takes the oldest unexpected message that the receive accepts, or posts the receive behind the others, for which
+    /// there is room.
+    pub fn post(&mut self, receive: Receive) -> Option<Message>
+        requires { 0 < self.old.receives }
+        ensures state { self.new.state ≡ after_post self.old.state receive }
+        ensures found { result ≡ message_at self.old.state.unexpected (message_for receive self.old.state.unexpected) }
     {
         match place_of_message(&receive, &self.unexpected) {
-            Some(place) => Ok(Some(self.unexpected.remove(place))),
-            None => match self.posted.push(receive) {
-                Ok(()) => Ok(None),
-                Err(e) => Err(Handed {
-                    refused: OutOfMemory {},
-                    value: e.value,
-                }),
-            },
+            Some(place) => Some(self.unexpected.remove(place)),
+            None => {
+                let _ = self.posted.push(receive);
+                None
+            }
         }
     }
 
-    /// Gives the message to the oldest posted receive that accepts it, or keeps it behind the others.
-    ///
-    /// Without memory for it the message is handed back, and nothing changes.
-    pub fn arrive(&mut self, message: Message) -> Result<Arrival, Handed<Message>>
-        ensures state { OnOk result (self.new ≡ after_arrival self.old message) }
-        ensures what { IfOk result (λ arrival. arrival ≡ arrival_of self.old message) }
-        ensures back { IfErr result (λ e. e.value ≡ message) }
-        ensures unchanged { OnErr result (self.new ≡ self.old) }
+    /// Gives the message to the oldest posted receive that accepts it, or keeps it behind the others, for which there is
+    /// room.
+    pub fn arrive(&mut self, message: Message) -> Arrival
+        requires { 0 < self.old.messages }
+        ensures state { self.new.state ≡ after_arrival self.old.state message }
+        ensures what { result ≡ arrival_of self.old.state message }
     {
         match place_of_receive(&message, &self.posted) {
-            Some(place) => Ok(Arrival::Matched(self.posted.remove(place), message)),
-            None => match self.unexpected.push(message) {
-                Ok(()) => Ok(Arrival::Kept),
-                Err(e) => Err(Handed {
-                    refused: OutOfMemory {},
-                    value: e.value,
-                }),
-            },
+            Some(place) => Arrival::Matched(self.posted.remove(place), message),
+            None => {
+                let _ = self.unexpected.push(message);
+                Arrival::Kept
+            }
         }
     }
 
     /// The keys of the receives that name the rank, the oldest first; or want of memory. One from any source names
     /// none.
     pub fn keys_naming(&self, alloc: Global, rank: u16) -> Result<Vec<usize>, OutOfMemory>
-        ensures { IfOk result (λ keys. keys.items ≡ keys_naming rank self.now.posted) }
+        ensures { IfOk result (λ keys. keys.items ≡ keys_naming rank self.now.state.posted) }
     {
         keys_among(alloc, &self.posted, rank)
     }
@@ -195,38 +169,10 @@ impl Queues {
     ///
     /// MPI 3.1 defines no restart of a rank; what becomes of these is this project's own.
     pub fn drop_from(&mut self, rank: u16, incarnation: u16)
-        ensures { self.new ≡ after_drop self.old rank incarnation }
+        ensures state { self.new.state ≡ after_drop self.old.state rank incarnation }
+        ensures room { self.old.messages ≤ self.new.messages }
     {
         drop_receives(&mut self.posted, rank);
         drop_messages(&mut self.unexpected, rank, incarnation);
-    }
-
-    /// Does what `drop_from` does, and then what `arrive` does: the rank was started anew, and a message came.
-    ///
-    /// Without memory for it the message is handed back, and nothing changes.
-    pub fn arrive_anew(
-        &mut self,
-        rank: u16,
-        incarnation: u16,
-        message: Message,
-    ) -> Result<Arrival, Handed<Message>>
-        ensures state { OnOk result (self.new ≡ after_arrival (after_drop self.old rank incarnation) message) }
-        ensures what { IfOk result (λ arrival. arrival ≡ arrival_of (after_drop self.old rank incarnation) message) }
-        ensures back { IfErr result (λ e. e.value ≡ message) }
-        ensures unchanged { OnErr result (self.new ≡ self.old) }
-    {
-        match self.unexpected.reserve(1) {
-            Ok(()) => Ok(give_anew(
-                &mut self.posted,
-                &mut self.unexpected,
-                rank,
-                incarnation,
-                message,
-            )),
-            Err(_) => Err(Handed {
-                refused: OutOfMemory {},
-                value: message,
-            }),
-        }
     }
 }

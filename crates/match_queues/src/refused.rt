@@ -17,12 +17,3 @@ impl OutOfMemory {
         14
     }
 }
-
-/// A refusal, with what was handed in.
-#[derive(Debug, Drop)]
-pub struct Handed<T> {
-    /// Why it was refused.
-    pub refused: OutOfMemory,
-    /// What was handed in, as it was.
-    pub value: T,
-}

@@ -1,11 +1,12 @@
 //! Runs a world of ranks from a file of events, and prints what each event answers.
 //!
 //! `mpisim FILE`. Status 0 at the end; 1 with `mpisim: refused N line L` on standard error where a line is faulty (51),
-//! and with `mpisim: refused N` where the file can't be read (59) or for want of memory (14); 2 where the words aren't
-//! one FILE; 3 where the output fails.
+//! and with `mpisim: refused N` where the file can't be read (59) or for want of memory (14); 2 with
+//! `usage: mpisim FILE` on standard error where the words aren't one FILE; 3 where the output fails.
 #![tactic(auto)]
 
 use simulation::{SimulateError, simulate};
+use std::env::FillError;
 use std::io::{BufWriter, ErrorKind, Write};
 use std::process::ExitCode;
 use std::rt::{Env, Files};
@@ -23,15 +24,24 @@ fn refused(rt: &impl Eprint, number: u8, line: Option<usize>) -> u8 {
     }
 }
 
-/// The one word of the program; none where there is another number of words.
-fn file_name(rt: &(impl Env + AllocGlobal)) -> Result<Option<String>, io::Error> {
-    let mut words = env::args(rt)?;
-    let _program = words.next();
-    let first = words.next();
-    if words.next().is_some() {
-        return Ok(None);
+/// Says how the program is called, and answers the status.
+fn misused(rt: &impl Eprint) -> u8 {
+    let _told = eprintln!(rt; "usage: mpisim FILE");
+    2
+}
+
+/// Whether there is a word at this place, whatever its bytes are. The program's own name is at place 0.
+fn has_word(rt: &impl Env, place: usize) -> bool {
+    let mut room = [0u8; 1];
+    match rt.arg(place, &mut room) {
+        Err(FillError::NotPresent) => false,
+        Ok(_) | Err(FillError::TooLong) => true,
     }
-    Ok(first)
+}
+
+/// Whether the program was given exactly one word. This takes no memory, and reads no word.
+fn has_one_word(rt: &impl Env) -> bool {
+    has_word(rt, 1) && !has_word(rt, 2)
 }
 
 /// Runs the file of this name, and answers the status.
@@ -56,10 +66,22 @@ fn run(rt: &(impl Files + Print + Eprint + AllocGlobal), name: &str) -> u8 {
     }
 }
 
-fn main(rt: HostRuntime) -> ExitCode {
-    match file_name(&rt) {
-        Ok(Some(name)) => ExitCode::from(run(&rt, name.as_str())),
-        Ok(None) => ExitCode::from(2),
-        Err(_) => ExitCode::from(refused(&rt, 14, None)),
+/// Runs the file that the one word names, and answers the status. A name that isn't UTF-8 can't be read.
+fn run_word(rt: &(impl Env + Files + Print + Eprint + AllocGlobal)) -> u8 {
+    let mut words = match env::args(rt) {
+        Ok(words) => words,
+        Err(e) if e.kind() == ErrorKind::OutOfMemory => return refused(rt, 14, None),
+        Err(_) => return refused(rt, 59, None),
+    };
+    match words.nth(1) {
+        Some(name) => run(rt, name.as_str()),
+        None => misused(rt),
     }
+}
+
+fn main(rt: HostRuntime) -> ExitCode {
+    if !has_one_word(&rt) {
+        return ExitCode::from(misused(&rt));
+    }
+    ExitCode::from(run_word(&rt))
 }

@@ -3,3 +3,6 @@ pub mod ListLemmas
 pub mod LawProofs
 pub mod FirstPlaces
 pub mod ExampleRun
+pub mod Following
+pub mod Waiting
+pub mod NoHistories

@@ -13,3 +13,4 @@ pub mod Runs
 pub mod Quiet
 pub mod Laws
 pub mod Example
+pub mod CounterExamples

@@ -1,6 +1,14 @@
 //! That the definitions of the machine of perfect queues hold together.
 
 ghost use Rattle.std.specs.Prelude.{ℕ};
+ghost use Rattle.perfect_queues.specs.CounterExamples.{
+  AreHistories,
+  IsNoHistory,
+  received_twice,
+  overtaken,
+  other_data,
+  replaced_by_nobody,
+};
 ghost use Rattle.perfect_queues.specs.Example.{received_once};
 ghost use Rattle.perfect_queues.specs.Quiet.{IsAtRest};
 ghost use Rattle.perfect_queues.specs.Runs.{IsHistory};
@@ -31,6 +39,11 @@ ghost use Rattle.perfect_queues.specs.Laws.{
 pub fn definitions_hold_together()
     ensures no_events { (n : ℕ) → OpensEmpty n }
     ensures example_is_history { IsHistory 2 received_once }
+    ensures none_is_received_twice { IsNoHistory received_twice }
+    ensures none_is_overtaken { IsNoHistory overtaken }
+    ensures none_is_invented { IsNoHistory other_data }
+    ensures none_is_replaced_by_nobody { IsNoHistory replaced_by_nobody }
+    ensures their_twins_are_histories { AreHistories }
     ensures opening_is_at_rest { IsAtRest opening }
     ensures match_takes_both { MatchTakesBoth }
     ensures match_is_in_order { MatchIsInOrder }

@@ -10,7 +10,7 @@ use Rattle.vocabulary.specs.declared.envelope.Status.{Status}
 use Rattle.perfect_queues.proofs.FirstPlaces.{first_places}
 use Rattle.requests.specs.declared.outcome.Failure.TheVariants.{WrongType, Truncated}
 use Rattle.requests.specs.declared.outcome.Outcome.TheVariants as outcomes
-use Rattle.engine.specs.Receiving.{status_of}
+use Rattle.rank_core.specs.Receiving.{status_of}
 use Rattle.proof_engine_view.specs.Rows.{IsWhole}
 use Rattle.proof_engine_view.specs.Seen.{outcome_seen}
 use Rattle.proof_engine_matching.specs.Matches.{OutcomesAgree, ReceivesFit}

@@ -5,8 +5,8 @@ use Rattle.match_queues.specs.declared.queues.Arrival.TheVariants.{Kept, Matched
 use Rattle.match_queues.specs.Arrivals.{arrival_of}
 use Rattle.match_queues.specs.State.{State, after_arrival, after_post, message_at, message_for}
 use Rattle.requests.specs.Outcomes.{outcome_of}
-use Rattle.engine.specs.declared.call.Receive as engine_receive
-use Rattle.engine.specs.Receiving.{posted_by, status_of}
+use Rattle.rank_core.specs.declared.call.Receive as engine_receive
+use Rattle.rank_core.specs.Receiving.{posted_by, status_of}
 use Rattle.perfect_queues.specs.Calls.{Irecv}
 use Rattle.perfect_queues.specs.Outcomes.{Outcome, outcome}
 use Rattle.perfect_queues.specs.Receives.{Receive}

@@ -20,10 +20,10 @@ use Rattle.requests.specs.declared.table.Progress.{Progress}
 use Rattle.requests.specs.declared.table.Progress.TheVariants.{Receiving, Finished}
 use Rattle.requests.specs.declared.table.Request.{Request}
 use Rattle.engine.specs.Datagrams.{handed_up}
-use Rattle.engine.specs.Receiving.{slots_on_arrival}
+use Rattle.rank_core.specs.Receiving.{slots_on_arrival}
 use Rattle.engine.specs.EngineState.{EngineState}
 use Rattle.engine.specs.Learning.{met}
-use Rattle.engine.specs.Receiving.{status_of}
+use Rattle.rank_core.specs.Receiving.{status_of}
 use Rattle.proof_pure_network.proofs.JobLemmas.{get_set_same}
 use Rattle.proof_pure_network.specs.Core.{Core, Effect}
 use Rattle.proof_pure_network.specs.Engine as network

@@ -15,6 +15,8 @@ pub mod OwnSends
 pub mod Posts
 pub mod CallsShown
 pub mod OpeningShown
+pub mod Foreign
 pub mod RefusedWaits
 pub mod RefusedStarts
 pub mod RefusedCalls
+pub mod TakenCalls

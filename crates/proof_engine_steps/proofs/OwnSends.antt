@@ -10,14 +10,16 @@ use Rattle.match_queues.specs.declared.envelope.Message.{Message}
 use Rattle.requests.specs.declared.outcome.Outcome.TheVariants.{Sent}
 use Rattle.requests.specs.declared.table.Progress.TheVariants.{Finished}
 use Rattle.requests.specs.declared.table.Request.{Request}
-use Rattle.engine.specs.declared.call.Call.TheVariants as calls
-use Rattle.engine.specs.declared.call.Reply.TheVariants as replies
-use Rattle.engine.specs.declared.call.Send.{Send}
-use Rattle.engine.specs.EngineState.{EngineState, known_endpoint}
-use Rattle.engine.specs.declared.refused.Refused.{Refused}
-use Rattle.engine.specs.declared.refused.Refused.TheVariants as refusals
+use Rattle.rank_core.specs.declared.call.Call.TheVariants as calls
+use Rattle.rank_core.specs.declared.call.Reply.TheVariants as replies
+use Rattle.rank_core.specs.declared.call.Send.{Send}
+use Rattle.engine.specs.EngineState.{EngineState}
+use Rattle.sessions.specs.SessionsState.{known_endpoint}
+use Rattle.rank_core.specs.declared.refused.Refused.{Refused}
+use Rattle.rank_core.specs.declared.refused.Refused.TheVariants as refusals
 use Rattle.vocabulary.specs.BasicTypes.{size_of}
-use Rattle.engine.specs.Sending.{IsSentToItself, SendGives, SendGivesAt, SendToAnyGives, own_message, send_fault}
+use Rattle.engine.specs.Sending.{IsSentToItself, SendGives, SendGivesAt, SendToAnyGives}
+use Rattle.rank_core.specs.Sending.{own_message, send_fault}
 use Rattle.proof_pure_network.specs.Core.{Core, view}
 use Rattle.proof_pure_network.specs.Engine as cores
 use Rattle.proof_pure_network.specs.Engine.{pushed_over, sends, sends_to}

@@ -18,12 +18,13 @@ use Rattle.requests.specs.Outcomes.{outcome_of}
 use Rattle.requests.specs.Table.{IsSet}
 use Rattle.requests.specs.declared.table.Progress.TheVariants.{Finished, Receiving}
 use Rattle.requests.specs.declared.table.Request.{Request}
-use Rattle.engine.specs.declared.call.Call.TheVariants as calls
-use Rattle.engine.specs.declared.call.Receive.{Receive}
-use Rattle.engine.specs.declared.call.Reply.TheVariants as replies
-use Rattle.engine.specs.declared.refused.Refused.TheVariants as refusals
+use Rattle.rank_core.specs.declared.call.Call.TheVariants as calls
+use Rattle.rank_core.specs.declared.call.Receive.{Receive}
+use Rattle.rank_core.specs.declared.call.Reply.TheVariants as replies
+use Rattle.rank_core.specs.declared.refused.Refused.TheVariants as refusals
 use Rattle.engine.specs.EngineState.{EngineState}
-use Rattle.engine.specs.Receiving.{IsPosted, is_no_source, is_tag_above, posted_by, progress_on_post, receive_fault, status_of}
+use Rattle.engine.specs.Receiving.{IsPosted, receive_fault}
+use Rattle.rank_core.specs.Receiving.{is_no_source, is_tag_above, posted_by, progress_on_post, status_of}
 use Rattle.requests.specs.Table.{is_full}
 use Rattle.proof_engine_view.specs.Rows.{IsWhole, Row, held_of, posted_rows}
 use Rattle.proof_engine_view.specs.Seen.{receive_seen}

@@ -1,5 +1,5 @@
 -- Each call that an engine refuses has a reason.
-use Rattle.std.proofs.Common.{◌≡◌, map, Option, Some, None, slice_get, refl, ap, subst, inl}
+use Rattle.std.proofs.Common.{◌≡◌, map, Option, Some, None, slice_get, refl, ap, subst}
 use Rattle.perfect_queues.specs.Completions.{Awaited}
 use Rattle.perfect_queues.specs.Refusals as rules
 use Rattle.proof_pure_network.specs.Core.{Core}
@@ -7,17 +7,17 @@ use Rattle.proof_pure_network.specs.Held.{blank}
 use Rattle.proof_pure_network.specs.Jobs.{request_of}
 use Rattle.requests.specs.declared.table.Request.{Request}
 use Rattle.requests.specs.declared.outcome.Outcome.TheVariants as outcomes
-use Rattle.engine.specs.declared.call.Call.{Call}
-use Rattle.engine.specs.declared.call.Call.TheVariants as calls
-use Rattle.engine.specs.declared.call.Reply.TheVariants as replies
-use Rattle.engine.specs.declared.refused.Refused.{Refused}
-use Rattle.engine.specs.declared.refused.Refused.TheVariants as refusals
+use Rattle.rank_core.specs.declared.call.Call.{Call}
+use Rattle.rank_core.specs.declared.call.Call.TheVariants as calls
+use Rattle.rank_core.specs.declared.call.Reply.TheVariants as replies
+use Rattle.rank_core.specs.declared.refused.Refused.{Refused}
+use Rattle.rank_core.specs.declared.refused.Refused.TheVariants as refusals
 use Rattle.engine.specs.Calls.{CallGivesAt, FreeCallGives}
 use Rattle.engine.specs.EngineState.{EngineState}
-use Rattle.proof_engine_view.specs.Seen.{call_seen}
+use Rattle.proof_engine_view.specs.Seen.{call_meant}
 use Rattle.proof_engine_view.specs.Shown.{IsBlocked, IsShown}
 use Rattle.proof_engine_matching.specs.Matches.{ReceivesFit}
-use Rattle.proof_engine_steps.specs.Refused.{HasReason, RefusedCallsHaveReasons, fault_seen}
+use Rattle.proof_engine_steps.specs.Refused.{HasReason, MachinesFault, RefusedCallsHaveReasons, fault_seen}
 use Rattle.proof_engine_steps.proofs.RefusedStarts.{receive_reason, send_reason}
 use Rattle.proof_engine_steps.proofs.RefusedWaits.{wait_reason}
 
@@ -26,7 +26,7 @@ blocked_fault : (old : EngineState) (core : Core) (call : Call) (q : Request) �
 blocked_fault old core call q shown h =
     ap
     (λ (b : Option Awaited).
-    rules.fault_by old.place.size (rules.is_held b) (λ k. rules.standing (slice_get (map (request_of blank) core.jobs) k)) (call_seen call))
+    rules.fault_by old.place.size (rules.is_held b) (λ k. rules.standing (slice_get (map (request_of blank) core.jobs) k)) (call_meant old call))
     (subst (λ (b : Option Request). IsBlocked shown.rows b core.blocked) h shown.blocked).0
 
 -- a refused call while no other is blocked
@@ -46,5 +46,5 @@ refused_calls_have_reasons fit old new core call back why shown gives = go old.b
     go (Some q) e g =
         let r : replies.Refused why back ≡ replies.Refused refusals.Request call = g.0 in
         let is : refusals.Request ≡ why = cc in
-        subst (λ (x : Refused). HasReason old core call x) is (inl (blocked_fault old core call q shown e))
+        subst (λ (x : Refused). HasReason old core call x) is (MachinesFault (blocked_fault old core call q shown e))
     go None e g = free_reason fit old new core call back why shown e g

@@ -11,21 +11,24 @@ use Rattle.vocabulary.specs.declared.envelope.Source.TheVariants as sources
 use Rattle.proof_pure_network.specs.Core.{Core, view}
 use Rattle.proof_pure_network.specs.Held.{blank}
 use Rattle.requests.specs.Table.{is_full}
-use Rattle.engine.specs.declared.call.Call.{Call}
-use Rattle.engine.specs.declared.call.Call.TheVariants as calls
-use Rattle.engine.specs.declared.call.Receive.{Receive}
-use Rattle.engine.specs.declared.call.Send.{Send}
-use Rattle.engine.specs.declared.refused.Refused.{Refused}
-use Rattle.engine.specs.declared.refused.Refused.TheVariants as refusals
+use Rattle.rank_core.specs.declared.call.Call.{Call}
+use Rattle.rank_core.specs.declared.call.Call.TheVariants as calls
+use Rattle.rank_core.specs.declared.call.Receive.{Receive}
+use Rattle.rank_core.specs.declared.call.Send.{Send}
+use Rattle.rank_core.specs.declared.refused.Refused.{Refused}
+use Rattle.rank_core.specs.declared.refused.Refused.TheVariants as refusals
 use Rattle.engine.specs.EngineState.{EngineState}
-use Rattle.engine.specs.Peers.{peer_at}
-use Rattle.engine.specs.Receiving.{is_no_source, is_tag_above, receive_fault}
-use Rattle.engine.specs.Refusals.{IsRefusal}
-use Rattle.engine.specs.Sending.{SendGives, SendGivesAt, SendToAnyGives, byte_count, is_worn_out, send_fault, target_fault}
+use Rattle.sessions.specs.Peers.{peer_at}
+use Rattle.rank_core.specs.Receiving.{is_no_source, is_tag_above}
+use Rattle.engine.specs.Receiving.{receive_fault}
+use Rattle.rank_core.specs.Refusals.{IsRefusal}
+use Rattle.engine.specs.Sending.{SendGives, SendGivesAt, SendToAnyGives}
+use Rattle.rank_core.specs.Sending.{byte_count, send_fault, target_fault}
+use Rattle.sessions.specs.Events.{is_worn_out}
 use Rattle.proof_engine_view.specs.Seen.{receive_seen}
 use Rattle.proof_engine_view.specs.Shown.{IsShown}
 use Rattle.proof_engine_matching.specs.Matches.{ReceivesFit}
-use Rattle.proof_engine_steps.specs.Refused.{HasReason, IsOutOfRoom, fault_seen}
+use Rattle.proof_engine_steps.specs.Refused.{Narrower, NoRoom, HasReason, MachinesFault, IsOutOfRoom, fault_seen}
 use Rattle.proof_engine_steps.proofs.Posts.{post_fit, tag_low}
 use Rattle.proof_engine_steps.proofs.Sends.{KeepsRules, send_fit, send_rules}
 use Rattle.proof_engine_steps.proofs.Starting.{core_free, fault_free}
@@ -83,16 +86,16 @@ send_fault_reason old core s x free fault = go (nat_lt 1024 (byte_count s.elemen
     inside to few low is true e h = absurd (grind arith)
     inside to few low is false e h =
         reason_is old core (calls.Isend s) refusals.Rank x h
-        (inl (ap (λ (t : Option ℕ). rules.fault old.place.size (view blank core) (machine.Isend rules.world t s.tag s.elements.basic s.elements.values)) is ∙
+        (MachinesFault (ap (λ (t : Option ℕ). rules.fault old.place.size (view blank core) (machine.Isend rules.world t s.tag s.elements.basic s.elements.values)) is ∙
         send_rank old.place.size core to s.tag s.elements.basic s.elements.values free few low (ltb-false to old.place.size e)))
 
     go : (b : Bool) → nat_lt 1024 (byte_count s.elements) ≡ b → (c : Bool) → nat_lt 2147483647 s.tag ≡ c → (t : Option ℕ) → s.target ≡ t →
         (if b then Some refusals.Count else (if c then Some refusals.Tag else target_fault old.place t)) ≡ Some x → HasReason old core (calls.Isend s) x
-    go true many c tag t is h = reason_is old core (calls.Isend s) refusals.Count x h (inr (inr (ltb-true 1024 (byte_count s.elements) many)))
+    go true many c tag t is h = reason_is old core (calls.Isend s) refusals.Count x h (Narrower (ltb-true 1024 (byte_count s.elements) many))
     go false few true high t is h =
         reason_is old core (calls.Isend s) refusals.Tag x h
-        (inl (send_tag old.place.size core s.target s.tag s.elements.basic s.elements.values free (ltb-false 1024 (byte_count s.elements) few) high))
-    go false few false low None is h = reason_is old core (calls.Isend s) refusals.Rank x h (inr (inr is))
+        (MachinesFault (send_tag old.place.size core s.target s.tag s.elements.basic s.elements.values free (ltb-false 1024 (byte_count s.elements) few) high))
+    go false few false low None is h = reason_is old core (calls.Isend s) refusals.Rank x h (Narrower is)
     go false few false low (Some to) is h = inside to (ltb-false 1024 (byte_count s.elements) few) low is (nat_lt to old.place.size) refl h
 
 -- a send that keeps the rules is refused by a limit alone, or for want of memory
@@ -127,9 +130,9 @@ send_reason old new core s why shown free gives = go (send_fault old.place s) re
     go None fine None is g =
         let e : Err why ≡ Err refusals.Rank = g.0 in
         let f : Some refusals.Rank ≡ Some why = cc in
-        reason_is old core (calls.Isend s) refusals.Rank why f (inr (inr is))
+        reason_is old core (calls.Isend s) refusals.Rank why f (Narrower is)
     go None fine (Some to) is g =
-        inr (inl (send_room old new s to why (to == old.place.endpoint.rank) g, send_faultless old core s to core_is is (send_rules old.place to s fine is)))
+        NoRoom (send_room old new s to why (to == old.place.endpoint.rank) g) (send_faultless old core s to core_is is (send_rules old.place to s fine is))
 
 -- RECEIVES
 
@@ -173,12 +176,12 @@ receive_reason fit old core v why shown free refusal = go (is_tag_above v.tag) r
 
     beyond : is_tag_above v.tag ≡ false → (rules.is_source_beyond old.place.size v.source ≡ true) ⊎ (v.source ≡ sources.Null) →
         HasReason old core (calls.Irecv v) refusals.Rank
-    beyond low (inl b) = inl (receive_rank old.place.size core v fit core_is low b)
-    beyond low (inr null) = inr (inr null)
+    beyond low (inl b) = MachinesFault (receive_rank old.place.size core v fit core_is low b)
+    beyond low (inr null) = Narrower null
 
     go : (b : Bool) → is_tag_above v.tag ≡ b → (c : Bool) → is_no_source old.place.size v.source ≡ c →
         IsRefusal (if b then Some refusals.Tag else (if c then Some refusals.Rank else (if is_full old.slots old.serial then Some refusals.Limit else None))) why →
         HasReason old core (calls.Irecv v) why
-    go true high c source h = subst (λ (x : Refused). HasReason old core (calls.Irecv v) x) (sym h) (inl (receive_tag old.place.size core v fit core_is high))
+    go true high c source h = subst (λ (x : Refused). HasReason old core (calls.Irecv v) x) (sym h) (MachinesFault (receive_tag old.place.size core v fit core_is high))
     go false low true source h = subst (λ (x : Refused). HasReason old core (calls.Irecv v) x) (sym h) (beyond low (source_beyond old.place.size v.source source))
-    go false low false source h = inr (inl (room_wanting (is_full old.slots old.serial) why h, post_fit old.place.size core v fit core_is low source))
+    go false low false source h = NoRoom (room_wanting (is_full old.slots old.serial) why h) (post_fit old.place.size core v fit core_is low source)

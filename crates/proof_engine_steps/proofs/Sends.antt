@@ -16,14 +16,16 @@ use Rattle.proof_pure_network.specs.Jobs.{Over}
 use Rattle.requests.specs.declared.outcome.Outcome.TheVariants.{Sent}
 use Rattle.requests.specs.declared.table.Progress.TheVariants.{Finished}
 use Rattle.requests.specs.declared.table.Request.{Request}
-use Rattle.engine.specs.declared.call.Call.TheVariants as calls
-use Rattle.engine.specs.declared.call.Reply.TheVariants as replies
-use Rattle.engine.specs.declared.call.Send.{Send}
+use Rattle.rank_core.specs.declared.call.Call.TheVariants as calls
+use Rattle.rank_core.specs.declared.call.Reply.TheVariants as replies
+use Rattle.rank_core.specs.declared.call.Send.{Send}
 use Rattle.incarnation.specs.declared.place.Place.{Place}
-use Rattle.engine.specs.declared.refused.Refused.{Refused}
-use Rattle.engine.specs.declared.refused.Refused.TheVariants as refusals
-use Rattle.engine.specs.EngineState.{EngineState, known_endpoint}
-use Rattle.engine.specs.Sending.{IsSentTo, byte_count, send_fault, target_fault}
+use Rattle.rank_core.specs.declared.refused.Refused.{Refused}
+use Rattle.rank_core.specs.declared.refused.Refused.TheVariants as refusals
+use Rattle.engine.specs.EngineState.{EngineState}
+use Rattle.sessions.specs.SessionsState.{known_endpoint}
+use Rattle.engine.specs.Sending.{IsSentTo}
+use Rattle.rank_core.specs.Sending.{byte_count, send_fault, target_fault}
 use Rattle.proof_engine_view.specs.Rows.{held_of, posted_rows}
 use Rattle.proof_engine_view.specs.Seen.{sent_to}
 use Rattle.proof_engine_view.specs.Shown.{IsShown}

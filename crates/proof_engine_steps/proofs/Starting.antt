@@ -12,9 +12,9 @@ use Rattle.proof_pure_network.specs.Jobs.{Job, request_of}
 use Rattle.requests.specs.Table.{IsSet, slot_at}
 use Rattle.requests.specs.declared.table.Progress.{Progress}
 use Rattle.requests.specs.declared.table.Request.{Request}
-use Rattle.engine.specs.declared.call.Call.{Call}
-use Rattle.engine.specs.declared.call.Reply.TheVariants as replies
-use Rattle.engine.specs.declared.refused.Refused.{Refused}
+use Rattle.rank_core.specs.declared.call.Call.{Call}
+use Rattle.rank_core.specs.declared.call.Reply.TheVariants as replies
+use Rattle.rank_core.specs.declared.refused.Refused.{Refused}
 use Rattle.engine.specs.EngineState.{EngineState}
 use Rattle.proof_engine_view.specs.Rows.{Fits, Row, held_of, posted_job, posted_rows}
 use Rattle.proof_engine_view.specs.Seen.{call_seen, sent_by}

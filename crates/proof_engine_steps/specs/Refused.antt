@@ -1,61 +1,65 @@
--- Why an engine refuses a call.
-use Rattle.std.specs.Prelude.{◌≡◌, ◌≢◌, ℕ, ◌<◌, ◌⊎◌, List, Option, Some, None}
-use Rattle.requests.specs.declared.table.Entry.{Entry}
-use Rattle.requests.specs.declared.table.Request.{Request}
-use Rattle.requests.specs.Table.{slot_at}
-use Rattle.engine.specs.declared.call.Call.{Call}
-use Rattle.engine.specs.declared.call.Call.TheVariants as calls
-use Rattle.engine.specs.declared.call.Reply.TheVariants as replies
-use Rattle.engine.specs.declared.refused.Refused.{Refused}
-use Rattle.engine.specs.declared.refused.Refused.TheVariants as refusals
-use Rattle.engine.specs.Calls.{CallGives}
+-- Why an engine refuses a call, and that it takes none with a fault.
+use Rattle.std.specs.Prelude.{◌≡◌, ℕ, ◌<◌, ◌⊎◌, Option, Some, None}
+use Rattle.rank_core.specs.declared.call.Call.{Call}
+use Rattle.rank_core.specs.declared.call.Call.TheVariants as calls
+use Rattle.rank_core.specs.declared.call.Reply.{Reply}
+use Rattle.rank_core.specs.declared.call.Reply.TheVariants as replies
+use Rattle.rank_core.specs.declared.refused.Refused.{Refused}
+use Rattle.rank_core.specs.declared.refused.Refused.TheVariants as refusals
+use Rattle.engine.specs.Calls.{CallGives, IsTaken}
 use Rattle.engine.specs.EngineState.{EngineState}
-use Rattle.engine.specs.Refusals.{number_of_refusal}
-use Rattle.engine.specs.Sending.{byte_count}
+use Rattle.rank_core.specs.Refusals.{number_of_refusal}
+use Rattle.rank_core.specs.Sending.{byte_count}
 use Rattle.vocabulary.specs.declared.envelope.Source.TheVariants as sources
 use Rattle.perfect_queues.specs.Refusals.{fault}
 use Rattle.proof_pure_network.specs.Core.{Core, view}
 use Rattle.proof_pure_network.specs.Held.{blank}
-use Rattle.proof_engine_view.specs.Seen.{call_seen}
+use Rattle.proof_engine_view.specs.Seen.{call_meant, call_seen}
 use Rattle.proof_engine_view.specs.Shown.{IsShown}
 
--- the fault that the machine finds with an engine's call
+-- the fault that the machine finds with what a call means at an engine
 abbrev pub fault_seen : EngineState → Core → Call → Option ℕ
-fault_seen old core call = fault old.place.size (view blank core) (call_seen call)
+fault_seen old core call = fault old.place.size (view blank core) (call_meant old call)
 
--- a request that another engine gave: the one with its serial here stands under another key
-pub record IsForeign (slots : List (Option Entry)) (q : Request) : Type 0 where
-  pub key : ℕ
-  pub entry : Entry
-  pub there : slot_at slots key ≡ Some entry
-  pub serial_is : entry.serial ≡ q.serial
-  pub apart : key ≢ q.key
+-- The rules by which the engine is for now narrower than the machine: a send has at most 1,024 bytes (1), and no call names
+-- the null process (5)
+abbrev pub IsNarrower : Call → Refused → Type 0
+IsNarrower (calls.Isend s) refusals.Count = 1024 < byte_count s.elements
+IsNarrower (calls.Isend s) refusals.Rank = s.target ≡ None
+IsNarrower (calls.Irecv v) refusals.Rank = v.source ≡ sources.Null
+IsNarrower call why = ⊥
 
--- The rules by which the engine is for now narrower than the machine: a send has at most 1,024 bytes, no call names the
--- null process, and no wait names a request that another engine gave, which the machine takes for the one with its serial
-abbrev pub IsNarrower : EngineState → Call → Refused → Type 0
-IsNarrower old (calls.Isend s) refusals.Count = 1024 < byte_count s.elements
-IsNarrower old (calls.Isend s) refusals.Rank = s.target ≡ None
-IsNarrower old (calls.Irecv v) refusals.Rank = v.source ≡ sources.Null
-IsNarrower old (calls.Wait (Some q)) refusals.Request = IsForeign old.slots q
-IsNarrower old call why = ⊥
-
--- a limit was reached, or memory was wanting
+-- the number of a limit or of want of memory: 13 or 14
 abbrev pub IsOutOfRoom : Refused → Type 0
 IsOutOfRoom why = (why ≡ refusals.Limit) ⊎ (why ≡ refusals.OutOfMemory)
 
--- Where the machine finds this fault or none: the call is refused by the number of that fault; or the machine finds none, and
--- there was no room; or the engine is narrower for now, whatever the machine finds
-abbrev pub IsReason : (found : Option ℕ) → EngineState → Call → Refused → Type 0
-IsReason found old call why =
-    (found ≡ Some (number_of_refusal why)) ⊎ ((IsOutOfRoom why × (found ≡ None)) ⊎ IsNarrower old call why)
+-- Why a call is refused, where the machine finds this fault with it or none
+pub data IsReason (found : Option ℕ) (call : Call) (why : Refused) : Type 0 where
+  -- by the machine's fault: the number is the same
+  MachinesFault : found ≡ Some (number_of_refusal why) → IsReason found call why
+  -- the machine finds none, and the number is 13 or 14
+  NoRoom : IsOutOfRoom why → found ≡ None → IsReason found call why
+  -- the engine is narrower for now, whatever the machine finds
+  Narrower : IsNarrower call why → IsReason found call why
 
--- the machine's first fault is the reason, or one of the others is
+-- a call is refused for such a reason, by the fault that the machine finds
 abbrev pub HasReason : EngineState → Core → Call → Refused → Type 0
-HasReason old core call why = IsReason (fault_seen old core call) old call why
+HasReason old core call why = IsReason (fault_seen old core call) call why
 
 -- Every call that an engine refuses is refused for such a reason
 abbrev pub RefusedCallsHaveReasons : Type 0
 RefusedCallsHaveReasons =
     (old new : EngineState) (core : Core) (call back : Call) (why : Refused) →
     IsShown old core → CallGives old call (replies.Refused why back) new → HasReason old core call why
+
+-- a call that names no request of another engine, and with which the machine finds no fault
+pub record IsFaultless (found : Option ℕ) (e : EngineState) (call : Call) : Type 0 where
+  pub own : call_meant e call ≡ call_seen call
+  pub none : found ≡ None
+
+-- Every call that an engine takes is without a fault
+abbrev pub TakenCallsAreFaultless : Type 0
+TakenCallsAreFaultless =
+    (old new : EngineState) (core : Core) (call : Call) (reply : Reply) →
+    IsShown old core → IsTaken reply → CallGives old call reply new →
+    IsFaultless (fault old.place.size (view blank core) (call_seen call)) old call

@@ -2,8 +2,8 @@
 use Rattle.std.specs.Prelude.{◌≡◌, ◌<◌, [], Some, None}
 use Rattle.match_queues.specs.declared.envelope.Message.{Message}
 use Rattle.incarnation.specs.declared.place.Place.{Place}
-use Rattle.engine.specs.declared.call.Call.{Call}
-use Rattle.engine.specs.declared.call.Reply.{Reply}
+use Rattle.rank_core.specs.declared.call.Call.{Call}
+use Rattle.rank_core.specs.declared.call.Reply.{Reply}
 use Rattle.engine.specs.Calls.{CallGives, IsTaken}
 use Rattle.engine.specs.Datagrams.{handed_up}
 use Rattle.engine.specs.EngineState.{EngineState, opening}

@@ -1,17 +1,22 @@
 -- What the machine of perfect queues sees of an engine's calls, replies and outcomes.
-use Rattle.std.specs.Prelude.{ℕ, List, [], ◌∷◌, length, Option, Some, None, if◌then◌else◌, ◌==◌, option_map}
+use Rattle.std.specs.Prelude.{ℕ, Bool, false, not, ◌&&◌, List, [], ◌∷◌, length, Option, Some, None, if◌then◌else◌, ◌==◌, option_map}
+use Rattle.std.specs.List.{list_any}
 use Rattle.vocabulary.specs.declared.endpoint.Endpoint.{Endpoint}
 use Rattle.proof_pure_network.specs.Frames.{Eager, Frame}
 use Rattle.requests.specs.declared.outcome.Outcome.{Outcome}
 use Rattle.requests.specs.declared.outcome.Outcome.TheVariants as outcomes
 use Rattle.requests.specs.Outcomes.{number_of_failure}
-use Rattle.engine.specs.declared.call.Send.{Send}
-use Rattle.engine.specs.declared.call.Receive.{Receive}
-use Rattle.engine.specs.declared.call.Call.{Call}
-use Rattle.engine.specs.declared.call.Call.TheVariants as calls
-use Rattle.engine.specs.declared.call.Reply.{Reply}
-use Rattle.engine.specs.declared.call.Reply.TheVariants as replies
-use Rattle.engine.specs.EngineState.{EngineState, known_endpoint}
+use Rattle.requests.specs.Table.{slot_at}
+use Rattle.requests.specs.declared.table.Entry as table
+use Rattle.requests.specs.declared.table.Request.{Request}
+use Rattle.rank_core.specs.declared.call.Send.{Send}
+use Rattle.rank_core.specs.declared.call.Receive.{Receive}
+use Rattle.rank_core.specs.declared.call.Call.{Call}
+use Rattle.rank_core.specs.declared.call.Call.TheVariants as calls
+use Rattle.rank_core.specs.declared.call.Reply.{Reply}
+use Rattle.rank_core.specs.declared.call.Reply.TheVariants as replies
+use Rattle.engine.specs.EngineState.{EngineState}
+use Rattle.sessions.specs.SessionsState.{known_endpoint}
 use Rattle.perfect_queues.specs.Outcomes as machine_outcomes
 use Rattle.perfect_queues.specs.Receives as machine_receives
 use Rattle.perfect_queues.specs.Calls as machine
@@ -46,6 +51,26 @@ call_seen (calls.Isend s) = machine.Isend world s.target s.tag s.elements.basic 
 call_seen (calls.Irecv v) = machine.Irecv (receive_seen v)
 call_seen (calls.Wait None) = machine.Wait (One None)
 call_seen (calls.Wait (Some q)) = machine.Wait (One (Some q.serial))
+
+-- whether a request with this serial stands in a slot of the table
+abbrev pub has_serial : (serial : ℕ) → Option table.Entry → Bool
+has_serial serial None = false
+has_serial serial (Some t) = t.serial == serial
+
+-- whether another engine gave the request: one with its serial stands in this engine's table, though not under its key
+abbrev pub is_foreign : (slots : List (Option table.Entry)) → Request → Bool
+is_foreign slots q = list_any (has_serial q.serial) slots && not (has_serial q.serial (slot_at slots q.key))
+
+-- the serial that a request stands for at an engine: its own; that of another engine's is the next one, which no request has
+abbrev pub serial_meant : EngineState → Request → ℕ
+serial_meant e q = if is_foreign e.slots q then e.serial else q.serial
+
+-- what a call means at an engine: what is seen of it, but that a request of another engine is one that it never gave
+abbrev pub call_meant : EngineState → Call → machine.Call
+call_meant e (calls.Isend s) = call_seen (calls.Isend s)
+call_meant e (calls.Irecv v) = call_seen (calls.Irecv v)
+call_meant e (calls.Wait None) = call_seen (calls.Wait None)
+call_meant e (calls.Wait (Some q)) = machine.Wait (One (Some (serial_meant e q)))
 
 -- what is seen of a call at an endpoint that was answered so; of a refused one nothing is
 abbrev pub told_call : Endpoint → Call → Option Reply → List Entry

@@ -15,19 +15,22 @@ use Rattle.requests.specs.declared.table.Progress.{Progress}
 use Rattle.requests.specs.declared.table.Progress.TheVariants.{Finished, Receiving}
 use Rattle.requests.specs.declared.table.Request.{Request}
 use Rattle.requests.specs.Table.{is_full, progress_at}
-use Rattle.engine.specs.declared.call.Call.{Call}
-use Rattle.engine.specs.declared.call.Call.TheVariants as calls
-use Rattle.engine.specs.declared.call.Reply.{Reply}
-use Rattle.engine.specs.declared.call.Reply.TheVariants as replies
-use Rattle.engine.specs.declared.call.Send.{Send}
-use Rattle.engine.specs.declared.peers.Peer.{Peer}
+use Rattle.rank_core.specs.declared.call.Call.{Call}
+use Rattle.rank_core.specs.declared.call.Call.TheVariants as calls
+use Rattle.rank_core.specs.declared.call.Reply.{Reply}
+use Rattle.rank_core.specs.declared.call.Reply.TheVariants as replies
+use Rattle.rank_core.specs.declared.call.Send.{Send}
+use Rattle.sessions.specs.declared.peers.Peer.{Peer}
 use Rattle.incarnation.specs.declared.place.Place.{Place}
-use Rattle.engine.specs.declared.refused.Refused.{Refused}
-use Rattle.engine.specs.declared.refused.Refused.TheVariants as refusals
-use Rattle.engine.specs.Calls.{CallGivesAt, FreeCallGives, IsTaken, IsWithin}
+use Rattle.rank_core.specs.declared.refused.Refused.{Refused}
+use Rattle.rank_core.specs.declared.refused.Refused.TheVariants as refusals
+use Rattle.engine.specs.Calls.{CallGivesAt, FreeCallGives, IsTaken}
+use Rattle.rank_core.specs.Calls.{IsWithin}
 use Rattle.engine.specs.EngineState.{EngineState}
-use Rattle.engine.specs.Peers.{peer_at}
-use Rattle.engine.specs.Sending.{IsSentTo, SendGivesAt, SendToAnyGives, byte_count, is_worn_out, out_on_accept, send_bytes, send_fault, send_limit, target_fault}
+use Rattle.sessions.specs.Peers.{peer_at}
+use Rattle.engine.specs.Sending.{IsSentTo, SendGivesAt, SendToAnyGives, send_bytes, send_limit}
+use Rattle.rank_core.specs.Sending.{byte_count, send_fault, target_fault}
+use Rattle.sessions.specs.Events.{is_worn_out, out_on_accept}
 use Rattle.engine.specs.Waiting.{WaitGivesAt}
 use Rattle.proof_engine_view.specs.Seen.{sent_by, sent_to}
 use Rattle.proof_link_truth.specs.Events.{CallsAreTrue, IsAt, LeavesTrue}
@@ -35,6 +38,7 @@ use Rattle.proof_link_truth.specs.Sessions.{EngineTells, Links, PeerTells, Sende
 use Rattle.proof_link_truth.specs.Told.{IsTold}
 use Rattle.proof_link_truth.specs.Truth.{AreTrue}
 use Rattle.proof_link_truth.specs.Wire.{IsSmall, at, place_of, wire}
+use Rattle.proof_link_truth.proofs.Witnesses.{all_witnessed}
 use Rattle.proof_link_truth.proofs.Engines.{engine_stays, engine_with, world_leaves}
 use Rattle.proof_link_truth.proofs.Growing.{accept_fits, accept_grows, accepted_handed, grows_none, link_cases, link_here, links_fit}
 use Rattle.proof_link_truth.proofs.Lists.{false_sym}
@@ -50,6 +54,7 @@ still n r engines datagrams links current old new true_now here place_is known_i
     world_leaves n r engines datagrams links links current new true_now (grows_none r links)
     (engine_stays n r current links old new (true_now.tells r old here.there) place_is known_is peers_are) (links_fit n engines datagrams links current true_now)
     (subst (AllByRecursion (IsTold n links current)) (sym (out_is ∙ here.out)) tt)
+    (all_witnessed n r engines datagrams new.out links links current true_now (grows_none r links) (λ a b. refl))
 
 -- ---- a send
 
@@ -162,6 +167,7 @@ send_leaves n r target engines datagrams links current old new s q true_now here
     (ap (λ (e : EngineState). e.place) sent.rest) (ap (λ (e : EngineState). e.known) sent.rest) (ap (λ (e : EngineState). e.peers) sent.rest))
     (accept_fits n links current own d f (links_fit n engines datagrams links current true_now) small numbered (are_pair n own d r_is fine.within apart) (omega arith))
     (subst (AllByRecursion (IsTold n after current)) (sym out_is) (sent_is_told n target after current bytes (nat_lt (length sender.frames) 64) told))
+    (all_witnessed n r engines datagrams new.out links after current true_now (accept_grows links own d f) (λ a b. accepted_handed links own d f a b))
   where
     f : Frame
     f = frame_sent s

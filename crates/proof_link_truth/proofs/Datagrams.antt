@@ -20,18 +20,19 @@ use Rattle.incarnation.specs.declared.refused.Refused.TheVariants as judgings
 use Rattle.incarnation.specs.Judging.{judgement}
 use Rattle.proof_pure_network.specs.Frames as net
 use Rattle.proof_pure_network.specs.Links.{handed_on}
-use Rattle.engine.specs.declared.refused.Refused.TheVariants.{OutOfWindow}
+use Rattle.rank_core.specs.declared.refused.Refused.TheVariants.{OutOfWindow}
 use Rattle.engine.specs.Datagrams.{BodyGives, EagerGivesAt, FirstWordGives, JudgedGives, StaleGives, TextGives, first_frame_fault, first_number_fault, handed_up, message_of}
 use Rattle.engine.specs.EngineState.{EngineState, knowledge}
 use Rattle.engine.specs.Learning.{met}
-use Rattle.engine.specs.Peers.{peer_at}
-use Rattle.engine.specs.Sending.{header_to}
+use Rattle.sessions.specs.Peers.{peer_at}
+use Rattle.sessions.specs.Spellings.{header_to}
 use Rattle.engine.specs.Waiting.{woken}
 use Rattle.proof_link_truth.specs.Events.{DatagramLeaves, DatagramsAreTrue, IsAt, IsHeard, LeavesTrue, OnlySessions}
 use Rattle.proof_link_truth.specs.Sessions.{EngineTells, Links, PeerTells}
 use Rattle.proof_link_truth.specs.Told.{IsTold}
 use Rattle.proof_link_truth.specs.Truth.{AreTrue}
-use Rattle.proof_link_truth.specs.Wire.{at, place_of}
+use Rattle.proof_link_truth.specs.Wire.{at, place_of, wire}
+use Rattle.proof_link_truth.specs.Witness.{IsAmong}
 use Rattle.proof_link_truth.proofs.Hearing.{Hears, IsBeside, acked, again, hears, met_nothing, peer_of, stays, taken, woken_beside, woken_is}
 use Rattle.proof_link_truth.proofs.Judging.{IsCurrent, IsLater, is_current, is_later, same_endpoint}
 use Rattle.proof_link_truth.proofs.Lists.{All_get}
@@ -65,7 +66,7 @@ module _ (n r : ℕ) (engines : List EngineState) (datagrams : List (ℕ × List
   -- ---- from the known incarnation or a later one
 
   -- the next frame is handed up
-  hands_up : (q : ℕ) (t : EagerText) → SaysFrame s (at r (current r)) links q t → q ≡ (links s (at r (current r))).handed
+  hands_up : (q : ℕ) (t : EagerText) → SaysFrame n datagrams s (at r (current r)) links q t → q ≡ (links s (at r (current r))).handed
       → new ≡ woken (handed_up (met old s) s.rank (message_of (header_to (place_of n s) (at r (current r)) q) t))
       → DatagramLeaves n engines datagrams r old new links current
   hands_up q t says handed_is state =
@@ -90,7 +91,8 @@ module _ (n r : ℕ) (engines : List EngineState) (datagrams : List (ℕ × List
         },
         subst (λ (e : EngineState). LeavesTrue n engines datagrams r e (handed_on links s own) current) (sym is)
             (taken n r s engines datagrams links current (met old s) (woken (handed_up (met old s) s.rank message)) now_hears
-            (woken_is (met old s) s.rank message) within),
+            (woken_is (met old s) s.rank message) within
+            (record { frame = frame; accepted = next; sent = subst (λ (k : ℕ). IsAmong datagrams (own.rank, wire n s own k frame)) handed_is says.sent })),
       ))
 
   -- nothing but the incarnation is learnt
@@ -113,8 +115,8 @@ module _ (n r : ℕ) (engines : List EngineState) (datagrams : List (ℕ × List
     hears_now = subst (λ (e : EngineState). Hears n r s engines datagrams links current e) (met_nothing old s known_is) now_hears
 
     -- by whether the frame's number is below the next one, that one, or above
-    by_number : (q : ℕ) (t : EagerText) → SaysFrame s (at r (current r)) links q t → (o : Ordering) → o ≡ nat_cmp q (peer_at old.peers s.rank).receiver
-        → EagerGivesAt {X = ℕ} o old (header_to (place_of n s) (at r (current r)) q) t (Ok 0) new → DatagramLeaves n engines datagrams r old new links current
+    by_number : (q : ℕ) (t : EagerText) → SaysFrame n datagrams s (at r (current r)) links q t → (o : Ordering) → o ≡ nat_cmp q (peer_at old.peers s.rank).receiver
+        → EagerGivesAt {X = Unit {0}} o old (header_to (place_of n s) (at r (current r)) q) t (Ok tt) new → DatagramLeaves n engines datagrams r old new links current
     by_number q t says Less is gives =
         inl (subst (λ (e : EngineState). OnlySessions old e × LeavesTrue n engines datagrams r e links current) (sym gives.1)
         (refl, again n r s engines datagrams links current old hears_now))
@@ -127,7 +129,7 @@ module _ (n r : ℕ) (engines : List EngineState) (datagrams : List (ℕ × List
     by_number q t says Greater is gives = absurd (let e = gives.0 in cc)
 
     -- whatever its body is
-    known_leaves : (q : ℕ) (b : BodyText) → Says s (at r (current r)) links q b → BodyGives {X = ℕ} old (header_to (place_of n s) (at r (current r)) q) b (Ok 0) new
+    known_leaves : (q : ℕ) (b : BodyText) → Says n datagrams s (at r (current r)) links q b → BodyGives {X = Unit {0}} old (header_to (place_of n s) (at r (current r)) q) b (Ok tt) new
         → DatagramLeaves n engines datagrams r old new links current
     known_leaves q (EagerBody t) says gives = by_number q t says (nat_cmp q (peer_at old.peers s.rank).receiver) refl gives
     known_leaves q AckBody says gives =
@@ -146,7 +148,7 @@ module _ (n r : ℕ) (engines : List EngineState) (datagrams : List (ℕ × List
     none_handed = (tells.peers s.rank heard.there heard.apart).no_handed s.incarnation above
 
     -- whatever its body is
-    later_leaves : (q : ℕ) (b : BodyText) → Says s (at r (current r)) links q b → FirstWordGives {X = ℕ} old (header_to (place_of n s) (at r (current r)) q) b (Ok 0) new
+    later_leaves : (q : ℕ) (b : BodyText) → Says n datagrams s (at r (current r)) links q b → FirstWordGives {X = Unit {0}} old (header_to (place_of n s) (at r (current r)) q) b (Ok tt) new
         → DatagramLeaves n engines datagrams r old new links current
     later_leaves q (EagerBody t) says gives =
         let zero_is : q ≡ 0 = first_is_zero q (sym (ap (λ (u : EagerText). first_frame_fault q u.plane) says.text) ∙ gives.0) in
@@ -158,7 +160,7 @@ module _ (n r : ℕ) (engines : List EngineState) (datagrams : List (ℕ × List
 
 module _ (n r : ℕ) (engines : List EngineState) (datagrams : List (ℕ × List ℕ)) (links : Links) (current : ℕ → ℕ) (old new : EngineState) (s d : Endpoint)
     (true_now : AreTrue n engines datagrams links current) (stands : IsAt engines r old) (begun : AreBegun n s d current) (to : d.rank ≡ r)
-    (q : ℕ) (b : BodyText) (says : Says s d links q b) where
+    (q : ℕ) (b : BodyText) (says : Says n datagrams s d links q b) where
   -- what it says of itself
   abbrev header : Header
   header = header_to (place_of n s) d q
@@ -185,34 +187,34 @@ module _ (n r : ℕ) (engines : List EngineState) (datagrams : List (ℕ × List
   }
 
   -- from the known incarnation
-  current_leaves : judgement (knowledge old) (header_to (place_of n s) d q) ≡ Ok Current → BodyGives {X = ℕ} old (header_to (place_of n s) d q) b (Ok 0) new
+  current_leaves : judgement (knowledge old) (header_to (place_of n s) d q) ≡ Ok Current → BodyGives {X = Unit {0}} old (header_to (place_of n s) d q) b (Ok tt) new
       → DatagramLeaves n engines datagrams r old new links current
   current_leaves judged gives =
       let c : IsCurrent (knowledge old) header = is_current (knowledge old) header judged in
       let same : d ≡ at r (current r) = target_is c.target_incarnation in
       known_leaves n r engines datagrams links current old new s true_now stands (meant same) (is_heard same (omega (arith, c.known)))
-      (sym c.known) q b (subst (λ (x : Endpoint). Says s x links q b) same says)
-      (subst (λ (x : Endpoint). BodyGives {X = ℕ} old (header_to (place_of n s) x q) b (Ok 0) new) same gives)
+      (sym c.known) q b (subst (λ (x : Endpoint). Says n datagrams s x links q b) same says)
+      (subst (λ (x : Endpoint). BodyGives {X = Unit {0}} old (header_to (place_of n s) x q) b (Ok tt) new) same gives)
 
   -- from a later one
   learn_leaves : (i : ℕ) → judgement (knowledge old) (header_to (place_of n s) d q) ≡ Ok (Learn i)
-      → FirstWordGives {X = ℕ} old (header_to (place_of n s) d q) b (Ok 0) new → DatagramLeaves n engines datagrams r old new links current
+      → FirstWordGives {X = Unit {0}} old (header_to (place_of n s) d q) b (Ok tt) new → DatagramLeaves n engines datagrams r old new links current
   learn_leaves i judged gives =
       let c : IsLater (knowledge old) header = is_later (knowledge old) header i judged in
       let same : d ≡ at r (current r) = target_is c.target_incarnation in
       later_leaves n r engines datagrams links current old new s true_now stands (meant same) (is_heard same (omega (arith, c.above)))
-      c.above q b (subst (λ (x : Endpoint). Says s x links q b) same says)
-      (subst (λ (x : Endpoint). FirstWordGives {X = ℕ} old (header_to (place_of n s) x q) b (Ok 0) new) same gives)
+      c.above q b (subst (λ (x : Endpoint). Says n datagrams s x links q b) same says)
+      (subst (λ (x : Endpoint). FirstWordGives {X = Unit {0}} old (header_to (place_of n s) x q) b (Ok tt) new) same gives)
 
   -- what is for a former incarnation of the rank is not taken in
-  none_stale : (b' : BodyText) → StaleGives {X = ℕ} old (header_to (place_of n s) d q) b' (Ok 0) new → ⊥
+  none_stale : (b' : BodyText) → StaleGives {X = Unit {0}} old (header_to (place_of n s) d q) b' (Ok tt) new → ⊥
   none_stale (EagerBody t) gives = gives
   none_stale AckBody gives = gives
   none_stale ResetBody gives = let e = gives.0 in absurd cc
 
   -- by how it is judged
   judged_leaves : (j : Result Judgement judging.Refused) → judgement (knowledge old) (header_to (place_of n s) d q) ≡ j
-      → JudgedGives {X = ℕ} j old (word n s d q b) (Ok 0) new → DatagramLeaves n engines datagrams r old new links current
+      → JudgedGives {X = Unit {0}} j old (word n s d q b) (Ok tt) new → DatagramLeaves n engines datagrams r old new links current
   judged_leaves (Ok Current) judged gives = current_leaves judged gives
   judged_leaves (Ok (Learn i)) judged gives = learn_leaves i judged gives
   judged_leaves (Err judgings.StaleTarget) judged gives = absurd (none_stale b gives)
@@ -223,16 +225,16 @@ module _ (n r : ℕ) (engines : List EngineState) (datagrams : List (ℕ × List
   judged_leaves (Err judgings.OutOfMemory) judged gives = absurd (let e = gives.0 in cc)
 
 -- a datagram of the world that came to a rank, as it is read
-pub record IsComing (n r : ℕ) (links : Links) (current : ℕ → ℕ) (bytes : List ℕ) : Type 0 where
+pub record IsComing (n r : ℕ) (datagrams : List (ℕ × List ℕ)) (links : Links) (current : ℕ → ℕ) (bytes : List ℕ) : Type 0 where
   pub source : Endpoint
   pub target : Endpoint
   pub to : target.rank ≡ r
   pub begun : AreBegun n source target current
-  pub says : IsWord n source target links bytes
+  pub says : IsWord n datagrams source target links bytes
 
 -- each is
 pub is_coming : (n r number : ℕ) (bytes : List ℕ) (engines : List EngineState) (datagrams : List (ℕ × List ℕ)) (links : Links) (current : ℕ → ℕ)
-    → AreTrue n engines datagrams links current → slice_get datagrams number ≡ Some (r, bytes) → IsComing n r links current bytes
+    → AreTrue n engines datagrams links current → slice_get datagrams number ≡ Some (r, bytes) → IsComing n r datagrams links current bytes
 is_coming n r number bytes engines datagrams links current true_now there =
     let told : IsTold n links current (r, bytes) = All_get (IsTold n links current) datagrams number (r, bytes) true_now.told there in
     let widths : HaveWidths n told.source told.target = record {
@@ -253,14 +255,15 @@ is_coming n r number bytes engines datagrams links current true_now there =
         source_begun = told.source_begun;
         target_begun = told.target_begun;
       };
-      says = told_is_word n told.source told.target links bytes widths true_now.sound told.tells;
+      says = told_is_word n datagrams told.source told.target links bytes widths true_now.sound told.tells
+          (record { place = number; there = there ∙ ap (λ (x : ℕ). Some (x, bytes)) (sym told.to) });
     }
 
 -- the law of datagrams
 pub datagrams_are_true : DatagramsAreTrue
 datagrams_are_true n r number bytes engines datagrams links current old new true_now stands there gives =
-    let c : IsComing n r links current bytes = is_coming n r number bytes engines datagrams links current true_now there in
+    let c : IsComing n r datagrams links current bytes = is_coming n r number bytes engines datagrams links current true_now there in
     let text : DatagramText = word n c.source c.target c.says.number c.says.body in
     judged_leaves n r engines datagrams links current old new c.source c.target true_now stands c.begun c.to c.says.number c.says.body c.says.says
     (judgement (knowledge old) (header_to (place_of n c.source) c.target c.says.number)) refl
-    (subst (λ (t : Result DatagramText lower.Refused). TextGives {X = ℕ} old t (Ok 0) new) c.says.read gives)
+    (subst (λ (t : Result DatagramText lower.Refused). TextGives {X = Unit {0}} old t (Ok tt) new) c.says.read gives)

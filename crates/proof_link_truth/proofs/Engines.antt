@@ -1,5 +1,5 @@
 -- What the engines of a world hold of its links, once one of them did something.
-use Rattle.std.proofs.Common.{◌≡◌, ℕ, ◌<◌, ◌≤◌, Bool, true, false, List, length, drop, ◌==◌, slice_index, slice_set, refl, sym, ap, ◌∙◌, subst, arith}
+use Rattle.std.proofs.Common.{◌≡◌, ℕ, ◌<◌, ◌≤◌, Bool, true, false, List, ◌++◌, length, drop, ◌==◌, slice_index, slice_set, refl, sym, ap, ◌∙◌, subst, arith}
 use Rattle.std.specs.List.{AllByRecursion}
 use Rattle.std.proofs.lemmas.Bool.{eqb-true, eqb-false}
 use Rattle.std.proofs.lemmas.List.{length-set}
@@ -7,14 +7,15 @@ use Rattle.vocabulary.specs.declared.endpoint.Endpoint.{Endpoint}
 use Rattle.perfect_queues.proofs.ListLemmas.{get_set, get_set_other}
 use Rattle.proof_pure_network.specs.Frames.{Frame}
 use Rattle.proof_pure_network.proofs.JobLemmas.{All_append}
-use Rattle.engine.specs.declared.peers.Peer.{Peer}
+use Rattle.sessions.specs.declared.peers.Peer.{Peer}
 use Rattle.engine.specs.EngineState.{EngineState}
-use Rattle.engine.specs.Peers.{peer_at, peer_or_new}
+use Rattle.sessions.specs.Peers.{peer_at, peer_or_new}
 use Rattle.proof_link_truth.specs.Events.{LeavesTrue, emptied}
 use Rattle.proof_link_truth.specs.Sessions.{EngineTells, Links, PeerTells}
 use Rattle.proof_link_truth.specs.Told.{IsTold}
 use Rattle.proof_link_truth.specs.Truth.{AreTrue}
 use Rattle.proof_link_truth.specs.Wire.{at, place_of, wires}
+use Rattle.proof_link_truth.specs.Witness.{IsWitnessed}
 use Rattle.proof_link_truth.proofs.Growing.{Grows, LinksFit, told_more}
 use Rattle.proof_link_truth.proofs.Lists.{All_more, false_sym, set_each}
 
@@ -133,8 +134,8 @@ engine_stays n r current a e new tells place_is known_is peers_are = record {
 -- the whole world once the engine at a rank did something
 pub world_leaves : (n r : ℕ) (engines : List EngineState) (datagrams : List (ℕ × List ℕ)) (a b : Links) (current : ℕ → ℕ) (mid : EngineState)
     → AreTrue n engines datagrams a current → Grows r a b → EngineTells n current r mid b → LinksFit n b current
-    → AllByRecursion (IsTold n b current) mid.out → LeavesTrue n engines datagrams r mid b current
-world_leaves n r engines datagrams a b current mid true_now grows tells fit told = record {
+    → AllByRecursion (IsTold n b current) mid.out → ((s d : Endpoint) → IsWitnessed n (datagrams ++ mid.out) s d (b s d)) → LeavesTrue n engines datagrams r mid b current
+world_leaves n r engines datagrams a b current mid true_now grows tells fit told witnessed = record {
   count = length-set engines r (emptied mid) ∙ true_now.count;
   few = true_now.few;
   last = true_now.last;
@@ -145,4 +146,5 @@ world_leaves n r engines datagrams a b current mid true_now grows tells fit told
   none_accepted = fit.none_accepted;
   none_handed = fit.none_handed;
   told = All_append (IsTold n b current) datagrams mid.out (All_more (IsTold n a current) (IsTold n b current) datagrams (told_more n r a b current grows) true_now.told) told;
+  witnessed = witnessed;
 }

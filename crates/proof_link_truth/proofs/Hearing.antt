@@ -11,17 +11,21 @@ use Rattle.requests.specs.declared.table.Progress.TheVariants.{Finished, Receivi
 use Rattle.requests.specs.declared.table.Request.{Request}
 use Rattle.requests.specs.Table.{progress_at}
 use Rattle.incarnation.specs.declared.place.Place.{Place}
-use Rattle.engine.specs.declared.peers.Peer.{Peer}
-use Rattle.engine.specs.Datagrams.{ack_bytes, ack_to, after_acked, handed_up, repeated}
-use Rattle.engine.specs.EngineState.{EngineState, known_endpoint}
+use Rattle.sessions.specs.declared.peers.Peer.{Peer}
+use Rattle.sessions.specs.Spellings.{ack_bytes}
+use Rattle.engine.specs.Datagrams.{ack_to, after_acked, handed_up, repeated}
+use Rattle.engine.specs.EngineState.{EngineState}
+use Rattle.sessions.specs.SessionsState.{known_endpoint}
 use Rattle.engine.specs.Learning.{learned, met}
-use Rattle.engine.specs.Peers.{frames_out, peer_at, with_receiver}
+use Rattle.sessions.specs.Peers.{frames_out, peer_at, with_receiver}
 use Rattle.engine.specs.Waiting.{woken, woken_at, woken_by}
 use Rattle.proof_link_truth.specs.Events.{IsHeard, LeavesTrue}
 use Rattle.proof_link_truth.specs.Sessions.{EngineTells, Links, PeerTells, SenderTells}
 use Rattle.proof_link_truth.specs.Told.{IsTold}
 use Rattle.proof_link_truth.specs.Truth.{AreTrue}
 use Rattle.proof_link_truth.specs.Wire.{at, place_of}
+use Rattle.proof_link_truth.specs.Witness.{IsEmitted, IsWitnessed}
+use Rattle.proof_link_truth.proofs.Witnesses.{all_witnessed, witnessed_more, witnessed_next}
 use Rattle.proof_link_truth.proofs.Engines.{engine_stays, engine_with, world_leaves}
 use Rattle.proof_link_truth.proofs.Growing.{grows_none, handed_accepted, handed_fits, handed_grows, link_cases, link_here, links_fit}
 use Rattle.proof_link_truth.proofs.Learning.{learned_known, met_tells}
@@ -63,6 +67,7 @@ pub stays : (n r : ℕ) (engines : List EngineState) (datagrams : List (ℕ × L
 stays n r engines datagrams links current e new true_now tells place_is known_is peers_are told =
     world_leaves n r engines datagrams links links current new true_now (grows_none r links)
     (engine_stays n r current links e new tells place_is known_is peers_are) (links_fit n engines datagrams links current true_now) told
+    (all_witnessed n r engines datagrams new.out links links current true_now (grows_none r links) (λ s d. refl))
 
 -- the engine of rank r, which has emitted nothing, knows the endpoint that it hears
 pub record Hears (n r : ℕ) (s : Endpoint) (engines : List EngineState) (datagrams : List (ℕ × List ℕ)) (links : Links) (current : ℕ → ℕ)
@@ -110,6 +115,7 @@ module _ (n r : ℕ) (s : Endpoint) (engines : List EngineState) (datagrams : Li
       world_leaves n r engines datagrams links links current (after_acked e s.rank k) c.true_now (grows_none r links)
       (engine_with n r s.rank current links links e (after_acked e s.rank k) next c.tells c.begun.source c.begun.apart here (λ y j o differs p. p) refl refl refl)
       (links_fit n engines datagrams links current c.true_now) told
+      (all_witnessed n r engines datagrams (after_acked e s.rank k).out links links current c.true_now (grows_none r links) (λ a b. refl))
     where
       sender : SenderState
       sender = (peer_at e.peers s.rank).sender
@@ -184,11 +190,12 @@ woken_is old source m =
 pub taken : (n r : ℕ) (s : Endpoint) (engines : List EngineState) (datagrams : List (ℕ × List ℕ)) (links : Links) (current : ℕ → ℕ)
     (e new : EngineState) → Hears n r s engines datagrams links current e → IsHanded e s.rank new
     → (links s (at r (current r))).handed < length (links s (at r (current r))).accepted
+    → IsEmitted n datagrams s (at r (current r)) (links s (at r (current r))) (links s (at r (current r))).handed
     → LeavesTrue n engines datagrams r new (handed_on links s (at r (current r))) current
-taken n r s engines datagrams links current e new c handed within =
+taken n r s engines datagrams links current e new c handed within emitted =
     world_leaves n r engines datagrams links after current new c.true_now (handed_grows links s own)
     (engine_with n r s.rank current links after e new next c.tells c.begun.source c.begun.apart here beside handed.place handed.known handed.peers)
-    (handed_fits n links current s own (links_fit n engines datagrams links current c.true_now) within c.begun.target_begun) told
+    (handed_fits n links current s own (links_fit n engines datagrams links current c.true_now) within c.begun.target_begun) told witnessed
   where
     own : Endpoint
     own = at r (current r)
@@ -256,6 +263,22 @@ taken n r s engines datagrams links current e new c handed within =
     told : AllByRecursion (IsTold n after current) new.out
     told = subst (AllByRecursion (IsTold n after current)) (sym (handed.out ∙ ap (λ (out : List (ℕ × List ℕ)). out ++ ack_to e s.rank (receiver + 1) ∷ []) c.out))
         (ack_is_told n r s engines datagrams links current e c after (receiver + 1) (omega (arith, receiver_is)), tt)
+
+    -- what it emits: the acknowledgement of one frame more
+    gave : new.out ≡ (s.rank, ack_bytes (place_of n own) s (suc link.handed)) ∷ []
+    gave =
+        let one : receiver + 1 ≡ suc link.handed = omega (arith, peer.receiver) in
+        handed.out ∙ ap (λ (out : List (ℕ × List ℕ)). out ++ ack_to e s.rank (receiver + 1) ∷ []) c.out
+        ∙ ap (λ (p : Place). (s.rank, ack_bytes p (known_endpoint e.known s.rank) (receiver + 1)) ∷ []) c.tells.place
+        ∙ ap (λ (i : ℕ). (s.rank, ack_bytes (place_of n own) (at s.rank i) (receiver + 1)) ∷ []) c.known_is
+        ∙ ap (λ (k : ℕ). (s.rank, ack_bytes (place_of n own) s k) ∷ []) one
+
+    witnessed : (a b : Endpoint) → IsWitnessed n (datagrams ++ new.out) a b (after a b)
+    witnessed a b = link_cases (λ l. IsWitnessed n (datagrams ++ new.out) a b l) links s own further a b
+        (λ es ed. subst (λ (x : Endpoint). IsWitnessed n (datagrams ++ new.out) x b further) (sym es)
+            (subst (λ (y : Endpoint). IsWitnessed n (datagrams ++ new.out) s y further) (sym ed)
+            (witnessed_next n datagrams new.out s own link (c.true_now.witnessed s own) emitted gave)))
+        (λ k. witnessed_more n datagrams new.out a b (links a b) (links a b) refl (λ q f h. h) (c.true_now.witnessed a b))
 
 -- ---- a word of an endpoint
 

@@ -6,8 +6,8 @@ use Rattle.vocabulary.specs.declared.endpoint.Endpoint.{Endpoint}
 use Rattle.proof_pure_network.specs.Frames.{Frame}
 use Rattle.proof_pure_network.specs.Links.{Link, in_flight}
 use Rattle.reliable_link.specs.declared.out_frame.OutFrame.{OutFrame}
-use Rattle.engine.specs.declared.peers.Peer.{Peer}
-use Rattle.engine.specs.Peers.{peer_at}
+use Rattle.sessions.specs.declared.peers.Peer.{Peer}
+use Rattle.sessions.specs.Peers.{peer_at}
 use Rattle.engine.specs.EngineState.{EngineState}
 use Rattle.incarnation.specs.declared.place.Place.{Place}
 use Rattle.proof_link_truth.specs.Events.{IdleIsStill}

@@ -5,10 +5,10 @@ use Rattle.std.proofs.lemmas.Bool.{eqb-false, ltb-true}
 use Rattle.std.proofs.lemmas.List.{get_or-set_other, get_or-set_same, length-set}
 use Rattle.vocabulary.specs.declared.endpoint.Endpoint.{Endpoint}
 use Rattle.proof_pure_network.specs.Frames.{Frame}
-use Rattle.engine.specs.declared.peers.Peer.{Peer}
+use Rattle.sessions.specs.declared.peers.Peer.{Peer}
 use Rattle.engine.specs.EngineState.{EngineState}
 use Rattle.engine.specs.Learning.{learned, met}
-use Rattle.engine.specs.Peers.{new_session, peer_at}
+use Rattle.sessions.specs.Peers.{new_session, peer_at}
 use Rattle.proof_link_truth.specs.Events.{IsHeard}
 use Rattle.proof_link_truth.specs.Sessions.{EngineTells, Links, PeerTells}
 use Rattle.proof_link_truth.specs.Wire.{at, wires}

@@ -2,6 +2,7 @@ pub mod Lists
 pub mod Wires
 pub mod Senders
 pub mod Growing
+pub mod Witnesses
 pub mod Engines
 pub mod Learning
 pub mod Openings

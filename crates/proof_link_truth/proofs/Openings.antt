@@ -1,13 +1,13 @@
 -- The world before anything happened, and an engine that is new.
-use Rattle.std.proofs.Common.{◌≡◌, ℕ, zero, suc, ◌+◌, ◌<◌, ◌==◌, false, List, [], length, replicate, Some, slice_get, slice_index, slice_set, refl, sym, ap, ◌∙◌, subst, arith}
+use Rattle.std.proofs.Common.{◌≡◌, ℕ, zero, suc, ◌+◌, ◌<◌, ◌==◌, false, List, [], length, replicate, Some, slice_get, slice_index, slice_set, refl, sym, ap, ◌∙◌, subst, arith, inl}
 use Rattle.std.proofs.lemmas.Bool.{eqb-false}
 use Rattle.std.proofs.lemmas.List.{get_or-replicate, get_or-set_other, length-replicate, length-set}
 use Rattle.std.proofs.lemmas.Option.{same_Some}
 use Rattle.vocabulary.specs.declared.endpoint.Endpoint.{Endpoint}
 use Rattle.proof_pure_network.specs.Frames.{Frame}
-use Rattle.engine.specs.declared.peers.Peer.{Peer}
+use Rattle.sessions.specs.declared.peers.Peer.{Peer}
 use Rattle.engine.specs.EngineState.{EngineState, opening}
-use Rattle.engine.specs.Peers.{new_peer, peer_at}
+use Rattle.sessions.specs.Peers.{new_peer, peer_at}
 use Rattle.proof_link_truth.specs.Events.{OpeningIsTrue, no_links, opening_engines}
 use Rattle.proof_link_truth.specs.Sessions.{EngineTells, Links, PeerTells}
 use Rattle.proof_link_truth.specs.Wire.{at, place_of, wires}
@@ -76,4 +76,5 @@ opening_is_true n few = record {
   none_accepted = λ s d h. refl;
   none_handed = λ s d h. refl;
   told = tt;
+  witnessed = λ s d. record { acknowledged = inl refl; frames = λ number lt. absurd (omega (arith, lt)) };
 }

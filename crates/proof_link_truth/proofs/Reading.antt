@@ -14,8 +14,9 @@ use Rattle.datagram.specs.declared.refused.Refused as lower
 use Rattle.datagram.specs.Reading.{datagram_of}
 use Rattle.datagram.specs.Spelling.{AckBody, BodyText, DatagramFits, DatagramText, EagerBody, EagerText, HeaderIsWithinFields, ResetBody, content_text, datagram_text, spelling}
 use Rattle.datagram.proofs.Grammar.{is_only}
-use Rattle.engine.specs.Datagrams.{ack_bytes, message_of, reset_bytes}
-use Rattle.engine.specs.Sending.{header_to}
+use Rattle.sessions.specs.Spellings.{ack_bytes, reset_bytes}
+use Rattle.engine.specs.Datagrams.{message_of}
+use Rattle.sessions.specs.Spellings.{header_to}
 use Rattle.proof_link_truth.specs.Wire.{IsSmall, place_of, text_of, wire}
 use Rattle.proof_pure_network.specs.Frames as net
 use Rattle.proof_pure_network.specs.Held.{Whole}

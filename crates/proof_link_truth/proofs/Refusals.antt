@@ -14,11 +14,12 @@ use Rattle.incarnation.specs.declared.place.Place.{Place}
 use Rattle.incarnation.specs.declared.refused.Refused as judging
 use Rattle.incarnation.specs.declared.refused.Refused.TheVariants as judgings
 use Rattle.incarnation.specs.Judging.{judgement}
-use Rattle.engine.specs.declared.refused.Refused.{Refused}
-use Rattle.engine.specs.Datagrams.{BodyGives, EagerGivesAt, FirstWordGives, JudgedGives, ResetGives, StaleGives, TextGives, reset_bytes, with_reset}
+use Rattle.rank_core.specs.declared.refused.Refused.{Refused}
+use Rattle.engine.specs.Datagrams.{BodyGives, EagerGivesAt, FirstWordGives, JudgedGives, ResetGives, StaleGives, TextGives, with_reset}
+use Rattle.sessions.specs.Spellings.{reset_bytes}
 use Rattle.engine.specs.EngineState.{EngineState, knowledge}
-use Rattle.engine.specs.Peers.{peer_at}
-use Rattle.engine.specs.Sending.{header_to}
+use Rattle.sessions.specs.Peers.{peer_at}
+use Rattle.sessions.specs.Spellings.{header_to}
 use Rattle.proof_link_truth.specs.Events.{IsAt, LeavesTrue, OnlySessions, RefusalsAreTrue}
 use Rattle.proof_link_truth.specs.Sessions.{EngineTells, Links}
 use Rattle.proof_link_truth.specs.Told.{IsTold}
@@ -34,36 +35,36 @@ use Rattle.proof_link_truth.proofs.Words.{word}
 
 module _ (old new : EngineState) (why : Refused) where
   -- a frame
-  eager_refused : (o : Ordering) (h : Header) (t : EagerText) → EagerGivesAt {X = ℕ} o old h t (Err why) new → new ≡ old
+  eager_refused : (o : Ordering) (h : Header) (t : EagerText) → EagerGivesAt {X = Unit {0}} o old h t (Err why) new → new ≡ old
   eager_refused Less h t gives = gives.0
   eager_refused Equal h t gives = gives.0
   eager_refused Greater h t gives = gives.0
 
   -- a datagram from the known incarnation
-  body_refused : (h : Header) (b : BodyText) → BodyGives {X = ℕ} old h b (Err why) new → new ≡ old
+  body_refused : (h : Header) (b : BodyText) → BodyGives {X = Unit {0}} old h b (Err why) new → new ≡ old
   body_refused h (EagerBody t) gives = eager_refused (nat_cmp h.sequence (peer_at old.peers h.source.rank).receiver) h t gives
   body_refused h AckBody gives = gives.0
   body_refused h ResetBody gives = absurd gives
 
   -- one from a later incarnation
-  first_refused : (h : Header) (b : BodyText) → FirstWordGives {X = ℕ} old h b (Err why) new → new ≡ old
+  first_refused : (h : Header) (b : BodyText) → FirstWordGives {X = Unit {0}} old h b (Err why) new → new ≡ old
   first_refused h (EagerBody t) gives = gives.0
   first_refused h AckBody gives = gives.0
   first_refused h ResetBody gives = gives.0
 
   -- one for a former incarnation
-  reset_refused : (s : Endpoint) → ResetGives {X = ℕ} old s (Err why) new → (new ≡ old) ⊎ (new ≡ with_reset old s)
+  reset_refused : (s : Endpoint) → ResetGives {X = Unit {0}} old s (Err why) new → (new ≡ old) ⊎ (new ≡ with_reset old s)
   reset_refused s (inl gives) = inr gives.1
   reset_refused s (inr gives) = inl gives.1
 
   -- one for a former incarnation, whatever its body is
-  stale_refused : (h : Header) (b : BodyText) → StaleGives {X = ℕ} old h b (Err why) new → (new ≡ old) ⊎ (new ≡ with_reset old h.source)
+  stale_refused : (h : Header) (b : BodyText) → StaleGives {X = Unit {0}} old h b (Err why) new → (new ≡ old) ⊎ (new ≡ with_reset old h.source)
   stale_refused h (EagerBody t) gives = reset_refused h.source gives
   stale_refused h AckBody gives = reset_refused h.source gives
   stale_refused h ResetBody gives = inl gives.1
 
   -- by how it is judged
-  judged_refused : (j : Result Judgement judging.Refused) (d : DatagramText) → JudgedGives {X = ℕ} j old d (Err why) new
+  judged_refused : (j : Result Judgement judging.Refused) (d : DatagramText) → JudgedGives {X = Unit {0}} j old d (Err why) new
       → (new ≡ old) ⊎ (new ≡ with_reset old d.header.source)
   judged_refused (Ok Current) d gives = inl (body_refused d.header d.body gives)
   judged_refused (Ok (Learn i)) d gives = inl (first_refused d.header d.body gives)
@@ -112,8 +113,8 @@ module _ (n r : ℕ) (engines : List EngineState) (datagrams : List (ℕ × List
 -- the law of refusals
 pub refusals_are_true : RefusalsAreTrue
 refusals_are_true n r number bytes engines datagrams links current old new why true_now stands there gives =
-    let c : IsComing n r links current bytes = is_coming n r number bytes engines datagrams links current true_now there in
+    let c : IsComing n r datagrams links current bytes = is_coming n r number bytes engines datagrams links current true_now there in
     let text : DatagramText = word n c.source c.target c.says.number c.says.body in
     refused_leaves n r engines datagrams links current old c.source c.target true_now stands c.begun c.to new
     (judged_refused old new why (judgement (knowledge old) (header_to (place_of n c.source) c.target c.says.number)) text
-    (subst (λ (t : Result DatagramText lower.Refused). TextGives {X = ℕ} old t (Err why) new) c.says.read gives))
+    (subst (λ (t : Result DatagramText lower.Refused). TextGives {X = Unit {0}} old t (Err why) new) c.says.read gives))

@@ -61,6 +61,7 @@ restarts_are_true n r engines datagrams links current old true_now there room = 
   none_accepted = λ s d above. true_now.none_accepted s d (omega (arith, above, never_falls current r s.rank));
   none_handed = λ s d above. true_now.none_handed s d (omega (arith, above, never_falls current r d.rank));
   told = All_more (IsTold n links current) (IsTold n links later) datagrams (told_later n links current later (never_falls current r)) true_now.told;
+  witnessed = true_now.witnessed;
 }
   where
     later : ℕ → ℕ

@@ -11,7 +11,7 @@ use Rattle.reliable_link.specs.SenderState.{SenderState, after_accept, after_ack
 use Rattle.reliable_link.proofs.KeptBytes.{bytes_after_accept, bytes_after_ack, bytes_after_due, lowest_after_due}
 use Rattle.reliable_link.proofs.Places.{place_in_drop}
 use Rattle.reliable_link.proofs.Senders.{is_heeded, is_passed}
-use Rattle.engine.specs.Peers.{frame_out, frames_out}
+use Rattle.sessions.specs.Peers.{frame_out, frames_out}
 use Rattle.proof_pure_network.specs.Frames.{Frame}
 use Rattle.proof_pure_network.specs.Links.{Link}
 use Rattle.proof_link_truth.specs.Sessions.{Links, SenderTells}

@@ -8,9 +8,9 @@ use Rattle.proof_pure_network.proofs.JobLemmas.{All_append}
 use Rattle.reliable_link.specs.declared.out_frame.OutFrame.{OutFrame}
 use Rattle.reliable_link.specs.SenderState.{after_due, due_at}
 use Rattle.reliable_link.proofs.KeptBytes.{bytes_after_due, bytes_of}
-use Rattle.engine.specs.declared.peers.Peer.{Peer}
+use Rattle.sessions.specs.declared.peers.Peer.{Peer}
 use Rattle.engine.specs.EngineState.{EngineState}
-use Rattle.engine.specs.Peers.{after_all_due, due_out, due_peer, frames_out, peer_at}
+use Rattle.sessions.specs.Peers.{after_all_due, due_out, due_peer, frames_out, peer_at}
 use Rattle.engine.specs.Ticks.{after_tick}
 use Rattle.proof_link_truth.specs.Events.{LeavesTrue, OnlySessions, TicksAreTrue}
 use Rattle.proof_link_truth.specs.Sessions.{EngineTells, Links, PeerTells}
@@ -19,6 +19,7 @@ use Rattle.proof_link_truth.specs.Wire.{at}
 use Rattle.proof_link_truth.proofs.Engines.{world_leaves}
 use Rattle.proof_link_truth.proofs.Growing.{grows_none, links_fit}
 use Rattle.proof_link_truth.proofs.Lists.{false_sym}
+use Rattle.proof_link_truth.proofs.Witnesses.{all_witnessed}
 use Rattle.proof_link_truth.proofs.Senders.{due_tells, frames_are_told, none_out}
 
 -- what stands at a place of the sessions after a tick
@@ -106,7 +107,8 @@ each_stands n r current links old tells x y lt is =
 pub ticks_are_true : TicksAreTrue
 ticks_are_true n r now engines datagrams links current old new true_now here gives =
     subst (λ (e : EngineState). OnlySessions old e × LeavesTrue n engines datagrams r e links current) (sym gives.1)
-    (refl, world_leaves n r engines datagrams links links current (after_tick old now) true_now (grows_none r links) (tick_tells n r now current links old tells r_is) (links_fit n engines datagrams links current true_now) told)
+    (refl, world_leaves n r engines datagrams links links current (after_tick old now) true_now (grows_none r links) (tick_tells n r now current links old tells r_is) (links_fit n engines datagrams links current true_now) told
+    (all_witnessed n r engines datagrams (after_tick old now).out links links current true_now (grows_none r links) (λ s d. refl)))
   where
     r_is : r < n
     r_is = omega (arith, slice_get_within engines r old here.there, true_now.count)

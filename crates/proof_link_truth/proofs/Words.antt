@@ -1,20 +1,21 @@
 -- What the bytes of a told datagram say.
-use Rattle.std.proofs.Common.{◌≡◌, ℕ, ◌<◌, ◌≤◌, ◌^◌, List, length, Some, Ok, slice_get, refl, ap, ◌∙◌, arith, inl, inr, ◌⊎◌}
+use Rattle.std.proofs.Common.{◌≡◌, ℕ, ◌<◌, ◌≤◌, ◌^◌, List, length, Some, Ok, slice_get, refl, ap, ◌∙◌, subst, arith, inl, inr, ◌⊎◌}
 use Rattle.std.proofs.lemmas.Option.{slice_get_within}
 use Rattle.vocabulary.specs.declared.basic_type.BasicType.{BasicType}
 use Rattle.vocabulary.specs.declared.endpoint.Endpoint.{Endpoint}
 use Rattle.datagram.specs.Reading.{datagram_of}
 use Rattle.datagram.specs.Spelling.{AckBody, BodyText, DatagramText, EagerBody, EagerText, ResetBody}
-use Rattle.engine.specs.Sending.{header_to}
+use Rattle.sessions.specs.Spellings.{header_to}
 use Rattle.proof_pure_network.specs.Frames as net
 use Rattle.proof_link_truth.specs.Sessions.{IsLink, Links}
 use Rattle.proof_link_truth.specs.Told.{TellsAck, TellsFrame, TellsReset}
 use Rattle.proof_link_truth.specs.Wire.{IsSent, IsSmall, place_of, wire}
+use Rattle.proof_link_truth.specs.Witness.{IsAmong}
 use Rattle.proof_link_truth.proofs.Lists.{All_get}
 use Rattle.proof_link_truth.proofs.Reading.{HaveWidths, ack_is_read, eager_said, frame_is_read, reset_is_read}
 
--- a frame that was accepted under this number, and may be sent
-pub record SaysFrame (s d : Endpoint) (links : Links) (q : ℕ) (t : EagerText) : Type 0 where
+-- a frame that was accepted under this number, may be sent, and was emitted
+pub record SaysFrame (n : ℕ) (datagrams : List (ℕ × List ℕ)) (s d : Endpoint) (links : Links) (q : ℕ) (t : EagerText) : Type 0 where
   pub context : ℕ
   pub tag : ℕ
   pub basic : BasicType
@@ -22,48 +23,49 @@ pub record SaysFrame (s d : Endpoint) (links : Links) (q : ℕ) (t : EagerText) 
   pub small : IsSmall context tag basic values
   pub there : slice_get (links s d).accepted q ≡ Some (net.Eager context tag basic values)
   pub text : t ≡ eager_said context tag basic values
+  pub sent : IsAmong datagrams (d.rank, wire n s d q (net.Eager context tag basic values))
 
 -- what a body under a number says of the links
-abbrev pub Says : (s d : Endpoint) → Links → ℕ → BodyText → Type 0
-Says s d links q (EagerBody t) = SaysFrame s d links q t
-Says s d links q AckBody = q ≤ (links d s).handed
-Says s d links q ResetBody = q ≡ 0
+abbrev pub Says : (n : ℕ) → (datagrams : List (ℕ × List ℕ)) → (s d : Endpoint) → Links → ℕ → BodyText → Type 0
+Says n datagrams s d links q (EagerBody t) = SaysFrame n datagrams s d links q t
+Says n datagrams s d links q AckBody = q ≤ (links d s).handed
+Says n datagrams s d links q ResetBody = q ≡ 0
 
 -- what a datagram from one endpoint to another says
 abbrev pub word : (n : ℕ) (s d : Endpoint) (q : ℕ) → BodyText → DatagramText
 word n s d q b = record { header = header_to (place_of n s) d q; body = b }
 
 -- bytes that are read as a word that is true
-pub record IsWord (n : ℕ) (s d : Endpoint) (links : Links) (bytes : List ℕ) : Type 0 where
+pub record IsWord (n : ℕ) (datagrams : List (ℕ × List ℕ)) (s d : Endpoint) (links : Links) (bytes : List ℕ) : Type 0 where
   pub number : ℕ
   pub body : BodyText
-  pub says : Says s d links number body
+  pub says : Says n datagrams s d links number body
   pub read : datagram_of bytes ≡ Ok (word n s d number body)
 
 -- a frame of a link
-frame_is_word : (n : ℕ) (s d : Endpoint) (links : Links) (bytes : List ℕ) (q : ℕ) → HaveWidths n s d → IsLink (links s d) → (f : net.Frame) → IsSent f
-    → slice_get (links s d).accepted q ≡ Some f → bytes ≡ wire n s d q f → IsWord n s d links bytes
-frame_is_word n s d links bytes q w link (net.Eager context tag basic values) small there is =
+frame_is_word : (n : ℕ) (datagrams : List (ℕ × List ℕ)) (s d : Endpoint) (links : Links) (bytes : List ℕ) (q : ℕ) → HaveWidths n s d → IsLink (links s d) → (f : net.Frame) → IsSent f
+    → slice_get (links s d).accepted q ≡ Some f → bytes ≡ wire n s d q f → IsAmong datagrams (d.rank, bytes) → IsWord n datagrams s d links bytes
+frame_is_word n datagrams s d links bytes q w link (net.Eager context tag basic values) small there is emitted =
     let below : q < length (links s d).accepted = slice_get_within (links s d).accepted q (net.Eager context tag basic values) there in
     let numbered : q < 2 ^ 64 = omega (arith, below, link.numbered) in
     record {
       number = q;
       body = EagerBody (eager_said context tag basic values);
-      says = record { context = context; tag = tag; basic = basic; values = values; small = small; there = there; text = refl };
+      says = record { context = context; tag = tag; basic = basic; values = values; small = small; there = there; text = refl; sent = subst (λ (x : List ℕ). IsAmong datagrams (d.rank, x)) is emitted };
       read = ap datagram_of is ∙ frame_is_read n s d q context tag basic values small w numbered;
     }
-frame_is_word n s d links bytes q w link (net.Rts context tag basic transfer count) never there is = absurd never
-frame_is_word n s d links bytes q w link (net.Cts transfer wanted) never there is = absurd never
-frame_is_word n s d links bytes q w link (net.Data transfer offset values) never there is = absurd never
+frame_is_word n datagrams s d links bytes q w link (net.Rts context tag basic transfer count) never there is emitted = absurd never
+frame_is_word n datagrams s d links bytes q w link (net.Cts transfer wanted) never there is emitted = absurd never
+frame_is_word n datagrams s d links bytes q w link (net.Data transfer offset values) never there is emitted = absurd never
 
 -- whatever is told is a word
-pub told_is_word : (n : ℕ) (s d : Endpoint) (links : Links) (bytes : List ℕ) → HaveWidths n s d → ((a b : Endpoint) → IsLink (links a b))
-    → TellsFrame n s d links bytes ⊎ (TellsAck n s d links bytes ⊎ TellsReset n s d bytes) → IsWord n s d links bytes
-told_is_word n s d links bytes w sound (inl t) =
-    frame_is_word n s d links bytes t.number w (sound s d) t.frame (All_get IsSent (links s d).accepted t.number t.frame (sound s d).sent t.there) t.there t.bytes_are
-told_is_word n s d links bytes w sound (inr (inl t)) =
+pub told_is_word : (n : ℕ) (datagrams : List (ℕ × List ℕ)) (s d : Endpoint) (links : Links) (bytes : List ℕ) → HaveWidths n s d → ((a b : Endpoint) → IsLink (links a b))
+    → TellsFrame n s d links bytes ⊎ (TellsAck n s d links bytes ⊎ TellsReset n s d bytes) → IsAmong datagrams (d.rank, bytes) → IsWord n datagrams s d links bytes
+told_is_word n datagrams s d links bytes w sound (inl t) emitted =
+    frame_is_word n datagrams s d links bytes t.number w (sound s d) t.frame (All_get IsSent (links s d).accepted t.number t.frame (sound s d).sent t.there) t.there t.bytes_are emitted
+told_is_word n datagrams s d links bytes w sound (inr (inl t)) emitted =
     let link : IsLink (links d s) = sound d s in
     let numbered : t.number < 2 ^ 64 = omega (arith, t.there, link.reach, link.numbered) in
     record { number = t.number; body = AckBody; says = t.there; read = ap datagram_of t.bytes_are ∙ ack_is_read n s d t.number w numbered }
-told_is_word n s d links bytes w sound (inr (inr t)) =
+told_is_word n datagrams s d links bytes w sound (inr (inr t)) emitted =
     record { number = 0; body = ResetBody; says = refl; read = ap datagram_of t.bytes_are ∙ reset_is_read n s d w }

@@ -5,14 +5,15 @@ use Rattle.vocabulary.specs.declared.endpoint.Endpoint.{Endpoint}
 use Rattle.perfect_queues.specs.Events.{last_incarnation}
 use Rattle.perfect_queues.specs.State.{with_number}
 use Rattle.match_queues.specs.declared.envelope.Message.{Message}
-use Rattle.engine.specs.declared.call.Call.{Call}
-use Rattle.engine.specs.declared.call.Reply.{Reply}
-use Rattle.engine.specs.declared.refused.Refused.{Refused}
-use Rattle.engine.specs.Calls.{CallGives, IsTaken, IsWithin}
+use Rattle.rank_core.specs.declared.call.Call.{Call}
+use Rattle.rank_core.specs.declared.call.Reply.{Reply}
+use Rattle.rank_core.specs.declared.refused.Refused.{Refused}
+use Rattle.engine.specs.Calls.{CallGives, IsTaken}
+use Rattle.rank_core.specs.Calls.{IsWithin}
 use Rattle.engine.specs.Datagrams.{DatagramGives, GivesUnless, handed_up}
 use Rattle.engine.specs.EngineState.{EngineState, opening}
 use Rattle.engine.specs.Learning.{met}
-use Rattle.engine.specs.Peers.{IsIdlePeer, peer_at}
+use Rattle.sessions.specs.Peers.{IsIdlePeer, peer_at}
 use Rattle.engine.specs.Ticks.{after_tick, clock_fault}
 use Rattle.engine.specs.Waiting.{woken}
 use Rattle.proof_pure_network.specs.Frames.{Eager}
@@ -32,6 +33,22 @@ emptied e = record e { out = []; completion = None }
 abbrev pub opening_engines : (n rank : ℕ) → ℕ → List EngineState
 opening_engines n rank zero = []
 opening_engines n rank (suc k) = opening (place_of n (at rank 0)) ∷ opening_engines n (suc rank) k
+
+-- the datagram that the bytes spell is taken in: the engine was `old`, and is `new`
+abbrev pub TakesDatagram : (old : EngineState) → (bytes : List ℕ) → (new : EngineState) → Type 0
+TakesDatagram old bytes new = DatagramGives {X = Unit {0}} old bytes (Ok tt) new
+
+-- the bytes are refused for this, and leave the engine so
+abbrev pub RefusesDatagram : (old : EngineState) → (bytes : List ℕ) → (why : Refused) → (new : EngineState) → Type 0
+RefusesDatagram old bytes why new = DatagramGives {X = Unit {0}} old bytes (Err why) new
+
+-- the engine's clock is set to this time, and what is due goes out again
+abbrev pub TakesTick : (old : EngineState) → (now : ℕ) → (new : EngineState) → Type 0
+TakesTick old now new = GivesUnless {X = Unit {0}} (clock_fault old.clock now) old (after_tick old now) (Ok tt) new
+
+-- the tick is refused for this, and leaves the engine so
+abbrev pub RefusesTick : (old : EngineState) → (now : ℕ) → (why : Refused) → (new : EngineState) → Type 0
+RefusesTick old now why new = GivesUnless {X = Unit {0}} (clock_fault old.clock now) old (after_tick old now) (Err why) new
 
 -- links that carried nothing
 abbrev pub no_links : Links
@@ -113,7 +130,7 @@ DatagramsAreTrue =
     (n r number : ℕ) (bytes : List ℕ) (engines : List EngineState) (datagrams : List (ℕ × List ℕ)) (links : Links)
     (current : ℕ → ℕ) (old new : EngineState) →
     AreTrue n engines datagrams links current → IsAt engines r old → slice_get datagrams number ≡ Some (r, bytes) →
-    DatagramGives {X = ℕ} old bytes (Ok 0) new → DatagramLeaves n engines datagrams r old new links current
+    TakesDatagram old bytes new → DatagramLeaves n engines datagrams r old new links current
 
 -- a datagram that is refused leaves the links true, and whatever goes out with it
 abbrev pub RefusalsAreTrue : Type 0
@@ -121,7 +138,7 @@ RefusalsAreTrue =
     (n r number : ℕ) (bytes : List ℕ) (engines : List EngineState) (datagrams : List (ℕ × List ℕ)) (links : Links)
     (current : ℕ → ℕ) (old new : EngineState) (why : Refused) →
     AreTrue n engines datagrams links current → IsAt engines r old → slice_get datagrams number ≡ Some (r, bytes) →
-    DatagramGives {X = ℕ} old bytes (Err why) new →
+    RefusesDatagram old bytes why new →
     OnlySessions old new × LeavesTrue n engines datagrams r new links current
 
 -- ---- ticks
@@ -131,8 +148,7 @@ abbrev pub TicksAreTrue : Type 0
 TicksAreTrue =
     (n r now : ℕ) (engines : List EngineState) (datagrams : List (ℕ × List ℕ)) (links : Links) (current : ℕ → ℕ)
     (old new : EngineState) →
-    AreTrue n engines datagrams links current → IsAt engines r old →
-    GivesUnless {X = ℕ} (clock_fault old.clock now) old (after_tick old now) (Ok 0) new →
+    AreTrue n engines datagrams links current → IsAt engines r old → TakesTick old now new →
     OnlySessions old new × LeavesTrue n engines datagrams r new links current
 
 -- ---- restarts

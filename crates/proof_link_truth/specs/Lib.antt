@@ -1,5 +1,6 @@
 pub mod Wire
 pub mod Sessions
 pub mod Told
+pub mod Witness
 pub mod Truth
 pub mod Events

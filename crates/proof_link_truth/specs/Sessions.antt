@@ -4,9 +4,9 @@ use Rattle.std.specs.List.{AllByRecursion}
 use Rattle.vocabulary.specs.declared.endpoint.Endpoint.{Endpoint}
 use Rattle.reliable_link.specs.declared.out_frame.OutFrame.{OutFrame}
 use Rattle.reliable_link.specs.SenderState.{SenderState}
-use Rattle.engine.specs.declared.peers.Peer.{Peer}
+use Rattle.sessions.specs.declared.peers.Peer.{Peer}
 use Rattle.engine.specs.EngineState.{EngineState}
-use Rattle.engine.specs.Peers.{peer_at}
+use Rattle.sessions.specs.Peers.{peer_at}
 use Rattle.proof_pure_network.specs.Links.{Link}
 use Rattle.proof_link_truth.specs.Wire.{IsSent, at, place_of, wires}
 

@@ -1,7 +1,7 @@
 -- What a datagram tells of the links. It tells it now and ever after.
 use Rattle.std.specs.Prelude.{◌≡◌, ℕ, ◌<◌, ◌≤◌, ◌⊎◌, false, List, Some, ◌==◌, slice_get}
 use Rattle.vocabulary.specs.declared.endpoint.Endpoint.{Endpoint}
-use Rattle.engine.specs.Datagrams.{ack_bytes, reset_bytes}
+use Rattle.sessions.specs.Spellings.{ack_bytes, reset_bytes}
 use Rattle.proof_pure_network.specs.Frames.{Frame}
 use Rattle.proof_link_truth.specs.Sessions.{Links}
 use Rattle.proof_link_truth.specs.Wire.{place_of, wire}

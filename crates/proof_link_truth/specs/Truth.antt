@@ -6,6 +6,7 @@ use Rattle.perfect_queues.specs.Events.{last_incarnation}
 use Rattle.engine.specs.EngineState.{EngineState}
 use Rattle.proof_link_truth.specs.Sessions.{EngineTells, IsLink, Links, is_pair}
 use Rattle.proof_link_truth.specs.Told.{IsTold}
+use Rattle.proof_link_truth.specs.Witness.{IsWitnessed}
 
 -- sessions hold what the links carried, and datagrams tell of it; `current` is the incarnation of each rank
 pub record AreTrue (n : ℕ) (engines : List EngineState) (datagrams : List (ℕ × List ℕ)) (links : Links) (current : ℕ → ℕ)
@@ -21,3 +22,5 @@ pub record AreTrue (n : ℕ) (engines : List EngineState) (datagrams : List (ℕ
   pub none_accepted : (s d : Endpoint) → current s.rank < s.incarnation → (links s d).accepted ≡ []
   pub none_handed : (s d : Endpoint) → current d.rank < d.incarnation → (links s d).handed ≡ 0
   pub told : AllByRecursion (IsTold n links current) datagrams
+  -- how many frames were handed up, and which, stands among the datagrams: of sessions with former endpoints too
+  pub witnessed : (s d : Endpoint) → IsWitnessed n datagrams s d (links s d)

@@ -7,7 +7,7 @@ use Rattle.datatypes.specs.Contents.{AreWithin, bytes_of}
 use Rattle.datagram.specs.declared.kinds.Plane.TheVariants.{PointToPoint}
 use Rattle.datagram.specs.Spelling.{AckBody, BodyText, DatagramText, EagerBody, spelling}
 use Rattle.incarnation.specs.declared.place.Place.{Place}
-use Rattle.engine.specs.Sending.{header_to}
+use Rattle.sessions.specs.Spellings.{header_to}
 use Rattle.proof_pure_network.specs.Frames.{Cts, Data, Eager, Frame, Rts}
 
 -- a rank at an incarnation

@@ -6,6 +6,7 @@ use Rattle.proof_engine_steps.proofs.Arriving.{arrivals_are_shown}
 use Rattle.proof_engine_steps.proofs.CallsShown.{calls_are_shown}
 use Rattle.proof_engine_steps.proofs.OpeningShown.{opening_is_shown}
 use Rattle.proof_engine_steps.proofs.RefusedCalls.{refused_calls_have_reasons}
+use Rattle.proof_engine_steps.proofs.TakenCalls.{taken_calls_are_faultless}
 use Rattle.proof_engine_steps.proofs.Words.{words_are_shown}
 use Rattle.proof_link_truth.proofs.Calls.{calls_are_true}
 use Rattle.proof_link_truth.proofs.Datagrams.{datagrams_are_true}
@@ -36,4 +37,6 @@ pub restarts_follow : RestartsFollow
 restarts_follow = parts.restarts_follow opening_is_shown restarts_are_true
 
 pub following_is_run : FollowingIsRun
-following_is_run = parts.following_is_run idle_is_still (refused_calls_have_reasons receives_fit)
+following_is_run =
+    parts.following_is_run idle_is_still (refused_calls_have_reasons receives_fit)
+    (taken_calls_are_faultless (calls_are_shown receives_fit posts_match arrivals_match outcomes_agree))

@@ -3,16 +3,17 @@ use Rattle.std.proofs.Common.{◌≡◌, inl, inr, ℕ, zero, suc, ◌+◌, ◌<
 use Rattle.std.specs.Prelude.{slice_get, slice_set, slice_index}
 use Rattle.std.proofs.lemmas.Bool.{eqb-false}
 use Rattle.std.proofs.lemmas.Option.{same_Some, slice_get_within}
+use Rattle.perfect_queues.specs.Calls as machine_calls
 use Rattle.perfect_queues.specs.Events.{Entry, Restarted, call_and_reply, told}
 use Rattle.perfect_queues.specs.Refusals.{fault}
 use Rattle.vocabulary.specs.declared.basic_type.BasicType.{BasicType}
 use Rattle.vocabulary.specs.declared.endpoint.Endpoint.{Endpoint}
 use Rattle.incarnation.specs.declared.place.Place.{Place}
-use Rattle.engine.specs.declared.call.Call.{Call}
-use Rattle.engine.specs.declared.call.Reply.{Reply}
-use Rattle.engine.specs.declared.call.Reply.TheVariants as replies
-use Rattle.engine.specs.declared.refused.Refused.{Refused}
-use Rattle.engine.specs.Calls.{CallGives}
+use Rattle.rank_core.specs.declared.call.Call.{Call}
+use Rattle.rank_core.specs.declared.call.Reply.{Reply}
+use Rattle.rank_core.specs.declared.call.Reply.TheVariants as replies
+use Rattle.rank_core.specs.declared.refused.Refused.{Refused}
+use Rattle.engine.specs.Calls.{CallGives, IsTaken}
 use Rattle.engine.specs.EngineState.{EngineState, opening}
 use Rattle.requests.specs.declared.outcome.Outcome.{Outcome}
 use Rattle.proof_pure_network.specs.Core.{Core, Effect, new_core, view}
@@ -24,9 +25,9 @@ use Rattle.proof_pure_network.specs.Matching.{arrived}
 use Rattle.proof_pure_network.specs.Network.{Ask, Happening, Network, Restarts, Word, happens, here, new_network, run}
 use Rattle.proof_pure_network.proofs.QuietKept.{is_run}
 use Rattle.proof_engine_view.specs.Rows.{held_of}
-use Rattle.proof_engine_view.specs.Seen.{call_seen, sent_by, told_call, told_completion}
+use Rattle.proof_engine_view.specs.Seen.{call_meant, call_seen, sent_by, told_call, told_completion}
 use Rattle.proof_engine_view.specs.Shown.{IsShown}
-use Rattle.proof_engine_steps.specs.Refused.{IsReason, RefusedCallsHaveReasons}
+use Rattle.proof_engine_steps.specs.Refused.{IsFaultless, IsReason, RefusedCallsHaveReasons, TakenCallsAreFaultless}
 use Rattle.proof_engine_steps.specs.Steps.{ArrivalsAreShown, CallsAreShown, IsCalled, IsFromOther, OpeningIsShown, WordsAreShown}
 use Rattle.proof_link_truth.specs.Events.{CallsAreTrue, DatagramsAreTrue, HandsUp, IdleIsStill, IsAt, IsHeard, Knows, Learns, LeavesTrue, OnlySessions, OpeningIsTrue, RefusalsAreTrue, RestartsAreTrue, TicksAreTrue, emptied, opening_engines}
 use Rattle.proof_link_truth.specs.Sessions.{Links}
@@ -274,19 +275,36 @@ knows_too n engines datagrams w s d j current knows e there =
     let shown : IsShown e (w.core s) = subst (λ (i : ℕ). IsShown e (w.core (at s.rank i))) (sym current) (j.shown s.rank e there) in
     sym (shown.known d.rank) ∙ knows
 
+-- the core of an engine's endpoint holds what the engine holds
+shown_there : (n r : ℕ) (engines : List EngineState) (datagrams : List (ℕ × List ℕ)) (w : Network) (e : EngineState) → IsJoined n engines datagrams w →
+    slice_get engines r ≡ Some e → IsShown e (w.core e.place.endpoint)
+shown_there n r engines datagrams w e j there =
+    subst (λ (p : Place). IsShown e (w.core p.endpoint)) (sym (place_is n r engines datagrams w e j there).1) (j.shown r e there)
+
+-- the fault of a call is the same by the engine's size and by the world's
+fault_there : (n r : ℕ) (engines : List EngineState) (datagrams : List (ℕ × List ℕ)) (w : Network) (e : EngineState) (c : machine_calls.Call) → IsJoined n engines datagrams w →
+    slice_get engines r ≡ Some e → fault e.place.size (view blank (w.core e.place.endpoint)) c ≡ fault n (view blank (w.core e.place.endpoint)) c
+fault_there n r engines datagrams w e c j there =
+    ap (λ (p : Place). fault p.size (view blank (w.core e.place.endpoint)) c) (place_is n r engines datagrams w e j there).1
+
 -- what an engine refuses, it refuses for a reason that the machine has too
 refuses_too : RefusedCallsHaveReasons → (n r : ℕ) (engines : List EngineState) (datagrams : List (ℕ × List ℕ)) (w : Network) (e mid : EngineState) (call back : Call) (why : Refused)
     (found : Option ℕ) → IsJoined n engines datagrams w → slice_get engines r ≡ Some e → CallGives e call (replies.Refused why back) mid →
-    found ≡ fault n (view blank (w.core e.place.endpoint)) (call_seen call) → IsReason found e call why
+    found ≡ fault n (view blank (w.core e.place.endpoint)) (call_meant e call) → IsReason found call why
 refuses_too reasons n r engines datagrams w e mid call back why found j there gives is =
-    let place = (place_is n r engines datagrams w e j there).1 in
-    let shown : IsShown e (w.core e.place.endpoint) = subst (λ (p : Place). IsShown e (w.core p.endpoint)) (sym place) (j.shown r e there) in
-    let size_is : fault e.place.size (view blank (w.core e.place.endpoint)) (call_seen call) ≡ fault n (view blank (w.core e.place.endpoint)) (call_seen call) =
-    ap (λ (p : Place). fault p.size (view blank (w.core e.place.endpoint)) (call_seen call)) place in
-    subst (λ (o : Option ℕ). IsReason o e call why) (size_is ∙ sym is) (reasons e mid (w.core e.place.endpoint) call back why shown gives)
+    subst (λ (o : Option ℕ). IsReason o call why) (fault_there n r engines datagrams w e (call_meant e call) j there ∙ sym is)
+    (reasons e mid (w.core e.place.endpoint) call back why (shown_there n r engines datagrams w e j there) gives)
 
-pub following_is_run : IdleIsStill → RefusedCallsHaveReasons → FollowingIsRun
-following_is_run idle reasons n engines datagrams history f =
+-- what an engine takes, the machine finds no fault with
+takes_too : TakenCallsAreFaultless → (n r : ℕ) (engines : List EngineState) (datagrams : List (ℕ × List ℕ)) (w : Network) (e mid : EngineState) (call : Call) (reply : Reply)
+    (found : Option ℕ) → IsJoined n engines datagrams w → slice_get engines r ≡ Some e → IsTaken reply → CallGives e call reply mid →
+    found ≡ fault n (view blank (w.core e.place.endpoint)) (call_seen call) → IsFaultless found e call
+takes_too faultless n r engines datagrams w e mid call reply found j there taken gives is =
+    subst (λ (o : Option ℕ). IsFaultless o e call) (fault_there n r engines datagrams w e (call_seen call) j there ∙ sym is)
+    (faultless e mid (w.core e.place.endpoint) call reply (shown_there n r engines datagrams w e j there) taken gives)
+
+pub following_is_run : IdleIsStill → RefusedCallsHaveReasons → TakenCallsAreFaultless → FollowingIsRun
+following_is_run idle reasons faultless n engines datagrams history f =
     let w : Network = run n f.happenings new_network in
     let m = is_run n f.happenings in
     record {
@@ -298,7 +316,9 @@ following_is_run idle reasons n engines datagrams history f =
           m.knows e.place.endpoint x ∙ ap (λ (p : Place). (w.core p.endpoint).known x) (place_is n r engines datagrams w e f.joined there).1
           ∙ (f.joined.shown r e there).known x;
       refuses = λ r e mid call back why there gives.
-          refuses_too reasons n r engines datagrams w e mid call back why _ f.joined there gives (m.faults e.place.endpoint (call_seen call));
+          refuses_too reasons n r engines datagrams w e mid call back why _ f.joined there gives (m.faults e.place.endpoint (call_meant e call));
+      takes = λ r e mid call reply there taken gives.
+          takes_too faultless n r engines datagrams w e mid call reply _ f.joined there taken gives (m.faults e.place.endpoint (call_seen call));
       quiet = λ still. m.quiet (λ s d s_is d_is d_knows s_knows.
           idle n engines datagrams w.link w.current f.joined.links still s d s_is d_is
           (knows_too n engines datagrams w s d f.joined s_is s_knows) (knows_too n engines datagrams w d s f.joined d_is d_knows));

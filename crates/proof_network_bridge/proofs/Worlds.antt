@@ -9,18 +9,19 @@ use Rattle.perfect_queues.specs.State.{with_number}
 use Rattle.vocabulary.specs.declared.endpoint.Endpoint.{Endpoint}
 use Rattle.perfect_queues.proofs.EndpointLemmas.{same_eq}
 use Rattle.requests.specs.declared.table.Request.{Request}
-use Rattle.engine.specs.declared.call.Call.{Call}
-use Rattle.engine.specs.declared.call.Call.TheVariants as calls
-use Rattle.engine.specs.declared.call.Reply.{Reply}
-use Rattle.engine.specs.declared.call.Reply.TheVariants as replies
-use Rattle.engine.specs.declared.call.Send.{Send}
-use Rattle.engine.specs.declared.refused.Refused.{Refused}
+use Rattle.rank_core.specs.declared.call.Call.{Call}
+use Rattle.rank_core.specs.declared.call.Call.TheVariants as calls
+use Rattle.rank_core.specs.declared.call.Reply.{Reply}
+use Rattle.rank_core.specs.declared.call.Reply.TheVariants as replies
+use Rattle.rank_core.specs.declared.call.Send.{Send}
+use Rattle.rank_core.specs.declared.refused.Refused.{Refused}
 use Rattle.requests.specs.declared.table.Progress.{Progress}
 use Rattle.requests.specs.declared.table.Progress.TheVariants.{Finished, Receiving}
 use Rattle.requests.specs.Table.{progress_at}
 use Rattle.engine.specs.Calls.{CallGives, CallGivesAt, FreeCallGives, IsTaken}
 use Rattle.engine.specs.EngineState.{EngineState}
-use Rattle.engine.specs.Sending.{SendGivesAt, SendToAnyGives, send_fault}
+use Rattle.engine.specs.Sending.{SendGivesAt, SendToAnyGives}
+use Rattle.rank_core.specs.Sending.{send_fault}
 use Rattle.engine.specs.Waiting.{WaitGivesAt}
 use Rattle.proof_pure_network.specs.Core.{Core, new_core}
 use Rattle.proof_pure_network.specs.Network.{Network, here}

@@ -1,22 +1,21 @@
 -- A world of engines follows the pure network, event by event.
-use Rattle.std.specs.Prelude.{◌≡◌, ℕ, suc, ◌<◌, ◌≤◌, List, [], ◌∷◌, ◌++◌, Some, Ok, Err, slice_get, slice_set, slice_index}
+use Rattle.std.specs.Prelude.{◌≡◌, ℕ, suc, ◌<◌, ◌≤◌, List, [], ◌∷◌, ◌++◌, Some, slice_get, slice_set, slice_index}
 use Rattle.incarnation.specs.declared.place.Place.{Place}
-use Rattle.engine.specs.declared.call.Call.{Call}
-use Rattle.engine.specs.declared.call.Reply.{Reply}
-use Rattle.engine.specs.declared.call.Reply.TheVariants as replies
-use Rattle.engine.specs.declared.refused.Refused.{Refused}
-use Rattle.engine.specs.Calls.{CallGives, IsTaken, IsWithin}
-use Rattle.engine.specs.Datagrams.{DatagramGives, GivesUnless}
+use Rattle.rank_core.specs.declared.call.Call.{Call}
+use Rattle.rank_core.specs.declared.call.Reply.{Reply}
+use Rattle.rank_core.specs.declared.call.Reply.TheVariants as replies
+use Rattle.rank_core.specs.declared.refused.Refused.{Refused}
+use Rattle.engine.specs.Calls.{CallGives, IsTaken}
+use Rattle.rank_core.specs.Calls.{IsWithin}
 use Rattle.engine.specs.EngineState.{EngineState, opening}
-use Rattle.engine.specs.Ticks.{after_tick, clock_fault}
 use Rattle.perfect_queues.specs.Events as machine
 use Rattle.perfect_queues.specs.Quiet.{IsAtRest}
 use Rattle.perfect_queues.specs.Runs.{IsRun, after_run, seen}
 use Rattle.perfect_queues.specs.State as machine_state
 use Rattle.perfect_queues.specs.Refusals.{fault}
-use Rattle.proof_engine_view.specs.Seen.{call_seen, told_call, told_completion}
-use Rattle.proof_engine_steps.specs.Refused.{IsReason}
-use Rattle.proof_link_truth.specs.Events.{AreQuiet, emptied, opening_engines}
+use Rattle.proof_engine_view.specs.Seen.{call_meant, call_seen, told_call, told_completion}
+use Rattle.proof_engine_steps.specs.Refused.{IsFaultless, IsReason}
+use Rattle.proof_link_truth.specs.Events.{AreQuiet, RefusesDatagram, TakesDatagram, TakesTick, emptied, opening_engines}
 use Rattle.proof_network_bridge.specs.Joined.{IsFollowed}
 
 -- what was done leaves a world in which the engine at r is the new one, out of which what it gave was taken
@@ -45,7 +44,7 @@ DatagramsFollow =
     (n r number : ℕ) (bytes : List ℕ) (engines : List EngineState) (datagrams : List (ℕ × List ℕ))
     (history : List machine.Entry) (old mid : EngineState) →
     IsFollowed n engines datagrams history → slice_get engines r ≡ Some old →
-    slice_get datagrams number ≡ Some (r, bytes) → DatagramGives {X = ℕ} old bytes (Ok 0) mid →
+    slice_get datagrams number ≡ Some (r, bytes) → TakesDatagram old bytes mid →
     LeavesFollowed n engines datagrams r mid (history ++ told_completion old.place.endpoint mid.completion)
 
 -- nothing is seen of a datagram that is refused, though a reset may go out
@@ -54,7 +53,7 @@ RefusalsFollow =
     (n r number : ℕ) (bytes : List ℕ) (engines : List EngineState) (datagrams : List (ℕ × List ℕ))
     (history : List machine.Entry) (old mid : EngineState) (why : Refused) →
     IsFollowed n engines datagrams history → slice_get engines r ≡ Some old →
-    slice_get datagrams number ≡ Some (r, bytes) → DatagramGives {X = ℕ} old bytes (Err why) mid →
+    slice_get datagrams number ≡ Some (r, bytes) → RefusesDatagram old bytes why mid →
     LeavesFollowed n engines datagrams r mid history
 
 -- A tick that a rank takes is followed, and what is seen of it is the answer to a call that was blocked
@@ -62,8 +61,7 @@ abbrev pub TicksFollow : Type 0
 TicksFollow =
     (n r now : ℕ) (engines : List EngineState) (datagrams : List (ℕ × List ℕ)) (history : List machine.Entry)
     (old mid : EngineState) →
-    IsFollowed n engines datagrams history → slice_get engines r ≡ Some old →
-    GivesUnless {X = ℕ} (clock_fault old.clock now) old (after_tick old now) (Ok 0) mid →
+    IsFollowed n engines datagrams history → slice_get engines r ≡ Some old → TakesTick old now mid →
     LeavesFollowed n engines datagrams r mid (history ++ told_completion old.place.endpoint mid.completion)
 
 -- the place of the next incarnation of a rank
@@ -85,8 +83,9 @@ RestartsFollow =
     (history ++ machine.Restarted r ∷ [])
 
 -- A history is seen of a run of the machine of perfect queues among n ranks. The run ends with each rank at the
--- incarnation of its engine, which knows there what its engine knows; a call that its engine refuses has a reason there; and
--- where the engines are quiet, the run has come to a state that meets the machine's quiet clause
+-- incarnation of its engine, which knows there what its engine knows; a call that its engine refuses has a reason there, and
+-- one that it takes has no fault; and where the engines are quiet, the run has come to a state that meets the machine's quiet
+-- clause
 pub record IsSeenOfMachine (n : ℕ) (engines : List EngineState) (history : List machine.Entry) : Type 0 where
   pub events : List machine.Event
   pub run : IsRun n machine_state.opening events
@@ -103,7 +102,12 @@ pub record IsSeenOfMachine (n : ℕ) (engines : List EngineState) (history : Lis
   pub refuses :
       (r : ℕ) (e mid : EngineState) (call back : Call) (why : Refused) → slice_get engines r ≡ Some e →
       CallGives e call (replies.Refused why back) mid →
-      IsReason (fault n ((after_run machine_state.opening events).at e.place.endpoint) (call_seen call)) e call why
+      IsReason (fault n ((after_run machine_state.opening events).at e.place.endpoint) (call_meant e call)) call why
+  -- the machine finds no fault with a call that the engine takes
+  pub takes :
+      (r : ℕ) (e mid : EngineState) (call : Call) (reply : Reply) → slice_get engines r ≡ Some e → IsTaken reply →
+      CallGives e call reply mid →
+      IsFaultless (fault n ((after_run machine_state.opening events).at e.place.endpoint) (call_seen call)) e call
   pub quiet : AreQuiet engines → IsAtRest (after_run machine_state.opening events)
 
 -- wherever engines follow the network, what was seen of them is seen of a run of the machine

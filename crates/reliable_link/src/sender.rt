@@ -2,7 +2,7 @@
 
 ghost use Rattle.std.specs.Prelude.{◌≡◌, ◌<◌, ◌≤◌, ◌+◌, ◌^◌, ◌↔◌, ◌⊎◌, [], length, IfOk, OnOk, OnErr, IfErr, IsTrue, IsErrOf, IsOkUnless};
 ghost use Rattle.std.specs.Option.{option_copied};
-ghost use Rattle.reliable_link.specs.SenderState.{SenderState, next_number, out_count, out_end, after_accept, entered_on_accept, after_ack, due_at, after_due, frame_at, after_reset};
+ghost use Rattle.reliable_link.specs.SenderState.{SenderState, next_number, out_count, out_end, after_accept, entered_on_accept, after_ack, due_at, after_due, frame_at, after_take_back, after_reset};
 ghost use Rattle.reliable_link.specs.Accepting.{HasNumberLeft, AcceptGives};
 ghost use Rattle.std.proofs.Common.{min};
 
@@ -183,6 +183,25 @@ impl Sender {
         self.frames.is_empty()
     }
 
+    /// How many frames an acknowledgement of all frames below `n` would leave.
+    pub fn kept_after(&self, n: u64) -> usize
+        requires { n ≤ out_end self.now }
+        ensures { result ≡ length (after_ack self.now n).frames }
+    {
+        let kept = self.frames.len();
+        if n <= self.lowest {
+            return kept;
+        }
+        kept - (n - self.lowest) as usize
+    }
+
+    /// How many frames are kept.
+    pub fn kept(&self) -> usize
+        ensures { result ≡ length self.now.frames }
+    {
+        self.frames.len()
+    }
+
     /// The number that the next frame gets.
     pub fn next_number(&self) -> u64
         ensures exact { result ≡ next_number self.now }
@@ -203,6 +222,23 @@ impl Sender {
         ensures { result ≡ self.now.clock }
     {
         self.clock
+    }
+
+    /// Takes the frame back that was accepted last, which drops it; the next one gets its number. It takes no memory.
+    pub fn take_back(&mut self)
+        ensures { self.new ≡ after_take_back self.old }
+    {
+        let _ = self.frames.pop_back();
+    }
+
+    /// The sending end of the session that comes after this one: no frame is kept, and the next one gets number 0. The
+    /// clock goes on. It takes no memory.
+    pub fn renewed(&self) -> Self
+        ensures { result ≡ after_reset self.now }
+    {
+        let mut next = Sender::new(*self.frames.allocator());
+        next.clock = self.clock;
+        next
     }
 
     /// Begins a new session: no frame is kept, and the next one gets number 0. The clock goes on.

@@ -1,6 +1,6 @@
 //! The table of requests.
 
-ghost use Rattle.std.specs.Prelude.{◌≡◌, ◌+◌, ◌<◌, ◌^◌, OnOk, OnErr, IsErrOf, ◌↔◌, IsTrue, false, [], Some, None};
+ghost use Rattle.std.specs.Prelude.{◌≡◌, ◌+◌, ◌<◌, ◌^◌, OnOk, OnErr, IsErrOf, ◌↔◌, IsTrue, false, [], Some, None, is_some};
 ghost use Rattle.requests.specs.Table.{Table, HasRoom, is_full, entry_at, IsSet, after_finish, after_message, progress_at, TakeGives, replaced_entry, after_replace, after_replaces};
 
 use crate::outcome::{Outcome, received};
@@ -175,6 +175,16 @@ impl Requests {
     {
         for key in keys {
             self.replace(*key);
+        }
+    }
+
+    /// Whether the request stands in the table, finished or not.
+    pub fn contains(&self, request: Request) -> bool
+        ensures { result ≡ is_some (progress_at self.now.slots request.key request.serial) }
+    {
+        match self.entries.get(request.key) {
+            Some(entry) => entry.serial == request.serial,
+            None => false,
         }
     }
 

@@ -2,6 +2,7 @@
 
 use datatypes::Buffer;
 use requests::{Outcome, Request};
+use statements::Name;
 use std::alloc::{AllocError, Global};
 use std::collections::BTreeMap;
 use std::mem;
@@ -21,18 +22,18 @@ pub struct Held {
     /// The request; none is the null request.
     pub request: Option<Request>,
     /// The name of the buffer that the receive hands back.
-    pub buffer: Option<String>,
+    pub buffer: Option<Name>,
 }
 
 /// The names of one rank. Each kind of thing has its own.
 #[derive(Drop)]
 pub struct Names {
     /// The buffers that were set, by name.
-    pub buffers: BTreeMap<String, Slot>,
+    pub buffers: BTreeMap<Vec<u8>, Slot>,
     /// The requests that were started, by name.
-    pub requests: BTreeMap<String, Held>,
+    pub requests: BTreeMap<Vec<u8>, Held>,
     /// The name of the request that a blocked wait is about.
-    pub waiting: Option<String>,
+    pub waiting: Option<Name>,
 }
 
 impl Names {
@@ -45,21 +46,21 @@ impl Names {
     }
 
     /// Whether the buffer of this name is lent.
-    pub fn is_lent(&self, name: &str) -> bool {
-        matches!(self.buffers.get(name), Some(Slot::Lent))
+    pub fn is_lent(&self, name: &Name) -> bool {
+        matches!(self.buffers.get(name.as_bytes()), Some(Slot::Lent))
     }
 
     /// A copy of the buffer of this name, if it is here.
-    pub fn copy_of(&self, alloc: Global, name: &str) -> Result<Option<Buffer>, AllocError> {
-        match self.buffers.get(name) {
+    pub fn copy_of(&self, alloc: Global, name: &Name) -> Result<Option<Buffer>, AllocError> {
+        match self.buffers.get(name.as_bytes()) {
             Some(Slot::Here(buffer)) => Ok(Some(buffer.try_clone(alloc)?)),
             _ => Ok(None),
         }
     }
 
     /// Lends the buffer of this name, if it is here.
-    pub fn lend(&mut self, name: &str) -> Option<Buffer> {
-        match self.buffers.get_mut(name) {
+    pub fn lend(&mut self, name: &Name) -> Option<Buffer> {
+        match self.buffers.get_mut(name.as_bytes()) {
             Some(slot) => match mem::replace(slot, Slot::Lent) {
                 Slot::Here(buffer) => Some(buffer),
                 Slot::Lent => None,
@@ -69,40 +70,43 @@ impl Names {
     }
 
     /// A buffer that was lent is here again.
-    pub fn give_back(&mut self, name: &str, buffer: Buffer) {
-        if let Some(slot) = self.buffers.get_mut(name) {
+    pub fn give_back(&mut self, name: &Name, buffer: Buffer) {
+        if let Some(slot) = self.buffers.get_mut(name.as_bytes()) {
             *slot = Slot::Here(buffer);
         }
     }
 
-    pub fn set_buffer(&mut self, name: &str, alloc: Global, slot: Slot) -> Result<(), AllocError> {
-        let key = String::from_str(alloc, name)?;
+    pub fn set_buffer(&mut self, name: &Name, alloc: Global, slot: Slot) -> Result<(), AllocError> {
+        let key = Vec::from_slice(alloc, name.as_bytes())?;
         self.buffers.insert(key, slot).map_err(AllocError::from)?;
         Ok(())
     }
 
-    pub fn set_request(&mut self, name: &str, alloc: Global, held: Held) -> Result<(), AllocError> {
-        let key = String::from_str(alloc, name)?;
+    pub fn set_request(
+        &mut self,
+        name: &Name,
+        alloc: Global,
+        held: Held,
+    ) -> Result<(), AllocError> {
+        let key = Vec::from_slice(alloc, name.as_bytes())?;
         self.requests.insert(key, held).map_err(AllocError::from)?;
         Ok(())
     }
 
     /// The request of this name got its outcome: the name is null now, and the receive's buffer is here again.
-    pub fn end(&mut self, name: &str, alloc: Global, outcome: &Outcome) -> Result<(), AllocError> {
+    pub fn end(&mut self, name: &Name, alloc: Global, outcome: &Outcome) -> Result<(), AllocError> {
         let null = Held {
             request: None,
             buffer: None,
         };
-        let key = String::from_str(alloc, name)?;
+        let key = Vec::from_slice(alloc, name.as_bytes())?;
         let held = self.requests.insert(key, null).map_err(AllocError::from)?;
         let Some(held) = held else {
             return Ok(());
         };
         if let (Some(lent), Some(buffer)) = (held.buffer, buffer_of(outcome)) {
             let copy = buffer.try_clone(alloc)?;
-            self.buffers
-                .insert(lent, Slot::Here(copy))
-                .map_err(AllocError::from)?;
+            self.set_buffer(&lent, alloc, Slot::Here(copy))?;
         }
         Ok(())
     }

@@ -1,82 +1,58 @@
 //! What a file of events prints.
 
-use datagram::Content;
-use datatypes::{Buffer, Element};
+use datagram::{Content, Datagram, Frame};
 use engine::Reply;
 use requests::Outcome;
+use statements::{Answer, Emission, FrameKind, Load, Route};
 use std::io;
 use std::io::Write;
-use vocabulary::{Source, Status};
 use world::{Entry, World};
 
-fn print_elements<W: Write>(buffer: &Buffer, out: &mut W) -> io::Result<()> {
-    write!(out, " data")?;
-    for place in 0..buffer.len() {
-        if let Some(number) = buffer.get(place) {
-            let element = Element {
-                basic: buffer.basic(),
-                number,
-            };
-            write!(out, " {element}")?;
-        }
-    }
-    Ok(())
-}
-
-fn print_status<W: Write>(status: &Status, out: &mut W) -> io::Result<()> {
-    match status.source {
-        Source::Any => write!(out, "source any")?,
-        Source::Rank(rank) => write!(out, "source {rank}")?,
-        Source::Null => write!(out, "source null")?,
-    }
-    match status.tag {
-        None => write!(out, " tag any")?,
-        Some(tag) => write!(out, " tag {tag}")?,
-    }
-    let count = status.count;
-    write!(out, " count {count}")
-}
-
-/// An outcome, without the end of its line.
-fn print_outcome<W: Write>(outcome: &Outcome, out: &mut W) -> io::Result<()> {
+/// The text of an outcome.
+fn answer_of(outcome: &Outcome) -> Answer<'_> {
     match outcome {
-        Outcome::Sent => write!(out, "sent"),
-        Outcome::Received(status, buffer) => {
-            print_status(status, out)?;
-            print_elements(buffer, out)
-        }
-        Outcome::Ended(failure, status, buffer) => {
-            let number = failure.number();
-            write!(out, "error {number} ")?;
-            print_status(status, out)?;
-            print_elements(buffer, out)
-        }
-        Outcome::Replaced(Some(buffer)) => {
-            write!(out, "error 11")?;
-            print_elements(buffer, out)
-        }
-        Outcome::Replaced(None) => write!(out, "error 11"),
-        Outcome::Empty => write!(out, "source any tag any count 0"),
+        Outcome::Sent => Answer::Sent,
+        Outcome::Received(status, buffer) => Answer::Received(*status, buffer),
+        Outcome::Ended(failure, status, buffer) => Answer::Ended(failure.number(), *status, buffer),
+        Outcome::Replaced(Some(buffer)) => Answer::Lost(buffer),
+        Outcome::Replaced(None) => Answer::Failed(11),
+        Outcome::Empty => Answer::Null,
+    }
+}
+
+/// The text of what a call answers.
+fn answer_of_reply(reply: &Reply) -> Answer<'_> {
+    match reply {
+        Reply::Started(request) => Answer::Started(request.serial),
+        Reply::Done(outcome) => answer_of(outcome),
+        Reply::Blocked => Answer::Blocked,
+        Reply::Refused(refused, _) => Answer::Refused(refused.number()),
     }
 }
 
 /// A refusal.
 pub fn print_refusal<W: Write>(number: u8, out: &mut W) -> io::Result<()> {
-    writeln!(out, "refused {number}")
+    let answer = Answer::Refused(number);
+    writeln!(out, "{answer}")
 }
 
-fn print_reply<W: Write>(reply: &Reply, out: &mut W) -> io::Result<()> {
-    match reply {
-        Reply::Started(request) => {
-            let serial = request.serial;
-            writeln!(out, "request {serial}")
-        }
-        Reply::Done(outcome) => {
-            print_outcome(outcome, out)?;
-            writeln!(out)
-        }
-        Reply::Blocked => writeln!(out, "blocked"),
-        Reply::Refused(refused, _) => print_refusal(refused.number(), out),
+/// The text of a datagram that was emitted, by its number.
+fn emission_of(number: usize, datagram: &Datagram<'_>) -> Emission {
+    let kind = match datagram.content {
+        Content::Frame(Frame::Eager(_)) => FrameKind::Eager,
+        Content::Ack => FrameKind::Ack,
+        Content::Reset => FrameKind::Reset,
+    };
+    Emission {
+        datagram: number,
+        route: Route {
+            source: datagram.header.source,
+            target: datagram.header.target,
+        },
+        load: Load {
+            kind,
+            sequence: datagram.header.sequence,
+        },
     }
 }
 
@@ -85,20 +61,8 @@ fn print_datagram<W: Write>(number: usize, bytes: &[u8], out: &mut W) -> io::Res
     let Ok(datagram) = datagram::read(bytes) else {
         return Ok(());
     };
-    let kind = match datagram.content {
-        Content::Frame(_) => "EAGER",
-        Content::Ack => "ACK",
-        Content::Reset => "RESET",
-    };
-    let header = datagram.header;
-    let (source, target) = (header.source, header.target);
-    let (from, to) = (source.rank, target.rank);
-    let (from_inc, to_inc) = (source.incarnation, target.incarnation);
-    let sequence = header.sequence;
-    writeln!(
-        out,
-        "+{number} {from}.{from_inc}>{to}.{to_inc} {kind} {sequence}"
-    )
+    let emission = emission_of(number, &datagram);
+    writeln!(out, "{emission}")
 }
 
 /// So many datagrams that a world emitted, from this number on.
@@ -125,16 +89,16 @@ pub fn print_event<W: Write>(
     count: usize,
     out: &mut W,
 ) -> io::Result<()> {
-    match &entry.reply {
-        Some(reply) => print_reply(reply, out)?,
-        None => writeln!(out, "ok")?,
-    }
+    let answer = match &entry.reply {
+        Some(reply) => answer_of_reply(reply),
+        None => Answer::Taken,
+    };
+    writeln!(out, "{answer}")?;
     print_emitted(world, first, count, out)?;
     if let Some(outcome) = &entry.completion {
         let rank = entry.endpoint.rank;
-        write!(out, "{rank} ")?;
-        print_outcome(outcome, out)?;
-        writeln!(out)?;
+        let answer = answer_of(outcome);
+        writeln!(out, "{rank} {answer}")?;
     }
     Ok(())
 }

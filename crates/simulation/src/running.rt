@@ -7,8 +7,9 @@ use crate::names::{Held, Names, Slot};
 use crate::printing::{print_emitted, print_event, print_refusal};
 use datatypes::Buffer;
 use engine::{Call, Receive, Reply, Send};
-use event_files::{Action, Line, Named, ParseError, ReceiveLine, SendLine, Statement, parse};
+use event_files::{Line, Statement, parse};
 use requests::{Outcome, Request};
+use statements::{Action, Communicator, Name, ParseError, Receiving, Requested, Sending};
 use std::alloc::{AllocError, Global};
 use std::collections::BTreeMap;
 use std::io::Write;
@@ -72,10 +73,15 @@ fn note_outcome(
     };
     if let Some(names) = ranks.get_mut(&entry.endpoint.rank) {
         if let Some(waiting) = names.waiting.take() {
-            names.end(waiting.as_str(), alloc, outcome)?;
+            names.end(&waiting, alloc, outcome)?;
         }
     }
     Ok(())
+}
+
+/// Whether this is `world`: no line can name another communicator yet.
+fn is_world(communicator: &Communicator) -> bool {
+    matches!(communicator, Communicator::World)
 }
 
 impl Simulation {
@@ -129,7 +135,7 @@ impl Simulation {
         &mut self,
         rank: u16,
         line: usize,
-        name: &str,
+        name: &Name,
         value: &Buffer,
     ) -> Result<(), SimulateError> {
         let copy = value.try_clone(self.alloc)?;
@@ -147,15 +153,15 @@ impl Simulation {
     fn name_request(
         &mut self,
         rank: u16,
-        name: &str,
-        buffer: Option<&str>,
+        name: &Name,
+        buffer: Option<&Name>,
     ) -> Result<(), SimulateError> {
         let Some(request) = self.last_started() else {
             return Ok(());
         };
         let alloc = self.alloc;
         let buffer = match buffer {
-            Some(buffer) => Some(String::from_str(alloc, buffer)?),
+            Some(buffer) => Some(buffer.try_clone(alloc)?),
             None => None,
         };
         let held = Held {
@@ -169,7 +175,7 @@ impl Simulation {
     }
 
     /// A copy of a buffer that is here.
-    fn copy_of(&self, rank: u16, line: usize, name: &str) -> Result<Buffer, SimulateError> {
+    fn copy_of(&self, rank: u16, line: usize, name: &Name) -> Result<Buffer, SimulateError> {
         match self.ranks.get(&rank) {
             Some(names) => match names.copy_of(self.alloc, name)? {
                 Some(buffer) => Ok(buffer),
@@ -180,7 +186,7 @@ impl Simulation {
     }
 
     /// Lends a buffer that is here.
-    fn lend(&mut self, rank: u16, line: usize, name: &str) -> Result<Buffer, SimulateError> {
+    fn lend(&mut self, rank: u16, line: usize, name: &Name) -> Result<Buffer, SimulateError> {
         match self.ranks.get_mut(&rank) {
             Some(names) => match names.lend(name) {
                 Some(buffer) => Ok(buffer),
@@ -191,7 +197,7 @@ impl Simulation {
     }
 
     /// A buffer comes back from a receive that was refused.
-    fn give_back(&mut self, rank: u16, name: &str, event: Event) {
+    fn give_back(&mut self, rank: u16, name: &Name, event: Event) {
         if let Event::Call(_, Call::Irecv(receive)) = event {
             if let Some(names) = self.ranks.get_mut(&rank) {
                 names.give_back(name, receive.buffer);
@@ -204,10 +210,10 @@ impl Simulation {
         &self,
         rank: u16,
         line: usize,
-        name: &str,
+        name: &Name,
     ) -> Result<Option<Request>, SimulateError> {
         match self.ranks.get(&rank) {
-            Some(names) => match names.requests.get(name) {
+            Some(names) => match names.requests.get(name.as_bytes()) {
                 Some(held) => Ok(held.request),
                 None => Err(SimulateError::Script(line)),
             },
@@ -219,19 +225,20 @@ impl Simulation {
         &mut self,
         rank: u16,
         line: usize,
-        send: &SendLine,
+        request: &Name,
+        send: &Sending,
         out: &mut W,
     ) -> Result<(), SimulateError> {
-        if send.communicator == Named::Unset {
+        if !is_world(&send.communicator) {
             return Err(SimulateError::Script(line));
         }
         let call = Call::Isend(Send {
-            target: send.target,
-            tag: send.tag,
-            elements: self.copy_of(rank, line, send.buffer.as_str())?,
+            target: send.target.rank(),
+            tag: send.tag.sent(),
+            elements: self.copy_of(rank, line, &send.buffer)?,
         });
         if self.happen(Event::Call(rank, call), out)?.is_none() {
-            self.name_request(rank, send.request.as_str(), None)?;
+            self.name_request(rank, request, None)?;
         }
         Ok(())
     }
@@ -240,21 +247,21 @@ impl Simulation {
         &mut self,
         rank: u16,
         line: usize,
-        receive: &ReceiveLine,
+        request: &Name,
+        receive: &Receiving,
         out: &mut W,
     ) -> Result<(), SimulateError> {
-        if receive.communicator == Named::Unset {
+        if !is_world(&receive.communicator) {
             return Err(SimulateError::Script(line));
         }
-        let name = receive.buffer.as_str();
         let call = Call::Irecv(Receive {
             source: receive.source,
-            tag: receive.tag,
-            buffer: self.lend(rank, line, name)?,
+            tag: receive.tag.wanted(),
+            buffer: self.lend(rank, line, &receive.buffer)?,
         });
         match self.happen(Event::Call(rank, call), out)? {
-            Some(refused) => self.give_back(rank, name, refused),
-            None => self.name_request(rank, receive.request.as_str(), Some(name))?,
+            Some(refused) => self.give_back(rank, &receive.buffer, refused),
+            None => self.name_request(rank, request, Some(&receive.buffer))?,
         }
         Ok(())
     }
@@ -263,7 +270,7 @@ impl Simulation {
         &mut self,
         rank: u16,
         line: usize,
-        name: Option<&str>,
+        name: Option<&Name>,
         out: &mut W,
     ) -> Result<(), SimulateError> {
         let request = match name {
@@ -284,10 +291,10 @@ impl Simulation {
     fn begin_waiting(
         &mut self,
         rank: u16,
-        name: Option<&str>,
-    ) -> Result<Option<String>, SimulateError> {
+        name: Option<&Name>,
+    ) -> Result<Option<Name>, SimulateError> {
         let about = match name {
-            Some(name) => Some(String::from_str(self.alloc, name)?),
+            Some(name) => Some(name.try_clone(self.alloc)?),
             None => None,
         };
         match self.ranks.get_mut(&rank) {
@@ -296,7 +303,7 @@ impl Simulation {
         }
     }
 
-    fn set_waiting(&mut self, rank: u16, about: Option<String>) {
+    fn set_waiting(&mut self, rank: u16, about: Option<Name>) {
         if let Some(names) = self.ranks.get_mut(&rank) {
             names.waiting = about;
         }
@@ -311,11 +318,11 @@ impl Simulation {
     ) -> Result<(), SimulateError> {
         self.begin(rank)?;
         match action {
-            Action::Buffer { name, value } => self.set_buffer(rank, line, name.as_str(), value),
-            Action::Isend(send) => self.isend(rank, line, send, out),
-            Action::Irecv(receive) => self.irecv(rank, line, receive, out),
-            Action::Wait(Some(name)) => self.wait(rank, line, Some(name.as_str()), out),
-            Action::Wait(None) => self.wait(rank, line, None, out),
+            Action::Buffer(buffer) => self.set_buffer(rank, line, &buffer.name, &buffer.value),
+            Action::Isend(request, send) => self.isend(rank, line, request, send, out),
+            Action::Irecv(request, receive) => self.irecv(rank, line, request, receive, out),
+            Action::Wait(Requested::Named(name)) => self.wait(rank, line, Some(name), out),
+            Action::Wait(Requested::Null) => self.wait(rank, line, None, out),
         }
     }
 
@@ -348,12 +355,12 @@ impl Simulation {
 /// The whole file is read before anything runs. `Script` names the first line that is no statement, or the line at
 /// which a name that isn't set, or a buffer that is lent, was used; what ran before that is printed.
 pub fn simulate<W: Write>(alloc: Global, text: &[u8], out: &mut W) -> Result<(), SimulateError> {
-    let script = match parse(alloc, text) {
-        Ok(script) => script,
+    let file = match parse(alloc, text) {
+        Ok(file) => file,
         Err(ParseError::Line(line)) => return Err(SimulateError::Script(line)),
         Err(ParseError::OutOfMemory) => return Err(SimulateError::OutOfMemory),
     };
-    let Ok(world) = World::new(alloc, script.size) else {
+    let Ok(world) = World::new(alloc, file.size) else {
         return Err(SimulateError::OutOfMemory);
     };
     let mut simulation = Simulation {
@@ -361,7 +368,7 @@ pub fn simulate<W: Write>(alloc: Global, text: &[u8], out: &mut W) -> Result<(),
         world,
         ranks: BTreeMap::new(alloc),
     };
-    for line in script.lines {
+    for line in file.lines.into_vec() {
         simulation.run(line, out)?;
     }
     Ok(())

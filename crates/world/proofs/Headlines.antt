@@ -4,7 +4,7 @@ use Rattle.std.specs.Prelude.{slice_index}
 use Rattle.std.proofs.lemmas.Option.{slice_get_within}
 use Rattle.vocabulary.specs.declared.endpoint.Endpoint.{Endpoint}
 use Rattle.engine.specs.EngineState.{EngineState}
-use Rattle.engine.specs.Peers.{peer_at}
+use Rattle.sessions.specs.Peers.{peer_at}
 use Rattle.incarnation.specs.declared.place.Place.{Place}
 use Rattle.proof_pure_network.specs.Links.{Link}
 use Rattle.proof_pure_network.specs.Network.{Network, new_network, run}
@@ -20,7 +20,7 @@ use Rattle.world.specs.declared.event.Entry.{Entry}
 pub is_run_of_machine : (w : WorldState) → IsSound w.engines w.datagrams w.history → IsRunOfPerfectQueues w
 is_run_of_machine w s =
     let m = following_is_run (length w.engines) w.engines w.datagrams (history_seen w.history) s.followed in
-    record { run_events = m.events; run = m.run; tells = m.tells; now = m.now; knows = m.knows; refuses = m.refuses; quiet = m.quiet }
+    record { run_events = m.events; run = m.run; tells = m.tells; now = m.now; knows = m.knows; refuses = m.refuses; takes = m.takes; quiet = m.quiet }
 
 -- the law of a session, of all sessions
 pub sessions_are_true : (w : WorldState) → IsSound w.engines w.datagrams w.history → SessionsAreTrue w

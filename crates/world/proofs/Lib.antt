@@ -1,10 +1,9 @@
 pub mod Openings
 pub mod Places
+pub mod QuietPairs
 pub mod Ranks
 pub mod Runs
 pub mod Sound
-pub mod Refusals
-pub mod Answering
-pub mod Headlines
-pub mod QuietPairs
 pub mod Strays
+pub mod Refusals
+pub mod Headlines

@@ -4,7 +4,7 @@ use Rattle.std.specs.Prelude.{◌↔◌, IsTrue, All, slice_get, slice_index, �
 use Rattle.std.proofs.lemmas.Option.{get_or_from_slice_get, slice_get-get_or, slice_get_within}
 use Rattle.std.proofs.lemmas.Bool.{eqb-false, lt-ltb, ne_eqb}
 use Rattle.engine.specs.EngineState.{EngineState}
-use Rattle.engine.specs.Peers.{IsIdlePeer, peer_at}
+use Rattle.sessions.specs.Peers.{IsIdlePeer, peer_at}
 use Rattle.incarnation.specs.declared.place.Place.{Place}
 use Rattle.incarnation.specs.Judging.{is_other}
 use Rattle.proof_link_truth.specs.Events.{AreQuiet}
@@ -12,7 +12,7 @@ use Rattle.world.specs.Quiet.{AreQuietTowards, IsQuietTowards}
 use Rattle.world.specs.WorldState.{ArePlaced}
 
 -- what is true of each element is true of the one at a place
-all_at : {A : Type 0} (P : A → Type 0) (xs : List A) (k : ℕ) (x : A) → All P xs → slice_get xs k ≡ Some x → P x
+pub all_at : {A : Type 0} (P : A → Type 0) (xs : List A) (k : ℕ) (x : A) → All P xs → slice_get xs k ≡ Some x → P x
 all_at P xs k x all is = subst P (get_or_from_slice_get xs k x x is) (all k x (slice_get_within xs k x is))
 
 other_from : (p : Place) (x : ℕ) → (x == p.endpoint.rank) ≡ false → x < p.size → is_other p x ≡ true

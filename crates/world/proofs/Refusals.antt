@@ -1,6 +1,8 @@
 -- What a refused event leaves: a reset may have gone out, and nothing else changed.
-use Rattle.std.proofs.Common.{◌≡◌, ℕ, List, [], ◌++◌, ◌⊎◌, inl, inr, length, Option, Some, None, Result, refl, sym, ap, subst, ◌∙◌, append-nil}
-use Rattle.std.specs.Prelude.{Ok, Err, slice_get, slice_set}
+use Rattle.std.proofs.Common.{◌≡◌, ℕ, List, [], ◌++◌, inl, inr, length, Option, Some, None, Result, refl, sym, ap, subst, ◌∙◌, append-nil, ◌+◌, ◌*◌, ◌≤◌, Bool, true, false, arith}
+use Rattle.std.specs.Prelude.{Ok, Err, option_map, slice_get, slice_set}
+use Rattle.std.proofs.lemmas.Bool.{both_ways}
+use Rattle.std.proofs.lemmas.Option.{same_Some}
 use Rattle.std.specs.Ordering.{nat_cmp}
 use Rattle.std.specs.declared.cmp.Ordering.{Ordering}
 use Rattle.std.specs.declared.cmp.Ordering.TheVariants.{Less, Equal, Greater}
@@ -15,23 +17,25 @@ use Rattle.incarnation.specs.declared.refused.Refused.TheVariants as judgings
 use Rattle.incarnation.specs.Judging.{judgement}
 use Rattle.perfect_queues.specs.Events as machine
 use Rattle.vocabulary.specs.declared.endpoint.Endpoint.{Endpoint}
-use Rattle.engine.specs.Datagrams.{BodyGives, DatagramGives, EagerGivesAt, FirstWordGives, JudgedGives, ResetGives, StaleGives, TextGives}
+use Rattle.engine.specs.Datagrams.{BodyGives, EagerGivesAt, FirstWordGives, JudgedGives, ResetGives, StaleGives, TextGives}
 use Rattle.engine.specs.EngineState.{EngineState, knowledge}
-use Rattle.engine.specs.Peers.{peer_at}
-use Rattle.engine.specs.declared.call.Call.{Call}
-use Rattle.engine.specs.declared.refused.Refused.{Refused}
-use Rattle.proof_link_truth.specs.Events.{emptied}
+use Rattle.sessions.specs.Peers.{peer_at}
+use Rattle.rank_core.specs.declared.refused.Refused.{Refused}
+use Rattle.proof_link_truth.specs.Events.{RefusesDatagram, emptied}
 use Rattle.proof_network_bridge.specs.Joined.{IsClean, IsFollowed}
 use Rattle.proof_network_bridge.proofs.Closed.{refusals_follow}
-use Rattle.world.specs.Headline.{IsSound, history_seen}
 use Rattle.requests.specs.declared.outcome.Outcome.{Outcome}
-use Rattle.world.specs.WorldState.{WorldState}
-use Rattle.world.specs.declared.event.Failed.{Failed}
-use Rattle.world.specs.declared.refused.Refused as why_refused
-use Rattle.world.specs.Steps.{Denial, EventGives, Gave, IsRefusedBy, NumberGives, first_of, RanAt, RanCall, RanDatagram, RanRestart, RanTick, RankGives, Refusal}
+use Rattle.world.specs.Faults.{event_fault, target_of}
+use Rattle.world.specs.Headline.{IsSound, history_seen}
+use Rattle.world.specs.Steps.{DatagramRuns, DeliveryRuns, EventRuns, IsRefusedBy, IsWhy, RanAt, Refusal, first_of}
+use Rattle.world.specs.WorldState.{HasRoom, WorldState}
 use Rattle.world.specs.declared.event.Entry.{Entry}
 use Rattle.world.specs.declared.event.Event.{Event}
 use Rattle.world.specs.declared.event.Event.TheVariants as events
+use Rattle.world.specs.declared.event.Failed.{Failed}
+use Rattle.world.proofs.Places.{sound_placed}
+use Rattle.world.proofs.Sound.{stray_breaks}
+use Rattle.world.proofs.Strays.{alike_at_engine}
 
 -- ---- what a refused datagram leaves of an engine
 
@@ -42,31 +46,31 @@ OnlyOut old new = new ≡ record old { out = new.out }
 same_out : (old new : EngineState) → new ≡ old → OnlyOut old new
 same_out old new is = subst (λ (e : EngineState). OnlyOut old e) (sym is) refl
 
-frame_keeps : (o : Ordering) (old new : EngineState) (h : Header) (t : EagerText) (why : Refused) → EagerGivesAt {X = ℕ} o old h t (Err why) new → OnlyOut old new
+frame_keeps : (o : Ordering) (old new : EngineState) (h : Header) (t : EagerText) (why : Refused) → EagerGivesAt {X = Unit {0}} o old h t (Err why) new → OnlyOut old new
 frame_keeps Less old new h t why g = same_out old new g.0
 frame_keeps Equal old new h t why g = same_out old new g.0
 frame_keeps Greater old new h t why g = same_out old new g.0
 
-body_keeps : (old new : EngineState) (h : Header) (b : BodyText) (why : Refused) → BodyGives {X = ℕ} old h b (Err why) new → OnlyOut old new
+body_keeps : (old new : EngineState) (h : Header) (b : BodyText) (why : Refused) → BodyGives {X = Unit {0}} old h b (Err why) new → OnlyOut old new
 body_keeps old new h AckBody why g = same_out old new g.0
 body_keeps old new h ResetBody why g = absurd g
 body_keeps old new h (EagerBody t) why g = frame_keeps (nat_cmp h.sequence (peer_at old.peers h.source.rank).receiver) old new h t why g
 
-first_word_keeps : (old new : EngineState) (h : Header) (b : BodyText) (why : Refused) → FirstWordGives {X = ℕ} old h b (Err why) new → OnlyOut old new
+first_word_keeps : (old new : EngineState) (h : Header) (b : BodyText) (why : Refused) → FirstWordGives {X = Unit {0}} old h b (Err why) new → OnlyOut old new
 first_word_keeps old new h AckBody why g = same_out old new g.0
 first_word_keeps old new h ResetBody why g = same_out old new g.0
 first_word_keeps old new h (EagerBody t) why g = same_out old new g.0
 
-reset_keeps : (old new : EngineState) (source : Endpoint) (why : Refused) → ResetGives {X = ℕ} old source (Err why) new → OnlyOut old new
+reset_keeps : (old new : EngineState) (source : Endpoint) (why : Refused) → ResetGives {X = Unit {0}} old source (Err why) new → OnlyOut old new
 reset_keeps old new source why (inl g) = subst (λ (e : EngineState). OnlyOut old e) (sym g.1) refl
 reset_keeps old new source why (inr g) = same_out old new g.1
 
-stale_keeps : (old new : EngineState) (h : Header) (b : BodyText) (why : Refused) → StaleGives {X = ℕ} old h b (Err why) new → OnlyOut old new
+stale_keeps : (old new : EngineState) (h : Header) (b : BodyText) (why : Refused) → StaleGives {X = Unit {0}} old h b (Err why) new → OnlyOut old new
 stale_keeps old new h AckBody why g = reset_keeps old new h.source why g
 stale_keeps old new h ResetBody why g = same_out old new g.1
 stale_keeps old new h (EagerBody t) why g = reset_keeps old new h.source why g
 
-judged_keeps : (j : Result Judgement judging.Refused) (old new : EngineState) (d : DatagramText) (why : Refused) → JudgedGives {X = ℕ} j old d (Err why) new → OnlyOut old new
+judged_keeps : (j : Result Judgement judging.Refused) (old new : EngineState) (d : DatagramText) (why : Refused) → JudgedGives {X = Unit {0}} j old d (Err why) new → OnlyOut old new
 judged_keeps (Ok Current) old new d why g = body_keeps old new d.header d.body why g
 judged_keeps (Ok (Learn incarnation)) old new d why g = first_word_keeps old new d.header d.body why g
 judged_keeps (Err judgings.StaleTarget) old new d why g = stale_keeps old new d.header d.body why g
@@ -76,26 +80,26 @@ judged_keeps (Err judgings.ForeignJob) old new d why g = same_out old new g.1
 judged_keeps (Err judgings.NotForMe) old new d why g = same_out old new g.1
 judged_keeps (Err judgings.StaleSource) old new d why g = same_out old new g.1
 
-text_keeps : (t : Result DatagramText reading.Refused) (old new : EngineState) (why : Refused) → TextGives {X = ℕ} old t (Err why) new → OnlyOut old new
+text_keeps : (t : Result DatagramText reading.Refused) (old new : EngineState) (why : Refused) → TextGives {X = Unit {0}} old t (Err why) new → OnlyOut old new
 text_keeps (Err e) old new why g = same_out old new g.1
 text_keeps (Ok d) old new why g = judged_keeps (judgement (knowledge old) d.header) old new d why g
 
 -- out of an engine that had nothing to hand out, a refusal hands out just what it emitted for it
 pub refused_gives : (old mid : EngineState) (bytes : List ℕ) (why : Refused) (out : List (ℕ × List ℕ)) → old.out ≡ [] → out ≡ mid.out →
-    DatagramGives {X = ℕ} old bytes (Err why) mid → DatagramGives {X = ℕ} old bytes (Err why) (record old { out = old.out ++ out })
+    RefusesDatagram old bytes why mid → RefusesDatagram old bytes why (record old { out = old.out ++ out })
 refused_gives old mid bytes why out none all g =
     let kept : mid ≡ record old { out = mid.out } = text_keeps (datagram_of bytes) old mid why g in
     let added : old.out ++ out ≡ mid.out = ap (λ (x : List (ℕ × List ℕ)). x ++ out) none ∙ all in
-    subst (λ (e : EngineState). DatagramGives {X = ℕ} old bytes (Err why) e) (kept ∙ ap (λ (x : List (ℕ × List ℕ)). record old { out = x }) (sym added)) g
+    subst (λ (e : EngineState). RefusesDatagram old bytes why e) (kept ∙ ap (λ (x : List (ℕ × List ℕ)). record old { out = x }) (sym added)) g
 
 -- once what it emitted is taken out, the engine is as it was
-pub refused_is_old : (old mid : EngineState) (bytes : List ℕ) (why : Refused) → old.out ≡ [] → DatagramGives {X = ℕ} old bytes (Err why) mid → record mid { out = [] } ≡ old
+pub refused_is_old : (old mid : EngineState) (bytes : List ℕ) (why : Refused) → old.out ≡ [] → RefusesDatagram old bytes why mid → record mid { out = [] } ≡ old
 refused_is_old old mid bytes why none g =
     let kept : mid ≡ record old { out = mid.out } = text_keeps (datagram_of bytes) old mid why g in
     ap (λ (e : EngineState). record e { out = [] }) kept ∙ ap (λ (out : List (ℕ × List ℕ)). record old { out = out }) (sym none)
 
 -- and so it is once its answers are taken out too
-emptied_is_old : (old mid : EngineState) (bytes : List ℕ) (why : Refused) → IsClean old → DatagramGives {X = ℕ} old bytes (Err why) mid → emptied mid ≡ old
+emptied_is_old : (old mid : EngineState) (bytes : List ℕ) (why : Refused) → IsClean old → RefusesDatagram old bytes why mid → emptied mid ≡ old
 emptied_is_old old mid bytes why clean g =
     ap (λ (e : EngineState). record e { completion = None }) (refused_is_old old mid bytes why clean.out g)
     ∙ ap (λ (c : Option Outcome). record old { completion = c }) (sym clean.completion)
@@ -106,71 +110,80 @@ emptied_is_old old mid bytes why clean g =
 silent : (n : ℕ) (engines : List EngineState) (d : List (ℕ × List ℕ)) (h : List machine.Entry) (out : List (ℕ × List ℕ)) → out ≡ [] → IsFollowed n engines d h → IsFollowed n engines (d ++ out) h
 silent n engines d h out none f = subst (λ (x : List (ℕ × List ℕ)). IsFollowed n engines x h) (sym (ap (λ (o : List (ℕ × List ℕ)). d ++ o) none ∙ append-nil d)) f
 
--- with what a rank is refused goes what its engine gave
-abbrev Gives : (Runs : EngineState → Result Gave Refusal → EngineState → Type 0) (old : List EngineState) (rank : ℕ) → Denial → Type 0
-Gives Runs old rank denial = (denial.out ≡ []) ⊎ ((e : Refusal) × (denial.out ≡ e.out) × RanAt Runs old rank (Err e) old)
-
-rank_gives : (Runs : EngineState → Result Gave Refusal → EngineState → Type 0) (old : List EngineState) (rank : ℕ) (denial : Denial) → RankGives Runs old rank (Err denial) old → Gives Runs old rank denial
-rank_gives Runs old rank denial (same, inl a) = inl (ap (λ (x : Denial). x.out) a.1)
-rank_gives Runs old rank denial (same, inr (inl a)) = inl (ap (λ (x : Denial). x.out) a.1)
-rank_gives Runs old rank denial (same, inr (inr a)) = inr (a.1.0, ap (λ (x : Denial). x.out) a.1.1, a.1.2)
-
-call_silent : (old : List EngineState) (rank : ℕ) (call : Call) (denial : Denial) → Gives (λ e. RanCall e call) old rank denial → denial.out ≡ []
-call_silent old rank call denial (inl none) = none
-call_silent old rank call denial (inr g) = g.1 ∙ g.2.ran.1
-
-tick_silent : (old : List EngineState) (rank now : ℕ) (denial : Denial) → Gives (λ e. RanTick e now) old rank denial → denial.out ≡ []
-tick_silent old rank now denial (inl none) = none
-tick_silent old rank now denial (inr g) = g.1 ∙ g.2.ran.1
-
-restart_silent : (old : List EngineState) (rank : ℕ) (denial : Denial) → Gives RanRestart old rank denial → denial.out ≡ []
-restart_silent old rank denial (inl none) = none
-restart_silent old rank denial (inr g) = g.1 ∙ g.2.ran.1
-
-datagram_followed : (old : List EngineState) (d : List (ℕ × List ℕ)) (h : List machine.Entry) (number rank : ℕ) (bytes : List ℕ) (denial : Denial) →
-    IsFollowed (length old) old d h → slice_get d number ≡ Some (rank, bytes) → Gives (λ e. RanDatagram e bytes) old rank denial → IsFollowed (length old) old (d ++ denial.out) h
-datagram_followed old d h number rank bytes denial f emitted (inl none) = silent (length old) old d h denial.out none f
-datagram_followed old d h number rank bytes denial f emitted (inr g) =
-    let r = g.2 in
-    let mid : EngineState = record r.engine { out = r.engine.out ++ g.0.out } in
-    let clean : IsClean r.engine = f.joined.clean rank r.engine r.there in
+-- a datagram that the engine of its rank refuses
+datagram_followed : (old : List EngineState) (d : List (ℕ × List ℕ)) (h : List machine.Entry) (number rank : ℕ) (bytes : List ℕ) (e next : EngineState) (refusal : Refusal) →
+    IsFollowed (length old) old d h → slice_get old rank ≡ Some e → old ≡ slice_set old rank next → slice_get d number ≡ Some (rank, bytes) → DatagramRuns e bytes (Err refusal) next →
+    IsFollowed (length old) old (d ++ refusal.out) h
+datagram_followed old d h number rank bytes e next refusal f there others emitted ran =
+    let mid : EngineState = record e { out = e.out ++ refusal.out } in
+    let clean : IsClean e = f.joined.clean rank e there in
     let engines_are : slice_set old rank (emptied mid) ≡ old =
-    ap (slice_set old rank) (emptied_is_old r.engine mid bytes g.0.refused clean r.ran.1 ∙ sym r.ran.0) ∙ sym r.others in
-    let out_is : denial.out ≡ mid.out = g.1 ∙ ap (λ (x : List (ℕ × List ℕ)). x ++ g.0.out) (sym clean.out) in
+    ap (slice_set old rank) (emptied_is_old e mid bytes refusal.refused clean ran.1 ∙ sym ran.0) ∙ sym others in
+    let out_is : refusal.out ≡ mid.out = ap (λ (x : List (ℕ × List ℕ)). x ++ refusal.out) (sym clean.out) in
     subst (λ (x : List (ℕ × List ℕ)). IsFollowed (length old) old (d ++ x) h) (sym out_is)
     (subst (λ (x : List EngineState). IsFollowed (length old) x (d ++ mid.out) h) engines_are
-    (refusals_follow (length old) rank number bytes old d h r.engine mid g.0.refused f r.there emitted r.ran.1))
+    (refusals_follow (length old) rank number bytes old d h e mid refusal.refused f there emitted ran.1))
 
-event_followed : (old : List EngineState) (d : List (ℕ × List ℕ)) (h : List machine.Entry) (event : Event) (denial : Denial) →
-    IsFollowed (length old) old d h → EventGives old d event (Err denial) old → IsFollowed (length old) old (d ++ denial.out) h
-event_followed old d h (events.Call r call) denial f g = silent (length old) old d h denial.out (call_silent old r call denial (rank_gives _ old r denial g)) f
-event_followed old d h (events.Deliver number) denial f g = go (slice_get d number) refl g
+-- the datagram under a number
+delivery_followed : (old : List EngineState) (d : List (ℕ × List ℕ)) (h : List machine.Entry) (number rank : ℕ) (e next : EngineState) (refusal : Refusal) →
+    IsFollowed (length old) old d h → slice_get old rank ≡ Some e → old ≡ slice_set old rank next → target_of d (events.Deliver number) ≡ Some rank →
+    DeliveryRuns (slice_get d number) e (Err refusal) next → IsFollowed (length old) old (d ++ refusal.out) h
+delivery_followed old d h number rank e next refusal f there others target ran = go (slice_get d number) refl target ran
   where
-    go : (o : Option (ℕ × List ℕ)) → slice_get d number ≡ o → NumberGives o old (Err denial) old → IsFollowed (length old) old (d ++ denial.out) h
-    go None is n = silent (length old) old d h denial.out (ap (λ (x : Denial). x.out) n.0) f
-    go (Some (r, bytes)) is n = datagram_followed old d h number r bytes denial f is (rank_gives _ old r denial n)
-event_followed old d h (events.Stray r bytes) denial f (same, inl a) = silent (length old) old d h denial.out (ap (λ (x : Denial). x.out) a.1) f
-event_followed old d h (events.Stray r bytes) denial f (same, inr a) = silent (length old) old d h denial.out (ap (λ (x : Denial). x.out) a.plain) f
-event_followed old d h (events.Tick r now) denial f g = silent (length old) old d h denial.out (tick_silent old r now denial (rank_gives _ old r denial g)) f
-event_followed old d h (events.Restart r) denial f g = silent (length old) old d h denial.out (restart_silent old r denial (rank_gives _ old r denial g)) f
+    go : (o : Option (ℕ × List ℕ)) → slice_get d number ≡ o → option_map (λ (t : ℕ × List ℕ). t.0) o ≡ Some rank → DeliveryRuns o e (Err refusal) next →
+        IsFollowed (length old) old (d ++ refusal.out) h
+    go None is t n = absurd n
+    go (Some (to, bytes)) is t n =
+        let to_is : to ≡ rank = same_Some to rank t in
+        datagram_followed old d h number rank bytes e next refusal f there others (is ∙ ap (λ (x : ℕ). Some (x, bytes)) to_is) n
 
-pub refusal_sound : (old : List EngineState) (d : List (ℕ × List ℕ)) (h : List Entry) (event : Event) (denial : Denial) →
-    IsSound old d h → EventGives old d event (Err denial) old → IsSound old (d ++ denial.out) h
-refusal_sound old d h event denial s g = record { world = s.world; followed = event_followed old d (history_seen h) event denial s.followed g }
+event_followed : (old : List EngineState) (d : List (ℕ × List ℕ)) (h : List machine.Entry) (event : Event) (rank : ℕ) (e next : EngineState) (refusal : Refusal) →
+    IsFollowed (length old) old d h → event_fault (length old) d event ≡ None → slice_get old rank ≡ Some e → old ≡ slice_set old rank next → target_of d event ≡ Some rank →
+    EventRuns d event e (Err refusal) next → IsFollowed (length old) old (d ++ refusal.out) h
+event_followed old d h (events.Call r call) rank e next refusal f allowed there others target ran = silent (length old) old d h refusal.out ran.1 f
+event_followed old d h (events.Deliver number) rank e next refusal f allowed there others target ran =
+    delivery_followed old d h number rank e next refusal f there others target ran
+event_followed old d h (events.Stray r bytes) rank e next refusal f allowed there others target ran = absurd (stray_breaks (length old) d r bytes allowed)
+event_followed old d h (events.Tick r now) rank e next refusal f allowed there others target ran = silent (length old) old d h refusal.out ran.1 f
+event_followed old d h (events.Restart r) rank e next refusal f allowed there others target ran = silent (length old) old d h refusal.out ran.1 f
 
--- a refusal, told by what it left
-pub refused_so : (old : WorldState) (event : Event) (failed : Failed) (engines : List EngineState) (datagrams : List (ℕ × List ℕ)) (history : List Entry) (denial : Denial) →
-    engines ≡ old.engines → datagrams ≡ old.datagrams ++ denial.out → history ≡ old.history → failed.reset ≡ first_of (length old.datagrams) denial.out →
-    failed.event ≡ event → failed.refused ≡ denial.refused → EventGives old.engines old.datagrams event (Err denial) engines →
-    IsRefusedBy old event failed (record { engines = engines; datagrams = datagrams; history = history })
-refused_so old event failed engines datagrams history denial es ds hs reset back refused why =
+pub refusal_sound : (old : List EngineState) (d : List (ℕ × List ℕ)) (h : List Entry) (event : Event) (refusal : Refusal) →
+    IsSound old d h → event_fault (length old) d event ≡ None → RanAt d event old (Err refusal) old → IsSound old (d ++ refusal.out) h
+refusal_sound old d h event refusal s allowed ran =
     record {
-      out = denial.out;
-      unchanged = ap (λ (x : List EngineState). record { engines = x; datagrams = datagrams; history = history }) es
-          ∙ ap (λ (x : List (ℕ × List ℕ)). record { engines = old.engines; datagrams = x; history = history }) ds
-          ∙ ap (λ (x : List Entry). record { engines = old.engines; datagrams = old.datagrams ++ denial.out; history = x }) hs;
+      world = s.world;
+      followed = event_followed old d (history_seen h) event ran.rank ran.engine ran.next refusal s.followed allowed ran.there ran.others ran.target ran.ran;
+    }
+
+-- ---- what is told of it
+
+-- the parts of a refusal
+pub refused_so : (old : WorldState) (event : Event) (failed : Failed) (engines : List EngineState) (datagrams : List (ℕ × List ℕ)) (history : List Entry) (dr er : ℕ) (out : List (ℕ × List ℕ)) →
+    IsSound old.engines old.datagrams old.history → engines ≡ old.engines → datagrams ≡ old.datagrams ++ out → history ≡ old.history →
+    failed.reset ≡ first_of (length old.datagrams) out → failed.event ≡ event → IsWhy old event failed.refused out →
+    IsRefusedBy old event failed (record { engines = engines; datagrams = datagrams; history = history; datagram_room = dr; entry_room = er })
+refused_so old event failed engines datagrams history dr er out s es ds hs reset back why =
+    record {
+      out = out;
+      unchanged = ap (λ (x : List EngineState). record { engines = x; datagrams = datagrams; history = history; datagram_room = dr; entry_room = er }) es
+          ∙ ap (λ (x : List (ℕ × List ℕ)). record { engines = old.engines; datagrams = x; history = history; datagram_room = dr; entry_room = er }) ds
+          ∙ ap (λ (x : List Entry). record { engines = old.engines; datagrams = old.datagrams ++ out; history = x; datagram_room = dr; entry_room = er }) hs;
       reset = reset;
       back = back;
-      why = inr (subst (λ (x : why_refused.Refused). EventGives old.engines old.datagrams event (Err (record { refused = x; out = denial.out })) old.engines) (sym refused)
-          (subst (λ (x : List EngineState). EventGives old.engines old.datagrams event (Err denial) x) es why));
+      why = why;
+      alike = alike_at_engine old event failed.refused out (sound_placed old.engines old.datagrams old.history s) why;
     }
+
+-- a refusal with which nothing goes out
+pub refused_plainly : (old : WorldState) (event : Event) (failed : Failed) (engines : List EngineState) (datagrams : List (ℕ × List ℕ)) (history : List Entry) (dr er : ℕ) →
+    IsSound old.engines old.datagrams old.history → engines ≡ old.engines → datagrams ≡ old.datagrams → history ≡ old.history →
+    failed.reset ≡ None → failed.event ≡ event → IsWhy old event failed.refused [] →
+    IsRefusedBy old event failed (record { engines = engines; datagrams = datagrams; history = history; datagram_room = dr; entry_room = er })
+refused_plainly old event failed engines datagrams history dr er s es ds hs reset back why =
+    refused_so old event failed engines datagrams history dr er [] s es (ds ∙ sym (append-nil old.datagrams)) hs reset back why
+
+-- where enough room would have been found, and none was, the world had none
+pub had_no_room : (old : WorldState) (size datagrams entries : ℕ) (found : Bool) → size ≡ length old.engines → datagrams ≡ length old.datagrams → entries ≡ length old.history →
+    (datagrams + 64 * size ≤ old.datagram_room → entries + 1 ≤ old.entry_room → found ≡ true) → found ≡ false → HasRoom old → ⊥
+had_no_room old size datagrams entries found size_is datagrams_are entries_are enough none room =
+    both_ways found none (enough (omega (arith, size_is, datagrams_are, room.datagrams)) (omega (arith, entries_are, room.entries)))

@@ -1,12 +1,13 @@
 -- What is true of a world stays true.
 use Rattle.std.proofs.Common.{◌≡◌, ℕ, zero, suc, ◌<◌, ◌≤◌, List, [], ◌∷◌, ◌++◌, length, Option, Some, None, refl, sym, ap, subst, ◌∙◌, append-nil, arith}
-use Rattle.std.specs.Prelude.{Ok, slice_get, slice_index_or, slice_set}
+use Rattle.std.specs.Prelude.{Ok, option_map, slice_get, slice_index_or, slice_set}
 use Rattle.std.proofs.lemmas.Grind.{flat_map-append}
 use Rattle.std.proofs.lemmas.List.{length-set}
+use Rattle.std.proofs.lemmas.Option.{same_Some}
 use Rattle.vocabulary.specs.declared.endpoint.Endpoint.{Endpoint}
 use Rattle.engine.specs.EngineState.{EngineState, opening}
-use Rattle.engine.specs.declared.call.Call.{Call}
-use Rattle.engine.specs.declared.call.Reply.{Reply}
+use Rattle.rank_core.specs.declared.call.Call.{Call}
+use Rattle.rank_core.specs.declared.call.Reply.{Reply}
 use Rattle.requests.specs.declared.outcome.Outcome.{Outcome}
 use Rattle.perfect_queues.specs.Events as machine
 use Rattle.proof_engine_view.specs.Seen.{told_call, told_completion}
@@ -16,10 +17,13 @@ use Rattle.proof_network_bridge.specs.Joined.{IsFollowed}
 use Rattle.proof_network_bridge.proofs.Closed.{calls_follow, datagrams_follow, opening_follows, restarts_follow, ticks_follow}
 use Rattle.world.specs.WorldState.{IsWorld, StandsIn}
 use Rattle.world.specs.Headline.{IsSound, entry_seen, history_seen}
-use Rattle.world.specs.Steps.{Answers, EventGives, Gave, NumberGives, RanAt, RanCall, RanDatagram, RanRestart, RanTick, TakesIn, Ticks, entry_of}
+use Rattle.world.specs.Faults.{event_fault, first_fault, target_fault, target_of}
+use Rattle.world.specs.Steps.{CallRuns, DatagramRuns, DeliveryRuns, EventRuns, Gave, RanAt, RestartRuns, TakesBytes, TakesCall, TakesTime, TickRuns, entry_of, nothing_of}
 use Rattle.world.specs.declared.event.Entry.{Entry}
 use Rattle.world.specs.declared.event.Event.{Event}
 use Rattle.world.specs.declared.event.Event.TheVariants as events
+use Rattle.world.specs.Strays.{stray_fault}
+use Rattle.world.specs.declared.refused.Refused.{Refused}
 use Rattle.world.proofs.Places.{below_last}
 
 pub sound_same : (e e' : List EngineState) (d d' : List (ℕ × List ℕ)) (h h' : List Entry) → e' ≡ e → d' ≡ d → h' ≡ h → IsSound e d h → IsSound e' d' h'
@@ -53,118 +57,145 @@ seen_more : (h : List Entry) (e : Entry) → history_seen (h ++ e ∷ []) ≡ hi
 seen_more h e = flat_map-append entry_seen h (e ∷ []) ∙ ap (λ (x : List machine.Entry). history_seen h ++ x) (append-nil (entry_seen e))
 
 -- the parts of what followed, put together
-followed : (old new : List EngineState) (d : List (ℕ × List ℕ)) (h : List Entry) (rank : ℕ) (e : Endpoint) (event : Event) (gave : Gave) (mid next : EngineState) (seen : List machine.Entry) →
-    LeavesFollowed (length old) old d rank mid (history_seen h ++ seen) → next ≡ emptied mid → new ≡ slice_set old rank next → gave.out ≡ mid.out → seen ≡ entry_seen (entry_of e event gave) →
-    IsFollowed (length new) new (d ++ gave.out) (history_seen (h ++ entry_of e event gave ∷ []))
-followed old new d h rank e event gave mid next seen f state others out is =
+followed : (old new : List EngineState) (d : List (ℕ × List ℕ)) (h : List Entry) (rank : ℕ) (event : Event) (gave : Gave) (mid next : EngineState) (seen : List machine.Entry) →
+    LeavesFollowed (length old) old d rank mid (history_seen h ++ seen) → next ≡ emptied mid → new ≡ slice_set old rank next → gave.out ≡ mid.out → seen ≡ entry_seen (entry_of event gave) →
+    IsFollowed (length new) new (d ++ gave.out) (history_seen (h ++ entry_of event gave ∷ []))
+followed old new d h rank event gave mid next seen f state others out is =
     let engines_are : new ≡ slice_set old rank (emptied mid) = others ∙ ap (slice_set old rank) state in
     let size_is : length new ≡ length old = ap length engines_are ∙ length-set old rank (emptied mid) in
-    let history_is : history_seen (h ++ entry_of e event gave ∷ []) ≡ history_seen h ++ seen =
-    seen_more h (entry_of e event gave) ∙ ap (λ (x : List machine.Entry). history_seen h ++ x) (sym is) in
+    let history_is : history_seen (h ++ entry_of event gave ∷ []) ≡ history_seen h ++ seen =
+    seen_more h (entry_of event gave) ∙ ap (λ (x : List machine.Entry). history_seen h ++ x) (sym is) in
     subst (λ (x : List machine.Entry). IsFollowed (length new) new (d ++ gave.out) x) (sym history_is)
     (subst (λ (x : List (ℕ × List ℕ)). IsFollowed (length new) new (d ++ x) (history_seen h ++ seen)) (sym out)
     (subst (λ (x : List EngineState). IsFollowed (length new) x (d ++ mid.out) (history_seen h ++ seen)) (sym engines_are)
     (subst (λ (m : ℕ). IsFollowed m (slice_set old rank (emptied mid)) (d ++ mid.out) (history_seen h ++ seen)) (sym size_is) f)))
 
--- what an event that went on at a rank leaves, by what its history says of it
-abbrev Leaves : (new : List EngineState) (d : List (ℕ × List ℕ)) (h : List Entry) → Endpoint → Event → Gave → Type 0
-Leaves new d h e event gave = IsFollowed (length new) new (d ++ gave.out) (history_seen (h ++ entry_of e event gave ∷ []))
+-- what an event that the engine of a rank took leaves, by what the history says of it
+abbrev Leaves : (new : List EngineState) (d : List (ℕ × List ℕ)) (h : List Entry) → Event → Gave → Type 0
+Leaves new d h event gave = IsFollowed (length new) new (d ++ gave.out) (history_seen (h ++ entry_of event gave ∷ []))
+
+-- an engine of a world that was followed so far, and what stands for it afterwards
+record IsEngineOf (old new : List EngineState) (d : List (ℕ × List ℕ)) (h : List Entry) (rank : ℕ) (e next : EngineState) : Type 0 where
+  pub before : IsFollowed (length old) old d (history_seen h)
+  pub there : slice_get old rank ≡ Some e
+  pub others : new ≡ slice_set old rank next
+
+-- what is seen of an answer, at the endpoint that the engine was
+completion_at : (e : EngineState) (mid : EngineState) (gave : Gave) → gave.endpoint ≡ e.place.endpoint → gave.completion ≡ mid.completion →
+    told_completion e.place.endpoint mid.completion ≡ told_completion gave.endpoint gave.completion
+completion_at e mid gave endpoint completion =
+    ap (λ (o : Option Outcome). told_completion e.place.endpoint o) (sym completion) ∙ ap (λ (x : Endpoint). told_completion x gave.completion) (sym endpoint)
 
 -- ---- a call
 
-call_followed : (old new : List EngineState) (d : List (ℕ × List ℕ)) (h : List Entry) (rank : ℕ) (call : Call) (gave : Gave) →
-    IsFollowed (length old) old d (history_seen h) → (r : RanAt (λ e. RanCall e call) old rank (Ok gave) new) →
-    Leaves new d h r.engine.place.endpoint (events.Call rank call) gave
-call_followed old new d h rank call gave f r = go gave.reply refl
+call_followed : (old new : List EngineState) (d : List (ℕ × List ℕ)) (h : List Entry) (rank r : ℕ) (call : Call) (e next : EngineState) (gave : Gave) →
+    IsEngineOf old new d h rank e next → CallRuns e call (Ok gave) next → Leaves new d h (events.Call r call) gave
+call_followed old new d h rank r call e next gave at ran = go gave.reply refl
   where
-    go : (o : Option Reply) → gave.reply ≡ o → Leaves new d h r.engine.place.endpoint (events.Call rank call) gave
-    go None is = absurd (subst (λ (o : Option Reply). Answers r.engine call o r.ran.mid) is r.ran.event)
+    go : (o : Option Reply) → gave.reply ≡ o → Leaves new d h (events.Call r call) gave
+    go None is = absurd (subst (λ (o : Option Reply). TakesCall e call o ran.mid) is ran.event)
     go (Some reply) is =
-        let e : Endpoint = r.engine.place.endpoint in
-        let a = subst (λ (o : Option Reply). Answers r.engine call o r.ran.mid) is r.ran.event in
-        followed old new d h rank e (events.Call rank call) gave r.ran.mid r.next
-        (told_call e call (Some reply) ++ told_completion e r.ran.mid.completion)
-        (calls_follow (length old) rank old d (history_seen h) r.engine r.ran.mid call reply f r.there a.1 a.0 a.2)
-        r.ran.state r.others r.ran.out
-        (ap (λ (o : Option Reply). told_call e call o ++ told_completion e r.ran.mid.completion) (sym is)
-        ∙ ap (λ (o : Option Outcome). told_call e call gave.reply ++ told_completion e o) (sym r.ran.completion))
+        let a = subst (λ (o : Option Reply). TakesCall e call o ran.mid) is ran.event in
+        followed old new d h rank (events.Call r call) gave ran.mid next
+        (told_call e.place.endpoint call (Some reply) ++ told_completion e.place.endpoint ran.mid.completion)
+        (calls_follow (length old) rank old d (history_seen h) e ran.mid call reply at.before at.there a.1 a.0 a.2)
+        ran.state at.others ran.out
+        (ap (λ (o : Option Reply). told_call e.place.endpoint call o ++ told_completion e.place.endpoint ran.mid.completion) (sym is)
+        ∙ ap (λ (es : List machine.Entry). told_call e.place.endpoint call gave.reply ++ es) (completion_at e ran.mid gave ran.endpoint ran.completion)
+        ∙ ap (λ (x : Endpoint). told_call x call gave.reply ++ told_completion gave.endpoint gave.completion) (sym ran.endpoint))
 
 -- ---- a datagram
 
-datagram_followed : (old new : List EngineState) (d : List (ℕ × List ℕ)) (h : List Entry) (number rank : ℕ) (bytes : List ℕ) (gave : Gave) →
-    IsFollowed (length old) old d (history_seen h) → slice_get d number ≡ Some (rank, bytes) → (r : RanAt (λ e. RanDatagram e bytes) old rank (Ok gave) new) →
-    Leaves new d h r.engine.place.endpoint (events.Deliver number) gave
-datagram_followed old new d h number rank bytes gave f emitted r = go gave.reply refl
+datagram_followed : (old new : List EngineState) (d : List (ℕ × List ℕ)) (h : List Entry) (number rank : ℕ) (bytes : List ℕ) (e next : EngineState) (gave : Gave) →
+    IsEngineOf old new d h rank e next → slice_get d number ≡ Some (rank, bytes) → DatagramRuns e bytes (Ok gave) next →
+    Leaves new d h (events.Deliver number) gave
+datagram_followed old new d h number rank bytes e next gave at emitted ran = go gave.reply refl
   where
-    go : (o : Option Reply) → gave.reply ≡ o → Leaves new d h r.engine.place.endpoint (events.Deliver number) gave
-    go (Some reply) is = absurd (subst (λ (o : Option Reply). TakesIn r.engine bytes o r.ran.mid) is r.ran.event)
+    go : (o : Option Reply) → gave.reply ≡ o → Leaves new d h (events.Deliver number) gave
+    go (Some reply) is = absurd (subst (λ (o : Option Reply). TakesBytes e bytes o ran.mid) is ran.event)
     go None is =
-        let e : Endpoint = r.engine.place.endpoint in
-        followed old new d h rank e (events.Deliver number) gave r.ran.mid r.next
-        (told_completion e r.ran.mid.completion)
-        (datagrams_follow (length old) rank number bytes old d (history_seen h) r.engine r.ran.mid f r.there emitted
-        (subst (λ (o : Option Reply). TakesIn r.engine bytes o r.ran.mid) is r.ran.event))
-        r.ran.state r.others r.ran.out
-        (ap (λ (o : Option Outcome). told_completion e o) (sym r.ran.completion))
+        followed old new d h rank (events.Deliver number) gave ran.mid next
+        (told_completion e.place.endpoint ran.mid.completion)
+        (datagrams_follow (length old) rank number bytes old d (history_seen h) e ran.mid at.before at.there emitted
+        (subst (λ (o : Option Reply). TakesBytes e bytes o ran.mid) is ran.event))
+        ran.state at.others ran.out (completion_at e ran.mid gave ran.endpoint ran.completion)
+
+-- by the datagram under the number, which goes to the rank that the delivery comes to
+delivery_followed : (old new : List EngineState) (d : List (ℕ × List ℕ)) (h : List Entry) (number rank : ℕ) (e next : EngineState) (gave : Gave) →
+    IsEngineOf old new d h rank e next → target_of d (events.Deliver number) ≡ Some rank → DeliveryRuns (slice_get d number) e (Ok gave) next →
+    Leaves new d h (events.Deliver number) gave
+delivery_followed old new d h number rank e next gave at target ran = go (slice_get d number) refl target ran
+  where
+    go : (o : Option (ℕ × List ℕ)) → slice_get d number ≡ o → option_map (λ (t : ℕ × List ℕ). t.0) o ≡ Some rank → DeliveryRuns o e (Ok gave) next →
+        Leaves new d h (events.Deliver number) gave
+    go None is t n = absurd n
+    go (Some (to, bytes)) is t n =
+        let to_is : to ≡ rank = same_Some to rank t in
+        datagram_followed old new d h number rank bytes e next gave at (is ∙ ap (λ (x : ℕ). Some (x, bytes)) to_is) n
 
 -- ---- a tick
 
-tick_followed : (old new : List EngineState) (d : List (ℕ × List ℕ)) (h : List Entry) (rank now : ℕ) (gave : Gave) →
-    IsFollowed (length old) old d (history_seen h) → (r : RanAt (λ e. RanTick e now) old rank (Ok gave) new) →
-    Leaves new d h r.engine.place.endpoint (events.Tick rank now) gave
-tick_followed old new d h rank now gave f r = go gave.reply refl
+tick_followed : (old new : List EngineState) (d : List (ℕ × List ℕ)) (h : List Entry) (rank r now : ℕ) (e next : EngineState) (gave : Gave) →
+    IsEngineOf old new d h rank e next → TickRuns e now (Ok gave) next → Leaves new d h (events.Tick r now) gave
+tick_followed old new d h rank r now e next gave at ran = go gave.reply refl
   where
-    go : (o : Option Reply) → gave.reply ≡ o → Leaves new d h r.engine.place.endpoint (events.Tick rank now) gave
-    go (Some reply) is = absurd (subst (λ (o : Option Reply). Ticks r.engine now o r.ran.mid) is r.ran.event)
+    go : (o : Option Reply) → gave.reply ≡ o → Leaves new d h (events.Tick r now) gave
+    go (Some reply) is = absurd (subst (λ (o : Option Reply). TakesTime e now o ran.mid) is ran.event)
     go None is =
-        let e : Endpoint = r.engine.place.endpoint in
-        followed old new d h rank e (events.Tick rank now) gave r.ran.mid r.next
-        (told_completion e r.ran.mid.completion)
-        (ticks_follow (length old) rank now old d (history_seen h) r.engine r.ran.mid f r.there
-        (subst (λ (o : Option Reply). Ticks r.engine now o r.ran.mid) is r.ran.event))
-        r.ran.state r.others r.ran.out
-        (ap (λ (o : Option Outcome). told_completion e o) (sym r.ran.completion))
+        followed old new d h rank (events.Tick r now) gave ran.mid next
+        (told_completion e.place.endpoint ran.mid.completion)
+        (ticks_follow (length old) rank now old d (history_seen h) e ran.mid at.before at.there
+        (subst (λ (o : Option Reply). TakesTime e now o ran.mid) is ran.event))
+        ran.state at.others ran.out (completion_at e ran.mid gave ran.endpoint ran.completion)
 
 -- ---- a restart
 
-restart_followed : (old new : List EngineState) (d : List (ℕ × List ℕ)) (h : List Entry) (rank : ℕ) (gave : Gave) →
-    IsFollowed (length old) old d (history_seen h) → (r : RanAt RanRestart old rank (Ok gave) new) →
-    Leaves new d h r.engine.place.endpoint (events.Restart rank) gave
-restart_followed old new d h rank gave f r =
-    let e : Endpoint = r.engine.place.endpoint in
-    let next : EngineState = opening (next_place r.engine.place) in
-    let engines_are : new ≡ slice_set old rank next = r.others ∙ ap (slice_set old rank) r.ran.1 in
-    let size_is : length new ≡ length old = ap length engines_are ∙ length-set old rank next in
-    let none : Gave = record { out = []; reply = None; completion = None } in
-    let done : IsFollowed (length old) (slice_set old rank next) d (history_seen h ++ machine.Restarted rank ∷ []) =
-    restarts_follow (length old) rank old d (history_seen h) r.engine f r.there (below_last (length old) old d (history_seen h) rank r.engine f r.there r.ran.0)
+restart_followed : (old new : List EngineState) (d : List (ℕ × List ℕ)) (h : List Entry) (rank : ℕ) (e next : EngineState) (gave : Gave) →
+    IsEngineOf old new d h rank e next → RestartRuns e (Ok gave) next → Leaves new d h (events.Restart rank) gave
+restart_followed old new d h rank e next gave at ran =
+    let after : EngineState = opening (next_place e.place) in
+    let engines_are : new ≡ slice_set old rank after = at.others ∙ ap (slice_set old rank) ran.1 in
+    let size_is : length new ≡ length old = ap length engines_are ∙ length-set old rank after in
+    let none : Gave = nothing_of e.place.endpoint in
+    let done : IsFollowed (length old) (slice_set old rank after) d (history_seen h ++ machine.Restarted rank ∷ []) =
+    restarts_follow (length old) rank old d (history_seen h) e at.before at.there (below_last (length old) old d (history_seen h) rank e at.before at.there ran.0)
     in
     let there : IsFollowed (length new) new d (history_seen h ++ machine.Restarted rank ∷ []) =
     subst (λ (x : List EngineState). IsFollowed (length new) x d (history_seen h ++ machine.Restarted rank ∷ [])) (sym engines_are)
-    (subst (λ (m : ℕ). IsFollowed m (slice_set old rank next) d (history_seen h ++ machine.Restarted rank ∷ [])) (sym size_is) done)
+    (subst (λ (m : ℕ). IsFollowed m (slice_set old rank after) d (history_seen h ++ machine.Restarted rank ∷ [])) (sym size_is) done)
     in
-    subst (λ (g : Gave). Leaves new d h e (events.Restart rank) g) (sym r.ran.2)
-    (subst (λ (x : List machine.Entry). IsFollowed (length new) new (d ++ []) x) (sym (seen_more h (entry_of e (events.Restart rank) none)))
+    subst (λ (g : Gave). Leaves new d h (events.Restart rank) g) (sym ran.2)
+    (subst (λ (x : List machine.Entry). IsFollowed (length new) new (d ++ []) x) (sym (seen_more h (entry_of (events.Restart rank) none)))
     (subst (λ (x : List (ℕ × List ℕ)). IsFollowed (length new) new x (history_seen h ++ machine.Restarted rank ∷ [])) (sym (append-nil d)) there))
 
 -- ---- any event
 
-event_followed : (old new : List EngineState) (d : List (ℕ × List ℕ)) (h : List Entry) (event : Event) (e : Endpoint) (gave : Gave) →
-    IsFollowed (length old) old d (history_seen h) → EventGives old d event (Ok (e, gave)) new → Leaves new d h e event gave
-event_followed old new d h (events.Call r call) e gave f g =
-    subst (λ (x : Endpoint). Leaves new d h x (events.Call r call) gave) (sym g.1) (call_followed old new d h r call gave f g.0)
-event_followed old new d h (events.Deliver number) e gave f g = go (slice_get d number) refl g
-  where
-    go : (o : Option (ℕ × List ℕ)) → slice_get d number ≡ o → NumberGives o old (Ok (e, gave)) new → Leaves new d h e (events.Deliver number) gave
-    go None is n = absurd n
-    go (Some (r, bytes)) is n =
-        subst (λ (x : Endpoint). Leaves new d h x (events.Deliver number) gave) (sym n.1) (datagram_followed old new d h number r bytes gave f is n.0)
-event_followed old new d h (events.Stray r bytes) e gave f g = absurd g
-event_followed old new d h (events.Tick r now) e gave f g =
-    subst (λ (x : Endpoint). Leaves new d h x (events.Tick r now) gave) (sym g.1) (tick_followed old new d h r now gave f g.0)
-event_followed old new d h (events.Restart r) e gave f g =
-    subst (λ (x : Endpoint). Leaves new d h x (events.Restart r) gave) (sym g.1) (restart_followed old new d h r gave f g.0)
+-- the fault of an event by what a world's size and its datagrams equal
+pub fault_as : (size n : ℕ) (d d' : List (ℕ × List ℕ)) (event : Event) (o : Option Refused) → size ≡ n → d ≡ d' → event_fault size d event ≡ o → event_fault n d' event ≡ o
+fault_as size n d d' event o size_is d_is h =
+    subst (λ (m : ℕ). event_fault m d' event ≡ o) size_is (subst (λ (x : List (ℕ × List ℕ)). event_fault size x event ≡ o) d_is h)
 
-pub event_sound : (old new : List EngineState) (d : List (ℕ × List ℕ)) (h : List Entry) (event : Event) (e : Endpoint) (gave : Gave) →
-    IsSound old d h → EventGives old d event (Ok (e, gave)) new → IsWorld new → IsSound new (d ++ gave.out) (h ++ entry_of e event gave ∷ [])
-event_sound old new d h event e gave s g w = record { world = w; followed = event_followed old new d h event e gave s.followed g }
+-- stray bytes always break a rule
+pub stray_breaks : (size : ℕ) (d : List (ℕ × List ℕ)) (r : ℕ) (bytes : List ℕ) → event_fault size d (events.Stray r bytes) ≡ None → ⊥
+stray_breaks size d r bytes none = go (target_fault size (Some r)) none
+  where
+    go : (o : Option Refused) → first_fault o (Some (stray_fault bytes)) ≡ None → ⊥
+    go None h = absurd cc
+    go (Some fault) h = absurd cc
+
+event_followed : (old new : List EngineState) (d : List (ℕ × List ℕ)) (h : List Entry) (event : Event) (rank : ℕ) (e next : EngineState) (gave : Gave) →
+    IsEngineOf old new d h rank e next → event_fault (length old) d event ≡ None → target_of d event ≡ Some rank → EventRuns d event e (Ok gave) next → Leaves new d h event gave
+event_followed old new d h (events.Call r call) rank e next gave at allowed target ran = call_followed old new d h rank r call e next gave at ran
+event_followed old new d h (events.Deliver number) rank e next gave at allowed target ran = delivery_followed old new d h number rank e next gave at target ran
+event_followed old new d h (events.Stray r bytes) rank e next gave at allowed target ran = absurd (stray_breaks (length old) d r bytes allowed)
+event_followed old new d h (events.Tick r now) rank e next gave at allowed target ran = tick_followed old new d h rank r now e next gave at ran
+event_followed old new d h (events.Restart r) rank e next gave at allowed target ran =
+    subst (λ (x : ℕ). Leaves new d h (events.Restart x) gave) (sym (same_Some r rank target)) (restart_followed old new d h rank e next gave at ran)
+
+pub event_sound : (old new : List EngineState) (d : List (ℕ × List ℕ)) (h : List Entry) (event : Event) (gave : Gave) →
+    IsSound old d h → event_fault (length old) d event ≡ None → RanAt d event old (Ok gave) new → IsWorld new → IsSound new (d ++ gave.out) (h ++ entry_of event gave ∷ [])
+event_sound old new d h event gave s allowed ran w =
+    record {
+      world = w;
+      followed = event_followed old new d h event ran.rank ran.engine ran.next gave (record { before = s.followed; there = ran.there; others = ran.others }) allowed ran.target ran.ran;
+    }

@@ -1,7 +1,8 @@
 -- Why an engine of a world would refuse the bytes that the world refuses as stray ones.
-use Rattle.std.proofs.Common.{◌≡◌, ℕ, Bool, true, false, List, length, Result, refl, sym, ap, subst, ◌∙◌, arith, inl, inr}
-use Rattle.std.specs.Prelude.{Ok, Err, ◌==◌, ◌&&◌, nat_le, if◌then◌else◌}
-use Rattle.std.proofs.lemmas.Bool.{leb-false, leb-true, le-leb}
+use Rattle.std.proofs.Common.{◌≡◌, ℕ, ◌<◌, Bool, true, false, List, length, Some, None, Result, refl, sym, ap, subst, ◌∙◌, arith}
+use Rattle.std.specs.Prelude.{Ok, Err, ◌==◌, ◌&&◌, nat_le, slice_get, if◌then◌else◌}
+use Rattle.std.proofs.lemmas.Option.{same_Some, slice_get_within}
+use Rattle.std.proofs.lemmas.Bool.{le-leb, leb-true, lt-leb}
 use Rattle.std.proofs.lemmas.Grind.{common_steps}
 use Rattle.datagram.specs.declared.datagram.Header.{Header}
 use Rattle.datagram.specs.declared.refused.Refused as reading
@@ -16,15 +17,17 @@ use Rattle.incarnation.specs.Judging.{judgement}
 use Rattle.incarnation.specs.Knowing.{Knowledge}
 use Rattle.engine.specs.Datagrams.{JudgedGives, TextGives}
 use Rattle.engine.specs.EngineState.{EngineState, knowledge}
-use Rattle.engine.specs.Refusals.{of_datagram}
-use Rattle.engine.specs.declared.refused.Refused as lower
-use Rattle.engine.specs.declared.refused.Refused.TheVariants as lowers
-use Rattle.proof_link_truth.proofs.Lists.{get_within}
+use Rattle.rank_core.specs.Refusals.{of_datagram}
+use Rattle.rank_core.specs.declared.refused.Refused as lower
+use Rattle.rank_core.specs.declared.refused.Refused.TheVariants as lowers
 use Rattle.world.specs.declared.refused.Refused.{Refused}
 use Rattle.world.specs.declared.refused.Refused.TheVariants.{CarriesJob, Engine, NoSuchRank}
-use Rattle.world.specs.Steps.{Denial, IsPlain, StrayGives}
+use Rattle.world.specs.Faults.{event_fault, first_fault}
+use Rattle.world.specs.Steps.{ByTheEngine, ByTheWorld, ForRoom, IsAsAtTheEngine, IsWhy}
 use Rattle.world.specs.Strays.{EngineRefuses, carries_job, fault_of_text, stray_fault}
-use Rattle.world.specs.WorldState.{ArePlaced}
+use Rattle.world.specs.WorldState.{ArePlaced, WorldState}
+use Rattle.world.specs.declared.event.Event.{Event}
+use Rattle.world.specs.declared.event.Event.TheVariants as events
 
 -- a datagram has a whole header, and its job is what bytes 16 to 23 spell
 header_read : (bytes : List ℕ) (d : DatagramText) → datagram_of bytes ≡ Ok d → (nat_le 24 (length bytes) ≡ true) × (d.header.job ≡ number_at 16 8 bytes)
@@ -66,16 +69,30 @@ stray_refused e bytes job other result new gives =
         subst (λ (j : Result Judgement judging.Refused). JudgedGives {X = Unit {0}} j e d result new) (foreign (knowledge e) d.header apart) g in
         (given.1, (lowers.ForeignJob, given.0, refl))
 
--- what the world answers stray bytes
-pub stray_gives : (old : List EngineState) (size rank : ℕ) (bytes : List ℕ) (denial : Denial) → size ≡ length old → ArePlaced old →
-    IsPlain denial (if nat_le size rank then NoSuchRank else stray_fault bytes) → StrayGives old rank bytes (Err denial) old
-stray_gives old size rank bytes denial size_is placed plain = go (nat_le size rank) refl plain
+-- the fault of stray bytes at a rank that is there
+stray_fault_there : (size : ℕ) (d : List (ℕ × List ℕ)) (rank : ℕ) (bytes : List ℕ) → rank < size → event_fault size d (events.Stray rank bytes) ≡ Some (stray_fault bytes)
+stray_fault_there size d rank bytes inside =
+    ap (λ (b : Bool). first_fault (if b then Some NoSuchRank else None) (Some (stray_fault bytes))) (lt-leb size rank inside)
+
+-- what is answered stray bytes at a rank that is there
+stray_alike : (old : WorldState) (r : ℕ) (bytes : List ℕ) (why : Refused) (out : List (ℕ × List ℕ)) (e : EngineState) → ArePlaced old.engines → IsWhy old (events.Stray r bytes) why out →
+    slice_get old.engines r ≡ Some e → carries_job bytes ≡ false → EngineRefuses e bytes why
+stray_alike old r bytes why out e placed is there other = go is
   where
-    go : (b : Bool) → nat_le size rank ≡ b → IsPlain denial (if b then NoSuchRank else stray_fault bytes) → StrayGives old rank bytes (Err denial) old
-    go true is p =
-        let beyond = leb-true _ _ is in
-        (refl, inl (omega (arith, size_is, beyond), p))
-    go false is p =
-        let inside = leb-false _ _ is in
-        let found = get_within old rank (omega (arith, size_is, inside)) in
-        (refl, inr (record { engine = found.0; there = found.1; plain = p; alike = stray_refused found.0 bytes (placed rank found.0 found.1).job }))
+    fault_is : event_fault (length old.engines) old.datagrams (events.Stray r bytes) ≡ Some (stray_fault bytes)
+    fault_is = stray_fault_there (length old.engines) old.datagrams r bytes (slice_get_within old.engines r e there)
+
+    go : IsWhy old (events.Stray r bytes) why out → EngineRefuses e bytes why
+    go (ByTheWorld fault silent) =
+        subst (λ (x : Refused). EngineRefuses e bytes x) (same_Some (stray_fault bytes) why (sym fault_is ∙ fault)) (stray_refused e bytes (placed r e there).job other)
+    go (ForRoom none needs room silent) = let clash : Some (stray_fault bytes) ≡ None = sym fault_is ∙ none in absurd cc
+    go (ByTheEngine refusal none refused gives ran) = let clash : Some (stray_fault bytes) ≡ None = sym fault_is ∙ none in absurd cc
+
+-- whatever is answered stray bytes is what the engine of their rank would answer
+pub alike_at_engine : (old : WorldState) (event : Event) (why : Refused) (out : List (ℕ × List ℕ)) → ArePlaced old.engines → IsWhy old event why out →
+    IsAsAtTheEngine old.engines event why
+alike_at_engine old (events.Call r call) why out placed is = tt
+alike_at_engine old (events.Deliver number) why out placed is = tt
+alike_at_engine old (events.Tick r now) why out placed is = tt
+alike_at_engine old (events.Restart r) why out placed is = tt
+alike_at_engine old (events.Stray r bytes) why out placed is = λ e there other. stray_alike old r bytes why out e placed is there other

@@ -1,21 +1,28 @@
 -- The headline: what is seen of a world is a run of the machine of perfect queues.
+--
+-- Its words, and where they stand: the machine's `IsRun`, `after_run`, `seen` (perfect_queues, Runs), `fault` (Refusals) and
+-- `IsAtRest` (Quiet); what is seen of a call, its reply and a completion, `call_seen`, `call_meant`, `told_call` and
+-- `told_completion` (proof_engine_view, Seen); why a call is refused or has no fault, `IsReason` and `IsFaultless`
+-- (proof_engine_steps, Refused); when a world is quiet, `AreQuiet` (proof_link_truth, Events); the links and what sessions and
+-- datagrams tell of them, `Links` (Sessions) and `AreTrue` (Truth, with Told and Witness). That a world is sound, `IsSound`
+-- below, is what its proofs carry from event to event
 use Rattle.std.specs.Prelude.{◌≡◌, ℕ, ◌≤◌, false, List, [], ◌∷◌, ◌++◌, length, Option, Some, flat_map, ◌==◌, slice_get, slice_index}
 use Rattle.vocabulary.specs.declared.endpoint.Endpoint.{Endpoint}
 use Rattle.engine.specs.EngineState.{EngineState}
-use Rattle.engine.specs.Peers.{peer_at}
+use Rattle.sessions.specs.Peers.{peer_at}
 use Rattle.reliable_link.specs.SenderState.{SenderState, next_number}
-use Rattle.engine.specs.Calls.{CallGives}
-use Rattle.engine.specs.declared.call.Call.{Call}
-use Rattle.engine.specs.declared.call.Reply.{Reply}
-use Rattle.engine.specs.declared.call.Reply.TheVariants as replies
-use Rattle.engine.specs.declared.refused.Refused.{Refused}
+use Rattle.engine.specs.Calls.{CallGives, IsTaken}
+use Rattle.rank_core.specs.declared.call.Call.{Call}
+use Rattle.rank_core.specs.declared.call.Reply.{Reply}
+use Rattle.rank_core.specs.declared.call.Reply.TheVariants as replies
+use Rattle.rank_core.specs.declared.refused.Refused.{Refused}
 use Rattle.perfect_queues.specs.Events as machine
 use Rattle.perfect_queues.specs.Quiet.{IsAtRest}
 use Rattle.perfect_queues.specs.Refusals.{fault}
 use Rattle.perfect_queues.specs.Runs.{IsRun, after_run, seen}
 use Rattle.perfect_queues.specs.State.{opening}
-use Rattle.proof_engine_steps.specs.Refused.{IsReason}
-use Rattle.proof_engine_view.specs.Seen.{call_seen, told_call, told_completion}
+use Rattle.proof_engine_steps.specs.Refused.{IsFaultless, IsReason}
+use Rattle.proof_engine_view.specs.Seen.{call_meant, call_seen, told_call, told_completion}
 use Rattle.proof_link_truth.specs.Events.{AreQuiet}
 use Rattle.proof_link_truth.specs.Sessions.{Links}
 use Rattle.proof_link_truth.specs.Truth.{AreTrue}
@@ -43,7 +50,8 @@ history_seen entries = flat_map entry_seen entries
 
 -- THE HEADLINE. There is a run of the machine of perfect queues, among as many ranks, whose visible history is the world's.
 -- It ends with each rank at the incarnation of its engine, which knows there what its engine knows; a call that its engine
--- refuses has a reason there; and where the world is quiet, the run has come to a state that meets the machine's quiet clause
+-- refuses has a reason there, and one that it takes has no fault; and where the world is quiet, the run has come to a state
+-- that meets the machine's quiet clause
 pub record IsRunOfPerfectQueues (w : WorldState) : Type 0 where
   pub run_events : List machine.Event
   pub run : IsRun (length w.engines) opening run_events
@@ -54,17 +62,25 @@ pub record IsRunOfPerfectQueues (w : WorldState) : Type 0 where
   pub knows :
       (r : ℕ) (e : EngineState) → slice_get w.engines r ≡ Some e → (x : ℕ) →
       ((after_run opening run_events).at e.place.endpoint).known x ≡ slice_index e.known x
-  -- a call that the engine refuses has the machine's first fault, by its number; or the machine finds none, and a limit was
-  -- reached or memory was wanting; or the engine is narrower for now, whatever the machine finds
+  -- a call that the engine refuses has the machine's first fault, by its number; or the machine finds none, and the number is
+  -- 13 or 14; or the engine is narrower for now, whatever the machine finds (`IsReason`). A request of another engine is there
+  -- one that was never given (`call_meant`)
   pub refuses :
       (r : ℕ) (e mid : EngineState) (call back : Call) (why : Refused) → slice_get w.engines r ≡ Some e →
       CallGives e call (replies.Refused why back) mid →
-      IsReason (fault (length w.engines) ((after_run opening run_events).at e.place.endpoint) (call_seen call)) e call why
+      IsReason (fault (length w.engines) ((after_run opening run_events).at e.place.endpoint) (call_meant e call)) call why
+  -- a call that the engine takes names no request of another engine, and the machine finds no fault with it
+  pub takes :
+      (r : ℕ) (e mid : EngineState) (call : Call) (reply : Reply) → slice_get w.engines r ≡ Some e → IsTaken reply →
+      CallGives e call reply mid →
+      IsFaultless (fault (length w.engines) ((after_run opening run_events).at e.place.endpoint) (call_seen call)) e call
   pub quiet : AreQuiet w.engines → IsAtRest (after_run opening run_events)
 
 -- THE LAW OF A SESSION, for all sessions that ever were. For each two endpoints there are the frames that the one's side
 -- accepted, and how many of them were handed up at the other: a beginning. Each engine's sessions hold just these, all below
--- a sender's lowest unacknowledged number was handed up, and every datagram ever emitted tells the truth of them
+-- a sender's lowest unacknowledged number was handed up, and every datagram ever emitted tells the truth of them. Of former
+-- endpoints, which no engine holds any more, the datagrams pin them: where a frame was handed up, an acknowledgement of just so
+-- many was emitted, and so was each of them
 pub record SessionsAreTrue (w : WorldState) : Type 0 where
   pub links : Links
   pub current : ℕ → ℕ

@@ -1,7 +1,8 @@
 pub mod Refusals
 pub mod WorldState
-pub mod Steps
 pub mod Strays
-pub mod Views
+pub mod Faults
 pub mod Headline
+pub mod Steps
+pub mod Views
 pub mod Quiet

@@ -1,7 +1,7 @@
 -- When an engine is quiet towards another one.
 use Rattle.std.specs.Prelude.{◌≡◌, true, List, All, slice_index}
 use Rattle.engine.specs.EngineState.{EngineState}
-use Rattle.engine.specs.Peers.{IsIdlePeer, peer_at}
+use Rattle.sessions.specs.Peers.{IsIdlePeer, peer_at}
 use Rattle.incarnation.specs.Judging.{is_other}
 
 -- e's session with d holds no frame, if they are different ranks of one job that know each other as they are now

@@ -1,9 +1,10 @@
--- The number of each refusal.
+-- The numbers under which a world refuses.
 use Rattle.std.specs.Prelude.{ℕ}
-use Rattle.engine.specs.Refusals as lower
+use Rattle.rank_core.specs.Refusals as lower
 use Rattle.world.specs.declared.refused.Refused.{Refused}
 use Rattle.world.specs.declared.refused.Refused.TheVariants.{Engine, NoSuchRank, NoSuchDatagram, CarriesJob}
 
+-- the number of a refusal; an engine's is its own
 abbrev pub number_of_refusal : Refused → ℕ
 number_of_refusal (Engine e) = lower.number_of_refusal e
 number_of_refusal NoSuchRank = 61

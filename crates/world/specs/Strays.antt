@@ -5,21 +5,22 @@ use Rattle.datagram.specs.Spelling.{DatagramText}
 use Rattle.datagram.specs.Reading.{datagram_of, number_at}
 use Rattle.engine.specs.Datagrams.{DatagramGives}
 use Rattle.engine.specs.EngineState.{EngineState}
-use Rattle.engine.specs.declared.refused.Refused as lower
-use Rattle.engine.specs.declared.refused.Refused.TheVariants as engines
-use Rattle.engine.specs.Refusals.{of_datagram}
+use Rattle.rank_core.specs.declared.refused.Refused as lower
+use Rattle.rank_core.specs.declared.refused.Refused.TheVariants as engines
+use Rattle.rank_core.specs.Refusals.{of_datagram}
 use Rattle.world.specs.declared.refused.Refused.{Refused}
 use Rattle.world.specs.declared.refused.Refused.TheVariants.{Engine, CarriesJob}
 
--- bytes 16 to 23 are there, and spell the world's job number
+-- whether bytes 16 to 23 are there, and spell the world's job number
 abbrev pub carries_job : List ℕ → Bool
 carries_job bytes = nat_le 24 (length bytes) && (number_at 16 8 bytes == 1)
 
+-- why bytes of another job than the world's are refused, by what they spell: they spell no datagram, or one of another job
 abbrev pub fault_of_text : Result DatagramText lowest.Refused → Refused
 fault_of_text (Err e) = Engine (of_datagram e)
 fault_of_text (Ok d) = Engine engines.ForeignJob
 
--- they carry the world's job number; or they spell no datagram; or one of another job
+-- why stray bytes are refused: they carry the world's job number (63), or by what they spell
 abbrev pub stray_fault : List ℕ → Refused
 stray_fault bytes = if carries_job bytes then CarriesJob else fault_of_text (datagram_of bytes)
 

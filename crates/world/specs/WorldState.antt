@@ -1,5 +1,5 @@
 -- A world: its engines, every datagram that they emitted, and what happened.
-use Rattle.std.specs.Prelude.{◌≡◌, ℕ, ◌≤◌, Bool, ◌||◌, ◌==◌, nat_lt, List, [], length, All, Some, slice_get}
+use Rattle.std.specs.Prelude.{◌≡◌, ℕ, ◌*◌, ◌+◌, ◌<◌, ◌≤◌, Bool, ◌||◌, ◌==◌, nat_lt, List, [], length, All, Some, slice_get}
 use Rattle.engine.specs.EngineState.{EngineState}
 use Rattle.proof_link_truth.specs.Events.{opening_engines}
 use Rattle.proof_network_bridge.specs.Joined.{IsClean}
@@ -11,6 +11,14 @@ pub record WorldState : Type 0 where
   -- each datagram's target rank and bytes, by its number
   pub datagrams : List (ℕ × List ℕ)
   pub history : List Entry
+  -- for how many datagrams and entries there is room, those that are there included
+  pub datagram_room : ℕ
+  pub entry_room : ℕ
+
+-- there is room for what one event may add: 64 datagrams for each rank, and an entry
+pub record HasRoom (w : WorldState) : Type 0 where
+  pub datagrams : length w.datagrams + 64 * length w.engines ≤ w.datagram_room
+  pub entries : length w.history + 1 ≤ w.entry_room
 
 -- no world has so many ranks: 1 to 256 it has
 abbrev pub is_outside : ℕ → Bool
@@ -18,11 +26,17 @@ is_outside n = (n == 0) || nat_lt 256 n
 
 -- a world of n ranks in which nothing happened yet
 abbrev pub opening_world : ℕ → WorldState
-opening_world n = record { engines = opening_engines n 0 n; datagrams = []; history = [] }
+opening_world n = record { engines = opening_engines n 0 n; datagrams = []; history = []; datagram_room = 0; entry_room = 0 }
 
 -- the engine is one of n, and everything was taken out of it
 pub record StandsIn (n : ℕ) (e : EngineState) : Type 0 where
   pub size : e.place.size ≡ n
+  pub clean : IsClean e
+
+-- the engine is one of at most 256 ranks, and everything was taken out of it
+pub record IsReady (e : EngineState) : Type 0 where
+  pub there : e.place.endpoint.rank < e.place.size
+  pub few : e.place.size ≤ 256
   pub clean : IsClean e
 
 -- the engine's place is that of rank r among n, in the world's job

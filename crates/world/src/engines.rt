@@ -1,141 +1,27 @@
 //! What one event does to the engines of a world.
 
-ghost use Rattle.std.specs.Prelude.{◌≡◌, ◌≤◌, ◌<◌, ◌+◌, ◌*◌, option_map, IfOk, IfErr, OnErr, slice_get, vec_len, nat_le, if◌then◌else◌};
-ghost use Rattle.engine.specs.declared.refused.Refused.TheVariants as lowers;
+ghost use Rattle.std.specs.Prelude.{◌≡◌, ◌≤◌, ◌<◌, ◌*◌, length, option_map, Option, Some, None, IfOk, IfErr, OnErr, slice_get, vec_len};
+ghost use Rattle.rank_core.specs.declared.refused.Refused.TheVariants as lowers;
 ghost use Rattle.engine.specs.EngineState.{opening};
 ghost use Rattle.proof_link_truth.specs.Events.{opening_engines};
 ghost use Rattle.proof_link_truth.specs.Wire.{at, place_of};
+ghost use Rattle.world.specs.Faults.{target_of, bytes_fault, event_fault};
 ghost use Rattle.world.specs.WorldState.{IsWorld, ArePlaced};
-ghost use Rattle.world.specs.Steps.{RanCall, RanDatagram, RanTick, RanRestart, RankGives, NumberGives, EventGives, IsPlain};
+ghost use Rattle.world.specs.Steps.{RanAt, emitted};
 ghost use Rattle.world.specs.Strays.{stray_fault};
-ghost use Rattle.world.specs.Views.{happened, denial_of};
+ghost use Rattle.world.specs.Views.{gave_of};
 
 use crate::event::Event;
-use crate::one_engine::{
-    Given, Rejected, call_engine, deliver_to_engine, restart_engine, tick_engine,
-};
-use crate::refused::Refused;
+use crate::one_engine::{Given, Rejected, happen};
+use crate::refused::{OUT_OF_MEMORY, Refused};
 use byteorder::{BigEndian, ByteOrder};
 use datagram::Bytes;
-use engine::{Call, Engine, Place};
+use engine::{Engine, Place};
 use std::alloc::Global;
 use vocabulary::Endpoint;
 
-const OUT_OF_MEMORY: Refused = Refused::Engine(engine::Refused::OutOfMemory);
-
 /// The job of a world.
 const JOB: u64 = 1;
-
-/// Why a world refuses an event, and what goes out all the same.
-#[derive(Debug, Drop)]
-pub struct Denied {
-    /// Why the event is refused.
-    pub refused: Refused,
-    /// The datagrams that an engine emitted: none, or a reset.
-    pub out: Vec<(u16, Bytes)>,
-}
-
-/// What went on at the endpoint that the engine of a rank was, or why nothing did.
-type Happened = Result<(Endpoint, Given), Denied>;
-
-impl Denied {
-    /// A refusal with which nothing goes out.
-    pub fn plain(alloc: Global, refused: Refused) -> Denied
-        ensures { IsPlain (denial_of result) refused }
-    {
-        Denied {
-            refused,
-            out: Vec::new(alloc),
-        }
-    }
-
-    /// The refusal of an engine.
-    fn by_engine(rejected: Rejected) -> Denied
-        ensures { denial_of result ≡ record { refused = Refused.Engine rejected.refused; out = rejected.out.items } }
-    {
-        Denied {
-            refused: Refused::Engine(rejected.refused),
-            out: rejected.out,
-        }
-    }
-}
-
-/// The engine of a rank is called.
-fn call_at(alloc: Global, engines: &mut Vec<Engine>, rank: u16, call: Call) -> Happened
-    requires there { rank < vec_len engines.old }
-    requires world { IsWorld engines.old.items }
-    ensures exact { RankGives (λ e. RanCall e call) engines.old.items rank (happened result) engines.new.items }
-    ensures few { IfOk result (λ x. vec_len x.1.out ≤ 64 * vec_len engines.old + 1) }
-    ensures fewer { IfErr result (λ d. vec_len d.out ≤ 64 * vec_len engines.old + 1) }
-    ensures world { IsWorld engines.new.items }
-    ensures unchanged { OnErr result (engines.new.items ≡ engines.old.items) }
-{
-    let size = engines.len();
-    let engine = &mut engines[rank as usize];
-    let endpoint = engine.place().endpoint;
-    match call_engine(alloc, engine, size, call) {
-        Ok(given) => Ok((endpoint, given)),
-        Err(rejected) => Err(Denied::by_engine(rejected)),
-    }
-}
-
-/// A datagram comes to the engine of a rank.
-fn deliver_at(engines: &mut Vec<Engine>, rank: u16, bytes: &[u8]) -> Happened
-    requires there { rank < vec_len engines.old }
-    requires world { IsWorld engines.old.items }
-    ensures exact { RankGives (λ e. RanDatagram e bytes.now) engines.old.items rank (happened result) engines.new.items }
-    ensures few { IfOk result (λ x. vec_len x.1.out ≤ 64 * vec_len engines.old + 1) }
-    ensures fewer { IfErr result (λ d. vec_len d.out ≤ 64 * vec_len engines.old + 1) }
-    ensures world { IsWorld engines.new.items }
-    ensures unchanged { OnErr result (engines.new.items ≡ engines.old.items) }
-{
-    let size = engines.len();
-    let engine = &mut engines[rank as usize];
-    let endpoint = engine.place().endpoint;
-    match deliver_to_engine(engine, size, bytes) {
-        Ok(given) => Ok((endpoint, given)),
-        Err(rejected) => Err(Denied::by_engine(rejected)),
-    }
-}
-
-/// The clock of a rank's engine ticks.
-fn tick_at(alloc: Global, engines: &mut Vec<Engine>, rank: u16, now: u64) -> Happened
-    requires there { rank < vec_len engines.old }
-    requires world { IsWorld engines.old.items }
-    ensures exact { RankGives (λ e. RanTick e now) engines.old.items rank (happened result) engines.new.items }
-    ensures few { IfOk result (λ x. vec_len x.1.out ≤ 64 * vec_len engines.old + 1) }
-    ensures fewer { IfErr result (λ d. vec_len d.out ≤ 64 * vec_len engines.old + 1) }
-    ensures world { IsWorld engines.new.items }
-    ensures unchanged { OnErr result (engines.new.items ≡ engines.old.items) }
-{
-    let size = engines.len();
-    let engine = &mut engines[rank as usize];
-    let endpoint = engine.place().endpoint;
-    match tick_engine(alloc, engine, size, now) {
-        Ok(given) => Ok((endpoint, given)),
-        Err(rejected) => Err(Denied::by_engine(rejected)),
-    }
-}
-
-/// The engine of a rank gives way to the next one.
-fn restart_at(alloc: Global, engines: &mut Vec<Engine>, rank: u16) -> Happened
-    requires there { rank < vec_len engines.old }
-    requires world { IsWorld engines.old.items }
-    requires placed { ArePlaced engines.old.items }
-    ensures exact { RankGives (RanRestart) engines.old.items rank (happened result) engines.new.items }
-    ensures few { IfOk result (λ x. vec_len x.1.out ≤ 64 * vec_len engines.old + 1) }
-    ensures fewer { IfErr result (λ d. vec_len d.out ≤ 64 * vec_len engines.old + 1) }
-    ensures world { IsWorld engines.new.items }
-    ensures unchanged { OnErr result (engines.new.items ≡ engines.old.items) }
-{
-    let size = engines.len();
-    let engine = &mut engines[rank as usize];
-    let endpoint = engine.place().endpoint;
-    match restart_engine(alloc, engine, size) {
-        Ok(given) => Ok((endpoint, given)),
-        Err(rejected) => Err(Denied::by_engine(rejected)),
-    }
-}
 
 /// A datagram that was emitted, by its number.
 pub fn datagram_at(datagrams: &[(u16, Bytes)], number: usize) -> Option<(u16, &[u8])>
@@ -145,82 +31,26 @@ pub fn datagram_at(datagrams: &[(u16, Bytes)], number: usize) -> Option<(u16, &[
     Some((datagram.0, datagram.1.as_slice()))
 }
 
-fn run_call(alloc: Global, engines: &mut Vec<Engine>, rank: u16, call: &Call) -> Happened
-    requires { IsWorld engines.old.items }
-    ensures exact { RankGives (λ e. RanCall e call.now) engines.old.items rank (happened result) engines.new.items }
-    ensures few { IfOk result (λ x. vec_len x.1.out ≤ 64 * vec_len engines.old + 1) }
-    ensures fewer { IfErr result (λ d. vec_len d.out ≤ 64 * vec_len engines.old + 1) }
-    ensures world { IsWorld engines.new.items }
-    ensures unchanged { OnErr result (engines.new.items ≡ engines.old.items) }
+/// The rank that an event comes to; none where no datagram has its number.
+fn target_of(datagrams: &[(u16, Bytes)], event: &Event) -> Option<u16>
+    ensures { result ≡ target_of datagrams.now event.now }
 {
-    if rank as usize >= engines.len() {
-        return Err(Denied::plain(alloc, Refused::NoSuchRank));
+    match event {
+        Event::Call(rank, _) => Some(*rank),
+        Event::Deliver(number) => match datagrams.get(*number) {
+            Some(datagram) => Some(datagram.0),
+            None => None,
+        },
+        Event::Stray(rank, _) => Some(*rank),
+        Event::Tick(rank, _) => Some(*rank),
+        Event::Restart(rank) => Some(*rank),
     }
-    // The history keeps the call, and the engine takes a copy of it.
-    let Ok(copy) = call.try_clone(alloc) else {
-        return Err(Denied::plain(alloc, OUT_OF_MEMORY));
-    };
-    call_at(alloc, engines, rank, copy)
 }
 
-fn run_delivery(
-    alloc: Global,
-    engines: &mut Vec<Engine>,
-    datagrams: &[(u16, Bytes)],
-    number: usize,
-) -> Happened
-    requires { IsWorld engines.old.items }
-    ensures exact { NumberGives (slice_get datagrams.now number) engines.old.items (happened result) engines.new.items }
-    ensures few { IfOk result (λ x. vec_len x.1.out ≤ 64 * vec_len engines.old + 1) }
-    ensures fewer { IfErr result (λ d. vec_len d.out ≤ 64 * vec_len engines.old + 1) }
-    ensures world { IsWorld engines.new.items }
-    ensures unchanged { OnErr result (engines.new.items ≡ engines.old.items) }
+/// Why stray bytes are refused.
+fn fault_of_stray(bytes: &[u8]) -> Refused
+    ensures { result ≡ stray_fault bytes.now }
 {
-    let Some((rank, bytes)) = datagram_at(datagrams, number) else {
-        return Err(Denied::plain(alloc, Refused::NoSuchDatagram));
-    };
-    if rank as usize >= engines.len() {
-        return Err(Denied::plain(alloc, Refused::NoSuchRank));
-    }
-    deliver_at(engines, rank, bytes)
-}
-
-fn run_tick(alloc: Global, engines: &mut Vec<Engine>, rank: u16, now: u64) -> Happened
-    requires { IsWorld engines.old.items }
-    ensures exact { RankGives (λ e. RanTick e now) engines.old.items rank (happened result) engines.new.items }
-    ensures few { IfOk result (λ x. vec_len x.1.out ≤ 64 * vec_len engines.old + 1) }
-    ensures fewer { IfErr result (λ d. vec_len d.out ≤ 64 * vec_len engines.old + 1) }
-    ensures world { IsWorld engines.new.items }
-    ensures unchanged { OnErr result (engines.new.items ≡ engines.old.items) }
-{
-    if rank as usize >= engines.len() {
-        return Err(Denied::plain(alloc, Refused::NoSuchRank));
-    }
-    tick_at(alloc, engines, rank, now)
-}
-
-fn run_restart(alloc: Global, engines: &mut Vec<Engine>, rank: u16) -> Happened
-    requires world { IsWorld engines.old.items }
-    requires placed { ArePlaced engines.old.items }
-    ensures exact { RankGives RanRestart engines.old.items rank (happened result) engines.new.items }
-    ensures few { IfOk result (λ x. vec_len x.1.out ≤ 64 * vec_len engines.old + 1) }
-    ensures fewer { IfErr result (λ d. vec_len d.out ≤ 64 * vec_len engines.old + 1) }
-    ensures world { IsWorld engines.new.items }
-    ensures unchanged { OnErr result (engines.new.items ≡ engines.old.items) }
-{
-    if rank as usize >= engines.len() {
-        return Err(Denied::plain(alloc, Refused::NoSuchRank));
-    }
-    restart_at(alloc, engines, rank)
-}
-
-/// Why stray bytes are refused at a rank of `size`, as every rank's engine would refuse them.
-fn fault_of_stray(size: usize, rank: u16, bytes: &[u8]) -> Refused
-    ensures { result ≡ (if nat_le size rank then Refused.NoSuchRank else stray_fault bytes.now) }
-{
-    if rank as usize >= size {
-        return Refused::NoSuchRank;
-    }
     if bytes.len() >= 24 && BigEndian::read_u64(&bytes[16..]) == JOB {
         return Refused::CarriesJob;
     }
@@ -230,31 +60,57 @@ fn fault_of_stray(size: usize, rank: u16, bytes: &[u8]) -> Refused
     }
 }
 
-/// One event at the rank that it names, whose engine alone goes on.
+/// Why an event is refused at whatever rank it comes to: if it is one of stray bytes.
+fn fault_of_bytes(event: &Event) -> Option<Refused>
+    ensures { result ≡ bytes_fault event.now }
+{
+    match event {
+        Event::Stray(_, bytes) => Some(fault_of_stray(bytes.as_slice())),
+        Event::Call(_, _) => None,
+        Event::Deliver(_) => None,
+        Event::Tick(_, _) => None,
+        Event::Restart(_) => None,
+    }
+}
+
+/// The rank that an event comes to, or the first rule of a world of `size` ranks that it breaks. It takes no memory.
+pub fn judge(size: usize, datagrams: &[(u16, Bytes)], event: &Event) -> Result<u16, Refused>
+    ensures allowed { IfOk result (λ rank. event_fault size datagrams.now event.now ≡ None) }
+    ensures target { IfOk result (λ rank. target_of datagrams.now event.now ≡ Some rank) }
+    ensures there { IfOk result (λ rank. rank < size) }
+    ensures fault { IfErr result (λ fault. event_fault size datagrams.now event.now ≡ Some fault) }
+{
+    let Some(rank) = target_of(datagrams, event) else {
+        return Err(Refused::NoSuchDatagram);
+    };
+    if rank as usize >= size {
+        return Err(Refused::NoSuchRank);
+    }
+    match fault_of_bytes(event) {
+        Some(fault) => Err(fault),
+        None => Ok(rank),
+    }
+}
+
+/// One event at the rank that it comes to, whose engine alone goes on.
 pub fn run_event(
     alloc: Global,
     engines: &mut Vec<Engine>,
     datagrams: &[(u16, Bytes)],
-    event: &Event,
-) -> Happened
+    rank: u16,
+    event: Event,
+) -> Result<Given, Rejected>
+    requires there { rank < vec_len engines.old }
+    requires target { target_of datagrams.now event ≡ Some rank }
     requires world { IsWorld engines.old.items }
     requires placed { ArePlaced engines.old.items }
-    ensures exact { EventGives engines.old.items datagrams.now event.now (happened result) engines.new.items }
-    ensures few { IfOk result (λ x. vec_len x.1.out ≤ 64 * vec_len engines.old + 1) }
-    ensures fewer { IfErr result (λ d. vec_len d.out ≤ 64 * vec_len engines.old + 1) }
+    ensures exact { RanAt datagrams.now event engines.old.items (gave_of result) engines.new.items }
+    ensures few { length (emitted (gave_of result)) ≤ 64 * vec_len engines.old }
     ensures world { IsWorld engines.new.items }
     ensures unchanged { OnErr result (engines.new.items ≡ engines.old.items) }
 {
-    match event {
-        Event::Call(rank, call) => run_call(alloc, engines, *rank, call),
-        Event::Deliver(number) => run_delivery(alloc, engines, datagrams, *number),
-        Event::Stray(rank, bytes) => {
-            let fault = fault_of_stray(engines.len(), *rank, bytes.as_slice());
-            Err(Denied::plain(alloc, fault))
-        }
-        Event::Tick(rank, now) => run_tick(alloc, engines, *rank, *now),
-        Event::Restart(rank) => run_restart(alloc, engines, *rank),
-    }
+    let engine = &mut engines[rank as usize];
+    happen(alloc, engine, datagrams, event)
 }
 
 /// The engine of a rank among so many, at its first incarnation.

@@ -1,9 +1,13 @@
 //! Events, and what they answer.
 
+ghost use Rattle.std.specs.Prelude.{◌≡◌, IfOk, OnErr};
+ghost use Rattle.world.specs.Steps.{IsCopied};
+
 use crate::refused::Refused;
 use datagram::Bytes;
 use engine::{Call, Reply};
 use requests::Outcome;
+use std::alloc::{AllocError, Global};
 use vocabulary::Endpoint;
 
 /// What may happen in a world.
@@ -56,4 +60,35 @@ pub struct Failed {
     pub event: Event,
     /// The number of the reset that went out, where the datagram was meant for a former incarnation of its target.
     pub reset: Option<usize>,
+}
+
+/// The events of a run that did not begin.
+#[derive(Debug, Drop)]
+pub struct FailedRun {
+    /// Why it did not begin: room for the answers was wanting.
+    pub refused: Refused,
+    /// The events, as they were handed in.
+    pub events: Vec<Event>,
+}
+
+/// What a step answers: what it added, or why the event was refused.
+pub type Answer = Result<Stepped, Failed>;
+
+impl Event {
+    /// The same event once more. The only error is want of memory, for the data of a call and for stray bytes.
+    pub fn try_clone(&self, alloc: Global) -> Result<Event, AllocError>
+        ensures copy { IfOk result (λ copy. copy ≡ self.now) }
+        ensures copied { OnErr result (IsCopied self.now) }
+    {
+        match self {
+            Event::Call(rank, call) => Ok(Event::Call(*rank, call.try_clone(alloc)?)),
+            Event::Deliver(number) => Ok(Event::Deliver(*number)),
+            Event::Stray(rank, bytes) => {
+                let copy = Bytes::from_slice(alloc, bytes.as_slice())?;
+                Ok(Event::Stray(*rank, copy))
+            }
+            Event::Tick(rank, now) => Ok(Event::Tick(*rank, *now)),
+            Event::Restart(rank) => Ok(Event::Restart(*rank)),
+        }
+    }
 }

@@ -8,6 +8,6 @@ mod quiet;
 mod refused;
 mod world;
 
-pub use event::{Entry, Event, Failed, Stepped};
+pub use event::{Answer, Entry, Event, Failed, FailedRun, Stepped};
 pub use refused::Refused;
 pub use world::World;

@@ -1,11 +1,13 @@
 //! What one event does to one engine.
 
-ghost use Rattle.std.specs.Prelude.{◌≡◌, ◌≤◌, ◌<◌, ◌+◌, ◌*◌, [], IfOk, IfErr, vec_len};
+ghost use Rattle.std.specs.Prelude.{◌≡◌, ◌≤◌, ◌+◌, ◌*◌, [], length, is_some, IfOk, IfErr, IsTrue};
 ghost use Rattle.proof_link_truth.specs.Events.{emptied};
-ghost use Rattle.world.specs.WorldState.{StandsIn};
-ghost use Rattle.world.specs.Steps.{RanCall, RanDatagram, RanTick, RanRestart};
+ghost use Rattle.world.specs.Faults.{target_of};
+ghost use Rattle.world.specs.WorldState.{IsReady};
+ghost use Rattle.world.specs.Steps.{CallRuns, DatagramRuns, TickRuns, RestartRuns, EventRuns, emitted};
 ghost use Rattle.world.specs.Views.{gave_of};
 
+use crate::event::Event;
 use datagram::Bytes;
 use engine::{Call, Engine, Place, Reply};
 use incarnation::next_incarnation;
@@ -13,9 +15,11 @@ use requests::Outcome;
 use std::alloc::Global;
 use vocabulary::Endpoint;
 
-/// What an engine gave in an event.
+/// What the engine of an endpoint gave in an event.
 #[derive(Debug, Drop)]
 pub struct Given {
+    /// The endpoint that the engine was before the event.
+    pub endpoint: Endpoint,
     /// The datagrams that it emitted, with the rank that each goes to.
     pub out: Vec<(u16, Bytes)>,
     /// What the call answered, if the event was one.
@@ -46,14 +50,17 @@ fn plain(alloc: Global, refused: engine::Refused) -> Rejected
 
 /// Takes out of an engine what it gave.
 fn take_given(engine: &mut Engine, reply: Option<Reply>) -> Given
+    ensures endpoint { result.endpoint ≡ engine.old.place.endpoint }
     ensures out { result.out.items ≡ engine.old.out }
     ensures reply { result.reply ≡ reply }
     ensures completion { result.completion ≡ engine.old.completion }
     ensures state { engine.new ≡ emptied engine.old }
 {
+    let endpoint = engine.place().endpoint;
     let out = engine.take_out();
     let completion = engine.take_completion();
     Given {
+        endpoint,
         out,
         reply,
         completion,
@@ -61,18 +68,12 @@ fn take_given(engine: &mut Engine, reply: Option<Reply>) -> Given
 }
 
 /// The engine is called.
-pub fn call_engine(
-    alloc: Global,
-    engine: &mut Engine,
-    size: usize,
-    call: Call,
-) -> Result<Given, Rejected>
-    requires some { 0 < size }
-    requires stands { StandsIn size engine.old }
-    ensures exact { RanCall engine.old call (gave_of result) engine.new }
-    ensures few { IfOk result (λ given. vec_len given.out ≤ 64 * size + 1) }
-    ensures none { IfErr result (λ rejected. vec_len rejected.out ≤ 64 * size + 1) }
-    ensures stands { StandsIn size engine.new }
+fn call(alloc: Global, engine: &mut Engine, call: Call) -> Result<Given, Rejected>
+    requires { IsReady engine.old }
+    ensures exact { CallRuns engine.old call (gave_of result) engine.new }
+    ensures few { length (emitted (gave_of result)) ≤ 64 * engine.old.place.size }
+    ensures ready { IsReady engine.new }
+    ensures size { engine.new.place.size ≡ engine.old.place.size }
 {
     match engine.call(call) {
         Reply::Refused(refused, _call) => Err(plain(alloc, refused)),
@@ -82,14 +83,13 @@ pub fn call_engine(
     }
 }
 
-/// A datagram comes to the engine. What it emits goes out, though it refuses.
-pub fn deliver_to_engine(engine: &mut Engine, size: usize, bytes: &[u8]) -> Result<Given, Rejected>
-    requires some { 0 < size }
-    requires stands { StandsIn size engine.old }
-    ensures exact { RanDatagram engine.old bytes.now (gave_of result) engine.new }
-    ensures few { IfOk result (λ given. vec_len given.out ≤ 64 * size + 1) }
-    ensures reset { IfErr result (λ rejected. vec_len rejected.out ≤ 64 * size + 1) }
-    ensures stands { StandsIn size engine.new }
+/// Bytes come to the engine. What it emits goes out, though it refuses them.
+fn deliver(engine: &mut Engine, bytes: &[u8]) -> Result<Given, Rejected>
+    requires { IsReady engine.old }
+    ensures exact { DatagramRuns engine.old bytes.now (gave_of result) engine.new }
+    ensures few { length (emitted (gave_of result)) ≤ 64 * engine.old.place.size }
+    ensures ready { IsReady engine.new }
+    ensures size { engine.new.place.size ≡ engine.old.place.size }
 {
     match engine.on_datagram(bytes) {
         Ok(()) => Ok(take_given(engine, None)),
@@ -101,18 +101,12 @@ pub fn deliver_to_engine(engine: &mut Engine, size: usize, bytes: &[u8]) -> Resu
 }
 
 /// The engine's clock ticks.
-pub fn tick_engine(
-    alloc: Global,
-    engine: &mut Engine,
-    size: usize,
-    now: u64,
-) -> Result<Given, Rejected>
-    requires some { 0 < size }
-    requires stands { StandsIn size engine.old }
-    ensures exact { RanTick engine.old now (gave_of result) engine.new }
-    ensures few { IfOk result (λ given. vec_len given.out ≤ 64 * size + 1) }
-    ensures none { IfErr result (λ rejected. vec_len rejected.out ≤ 64 * size + 1) }
-    ensures stands { StandsIn size engine.new }
+fn tick(alloc: Global, engine: &mut Engine, now: u64) -> Result<Given, Rejected>
+    requires { IsReady engine.old }
+    ensures exact { TickRuns engine.old now (gave_of result) engine.new }
+    ensures few { length (emitted (gave_of result)) ≤ 64 * engine.old.place.size }
+    ensures ready { IsReady engine.new }
+    ensures size { engine.new.place.size ≡ engine.old.place.size }
 {
     match engine.tick(now) {
         Ok(()) => Ok(take_given(engine, None)),
@@ -121,14 +115,12 @@ pub fn tick_engine(
 }
 
 /// The engine gives way to a new one, at the next incarnation.
-pub fn restart_engine(alloc: Global, engine: &mut Engine, size: usize) -> Result<Given, Rejected>
-    requires there { engine.old.place.endpoint.rank < size }
-    requires few { size ≤ 256 }
-    requires stands { StandsIn size engine.old }
-    ensures exact { RanRestart engine.old (gave_of result) engine.new }
-    ensures few { IfOk result (λ given. vec_len given.out ≤ 64 * size + 1) }
-    ensures none { IfErr result (λ rejected. vec_len rejected.out ≤ 64 * size + 1) }
-    ensures stands { StandsIn size engine.new }
+fn restart(alloc: Global, engine: &mut Engine) -> Result<Given, Rejected>
+    requires { IsReady engine.old }
+    ensures exact { RestartRuns engine.old (gave_of result) engine.new }
+    ensures few { length (emitted (gave_of result)) ≤ 64 * engine.old.place.size }
+    ensures ready { IsReady engine.new }
+    ensures size { engine.new.place.size ≡ engine.old.place.size }
 {
     let former = engine.place();
     let Ok(incarnation) = next_incarnation(former.endpoint.incarnation) else {
@@ -146,11 +138,35 @@ pub fn restart_engine(alloc: Global, engine: &mut Engine, size: usize) -> Result
         Ok(next) => {
             *engine = next;
             Ok(Given {
+                endpoint: former.endpoint,
                 out: Vec::new(alloc),
                 reply: None,
                 completion: None,
             })
         }
         Err(refused) => Err(plain(alloc, refused)),
+    }
+}
+
+/// One event at the engine of the rank that it comes to.
+pub fn happen(
+    alloc: Global,
+    engine: &mut Engine,
+    datagrams: &[(u16, Bytes)],
+    event: Event,
+) -> Result<Given, Rejected>
+    requires ready { IsReady engine.old }
+    requires target { IsTrue (is_some (target_of datagrams.now event)) }
+    ensures exact { EventRuns datagrams.now event engine.old (gave_of result) engine.new }
+    ensures few { length (emitted (gave_of result)) ≤ 64 * engine.old.place.size }
+    ensures ready { IsReady engine.new }
+    ensures size { engine.new.place.size ≡ engine.old.place.size }
+{
+    match event {
+        Event::Call(_, asked) => call(alloc, engine, asked),
+        Event::Deliver(number) => deliver(engine, datagrams[number].1.as_slice()),
+        Event::Stray(_, bytes) => deliver(engine, bytes.as_slice()),
+        Event::Tick(_, now) => tick(alloc, engine, now),
+        Event::Restart(_) => restart(alloc, engine),
     }
 }

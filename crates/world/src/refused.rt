@@ -5,6 +5,9 @@ ghost use Rattle.world.specs.Refusals.{number_of_refusal};
 
 use thiserror::Error;
 
+/// A growth was refused.
+pub const OUT_OF_MEMORY: Refused = Refused::Engine(engine::Refused::OutOfMemory);
+
 /// Why a world refused an event. A refused event is none: the world is as it was, but for the reset that goes out with
 /// the refusal of a datagram for a former incarnation.
 #[derive(Clone, Copy, Debug, PartialEq, Eq, Error)]

@@ -1,25 +1,23 @@
 //! The world.
 
 ghost use Rattle.std.specs.Prelude.{◌≡◌, ◌≤◌, ◌+◌, ◌*◌, [], ◌∷◌, ◌++◌, length, Option, option_map, IfOk, IfErr, IsTrue, slice_get, Err, vec_len, vec_capacity, ◌↔◌, ◌⊎◌};
-ghost use Rattle.engine.specs.declared.refused.Refused.TheVariants as lowers;
+ghost use Rattle.rank_core.specs.declared.refused.Refused.TheVariants as lowers;
 ghost use Rattle.proof_link_truth.specs.Events.{AreQuiet};
 ghost use Rattle.world.specs.WorldState.{is_outside, opening_world};
 ghost use Rattle.world.specs.Headline.{IsRunOfPerfectQueues, IsSound, SessionsAreInOrder, SessionsAreTrue};
-ghost use Rattle.world.specs.Steps.{StepGives, RunGives, entry_of, first_of};
+ghost use Rattle.world.specs.Steps.{StepGives, RunGives, IsNotRun, entry_of, first_of};
 ghost use Rattle.world.specs.Views.{gave_in};
 
-use crate::engines::{Denied, datagram_at, new_engines, run_event};
-use crate::event::{Entry, Event, Failed, Stepped};
-use crate::one_engine::Given;
+use crate::engines::{datagram_at, judge, new_engines, run_event};
+use crate::event::{Answer, Entry, Event, Failed, FailedRun, Stepped};
+use crate::one_engine::{Given, Rejected};
 use crate::quiet::are_quiet;
-use crate::refused::Refused;
+use crate::refused::{OUT_OF_MEMORY, Refused};
 use datagram::Bytes;
 use engine::{Engine, MOST_RANKS};
 use std::alloc::Global;
 use std::marker::Model;
 use vocabulary::Endpoint;
-
-const OUT_OF_MEMORY: Refused = Refused::Engine(engine::Refused::OutOfMemory);
 
 /// Ranks that share nothing but datagrams, and everything that happened to them.
 #[derive(Drop)]
@@ -31,44 +29,46 @@ pub struct World {
 }
 
 impl Model for World {
+    ghost use Rattle.std.specs.Prelude.{vec_capacity};
     ghost use Rattle.world.specs.WorldState.{WorldState};
     ghost use Rattle.world.specs.Headline.{IsSound};
 
     ghost Value = { WorldState };
 
-    ghost view = { λ w. record { engines = w.engines.items; datagrams = w.datagrams.items; history = w.history.items } };
+    ghost view = { λ w. record { engines = w.engines.items; datagrams = w.datagrams.items; history = w.history.items; datagram_room = vec_capacity w.datagrams; entry_room = vec_capacity w.history } };
 
     ghost invariant = { λ w. IsSound w.engines.items w.datagrams.items w.history.items };
 }
 
-/// Makes the room that an event may take: an acknowledgement and 64 frames for each rank, and an entry.
+/// Makes the room that an event may take: 64 datagrams for each rank, and an entry.
 fn has_made_room(datagrams: &mut Vec<(u16, Bytes)>, history: &mut Vec<Entry>, size: usize) -> bool
     requires { size ≤ 256 }
     ensures datagrams { datagrams.new.items ≡ datagrams.old.items }
     ensures history { history.new.items ≡ history.old.items }
-    ensures room { IsTrue result → vec_len datagrams.new + (64 * size + 1) ≤ vec_capacity datagrams.new }
+    ensures room { IsTrue result → vec_len datagrams.new + 64 * size ≤ vec_capacity datagrams.new }
     ensures place { IsTrue result → vec_len history.new + 1 ≤ vec_capacity history.new }
+    ensures enough { vec_len datagrams.old + 64 * size ≤ vec_capacity datagrams.old → vec_len history.old + 1 ≤ vec_capacity history.old → IsTrue result }
 {
-    datagrams.reserve(64 * size + 1).is_ok() && history.reserve(1).is_ok()
+    datagrams.reserve(64 * size).is_ok() && history.reserve(1).is_ok()
 }
 
 /// What was refused stands for nothing but the datagrams that went out with it, which are numbered.
-fn refuse(datagrams: &mut Vec<(u16, Bytes)>, mut denied: Denied, event: Event) -> Failed
-    requires { vec_len datagrams.old + vec_len denied.out ≤ vec_capacity datagrams.old }
-    ensures numbered { datagrams.new.items ≡ datagrams.old.items ++ denied.out.items }
-    ensures refused { result.refused ≡ denied.refused }
+fn refuse(datagrams: &mut Vec<(u16, Bytes)>, mut rejected: Rejected, event: Event) -> Failed
+    requires { vec_len datagrams.old + vec_len rejected.out ≤ vec_capacity datagrams.old }
+    ensures numbered { datagrams.new.items ≡ datagrams.old.items ++ rejected.out.items }
+    ensures refused { result.refused ≡ Refused.Engine rejected.refused }
     ensures event { result.event ≡ event }
-    ensures reset { result.reset ≡ first_of (vec_len datagrams.old) denied.out.items }
+    ensures reset { result.reset ≡ first_of (vec_len datagrams.old) rejected.out.items }
 {
-    let reset = if denied.out.is_empty() {
+    let reset = if rejected.out.is_empty() {
         None
     } else {
         Some(datagrams.len())
     };
     // There is room.
-    datagrams.append(&mut denied.out).unwrap();
+    datagrams.append(&mut rejected.out).unwrap();
     Failed {
-        refused: denied.refused,
+        refused: Refused::Engine(rejected.refused),
         event,
         reset,
     }
@@ -78,14 +78,13 @@ fn refuse(datagrams: &mut Vec<(u16, Bytes)>, mut denied: Denied, event: Event) -
 fn note(
     datagrams: &mut Vec<(u16, Bytes)>,
     history: &mut Vec<Entry>,
-    endpoint: Endpoint,
     event: Event,
     mut given: Given,
 ) -> Stepped
     requires datagrams { vec_len datagrams.old + vec_len given.out ≤ vec_capacity datagrams.old }
     requires history { vec_len history.old + 1 ≤ vec_capacity history.old }
     ensures numbered { datagrams.new.items ≡ datagrams.old.items ++ given.out.items }
-    ensures entered { history.new.items ≡ history.old.items ++ entry_of endpoint event (gave_in given) ∷ [] }
+    ensures entered { history.new.items ≡ history.old.items ++ entry_of event (gave_in given) ∷ [] }
     ensures answered { result ≡ record {
       first = vec_len datagrams.old;
       count = vec_len given.out;
@@ -98,7 +97,7 @@ fn note(
     // There is room for both.
     datagrams.append(&mut given.out).unwrap();
     let entry = Entry {
-        endpoint,
+        endpoint: given.endpoint,
         event,
         reply: given.reply,
         completion: given.completion,
@@ -111,31 +110,49 @@ fn note(
     }
 }
 
-/// One event at the rank that it names, whose engine alone changes.
+/// A refusal with which nothing goes out.
+fn plain(refused: Refused, event: Event) -> Failed
+    ensures refused { result.refused ≡ refused }
+    ensures event { result.event ≡ event }
+    ensures reset { result.reset ≡ None }
+{
+    Failed {
+        refused,
+        event,
+        reset: None,
+    }
+}
+
+/// One event at the rank that it comes to, whose engine alone changes: the rules of the world first, then the room that it
+/// may take, then the engine.
 fn advance(
     alloc: Global,
     engines: &mut Vec<Engine>,
     datagrams: &mut Vec<(u16, Bytes)>,
     history: &mut Vec<Entry>,
     event: Event,
-) -> Result<Stepped, Failed>
+) -> Answer
     requires { IsSound engines.old.items datagrams.old.items history.old.items }
     ensures exact { StepGives
-        (record { engines = engines.old.items; datagrams = datagrams.old.items; history = history.old.items })
+        (record { engines = engines.old.items; datagrams = datagrams.old.items; history = history.old.items; datagram_room = vec_capacity datagrams.old; entry_room = vec_capacity history.old })
         event result
-        (record { engines = engines.new.items; datagrams = datagrams.new.items; history = history.new.items }) }
+        (record { engines = engines.new.items; datagrams = datagrams.new.items; history = history.new.items; datagram_room = vec_capacity datagrams.new; entry_room = vec_capacity history.new }) }
     ensures sound { IsSound engines.new.items datagrams.new.items history.new.items }
 {
+    let rank = match judge(engines.len(), datagrams, &event) {
+        Ok(rank) => rank,
+        Err(refused) => return Err(plain(refused, event)),
+    };
     if !has_made_room(datagrams, history, engines.len()) {
-        return Err(Failed {
-            refused: OUT_OF_MEMORY,
-            event,
-            reset: None,
-        });
+        return Err(plain(OUT_OF_MEMORY, event));
     }
-    match run_event(alloc, engines, datagrams, &event) {
-        Ok((endpoint, given)) => Ok(note(datagrams, history, endpoint, event, given)),
-        Err(denied) => Err(refuse(datagrams, denied, event)),
+    // The history keeps the event, and the engine takes a copy of it.
+    let Ok(copy) = event.try_clone(alloc) else {
+        return Err(plain(OUT_OF_MEMORY, event));
+    };
+    match run_event(alloc, engines, datagrams, rank, copy) {
+        Ok(given) => Ok(note(datagrams, history, event, given)),
+        Err(rejected) => Err(refuse(datagrams, rejected, event)),
     }
 }
 
@@ -178,11 +195,12 @@ impl World {
     ///
     /// What is seen in it, calls with their replies, completions and restarts, is a run of the machine of perfect queues,
     /// which has come to rest where the world is quiet (MPI 3.1, 3.5 and 3.7; restarts are this project's own). With a call
-    /// that a rank would refuse now the machine finds the same fault first; or it finds none, and a limit is reached or
-    /// memory is wanting; or the call breaks one of the few rules by which the rank's engine is narrower for now, whatever
+    /// that a rank would take now the machine finds no fault. With one that it would refuse the machine finds the same fault
+    /// first; or it finds none, and the number is 13 or 14; or the call breaks one of the few rules by which the rank's
+    /// engine is narrower for now, whatever
     /// the machine finds. In each session that ever was, what was handed up is a beginning of what was accepted, and every
-    /// frame below the lowest unacknowledged number was handed up (`law`; `sessions` says it in numbers of ranks that know
-    /// each other).
+    /// frame below the lowest unacknowledged number was handed up (`law`, which the datagrams pin for former incarnations too;
+    /// `sessions` says it in numbers of ranks that know each other).
     pub fn history(&self) -> &[Entry]
         ensures entries { result.now ≡ self.now.history }
         ensures headline { IsRunOfPerfectQueues self.now }
@@ -208,13 +226,15 @@ impl World {
     /// puts an engine at its start in the place of the rank's engine, at the next incarnation, and emits nothing; datagrams
     /// that were emitted before may still be delivered. MPI 3.1 has no restarts of a rank: they are this project's own.
     ///
-    /// Refused is the first that holds of: 61 (no such rank), 62 (no such datagram), 63 (stray bytes that carry job 1), 13
-    /// (a restart of a rank at incarnation 65,535, the last one), what the rank's engine refuses with. Want of memory (14)
-    /// is told as soon as a growth is refused, before or after these are judged. A refusal hands the event back, and changes
-    /// nothing but this: with 29, the refusal of a datagram for a former incarnation of its target, a reset goes out to the
-    /// datagram's source, unless the datagram was a reset; it is numbered, and the refusal tells its number.
-    pub fn step(&mut self, event: Event) -> Result<Stepped, Failed>
-        ensures { StepGives self.old event result self.new }
+    /// Refused is the first that holds of: 62 (no such datagram), 61 (no such rank), 63 (stray bytes that carry job 1) or the
+    /// number of what else is wrong with stray bytes, 14 (want of memory for what the event may add to the world, where it has
+    /// no room for that, or for a copy of a call), 13 (a restart of a rank at incarnation 65,535, the last one), what the
+    /// rank's engine refuses with. A refusal hands the event back, and changes nothing but this: with 29, the refusal of a
+    /// datagram for a former incarnation of its target, a reset goes out to the datagram's source, unless the datagram was a
+    /// reset; it is numbered, and the refusal tells its number.
+    pub fn step(&mut self, event: Event) -> Answer
+        ensures exact { StepGives self.old event result self.new }
+        ensures headline { IsRunOfPerfectQueues self.new }
     {
         advance(
             self.alloc,
@@ -225,19 +245,41 @@ impl World {
         )
     }
 
-    /// The events in order; one that is refused is passed over, but the reset that goes out with it is numbered.
+    /// The events in order, and what the step of each answers; one that is refused does not stop the others, and the reset
+    /// that goes out with it is numbered.
     ///
-    /// For every list of events, what is seen of the world is a run of the machine of perfect queues, which has come to
-    /// rest where the world is quiet: see `history`.
-    pub fn run(&mut self, events: Vec<Event>)
-        ensures exact { RunGives self.old events.items self.new }
+    /// Room for all answers is made first. Where memory for that is wanting, which is 14, nothing happens, and the events are
+    /// handed back. For every list of events, what is seen of the world after each of them is a run of the machine of perfect
+    /// queues, which has come to rest where the world is quiet: see `history`.
+    pub fn run(&mut self, events: Vec<Event>) -> Result<Vec<Answer>, FailedRun>
+        ensures exact { IfOk result (λ answers. RunGives self.old events.items answers.items self.new) }
+        ensures refused { IfErr result (λ failed. IsNotRun self.old events.items failed self.new) }
         ensures headline { IsRunOfPerfectQueues self.new }
         ensures law { SessionsAreTrue self.new }
         ensures sessions { SessionsAreInOrder self.new.engines }
     {
-        for event in events {
-            let _ = self.step(event);
+        let mut answers = Vec::new(self.alloc);
+        if answers.reserve(events.len()).is_err() {
+            return Err(FailedRun {
+                refused: OUT_OF_MEMORY,
+                events,
+            });
         }
+        self.run_into(events, &mut answers);
         let _engines = &self.engines;
+        Ok(answers)
+    }
+
+    /// Runs the events, and appends the answer of each, for which there is room.
+    fn run_into(&mut self, events: Vec<Event>, answers: &mut Vec<Answer>)
+        requires empty { vec_len answers.old ≡ 0 }
+        requires room { vec_len events ≤ vec_capacity answers.old }
+        ensures exact { RunGives self.old events.items answers.new.items self.new }
+    {
+        let _engines = &self.engines;
+        for event in events {
+            let answer = self.step(event);
+            answers.push(answer).unwrap();
+        }
     }
 }

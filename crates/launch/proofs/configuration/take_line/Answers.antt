@@ -1,6 +1,6 @@
 use Rattle.std.proofs.Common.{List, [], ◌∷◌, ◌++◌, ap, ◌∙◌}
 use Rattle.std.specs.Prelude.{filter}
-use Rattle.launch.specs.Symbols.{Word}
+use Rattle.keeping.specs.Words.{Word}
 use Rattle.launch.specs.Configuration.{is_nonempty}
 use Rattle.launch.proofs.ConfigurationLaws.{take_skipped, take_on, take_end}
 use Rattle.launch.proofs.configuration.take_line.Goals as goal

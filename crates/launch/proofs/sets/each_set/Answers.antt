@@ -1,6 +1,6 @@
 use Rattle.std.proofs.Common.{◌+◌, List, drop, sym, ap, ◌∙◌}
 use Rattle.std.proofs.lemmas.Result.{err_from_is_err_and}
-use Rattle.launch.specs.Symbols.{Word}
+use Rattle.keeping.specs.Words.{Word}
 use Rattle.launch.specs.Sets.{each_set}
 use Rattle.launch.proofs.Lists.{shown, shown_more, shown_all}
 use Rattle.launch.proofs.SetLoop.{with_front, each_goes_on, each_ends, each_is_done}
@@ -12,7 +12,7 @@ returns-in_err-set c =
     let front = c.loop-line.sets.items in
     let i = c.loop-line.line-index in
     let here = shown_more c.args.lines.now i c.line-item.result c.loop-line-test.true c.line-item.is in
-    rw (p.1, p.2) (each_ends c.in_err-set.field-0.0 front c.line-item.result.now (shown (drop (i + 1) c.args.lines.now)) (each_set (shown c.args.lines.now)) c.in_err-set.ensures
+    rw (p.1, p.2) (each_ends c.in_err-set.field-0.0 front c.line-item.result.now (shown (drop (i + 1) c.args.lines.now)) (each_set (shown c.args.lines.now)) c.requires c.in_err-set.ensures
     (ap (λ (ls : List (List Word)). with_front front (each_set ls)) (sym here) ∙ c.loop-line.invariant))
 
 pub loop-line-preserved : goal.loop-line-preserved

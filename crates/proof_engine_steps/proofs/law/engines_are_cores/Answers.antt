@@ -5,6 +5,7 @@ use Rattle.proof_engine_steps.proofs.Arriving.{arrivals_are_shown}
 use Rattle.proof_engine_steps.proofs.CallsShown.{calls_are_shown}
 use Rattle.proof_engine_steps.proofs.OpeningShown.{opening_is_shown}
 use Rattle.proof_engine_steps.proofs.RefusedCalls.{refused_calls_have_reasons}
+use Rattle.proof_engine_steps.proofs.TakenCalls.{taken_calls_are_faultless}
 use Rattle.proof_engine_steps.proofs.Words.{words_are_shown}
 use Rattle.proof_engine_steps.proofs.law.engines_are_cores.Goals as goal
 
@@ -13,6 +14,9 @@ returns-clause-calls c = calls_are_shown receives_fit posts_match arrivals_match
 
 pub returns-clause-refused : goal.returns-clause-refused
 returns-clause-refused c = refused_calls_have_reasons receives_fit
+
+pub returns-clause-taken : goal.returns-clause-taken
+returns-clause-taken c = taken_calls_are_faultless (calls_are_shown receives_fit posts_match arrivals_match outcomes_agree)
 
 pub returns-clause-arrivals : goal.returns-clause-arrivals
 returns-clause-arrivals c = arrivals_are_shown arrivals_match outcomes_agree

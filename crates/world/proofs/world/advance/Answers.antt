@@ -1,31 +1,63 @@
-use Rattle.std.proofs.Common.{ℕ, List, ◌++◌, refl, ap, ◌∙◌, arith}
+use Rattle.std.proofs.Common.{ℕ, List, [], ◌++◌, refl, sym, ap, subst, ◌∙◌, arith, inl, inr}
+use Rattle.std.specs.Prelude.{vec_capacity}
 use Rattle.std.proofs.lemmas.Grind.{common_steps}
-use Rattle.world.specs.Views.{denial_of, gave_in}
+use Rattle.world.specs.Steps.{ByTheEngine, ByTheWorld, ForRoom, IsWhy}
+use Rattle.world.specs.Views.{gave_in, refusal_in}
+use Rattle.world.specs.declared.refused.Refused.{Refused}
 use Rattle.world.proofs.Places.{sound_placed}
-use Rattle.world.proofs.Sound.{event_sound, sound_same}
-use Rattle.world.proofs.Refusals.{refusal_sound, refused_so}
+use Rattle.world.proofs.Sound.{event_sound, fault_as, sound_same}
+use Rattle.world.proofs.Refusals.{had_no_room, refusal_sound, refused_plainly, refused_so}
 use Rattle.world.proofs.world.advance.Goals as goal
 
 pub run_event-requires-clause-placed : goal.run_event-requires-clause-placed
 run_event-requires-clause-placed c = sound_placed _ _ _ c.requires
 
-pub returns-in-Ok-clause-sound : goal.returns-in-Ok-clause-sound
-returns-in-Ok-clause-sound c =
-    sound_same _ _ _ _ _ _ refl (grind (arith, common_steps)) (grind (arith, common_steps))
-    (event_sound c.args.engines.now.items c.run_event.new.engines.items c.args.datagrams.now.items c.args.history.now.items c.args.event c.in-Ok.endpoint (gave_in c.in-Ok.given)
-    c.requires (rw (c.deref.ensures.value, c.has_made_room.ensures.datagrams) at c.in-Ok.ensures.exact) c.in-Ok.ensures.world)
-
-pub returns-in-Err-clause-sound : goal.returns-in-Err-clause-sound
-returns-in-Err-clause-sound c =
-    sound_same _ _ _ _ _ _ c.in-Err.ensures.unchanged
-    (c.refuse.ensures.numbered ∙ ap (λ (x : List (ℕ × List ℕ)). x ++ c.in-Err.denied.out.items) c.has_made_room.ensures.datagrams)
-    (grind (arith, common_steps))
-    (refusal_sound c.args.engines.now.items c.args.datagrams.now.items c.args.history.now.items c.args.event (denial_of c.in-Err.denied)
-    c.requires (rw (c.deref.ensures.value, c.has_made_room.ensures.datagrams, c.in-Err.ensures.unchanged) at c.in-Err.ensures.exact))
-
 pub returns-in-Err-clause-exact : goal.returns-in-Err-clause-exact
 returns-in-Err-clause-exact c =
-    refused_so _ _ _ _ _ _ (denial_of c.in-Err.denied) c.in-Err.ensures.unchanged
-    (c.refuse.ensures.numbered ∙ ap (λ (x : List (ℕ × List ℕ)). x ++ c.in-Err.denied.out.items) c.has_made_room.ensures.datagrams)
-    (grind (arith, common_steps)) (grind (arith, common_steps))
-    (grind (arith, common_steps)) (grind (arith, common_steps)) (rw (c.deref.ensures.value, c.has_made_room.ensures.datagrams) at c.in-Err.ensures.exact)
+    refused_plainly (record { engines = c.args.engines.now.items; datagrams = c.args.datagrams.now.items; history = c.args.history.now.items; datagram_room = vec_capacity c.args.datagrams.now; entry_room = vec_capacity c.args.history.now }) _ _ _ _ _ _ _
+    c.requires refl refl refl c.plain.ensures.reset c.plain.ensures.event
+    (subst (λ (x : Refused). IsWhy (record { engines = c.args.engines.now.items; datagrams = c.args.datagrams.now.items; history = c.args.history.now.items; datagram_room = vec_capacity c.args.datagrams.now; entry_room = vec_capacity c.args.history.now }) c.args.event x []) (sym c.plain.ensures.refused)
+    (ByTheWorld (fault_as _ _ _ _ _ _ (c.len.ensures ∙ c.args.engines.now.ok.0) c.deref.ensures.value c.in-Err.ensures.fault) refl))
+
+pub returns-then-not-has_made_room-clause-exact : goal.returns-then-not-has_made_room-clause-exact
+returns-then-not-has_made_room-clause-exact c =
+    refused_plainly (record { engines = c.args.engines.now.items; datagrams = c.args.datagrams.now.items; history = c.args.history.now.items; datagram_room = vec_capacity c.args.datagrams.now; entry_room = vec_capacity c.args.history.now }) _ _ _ _ _ _ _
+    c.requires refl c.has_made_room.ensures.datagrams c.has_made_room.ensures.history
+    c.plain-then-not-has_made_room.ensures.reset c.plain-then-not-has_made_room.ensures.event
+    (ForRoom (fault_as _ _ _ _ _ _ (c.len.ensures ∙ c.args.engines.now.ok.0) c.deref.ensures.value c.in-Ok.ensures.allowed)
+    (inl (had_no_room _ _ _ _ c.has_made_room.result (c.len-2.ensures ∙ c.args.engines.now.ok.0) c.args.datagrams.now.ok.0 c.args.history.now.ok.0 c.has_made_room.ensures.enough (grind (arith, common_steps))))
+    c.plain-then-not-has_made_room.ensures.refused refl)
+
+pub returns-in_default-clause-exact : goal.returns-in_default-clause-exact
+returns-in_default-clause-exact c =
+    refused_plainly (record { engines = c.args.engines.now.items; datagrams = c.args.datagrams.now.items; history = c.args.history.now.items; datagram_room = vec_capacity c.args.datagrams.now; entry_room = vec_capacity c.args.history.now }) _ _ _ _ _ _ _
+    c.requires refl c.has_made_room.ensures.datagrams c.has_made_room.ensures.history
+    c.plain-in_default.ensures.reset c.plain-in_default.ensures.event
+    (ForRoom (fault_as _ _ _ _ _ _ (c.len.ensures ∙ c.args.engines.now.ok.0) c.deref.ensures.value c.in-Ok.ensures.allowed) (inr c.in_default.ensures.copied) c.plain-in_default.ensures.refused refl)
+
+pub returns-in-Ok-run_event-clause-sound : goal.returns-in-Ok-run_event-clause-sound
+returns-in-Ok-run_event-clause-sound c =
+    sound_same _ _ _ _ _ _ refl
+    (c.note.ensures.numbered ∙ ap (λ (x : List (ℕ × List ℕ)). x ++ c.in-Ok-run_event.given.out.items) c.has_made_room.ensures.datagrams)
+    (grind (arith, common_steps))
+    (event_sound c.args.engines.now.items c.run_event.new.engines.items c.args.datagrams.now.items c.args.history.now.items c.args.event (gave_in c.in-Ok-run_event.given)
+    c.requires (fault_as _ _ _ _ _ _ (c.len.ensures ∙ c.args.engines.now.ok.0) c.deref.ensures.value c.in-Ok.ensures.allowed)
+    (rw (c.deref-2.ensures.value, c.has_made_room.ensures.datagrams, c.in-Ok-try_clone.ensures.copy) at c.in-Ok-run_event.ensures.exact) c.in-Ok-run_event.ensures.world)
+
+pub returns-in-Err-run_event-clause-sound : goal.returns-in-Err-run_event-clause-sound
+returns-in-Err-run_event-clause-sound c =
+    sound_same _ _ _ _ _ _ c.in-Err-run_event.ensures.unchanged
+    (c.refuse.ensures.numbered ∙ ap (λ (x : List (ℕ × List ℕ)). x ++ c.in-Err-run_event.rejected.out.items) c.has_made_room.ensures.datagrams)
+    c.has_made_room.ensures.history
+    (refusal_sound c.args.engines.now.items c.args.datagrams.now.items c.args.history.now.items c.args.event (refusal_in c.in-Err-run_event.rejected)
+    c.requires (fault_as _ _ _ _ _ _ (c.len.ensures ∙ c.args.engines.now.ok.0) c.deref.ensures.value c.in-Ok.ensures.allowed)
+    (rw (c.deref-2.ensures.value, c.has_made_room.ensures.datagrams, c.in-Ok-try_clone.ensures.copy, c.in-Err-run_event.ensures.unchanged) at c.in-Err-run_event.ensures.exact))
+
+pub returns-in-Err-run_event-clause-exact : goal.returns-in-Err-run_event-clause-exact
+returns-in-Err-run_event-clause-exact c =
+    refused_so (record { engines = c.args.engines.now.items; datagrams = c.args.datagrams.now.items; history = c.args.history.now.items; datagram_room = vec_capacity c.args.datagrams.now; entry_room = vec_capacity c.args.history.now }) _ _ _ _ _ _ _
+    c.in-Err-run_event.rejected.out.items c.requires c.in-Err-run_event.ensures.unchanged
+    (c.refuse.ensures.numbered ∙ ap (λ (x : List (ℕ × List ℕ)). x ++ c.in-Err-run_event.rejected.out.items) c.has_made_room.ensures.datagrams)
+    c.has_made_room.ensures.history (grind (arith, common_steps)) c.refuse.ensures.event
+    (ByTheEngine (refusal_in c.in-Err-run_event.rejected) (fault_as _ _ _ _ _ _ (c.len.ensures ∙ c.args.engines.now.ok.0) c.deref.ensures.value c.in-Ok.ensures.allowed) c.refuse.ensures.refused refl
+    (rw (c.deref-2.ensures.value, c.has_made_room.ensures.datagrams, c.in-Ok-try_clone.ensures.copy, c.in-Err-run_event.ensures.unchanged) at c.in-Err-run_event.ensures.exact))

@@ -1,0 +1,9 @@
+use Rattle.std.proofs.Common.{◌≡◌, ◌+◌, drop}
+use Rattle.statements.specs.Lines.{lines_from, with_front}
+use Rattle.statements.proofs.Lists.{shown}
+use Rattle.event_files.specs.Reading.{line_read}
+use Rattle.event_files.proofs.parsing.lines_behind.Given as goal
+
+abbrev pub invariant-loop-place : goal.invariant-loop-place
+invariant-loop-place l =
+    with_front l.read (lines_from line_read (l.place + 1) (shown (drop l.place l.lines))) ≡ lines_from line_read (l.fn.from + 1) (drop l.fn.from (shown l.lines))

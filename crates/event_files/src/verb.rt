@@ -1,0 +1,37 @@
+//! The first word of a line that asks for an event.
+
+ghost use Rattle.std.specs.Prelude.{◌≡◌};
+ghost use Rattle.event_files.specs.Reading.{verb_of};
+
+use statements::is;
+
+/// The event that a line asks for, by its first word.
+#[derive(Clone, Copy, Debug, PartialEq, Eq)]
+pub(crate) enum Verb {
+    /// `deliver`
+    Deliver,
+    /// `tick`
+    Tick,
+    /// `stray`
+    Stray,
+    /// `restart`
+    Restart,
+}
+
+/// The event that the first word asks for, if it is no rank.
+#[tactic(auto, unfolding(crate::specs::Reading::verb_of))]
+pub(crate) fn verb_of(word: &[u8]) -> Option<Verb>
+    ensures { result ≡ verb_of word.now }
+{
+    if is(word, b"deliver") {
+        Some(Verb::Deliver)
+    } else if is(word, b"tick") {
+        Some(Verb::Tick)
+    } else if is(word, b"stray") {
+        Some(Verb::Stray)
+    } else if is(word, b"restart") {
+        Some(Verb::Restart)
+    } else {
+        None
+    }
+}

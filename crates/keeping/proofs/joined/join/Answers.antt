@@ -1,0 +1,10 @@
+use Rattle.std.proofs.Common.{◌≡◌, map, subst, sym}
+use Rattle.std.proofs.lemmas.Result.{IfOk-weaker}
+use Rattle.keeping.specs.Joined.{IsJoined, joined}
+use Rattle.keeping.proofs.JoinLaws.{is_joined}
+use Rattle.keeping.proofs.joined.join.Goals as goal
+
+pub returns-clause-lines : goal.returns-clause-lines
+returns-clause-lines c =
+    let outputs = map (λ output. output.items) c.args.outputs.now in
+    IfOk-weaker c.joined.result (λ text. text.items ≡ joined 0 outputs) (λ text. IsJoined 0 outputs text.items) (λ text e. subst (IsJoined 0 outputs) (sym e) (is_joined 0 outputs)) c.joined.ensures

@@ -1,0 +1,227 @@
+ghost use Rattle.std.specs.Prelude.{◌≡◌, ◌<◌, length, All, []};
+ghost use Rattle.sessions.specs.Events.{CanSend, sendings};
+
+use datagram::{Eager, Frame, Plane};
+use sessions::*;
+use std::alloc::Global;
+use vocabulary::{BasicType, Endpoint};
+
+/// The sessions of a rank of job 1, which has three ranks.
+fn sessions_of(alloc: Global, rank: u16, incarnation: u16) -> Option<Sessions> {
+    let endpoint = Endpoint { rank, incarnation };
+    let place = Place {
+        endpoint,
+        size: 3,
+        job: 1,
+    };
+    Sessions::new(alloc, place).ok()
+}
+
+/// Frames of these bytes for two ranks go out in one event.
+fn send_both(sessions: &mut Sessions, first: u16, second: u16, elements: &[u8]) -> bool {
+    let size = sessions.place().size;
+    let eager = Eager {
+        plane: Plane::PointToPoint,
+        basic: BasicType::Byte,
+        tag: 5,
+        context: 0,
+        count: 1,
+        elements,
+    };
+    if first >= size || second >= size || !eager.fits() {
+        return false;
+    }
+    let frame = Frame::Eager(eager);
+    let frames = [
+        Outgoing {
+            target: first,
+            frame,
+        },
+        Outgoing {
+            target: second,
+            frame,
+        },
+    ];
+    sessions.carry_out(None, &frames).is_ok()
+}
+
+/// What these bytes say is taken in, and answered by a frame of the same bytes to its source where that is asked for.
+/// The answer is how many bytes were handed up, or that nothing was.
+fn take_in(sessions: &mut Sessions, bytes: &[u8]) -> Option<usize> {
+    let heard = match sessions.judge(bytes) {
+        Ok(heard) => heard,
+        Err(unheard) => {
+            let _ = sessions.turn_away(unheard);
+            return None;
+        }
+    };
+    let handed = match heard.word {
+        Word::Hands(Frame::Eager(eager)) => Some(eager.elements.len()),
+        _ => None,
+    };
+    match sessions.carry_out(Some(heard), &[]) {
+        Ok(()) => handed,
+        Err(_) => None,
+    }
+}
+
+/// A frame of these bytes goes to a rank.
+fn send(sessions: &mut Sessions, target: u16, count: u32, elements: &[u8]) -> bool {
+    let eager = Eager {
+        plane: Plane::PointToPoint,
+        basic: BasicType::Byte,
+        tag: 5,
+        context: 0,
+        count,
+        elements,
+    };
+    if target >= sessions.place().size || !eager.fits() {
+        return false;
+    }
+    let frame = Frame::Eager(eager);
+    sessions
+        .carry_out(None, &[Outgoing { target, frame }])
+        .is_ok()
+}
+
+/// All that one has emitted comes to the other; so many frames are handed up there.
+fn pass(from: &mut Sessions, to: &mut Sessions) -> usize {
+    let mut handed = 0usize;
+    for (_, bytes) in &from.take_out() {
+        if take_in(to, bytes.as_slice()).is_some() {
+            handed = handed.saturating_add(1);
+        }
+    }
+    handed
+}
+
+/// So many frames go to a rank.
+fn send_many(sessions: &mut Sessions, target: u16, count: usize) -> bool {
+    for _sent in 0..count {
+        if !send(sessions, target, 1, b"x") {
+            return false;
+        }
+    }
+    true
+}
+
+/// How many frames of 130 are handed up at once, after their acknowledgements, and after those.
+fn rounds(ranks: &mut [Sessions]) -> Option<(usize, usize, usize, bool)> {
+    let [a, b] = ranks else {
+        return None;
+    };
+    if !send_many(a, 1, 130) {
+        return None;
+    }
+    let first = pass(a, b);
+    let _ = pass(b, a);
+    let second = pass(a, b);
+    let _ = pass(b, a);
+    let third = pass(a, b);
+    let _ = pass(b, a);
+    Some((first, second, third, a.is_idle()))
+}
+
+fn two_ranks(alloc: Global, incarnation: u16) -> Option<Vec<Sessions>> {
+    let mut ranks = Vec::new(alloc);
+    ranks.push(sessions_of(alloc, 0, 0)?).ok()?;
+    ranks.push(sessions_of(alloc, 1, incarnation)?).ok()?;
+    Some(ranks)
+}
+
+fn many_frames(alloc: Global) -> Option<(usize, usize, usize, bool)> {
+    let mut ranks = two_ranks(alloc, 0)?;
+    rounds(&mut ranks)
+}
+
+#[test]
+fn a_session_keeps_130_frames_of_which_64_are_out(rt: HostRuntime) {
+    assert_eq!(rt; many_frames(rt.alloc()), Some((64, 64, 2, true)));
+}
+
+fn both(alloc: Global) -> Option<(bool, usize, bool)> {
+    let mut sessions = sessions_of(alloc, 0, 0)?;
+    let sent = send_both(&mut sessions, 2, 1, b"x");
+    let emitted = sessions.take_out().len();
+    Some((sent, emitted, sessions.is_idle()))
+}
+
+#[test]
+fn two_frames_go_to_two_ranks_in_one_event(rt: HostRuntime) {
+    assert_eq!(rt; both(rt.alloc()), Some((true, 2, false)));
+}
+
+/// The first datagram that one has emitted comes to the other; so many bytes are handed up there.
+fn take_only(from: &mut Sessions, to: &mut Sessions) -> Option<usize> {
+    let emitted = from.take_out();
+    let (_, bytes) = emitted.first()?;
+    take_in(to, bytes.as_slice())
+}
+
+fn long_frame(ranks: &mut [Sessions]) -> Option<usize> {
+    let [a, b] = ranks else {
+        return None;
+    };
+    if !send(a, 1, 1024, &[7u8; 1024]) {
+        return None;
+    }
+    take_only(a, b)
+}
+
+fn longest(alloc: Global) -> Option<usize> {
+    let mut ranks = two_ranks(alloc, 0)?;
+    long_frame(&mut ranks)
+}
+
+#[test]
+fn a_frame_of_1024_bytes_is_handed_up(rt: HostRuntime) {
+    assert_eq!(rt; longest(rt.alloc()), Some(1024));
+}
+
+/// How many frames of a restarted rank are handed up, at which incarnation it is known then, and whether what waited
+/// for its former self is gone.
+fn meet_anew(ranks: &mut [Sessions]) -> Option<(usize, Option<Session>)> {
+    let [a, b] = ranks else {
+        return None;
+    };
+    if !send(a, 1, 1, b"x") {
+        return None;
+    }
+    // For the former self: a reset answers it, and teaches.
+    let handed = pass(a, b);
+    let _ = pass(b, a);
+    Some((handed, a.session(1)))
+}
+
+fn restarted(alloc: Global) -> Option<(usize, Option<Session>)> {
+    let mut ranks = two_ranks(alloc, 1)?;
+    meet_anew(&mut ranks)
+}
+
+#[test]
+fn a_reset_teaches_that_a_rank_has_started_anew(rt: HostRuntime) {
+    let learnt = Session {
+        incarnation: 1,
+        idle: true,
+    };
+    assert_eq!(rt; restarted(rt.alloc()), Some((0, Some(learnt))));
+}
+
+fn again(sessions: &mut Sessions) -> (bool, usize, usize) {
+    let sent = send(sessions, 1, 1, b"x");
+    let _ = sessions.take_out();
+    let _ = sessions.tick(19);
+    let early = sessions.take_out().len();
+    let _ = sessions.tick(20);
+    (sent, early, sessions.take_out().len())
+}
+
+fn resent(alloc: Global) -> Option<(bool, usize, usize)> {
+    let mut sessions = sessions_of(alloc, 0, 0)?;
+    Some(again(&mut sessions))
+}
+
+#[test]
+fn an_unacknowledged_frame_goes_out_again_after_20_ms(rt: HostRuntime) {
+    assert_eq!(rt; resent(rt.alloc()), Some((true, 0, 1)));
+}

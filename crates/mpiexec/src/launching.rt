@@ -1,0 +1,98 @@
+//! The launcher: it starts a keeper for each rank, and prints what their ranks wrote.
+
+use crate::text::text_of;
+use keeping::{Report, Word, join_from, keeper_words, launch_status};
+use std::alloc::{AllocError, Global};
+use std::io::{ErrorKind, Read, Write};
+use std::process::{Child, Command, OpenProcess, Processes, Stdio};
+use std::rt::{Env, Files};
+use std::{env, io};
+
+/// The command that starts this program as the keeper of a rank. The keeper's standard input ends
+/// when this process does.
+fn keeper_command(alloc: Global, itself: &str, rank: u16, words: &[Word]) -> io::Result<Command> {
+    let mut command = Command::new(alloc, itself)?;
+    for word in keeper_words(alloc, rank, words)?.as_slice() {
+        command.arg(text_of(word)?)?;
+    }
+    command.stdin(Stdio::piped());
+    command.stdout(Stdio::piped());
+    Ok(command)
+}
+
+/// Starts the keeper of a rank.
+fn start<R: AllocGlobal + Processes>(
+    rt: &R,
+    itself: &str,
+    rank: u16,
+    words: &[Word],
+) -> io::Result<Child<R::Started>> {
+    keeper_command(rt.alloc(), itself, rank, words)?.spawn(rt)
+}
+
+/// Starts the keepers of so many ranks, in rank order.
+fn start_all<R: Env + Files + AllocGlobal + Processes>(
+    rt: &R,
+    size: u16,
+    words: &[Word],
+) -> io::Result<Vec<Child<R::Started>>> {
+    let alloc = rt.alloc();
+    let itself = env::current_exe(rt)?;
+    let mut keepers = Vec::new(alloc);
+    for rank in 0..size {
+        let keeper = start(rt, itself.as_str(), rank, words)?;
+        keepers.push(keeper).map_err(AllocError::from)?;
+    }
+    Ok(keepers)
+}
+
+/// What a keeper reports, once it has ended.
+fn report_of<P: OpenProcess + Drop>(alloc: Global, mut keeper: Child<P>) -> io::Result<Report> {
+    let mut bytes = Vec::new(alloc);
+    if let Some(mut pipe) = keeper.stdout.take() {
+        pipe.read_to_end(&mut bytes)?;
+    }
+    let is_whole = keeper.wait()?.success();
+    match Report::from_bytes(bytes) {
+        Some(report) if is_whole => Ok(report),
+        _ => Err(io::Error::from(ErrorKind::BrokenPipe)),
+    }
+}
+
+/// Prints what a rank wrote, once its keeper has ended. Answers the rank's last status.
+fn print_rank<R: Print + AllocGlobal, P: OpenProcess + Drop>(
+    rt: &R,
+    rank: usize,
+    keeper: Child<P>,
+) -> io::Result<u8> {
+    let alloc = rt.alloc();
+    let report = report_of(alloc, keeper)?;
+    let text = join_from(alloc, rank, &report.output)?;
+    io::writer(rt).write_all(&text)?;
+    Ok(report.status)
+}
+
+/// Prints what the ranks of these keepers wrote, by rising rank. Answers their last statuses.
+fn print_all<R: Print + AllocGlobal, P: OpenProcess + Drop>(
+    rt: &R,
+    keepers: Vec<Child<P>>,
+) -> io::Result<Vec<u8>> {
+    let mut statuses = Vec::with_capacity(rt.alloc(), keepers.len())?;
+    for (rank, keeper) in keepers.into_iter().enumerate() {
+        let status = print_rank(rt, rank, keeper)?;
+        statuses.push(status).map_err(AllocError::from)?;
+    }
+    Ok(statuses)
+}
+
+/// Launches so many ranks with these words, and prints what they wrote, by rising rank. Answers the
+/// status of the launch.
+pub fn launch<R: Env + Files + Print + AllocGlobal + Processes>(
+    rt: &R,
+    size: u16,
+    words: &[Word],
+) -> io::Result<u8> {
+    let keepers = start_all(rt, size, words)?;
+    let statuses = print_all(rt, keepers)?;
+    Ok(launch_status(&statuses))
+}

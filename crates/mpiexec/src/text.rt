@@ -1,0 +1,13 @@
+//! Words as the texts that a command takes.
+
+use keeping::Word;
+use std::io;
+use std::io::ErrorKind;
+
+/// The word as a text. A command takes no word that isn't UTF-8.
+pub fn text_of(word: &Word) -> io::Result<&str> {
+    match str::from_utf8(word.as_bytes()) {
+        Ok(text) => Ok(text),
+        Err(_) => Err(io::Error::from(ErrorKind::InvalidInput)),
+    }
+}

@@ -1,0 +1,23 @@
+-- What was emitted bears witness of what was handed up.
+use Rattle.std.specs.Prelude.{◌≡◌, ℕ, ◌<◌, ◌⊎◌, List, Some, slice_get}
+use Rattle.vocabulary.specs.declared.endpoint.Endpoint.{Endpoint}
+use Rattle.sessions.specs.Spellings.{ack_bytes}
+use Rattle.proof_pure_network.specs.Frames.{Frame}
+use Rattle.proof_pure_network.specs.Links.{Link}
+use Rattle.proof_link_truth.specs.Wire.{place_of, wire}
+
+-- these bytes were emitted to this rank
+pub record IsAmong (datagrams : List (ℕ × List ℕ)) (t : ℕ × List ℕ) : Type 0 where
+  pub place : ℕ
+  pub there : slice_get datagrams place ≡ Some t
+
+-- the frame that s accepted for d under a number was emitted
+pub record IsEmitted (n : ℕ) (datagrams : List (ℕ × List ℕ)) (s d : Endpoint) (link : Link) (number : ℕ) : Type 0 where
+  pub frame : Frame
+  pub accepted : slice_get link.accepted number ≡ Some frame
+  pub sent : IsAmong datagrams (d.rank, wire n s d number frame)
+
+-- No frame from s was handed up at d, or d emitted an acknowledgement of just so many; and each of them was emitted
+pub record IsWitnessed (n : ℕ) (datagrams : List (ℕ × List ℕ)) (s d : Endpoint) (link : Link) : Type 0 where
+  pub acknowledged : (link.handed ≡ 0) ⊎ IsAmong datagrams (s.rank, ack_bytes (place_of n d) s link.handed)
+  pub frames : (number : ℕ) → number < link.handed → IsEmitted n datagrams s d link number

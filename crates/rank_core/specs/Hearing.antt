@@ -1,0 +1,126 @@
+-- What is heard from another rank does to the core.
+use Rattle.std.specs.Prelude.{◌≡◌, ℕ, ◌<◌, Bool, true, false, Option, Some, None, is_some}
+use Rattle.std.specs.Global.{Vec}
+use Rattle.vocabulary.specs.declared.endpoint.Endpoint.{Endpoint}
+use Rattle.vocabulary.specs.BasicTypes.{size_of}
+use Rattle.datatypes.specs.Contents.{values_of}
+use Rattle.datagram.specs.declared.kinds.Plane.{Plane}
+use Rattle.datagram.specs.declared.kinds.Plane.TheVariants.{PointToPoint, Collective}
+use Rattle.datagram.specs.declared.datagram.Frame.{Frame}
+use Rattle.datagram.specs.Spelling.{EagerText, BodyText, EagerBody, AckBody, ResetBody, frame_text, BodyFits}
+use Rattle.match_queues.specs.declared.envelope.Message.{Message}
+use Rattle.match_queues.specs.State.{after_drop, keys_naming}
+use Rattle.requests.specs.Table.{after_replaces}
+use Rattle.rank_core.specs.declared.hearing.News.{News}
+use Rattle.rank_core.specs.declared.hearing.Ready.{Ready}
+use Rattle.rank_core.specs.declared.refused.Refused.{Refused}
+use Rattle.rank_core.specs.declared.refused.Refused.TheVariants as refusals
+use Rattle.rank_core.specs.CoreState.{CoreState, Held}
+use Rattle.rank_core.specs.Sending.{arrived}
+use Rattle.rank_core.specs.Waiting.{woken}
+
+-- WHAT WAS HEARD
+
+-- who spoke, whether its incarnation is new here, and the frame that it sent, if it sent one
+pub record NewsText : Type 0 where
+  pub source : Endpoint
+  pub lesson : Bool
+  pub frame : Option BodyText
+
+-- what a frame says, where there is one
+abbrev pub frame_option : Option Frame → Option BodyText
+frame_option None = None
+frame_option (Some f) = Some (frame_text f)
+
+-- what a value of the program says
+abbrev pub news_text : News → NewsText
+news_text n = record { source = n.source; lesson = n.lesson; frame = frame_option n.frame }
+
+-- the rules of the format hold of the frame
+abbrev pub FrameFits : Option BodyText → Type 0
+FrameFits None = Unit {0}
+FrameFits (Some b) = BodyFits b
+
+-- THE RULE
+
+-- for now no message of a collective operation is taken
+abbrev pub plane_fault : Plane → Option Refused
+plane_fault Collective = Some refusals.BadFrame
+plane_fault PointToPoint = None
+
+-- the rule by which a frame isn't taken
+abbrev pub body_fault : BodyText → Option Refused
+body_fault (EagerBody t) = plane_fault t.plane
+body_fault AckBody = None
+body_fault ResetBody = None
+
+-- and of the frame that was sent, if one was
+abbrev pub frame_fault : Option BodyText → Option Refused
+frame_fault None = None
+frame_fault (Some b) = body_fault b
+
+-- WHAT BECOMES OF IT
+
+-- the message of an eager frame, whose bytes are read as elements of its type
+unfoldable pub message_of : Endpoint → EagerText → Message
+message_of s t = record {
+  sender = s;
+  context = t.context;
+  tag = t.tag;
+  elements = record { basic = t.basic; values = values_of (size_of t.basic) t.elements };
+}
+
+-- the message that a frame is
+abbrev pub message_in : Endpoint → BodyText → Option Message
+message_in s (EagerBody t) = Some (message_of s t)
+message_in s AckBody = None
+message_in s ResetBody = None
+
+-- and of the frame that was sent, if one was
+abbrev pub message_from : Endpoint → Option BodyText → Option Message
+message_from s None = None
+message_from s (Some b) = message_in s b
+
+-- The rank was started anew: receives that name it end, their buffers as they were; messages from its former
+-- incarnations that were not received are dropped (MPI 3.1 has no restarts; this is our own)
+abbrev pub replaced : CoreState → Endpoint → CoreState
+replaced c s = record c {
+  slots = after_replaces c.slots (keys_naming s.rank c.queues.posted);
+  queues = after_drop c.queues s.rank s.incarnation;
+}
+
+-- so it is where the incarnation is new here
+abbrev pub taught : Bool → CoreState → Endpoint → CoreState
+taught false c s = c
+taught true c s = replaced c s
+
+-- a message has come, if one did
+abbrev pub arrived_any : CoreState → Option Message → CoreState
+arrived_any c None = c
+arrived_any c (Some m) = arrived c m
+
+-- first the lesson, then the message, then a blocked call is answered; where neither came, nothing changes
+abbrev pub after_hearing : Bool → Option Message → CoreState → Endpoint → CoreState
+after_hearing false None c s = c
+after_hearing false (Some m) c s = woken (arrived c m)
+after_hearing true message c s = woken (arrived_any (replaced c s) message)
+
+-- what news make of the core
+abbrev pub after_news : CoreState → NewsText → CoreState
+after_news c n = after_hearing n.lesson (message_from n.source n.frame) c n.source
+
+-- WHAT IS MADE READY FOR IT
+
+-- the keys of the receives that name the rank, where its incarnation is new here
+abbrev pub KeysFit : Option (Vec ℕ) → CoreState → Endpoint → Type 0
+KeysFit None c s = Unit {0}
+KeysFit (Some keys) c s = keys.items ≡ keys_naming s.rank c.queues.posted
+
+-- it can be taken without memory
+pub record CanTake (h : Held) (s : Endpoint) (r : Ready) : Type 0 where
+  pub keys : KeysFit r.keys h.state s
+  pub room : is_some r.message ≡ true → 0 < h.messages
+
+-- what is ready for it makes this of the core
+abbrev pub after_ready : CoreState → Endpoint → Ready → CoreState
+after_ready c s r = after_hearing (is_some r.keys) r.message c s

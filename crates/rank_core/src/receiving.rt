@@ -1,0 +1,68 @@
+//! What a receive asks for, and what a message makes of it.
+
+ghost use Rattle.std.specs.Prelude.{◌≡◌};
+ghost use Rattle.rank_core.specs.Receiving.{is_tag_above, is_no_source, posted_by, status_of, progress_on_post};
+
+use crate::call::Receive;
+use crate::sending::GREATEST_TAG;
+use datatypes::Buffer;
+use match_queues::Message;
+use requests::{Progress, received};
+use vocabulary::{Source, Status};
+
+/// Whether the tag is above the greatest one.
+pub(crate) fn is_tag_above(tag: Option<u32>) -> bool
+    ensures { result ≡ is_tag_above tag }
+{
+    match tag {
+        None => false,
+        Some(tag) => tag > GREATEST_TAG,
+    }
+}
+
+/// Whether there is no such source among `size` ranks.
+pub(crate) fn is_no_source(size: u16, source: Source) -> bool
+    ensures { result ≡ is_no_source size source }
+{
+    match source {
+        Source::Any => false,
+        Source::Rank(rank) => rank >= size,
+        Source::Null => true,
+    }
+}
+
+/// What is posted for a receive, under the key of its request.
+pub(crate) fn posted_by(key: usize, receive: &Receive) -> match_queues::Receive
+    ensures { result ≡ posted_by key receive.now }
+{
+    match_queues::Receive {
+        request: key,
+        context: 0,
+        source: receive.source,
+        tag: receive.tag,
+    }
+}
+
+/// The status that a message gives.
+pub(crate) fn status_of(message: &Message) -> Status
+    ensures { result ≡ status_of message.now }
+{
+    Status {
+        source: Source::Rank(message.sender.rank),
+        tag: Some(message.tag),
+        count: message.elements.len() as u64,
+    }
+}
+
+/// How far a receive is, once it was posted and found this message or none.
+pub(crate) fn progress_on_post(buffer: Buffer, found: Option<Message>) -> Progress
+    ensures { result ≡ progress_on_post buffer found }
+{
+    match found {
+        Some(message) => {
+            let status = status_of(&message);
+            Progress::Finished(received(buffer, status, &message.elements))
+        }
+        None => Progress::Receiving(buffer),
+    }
+}

@@ -1,0 +1,169 @@
+//! A transport and a clock in memory.
+
+ghost use Rattle.std.specs.Prelude.{◌≡◌, ◌+◌, ◌<◌, ◌≤◌, ◌^◌, [], ◌∷◌, ◌++◌, length, take, OnOk, OnErr};
+ghost use Rattle.rank_drive.specs.declared.exchange.Exchange.TheVariants.{Failed};
+
+use crate::clock::Clock;
+use crate::exchange::Exchange;
+use crate::transport::{Transport, TransportFault};
+use datagram::Bytes;
+use std::alloc::Global;
+use std::collections::VecDeque;
+use std::marker::Model;
+
+/// A transport in memory. It gives the datagrams that were put into it, in their order, and keeps what passed. So many of its
+/// calls succeed, and each later one fails; so does one, and each later one, for which memory is wanting.
+#[derive(Drop)]
+pub struct Memory {
+    alloc: Global,
+    waiting: VecDeque<Bytes>,
+    log: Vec<Exchange>,
+    calls_left: u64,
+    failures: u64,
+}
+
+impl Model for Memory {
+    ghost use Rattle.std.specs.Prelude.{◌≡◌, ◌<◌, ◌++◌, replicate};
+    ghost use Rattle.rank_drive.specs.Memories.{MemoryState};
+    ghost use Rattle.rank_drive.specs.declared.exchange.Exchange.TheVariants.{Failed};
+
+    ghost Value = { MemoryState };
+
+    ghost view = { λ m. record { log = m.log.items ++ replicate m.failures Failed; failed = m.failures } };
+
+    ghost invariant = { λ m. 0 < m.calls_left → m.failures ≡ 0 };
+}
+
+/// Copies as many bytes as fit to the front of the buffer, and answers how many.
+fn put(buffer: &mut [u8], bytes: &[u8]) -> usize
+    ensures { result ≤ length buffer.new }
+{
+    let len = buffer.len().min(bytes.len());
+    buffer[..len].copy_from_slice(&bytes[..len]);
+    len
+}
+
+impl Memory {
+    /// A transport that gives these datagrams, in order, and of whose calls so many succeed.
+    pub fn new(alloc: Global, waiting: VecDeque<Bytes>, calls: u64) -> Memory
+        ensures { result ≡ record { log = []; failed = 0 } }
+    {
+        Memory {
+            alloc,
+            waiting,
+            log: Vec::new(alloc),
+            calls_left: calls,
+            failures: 0,
+        }
+    }
+
+    /// It fails now, and from now on.
+    #[tactic(auto, using(crate::specs::MemoryLaws::one_more))]
+    fn fail(&mut self) -> TransportFault
+        requires { self.old.failed + 1 < 2 ^ 64 }
+        ensures { self.new ≡ record { log = self.old.log ++ Failed ∷ []; failed = self.old.failed + 1 } }
+    {
+        self.calls_left = 0;
+        self.failures += 1;
+        TransportFault
+    }
+
+    /// This passes, or a fault.
+    fn pass(&mut self, exchange: Exchange) -> Result<(), TransportFault>
+        requires { self.old.failed + 1 < 2 ^ 64 }
+        ensures ok { OnOk result (self.new ≡ record { log = self.old.log ++ exchange ∷ []; failed = self.old.failed }) }
+        ensures err { OnErr result (self.new ≡ record { log = self.old.log ++ Failed ∷ []; failed = self.old.failed + 1 }) }
+    {
+        if self.calls_left == 0 {
+            return Err(self.fail());
+        }
+        if self.log.push(exchange).is_err() {
+            return Err(self.fail());
+        }
+        self.calls_left -= 1;
+        Ok(())
+    }
+
+    /// A copy of these bytes passes, or a fault.
+    fn pass_copy(&mut self, bytes: &[u8]) -> Result<(), TransportFault>
+        requires { self.old.failed + 1 < 2 ^ 64 }
+        ensures ok { OnOk result (self.new ≡ record { log = self.old.log ++ Exchange.Received bytes.now ∷ []; failed = self.old.failed }) }
+        ensures err { OnErr result (self.new ≡ record { log = self.old.log ++ Failed ∷ []; failed = self.old.failed + 1 }) }
+    {
+        match Bytes::from_slice(self.alloc, bytes) {
+            Ok(copy) => self.pass(Exchange::Received(copy)),
+            Err(_) => Err(self.fail()),
+        }
+    }
+}
+
+impl Transport for Memory {
+    ghost use Rattle.std.specs.Prelude.{◌≡◌, ◌++◌};
+    ghost use Rattle.rank_drive.specs.MemoryLaws.{nothing_more, two_steps};
+
+    ghost passed = { λ s xs t. t.log ≡ s.log ++ xs };
+
+    ghost failed = { λ m. m.failed };
+
+    fn receive(&mut self, buffer: &mut [u8]) -> Result<Option<usize>, TransportFault> {
+        let Some(bytes) = self.waiting.pop_front() else {
+            return match self.pass(Exchange::Nothing) {
+                Ok(_) => Ok(None),
+                Err(_) => Err(TransportFault),
+            };
+        };
+        let len = put(buffer, bytes.as_slice());
+        match self.pass_copy(&buffer[..len]) {
+            Ok(_) => Ok(Some(len)),
+            Err(_) => Err(TransportFault),
+        }
+    }
+
+    fn send(&mut self, target: u16, bytes: &[u8]) -> Result<(), TransportFault> {
+        match Bytes::from_slice(self.alloc, bytes) {
+            Ok(copy) => self.pass(Exchange::Sent(target, copy)),
+            Err(_) => Err(self.fail()),
+        }
+    }
+
+    fn print(&mut self, line: &[u8]) -> Result<(), TransportFault> {
+        match Bytes::from_slice(self.alloc, line) {
+            Ok(copy) => self.pass(Exchange::Printed(copy)),
+            Err(_) => Err(self.fail()),
+        }
+    }
+
+    fn wait(&mut self, _most: u64) -> Result<(), TransportFault> {
+        if self.calls_left == 0 {
+            return Err(self.fail());
+        }
+        self.calls_left -= 1;
+        Ok(())
+    }
+
+    fn failures(&self) -> u64 {
+        self.failures
+    }
+
+    ghost none = { λ t. nothing_more t.log };
+
+    ghost joined = { λ s t u xs ys p q. two_steps s.log t.log u.log xs ys p q };
+}
+
+/// A clock that rises by a millisecond at each reading.
+#[derive(Clone, Copy, Debug, PartialEq, Eq)]
+pub struct Rising {
+    /// The time that it told last.
+    pub time: u64,
+}
+
+impl Clock for Rising {
+    ghost use Rattle.std.specs.Prelude.{◌≡◌};
+
+    ghost told = { λ s now t. now ≡ t.time };
+
+    fn now(&mut self) -> u64 {
+        self.time = self.time.saturating_add(1);
+        self.time
+    }
+}

@@ -1,0 +1,156 @@
+//! One turn, and what follows it.
+
+ghost use Rattle.std.specs.Prelude.{◌≡◌, ◌+◌, ◌-◌, ◌<◌, ◌^◌, if◌then◌else◌};
+ghost use Rattle.rank_drive.specs.declared.standing.Standing.{Standing};
+ghost use Rattle.rank_drive.specs.Exchanges.{FailsWith, waited};
+ghost use Rattle.rank_drive.specs.Drives.{RoundGives, ending, patience_ends, standing_after};
+
+use crate::runner::Runner;
+use crate::standing::{Stage, Standing, Turned};
+use crate::transport::{Transport, TransportFault};
+use crate::turn::{is_ready, turn};
+use engine::Engine;
+use std::sync::Wait;
+
+/// How many milliseconds a rank stays after its script's end, from the last datagram that came.
+const LINGER: u64 = 100;
+
+/// How many milliseconds a rank waits at most while frames are unacknowledged, so that they are sent again in time.
+const SHORT_WAIT: u64 = 5;
+
+/// How a rank ended.
+#[derive(Clone, Copy, Debug, PartialEq, Eq)]
+pub enum Ended {
+    /// By its runner, with this status; the line of the script where that is a faulty one.
+    Runner(u8, Option<usize>),
+    /// Nothing moved for as long as its patience lasts.
+    Patience,
+}
+
+/// What a round came to.
+#[derive(Debug, Drop)]
+pub enum Round {
+    /// The rank goes on from here.
+    On(Standing),
+    /// It has ended.
+    Last(Ended),
+}
+
+impl Ended {
+    /// The status of the rank's program.
+    pub fn status(self) -> u8 {
+        match self {
+            Ended::Runner(status, _) => status,
+            Ended::Patience => 4,
+        }
+    }
+}
+
+fn patience_ends(patience: u64, still: u64) -> Option<Ended>
+    ensures { result ≡ patience_ends patience still }
+{
+    if patience <= still {
+        Some(Ended::Patience)
+    } else {
+        None
+    }
+}
+
+/// Whether a rank ends, where no datagram came for `quiet` milliseconds, and nothing moved for `still`.
+fn ending(stage: &Stage, idle: bool, patience: u64, quiet: u64, still: u64) -> Option<Ended>
+    ensures { result ≡ ending stage.now idle patience quiet still }
+{
+    match stage {
+        Stage::Over(status, line) => {
+            if *status == 0 {
+                if idle && LINGER <= quiet {
+                    Some(Ended::Runner(*status, *line))
+                } else {
+                    patience_ends(patience, still)
+                }
+            } else {
+                Some(Ended::Runner(*status, *line))
+            }
+        }
+        _ => patience_ends(patience, still),
+    }
+}
+
+/// The later time where this happened.
+fn time_of(happened: bool, now: u64, before: u64) -> u64
+    ensures { result ≡ (if happened then now else before) }
+{
+    if happened { now } else { before }
+}
+
+/// For how many milliseconds a rank waits at most for a datagram: until something is due of itself.
+fn wait_of(stage: &Stage, idle: bool, patience: u64, quiet: u64, still: u64) -> u64 {
+    let over = patience.saturating_sub(still).max(1);
+    if !idle {
+        return SHORT_WAIT.min(over);
+    }
+    match stage {
+        Stage::Over(_, _) => LINGER.saturating_sub(quiet).max(1).min(over),
+        _ => over,
+    }
+}
+
+/// Waits for a datagram, unless the runner may go on at once.
+fn rest<T: Transport>(transport: &mut T, ready: bool, most: u64) -> Result<(), TransportFault>
+    requires { T.failed transport.old + 1 < 2 ^ 64 }
+    ensures passed { T.passed transport.old (waited result) transport.new }
+    ensures failures { FailsWith result (T.failed transport.old) (T.failed transport.new) }
+{
+    if ready {
+        return Ok(());
+    }
+    transport.wait(most)
+}
+
+/// Where a rank stands after a turn at this time.
+fn standing_after(heard: u64, moved: u64, now: u64, turned: Turned) -> Standing
+    ensures { (s : Standing) → s.heard ≡ heard → s.moved ≡ moved → result ≡ standing_after s now turned }
+{
+    Standing {
+        stage: turned.stage,
+        heard: time_of(turned.came, now, heard),
+        moved: time_of(turned.moved, now, moved),
+    }
+}
+
+/// One turn at this time, and a wait for a datagram behind it where the rank goes on and has nothing to do.
+pub(crate) fn make_round<R: Wait, P: Runner, T: Transport>(
+    rt: &R,
+    engine: &mut Engine,
+    runner: &mut P,
+    standing: Standing,
+    patience: u64,
+    transport: &mut T,
+    now: u64,
+) -> Result<Round, TransportFault>
+    requires { T.failed transport.old + 1 < 2 ^ 64 }
+    ensures exact { RoundGives P.does T.passed patience
+        (record { engine = engine.old; runner = runner.old; standing = standing; transport = transport.old })
+        now result engine.new runner.new transport.new }
+    ensures failures { FailsWith result (T.failed transport.old) (T.failed transport.new) }
+{
+    let (heard, moved) = (standing.heard, standing.moved);
+    let Ok(turned) = turn(rt, engine, runner, standing.stage, transport, now) else {
+        return Err(TransportFault);
+    };
+    let next = standing_after(heard, moved, now, turned);
+    let idle = engine.is_idle();
+    let quiet = now.saturating_sub(next.heard);
+    let still = now.saturating_sub(next.moved);
+    if let Some(ended) = ending(&next.stage, idle, patience, quiet, still) {
+        return Ok(Round::Last(ended));
+    }
+    let Ok(_) = rest(
+        transport,
+        is_ready(&next.stage),
+        wait_of(&next.stage, idle, patience, quiet, still),
+    ) else {
+        return Err(TransportFault);
+    };
+    Ok(Round::On(next))
+}

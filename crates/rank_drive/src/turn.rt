@@ -1,0 +1,107 @@
+//! One turn of a rank.
+
+ghost use Rattle.std.specs.Prelude.{◌≡◌, ◌+◌, ◌<◌, ◌^◌};
+ghost use Rattle.rank_drive.specs.Exchanges.{FailsWith};
+ghost use Rattle.rank_drive.specs.Speaking.{IsNoLine};
+ghost use Rattle.rank_drive.specs.Turns.{TakesStep, GoesOnTo, TurnGives, stage_with, is_ready};
+
+use crate::listening::listen;
+use crate::runner::{Runner, Step};
+use crate::sending::send_all;
+use crate::speaking::speak;
+use crate::standing::{Stage, Turned};
+use crate::transport::{Transport, TransportFault};
+use engine::{Engine, Reply};
+use requests::Outcome;
+use std::sync::Wait;
+
+/// What the runner waits for, once this answer of a blocked call, or none, has come.
+fn stage_with(stage: Stage, completion: Option<Outcome>) -> Stage
+    ensures { result ≡ stage_with stage completion }
+{
+    match completion {
+        Some(outcome) => Stage::Ready(Some(Reply::Done(outcome))),
+        None => stage,
+    }
+}
+
+/// Whether the runner goes on at the next turn.
+pub(crate) fn is_ready(stage: &Stage) -> bool
+    ensures { result ≡ is_ready stage.now }
+{
+    matches!(stage, Stage::Ready(_))
+}
+
+/// The runner's call goes to its engine; its end is the end.
+fn take_step(engine: &mut Engine, step: Step) -> Stage
+    requires { IsNoLine step }
+    ensures { TakesStep engine.old step result engine.new }
+{
+    match step {
+        Step::Call(call) => match engine.call(call) {
+            Reply::Blocked => Stage::Blocked,
+            reply => Stage::Ready(Some(reply)),
+        },
+        Step::Print(_) => unreachable!(),
+        Step::End(status, line) => Stage::Over(status, line),
+    }
+}
+
+/// The runner goes on, unless its call is blocked or it has ended.
+fn go_on<R: Wait, P: Runner, T: Transport>(
+    rt: &R,
+    engine: &mut Engine,
+    runner: &mut P,
+    stage: Stage,
+    transport: &mut T,
+) -> Result<Stage, TransportFault>
+    requires { T.failed transport.old + 1 < 2 ^ 64 }
+    ensures exact { GoesOnTo P.does T.passed engine.old runner.old stage transport.old result engine.new runner.new transport.new }
+    ensures failures { FailsWith result (T.failed transport.old) (T.failed transport.new) }
+{
+    let reply = match stage {
+        Stage::Ready(reply) => reply,
+        stopped => return Ok(stopped),
+    };
+    let Ok(step) = speak(rt, runner, reply, transport) else {
+        return Err(TransportFault);
+    };
+    Ok(take_step(engine, step))
+}
+
+/// One turn: the clock ticks, all datagrams that are there are taken in, the runner's lines are written and its next
+/// call goes to the engine, unless one is blocked, and what the engine emitted is sent.
+pub(crate) fn turn<R: Wait, P: Runner, T: Transport>(
+    rt: &R,
+    engine: &mut Engine,
+    runner: &mut P,
+    stage: Stage,
+    transport: &mut T,
+    now: u64,
+) -> Result<Turned, TransportFault>
+    requires { T.failed transport.old + 1 < 2 ^ 64 }
+    ensures exact { TurnGives P.does T.passed engine.old runner.old stage transport.old now result
+        engine.new runner.new transport.new }
+    ensures failures { FailsWith result (T.failed transport.old) (T.failed transport.new) }
+{
+    let _ = engine.tick(now);
+    let Ok(heard) = listen(rt, engine, transport) else {
+        return Err(TransportFault);
+    };
+    let completion = engine.take_completion();
+    let answered = completion.is_some();
+    let stage = stage_with(stage, completion);
+    let Ok(next) = go_on(rt, engine, runner, stage, transport) else {
+        return Err(TransportFault);
+    };
+    let out = engine.take_out();
+    let Ok(_) = send_all(transport, &out) else {
+        return Err(TransportFault);
+    };
+    let moved = heard.accepted || answered || is_ready(&next);
+    Ok(Turned {
+        stage: next,
+        came: heard.any,
+        moved,
+    })
+}

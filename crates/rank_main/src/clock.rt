@@ -1,0 +1,45 @@
+//! The clock of the host.
+
+use rank_drive::Clock;
+use std::io;
+use std::time::{Clock as Host, Instant};
+
+/// The milliseconds since it was made.
+pub struct HostClock<'a, R: Host> {
+    rt: &'a R,
+    start: Instant,
+    /// The time that it told last.
+    last: u64,
+}
+
+impl<'a, R: Host> Drop for HostClock<'a, R> {
+    fn drop(self) {
+        let Self {
+            rt: _,
+            start: _,
+            last: _,
+        } = self;
+    }
+}
+
+impl<'a, R: Host> HostClock<'a, R> {
+    /// A clock that stands at 0 now.
+    pub fn new(rt: &'a R) -> io::Result<HostClock<'a, R>> {
+        Ok(HostClock {
+            rt,
+            start: Instant::now(rt)?,
+            last: 0,
+        })
+    }
+}
+
+impl<'a, R: Host> Clock for HostClock<'a, R> {
+    ghost told = { λ _ _ _. Unit {0} };
+
+    fn now(&mut self) -> u64 {
+        if let Ok(passed) = self.start.elapsed(self.rt) {
+            self.last = u64::try_from(passed.as_millis()).unwrap_or(u64::MAX);
+        }
+        self.last
+    }
+}

@@ -1,0 +1,184 @@
+//! Datagrams over UDP on the loopback, and lines on the standard output.
+
+ghost use Rattle.std.specs.Prelude.{◌≡◌, ◌+◌, ◌<◌, ◌^◌, ◌≤◌, length, IfOk};
+
+use mio::net::UdpSocket;
+use mio::{Events, Interest, Poll, Token};
+use rank_drive::{LONGEST, Transport, TransportFault};
+use std::alloc::Global;
+use std::io;
+use std::io::{ErrorKind, Write};
+use std::net::{Ipv4Addr, Net, SocketAddr};
+use std::thread::yield_now;
+use std::time::Duration;
+
+/// How often a rank that waits asks for a datagram and lets other processes run, before it sleeps.
+const YIELDS: u32 = 20;
+
+/// A socket of a rank on 127.0.0.1, and its standard output.
+///
+/// A wait first asks for a datagram some times and lets other processes run in between, since the answer to what was just
+/// sent is there soon; then it sleeps until a datagram comes.
+#[derive(Drop)]
+pub struct Udp<'a, R: Print> {
+    rt: &'a R,
+    socket: UdpSocket,
+    poll: Poll,
+    events: Events<Global>,
+    /// The port of rank 0; rank s has the port that is s above.
+    first_port: u16,
+    /// Where a datagram is put that came in a wait.
+    room: Vec<u8>,
+    /// How long that datagram is, until it is handed out.
+    held: Option<usize>,
+    /// The line that is written, with its end.
+    text: Vec<u8>,
+    /// How often it has failed.
+    failures: u64,
+}
+
+fn address(port: u16) -> SocketAddr {
+    SocketAddr::from((Ipv4Addr::LOCALHOST, port))
+}
+
+/// Copies the first bytes of the room to the front of the buffer, as many as there are and fit, and answers how many.
+fn put(buffer: &mut [u8], room: &[u8], len: usize) -> usize
+    ensures { result ≤ length buffer.new }
+{
+    let len = len.min(buffer.len()).min(room.len());
+    buffer[..len].copy_from_slice(&room[..len]);
+    len
+}
+
+/// The length of the next datagram, which is put into the room, if one comes while others run.
+fn come(socket: &UdpSocket, room: &mut [u8]) -> Option<usize> {
+    for _ in 0..YIELDS {
+        if let Ok(len) = socket.recv(room) {
+            return Some(len);
+        }
+        yield_now();
+    }
+    None
+}
+
+/// Whether an error says no more than that nothing can be done now.
+fn is_passing(error: &io::Error) -> bool {
+    matches!(error.kind(), ErrorKind::WouldBlock | ErrorKind::Interrupted)
+}
+
+/// Writes a line and its end.
+fn write_line<R: Print>(rt: &R, text: &mut Vec<u8>, line: &[u8]) -> io::Result<()> {
+    text.clear();
+    text.extend_from_slice(line)?;
+    text.push(b'\n')?;
+    let mut out = io::writer(rt);
+    out.write_all(text.as_slice())
+}
+
+impl<'a, R: Print> Udp<'a, R> {
+    /// The socket of a rank at a port. Fails where the port is taken, or where the system or memory is wanting.
+    pub fn new(rt: &'a R, alloc: Global, rank: u16, port: u16) -> io::Result<Udp<'a, R>>
+    where
+        R: Net,
+        ensures { IfOk result (λ udp. udp.failures ≡ 0) }
+    {
+        let mut socket = UdpSocket::bind(rt, address(port))?;
+        let poll = Poll::new(rt)?;
+        let events = Events::with_capacity(alloc, 4)?;
+        poll.registry()
+            .register(&mut socket, Token(0), Interest::READABLE)?;
+        Ok(Udp {
+            rt,
+            socket,
+            poll,
+            events,
+            first_port: port.saturating_sub(rank),
+            room: vec![in alloc; 0u8; LONGEST]?,
+            held: None,
+            text: Vec::new(alloc),
+            failures: 0,
+        })
+    }
+
+    fn fault(&mut self) -> TransportFault
+        requires { self.old.failures + 1 < 2 ^ 64 }
+        ensures { self.new.failures ≡ self.old.failures + 1 }
+    {
+        self.failures += 1;
+        TransportFault
+    }
+}
+
+impl<'a, R: Print> Transport for Udp<'a, R> {
+    ghost passed = { λ _ _ _. Unit {0} };
+
+    ghost failed = { λ t. t.failures };
+
+    fn receive(&mut self, buffer: &mut [u8]) -> Result<Option<usize>, TransportFault> {
+        if let Some(len) = self.held.take() {
+            return Ok(Some(put(buffer, &self.room, len)));
+        }
+        match self.socket.recv(buffer) {
+            Ok(len) => Ok(Some(len)),
+            Err(e) => {
+                if is_passing(&e) {
+                    Ok(None)
+                } else {
+                    Err(self.fault())
+                }
+            }
+        }
+    }
+
+    fn send(&mut self, target: u16, bytes: &[u8]) -> Result<(), TransportFault> {
+        match self
+            .socket
+            .send_to(bytes, address(self.first_port.saturating_add(target)))
+        {
+            Ok(_) => Ok(()),
+            // Where there is no room for it now it is lost.
+            Err(e) => {
+                if is_passing(&e) {
+                    Ok(())
+                } else {
+                    Err(self.fault())
+                }
+            }
+        }
+    }
+
+    fn print(&mut self, line: &[u8]) -> Result<(), TransportFault> {
+        match write_line(self.rt, &mut self.text, line) {
+            Ok(()) => Ok(()),
+            Err(_) => Err(self.fault()),
+        }
+    }
+
+    fn wait(&mut self, most: u64) -> Result<(), TransportFault> {
+        if let Some(len) = come(&self.socket, &mut self.room) {
+            self.held = Some(len);
+            return Ok(());
+        }
+        match self
+            .poll
+            .poll(&mut self.events, Some(Duration::from_millis(most)))
+        {
+            Ok(()) => Ok(()),
+            Err(e) => {
+                if is_passing(&e) {
+                    Ok(())
+                } else {
+                    Err(self.fault())
+                }
+            }
+        }
+    }
+
+    fn failures(&self) -> u64 {
+        self.failures
+    }
+
+    ghost none = { λ _. tt };
+
+    ghost joined = { λ _ _ _ _ _ _ _. tt };
+}

@@ -1,0 +1,6 @@
+pub mod Tables
+pub mod Texts
+pub mod NamesState
+pub mod Acting
+pub mod Heeding
+pub mod Running

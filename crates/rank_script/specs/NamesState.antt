@@ -1,0 +1,62 @@
+-- What the names of a rank stand for, and what it waits for.
+use Rattle.std.specs.Prelude.{ℕ, Bool, true, false, List, [], Option, Some, None, option_and_then, option_map}
+use Rattle.vocabulary.specs.declared.envelope.Source.TheVariants as sources
+use Rattle.vocabulary.specs.declared.envelope.Status.{Status}
+use Rattle.datatypes.specs.Contents.{Contents}
+use Rattle.requests.specs.declared.table.Request.{Request}
+use Rattle.rank_script.specs.declared.table.Entry.{Entry}
+use Rattle.rank_script.specs.declared.names.Held.{Held}
+use Rattle.rank_script.specs.declared.names.Doing.{Doing}
+use Rattle.rank_script.specs.declared.names.Stage.TheVariants.{Free}
+use Rattle.rank_script.specs.Tables.{value_at, with_value}
+
+-- The buffers that were set, where none is one that is lent; the requests that were started; the status of the last receive;
+-- and what the answer to the last call is for.
+pub record NamesState : Type 0 where
+  pub buffers : List (Entry (Option Contents))
+  pub requests : List (Entry Held)
+  pub last : Status
+  pub doing : Doing
+
+-- the status of a null request, and of no receive at all (MPI 3.1, 3.7.3)
+abbrev pub empty_status : Status
+empty_status = record { source = sources.Any; tag = None; count = 0 }
+
+-- no answer is awaited
+abbrev pub free : Doing
+free = record { stage = Free; request = None; buffer = None }
+
+-- the names at the start
+abbrev pub no_names : NamesState
+no_names = record { buffers = []; requests = []; last = empty_status; doing = free }
+
+-- the buffer of a name, unless it is lent or isn't set
+abbrev pub here : NamesState → List ℕ → Option Contents
+here s name = option_and_then (λ slot. slot) (value_at s.buffers name)
+
+-- whether a slot is one that is lent
+abbrev pub is_lent_slot : Option (Option Contents) → Bool
+is_lent_slot None = false
+is_lent_slot (Some None) = true
+is_lent_slot (Some (Some buffer)) = false
+
+-- whether the buffer of a name is lent
+abbrev pub is_lent : NamesState → List ℕ → Bool
+is_lent s name = is_lent_slot (value_at s.buffers name)
+
+-- the request of a name, which may be null, if it is set
+abbrev pub request_at : NamesState → List ℕ → Option (Option Request)
+request_at s name = option_map (λ h. h.request) (value_at s.requests name)
+
+-- a buffer's name stands for these elements, or is lent
+abbrev pub with_buffer : NamesState → List ℕ → Option Contents → NamesState
+with_buffer s name slot = record s { buffers = with_value s.buffers name slot }
+
+-- a request's name stands for this
+abbrev pub with_request : NamesState → List ℕ → Held → NamesState
+with_request s name held = record s { requests = with_value s.requests name held }
+
+-- a buffer comes back to the name that lent it, if one did
+abbrev pub given_back : NamesState → Option (List ℕ) → Contents → NamesState
+given_back s None buffer = s
+given_back s (Some name) buffer = with_buffer s name (Some buffer)

@@ -1,0 +1,22 @@
+-- What a script prints.
+use Rattle.std.specs.Prelude.{ℕ, List, ◌++◌, ◌∷◌, [], codes, drop}
+use Rattle.std.specs.List.{flat_map}
+use Rattle.std.specs.Fmt.{decimal}
+use Rattle.datatypes.specs.Contents.{Contents}
+use Rattle.statements.specs.Answers.{elements_text}
+
+-- `error N`
+abbrev pub error_line : ℕ → List ℕ
+error_line number = codes "error " ++ decimal number
+
+-- the elements of a buffer, a space between two
+abbrev pub elements_line : Contents → List ℕ
+elements_line buffer = drop 1 (elements_text buffer)
+
+-- a space and the word, for each
+abbrev pub spaced : List (List ℕ) → List ℕ
+spaced words = flat_map (λ word. 32 ∷ word) words
+
+-- the words, a space between two
+abbrev pub words_line : List (List ℕ) → List ℕ
+words_line words = drop 1 (spaced words)

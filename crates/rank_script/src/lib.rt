@@ -1,0 +1,11 @@
+//! Running the script of a rank: what each line asks of the rank's engine, what is made of the answer, and what is printed.
+#![tactic(auto)]
+
+mod acting;
+mod heeding;
+mod names;
+mod runner;
+mod table;
+mod texts;
+
+pub use runner::ScriptRunner;

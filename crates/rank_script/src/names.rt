@@ -1,0 +1,167 @@
+//! What the names of a rank stand for, and what it waits for.
+
+ghost use Rattle.std.specs.Prelude.{◌≡◌, IfOk, OnOk, Option, Some, None};
+ghost use Rattle.rank_script.specs.Tables.{value_at, value_there, with_value};
+ghost use Rattle.rank_script.specs.NamesState.{empty_status, free, no_names, here, is_lent, request_at, with_buffer, with_request, given_back};
+
+use crate::table::{Entry, place_of, set};
+use datatypes::Buffer;
+use requests::Request;
+use statements::Name;
+use std::alloc::{AllocError, Global};
+use std::marker::Model;
+use std::mem;
+use vocabulary::{Source, Status};
+
+/// What a name of a request stands for.
+#[derive(Debug, Drop)]
+pub(crate) struct Held {
+    /// The request; none is the null request.
+    pub request: Option<Request>,
+    /// The name of the buffer that comes back with the request's outcome.
+    pub buffer: Option<Name>,
+}
+
+/// What the answer to the last call is for.
+#[derive(Clone, Copy, Debug, PartialEq, Eq)]
+pub(crate) enum Stage {
+    /// No answer is awaited.
+    Free,
+    /// An operation is started.
+    Starting,
+    /// An operation is started, to be waited for.
+    StartingToWait,
+    /// An operation is waited for.
+    Waiting,
+}
+
+/// What the answer to the last call is for, and what it changes.
+#[derive(Debug, Drop)]
+pub(crate) struct Doing {
+    /// What the answer is for.
+    pub stage: Stage,
+    /// The name of the request that is started or waited for, if it has one.
+    pub request: Option<Name>,
+    /// The name of the buffer that comes back, if no request's name says so.
+    pub buffer: Option<Name>,
+}
+
+/// What the names of a rank stand for, and what it waits for.
+#[derive(Drop)]
+pub(crate) struct Names {
+    pub alloc: Global,
+    pub buffers: Vec<Entry<Option<Buffer>>>,
+    pub requests: Vec<Entry<Held>>,
+    pub last: Status,
+    pub doing: Doing,
+}
+
+impl Model for Names {
+    ghost use Rattle.rank_script.specs.NamesState.{NamesState};
+
+    ghost Value = { NamesState };
+
+    ghost view = { λ n. record { buffers = n.buffers.items; requests = n.requests.items; last = n.last; doing = n.doing } };
+}
+
+/// No answer is awaited.
+fn free() -> Doing
+    ensures { result ≡ free }
+{
+    Doing {
+        stage: Stage::Free,
+        request: None,
+        buffer: None,
+    }
+}
+
+/// The status of a null request, and of no receive at all (MPI 3.1, 3.7.3).
+pub(crate) fn empty_status() -> Status
+    ensures { result ≡ empty_status }
+{
+    Status {
+        source: Source::Any,
+        tag: None,
+        count: 0,
+    }
+}
+
+impl Names {
+    /// No name is set.
+    pub(crate) fn new(alloc: Global) -> Names
+        ensures { result ≡ no_names }
+    {
+        Names {
+            alloc,
+            buffers: Vec::new(alloc),
+            requests: Vec::new(alloc),
+            last: empty_status(),
+            doing: free(),
+        }
+    }
+
+    /// Lets a buffer's name stand for these elements, or be lent.
+    pub(crate) fn set_buffer(&mut self, name: Name, slot: Option<Buffer>) -> Result<(), AllocError>
+        ensures { OnOk result (self.new ≡ with_buffer self.old name slot) }
+    {
+        set(&mut self.buffers, name, slot)
+    }
+
+    /// Lets a request's name stand for this.
+    pub(crate) fn set_request(&mut self, name: Name, held: Held) -> Result<(), AllocError>
+        ensures { OnOk result (self.new ≡ with_request self.old name held) }
+    {
+        set(&mut self.requests, name, held)
+    }
+
+    /// A buffer comes back to the name that lent it, if one did.
+    pub(crate) fn give_back(&mut self, name: Option<Name>, buffer: Buffer) -> Result<(), AllocError>
+        ensures { OnOk result (self.new ≡ given_back self.old name buffer) }
+    {
+        match name {
+            Some(name) => self.set_buffer(name, Some(buffer)),
+            None => Ok(()),
+        }
+    }
+
+    /// Whether the buffer of this name is lent.
+    pub(crate) fn is_lent(&self, name: &Name) -> bool
+        ensures { result ≡ is_lent self.now name.now }
+    {
+        match place_of(&self.buffers, name) {
+            Some(place) => self.buffers[place].value.is_none(),
+            None => false,
+        }
+    }
+
+    /// A copy of the buffer of this name, unless it is lent or isn't set.
+    pub(crate) fn copy_of(&self, name: &Name) -> Result<Option<Buffer>, AllocError>
+        ensures { IfOk result (λ copy. copy ≡ here self.now name.now) }
+    {
+        match place_of(&self.buffers, name) {
+            Some(place) => match &self.buffers[place].value {
+                Some(buffer) => Ok(Some(buffer.try_clone(self.alloc)?)),
+                None => Ok(None),
+            },
+            None => Ok(None),
+        }
+    }
+
+    /// What the name of a request stands for, if it is set.
+    pub(crate) fn held(&self, name: &Name) -> Option<Option<Request>>
+        ensures { result ≡ request_at self.now name.now }
+    {
+        match place_of(&self.requests, name) {
+            Some(place) => Some(self.requests[place].value.request),
+            None => None,
+        }
+    }
+
+    /// What the answer is for that comes now; none is awaited from now on.
+    pub(crate) fn take_doing(&mut self) -> Doing
+        ensures doing { result ≡ self.old.doing }
+        ensures rest { self.new ≡ record self.old { doing = free } }
+    {
+        mem::replace(&mut self.doing, free())
+    }
+}

@@ -1,0 +1,12 @@
+//! The words of the rank program, and the settings that they give.
+#![tactic(auto)]
+
+mod asked;
+mod number;
+mod program;
+mod refused;
+mod words;
+
+pub use asked::Settings;
+pub use refused::Refused;
+pub use words::settings_of;

@@ -1,0 +1,113 @@
+//! Reading the words.
+
+ghost use Rattle.std.specs.Prelude.{◌≡◌, ◌≤◌, ◌↔◌, IfOk, IsTrue, codes, map};
+ghost use Rattle.clap.specs.Words.{first_of, found_of, matches_of, rows_of};
+ghost use Rattle.rank_settings.specs.Program.{rank_program};
+ghost use Rattle.rank_settings.specs.Settings.{AreGiven, ArePorts, number_in, patience_of};
+
+use crate::asked::Settings;
+use crate::number::number_between;
+use crate::program::rank_program;
+use crate::refused::Refused;
+use clap::error::ErrorKind;
+use clap::{ArgMatches, Error};
+use std::alloc::Global;
+use std::convert::AsStr;
+
+/// For how many milliseconds nothing may move until a rank gives up, where the words give no patience.
+const USUAL_PATIENCE: u64 = 10_000;
+
+/// The value of an option that has to be there.
+fn value_of<'a>(matches: &ArgMatches<'a>, name: &str) -> Result<&'a str, Refused>
+    ensures { IfOk result (λ text. first_of name.now (rows_of (found_of matches.now)) ≡ Some text.now) }
+{
+    match matches.get_str(name) {
+        Some(text) => Ok(text),
+        None => Err(Refused::Words),
+    }
+}
+
+/// The number that the value of an option spells, between these bounds.
+fn number_of(matches: &ArgMatches, name: &str, low: u64, high: u64) -> Result<u64, Refused>
+    ensures exact { IfOk result (λ n. number_in (rows_of (found_of matches.now)) name.now low high ≡ Some n) }
+    ensures low { IfOk result (λ n. low ≤ n) }
+    ensures high { IfOk result (λ n. n ≤ high) }
+{
+    let text = value_of(matches, name)?;
+    match number_between(text.as_bytes(), low, high) {
+        Some(number) => Ok(number),
+        None => Err(Refused::Words),
+    }
+}
+
+/// The patience that the words give, or the usual one.
+fn patience_in(matches: &ArgMatches) -> Result<u64, Refused>
+    ensures { IfOk result (λ n. patience_of (first_of (codes "patience") (rows_of (found_of matches.now))) ≡ Some n) }
+{
+    match matches.get_str("patience") {
+        Some(text) => match number_between(text.as_bytes(), 1, 3_600_000) {
+            Some(number) => Ok(number),
+            None => Err(Refused::Words),
+        },
+        None => Ok(USUAL_PATIENCE),
+    }
+}
+
+/// Whether the ports of all ranks are 1 to 65,535.
+fn are_ports(rank: u64, size: u64, port: u64) -> bool
+    requires rank { rank ≤ 255 }
+    requires size { size ≤ 256 }
+    requires port { port ≤ 65535 }
+    ensures { IsTrue result ↔ ArePorts rank size port }
+{
+    rank < port && port + size <= 65_536 + rank
+}
+
+/// What the matches give.
+fn found_settings<'a>(matches: &ArgMatches<'a>) -> Result<Settings<'a>, Refused>
+    ensures { IfOk result (AreGiven (rows_of (found_of matches.now))) }
+{
+    let rank = number_of(matches, "rank", 0, 255)?;
+    let size = number_of(matches, "size", 1, 256)?;
+    let incarnation = number_of(matches, "inc", 0, 65_535)?;
+    let job = number_of(matches, "job", 0, u64::MAX)?;
+    let port = number_of(matches, "port", 1, 65_535)?;
+    let patience = patience_in(matches)?;
+    let file = value_of(matches, "FILE")?;
+    if rank >= size || !are_ports(rank, size, port) {
+        return Err(Refused::Words);
+    }
+    Ok(Settings {
+        rank: rank as u16,
+        size: size as u16,
+        incarnation: incarnation as u16,
+        job,
+        port: port as u16,
+        patience,
+        file,
+    })
+}
+
+fn refusal_of(error: &Error) -> Refused {
+    match error.kind() {
+        ErrorKind::OutOfMemory => Refused::OutOfMemory,
+        _ => Refused::Words,
+    }
+}
+
+/// The settings that the words give; the first word is the program's own name.
+///
+/// `--rank r --size n --inc i --job j --port p [--patience ms] FILE`, the options in any order, each at most once; a number
+/// is decimal digits without leading zeros.
+///
+/// Refused with 64 where the words are others, a value is out of its range, the rank isn't below the size, or the port of
+/// some rank isn't 1 to 65,535; and with 14.
+pub fn settings_of<'a, S: AsStr>(alloc: Global, words: &'a [S]) -> Result<Settings<'a>, Refused>
+    ensures { IfOk result (AreGiven (matches_of rank_program (map S.text words.entry.now))) }
+{
+    let program = rank_program(alloc)?;
+    match program.try_get_matches_from(words) {
+        Ok(matches) => found_settings(&matches),
+        Err(error) => Err(refusal_of(&error)),
+    }
+}

@@ -1,0 +1,91 @@
+ghost use Rattle.std.specs.Prelude.{◌≡◌};
+
+use crate::two_ranks::{PING_PONG, new_pair, place_of_two, runner_of};
+use engine::Engine;
+use rank_drive::{Ended, Memory, Rising, Transport, drive};
+use std::alloc::Global;
+use std::collections::VecDeque;
+use std::process::Abort;
+use std::sync::Wait;
+
+/// How rank 0 of the ping-pong ends over a transport, with patience 500, and whether nothing of it is unacknowledged then; no
+/// ending is a fault of the transport.
+fn run<R: Wait, T: Transport>(
+    rt: &R,
+    alloc: Global,
+    transport: &mut T,
+) -> Option<(Option<Ended>, bool)>
+    requires { T.failed transport.old ≡ 0 }
+{
+    let mut runner = runner_of(alloc, PING_PONG, 0)?;
+    let mut engine = Engine::new(alloc, place_of_two(0)).ok()?;
+    let mut clock = Rising { time: 0 };
+    let ended = drive(rt, &mut engine, &mut runner, 500, transport, &mut clock).ok();
+    Some((ended, engine.is_idle()))
+}
+
+/// How it ends over a pair, whether nothing is unacknowledged, whether it has printed `2` alone, and how many calls of the
+/// transport there were and how many of them failed.
+fn run_pair<R: Wait>(
+    rt: &R,
+    alloc: Global,
+    fails_at: u64,
+    answers: bool,
+) -> Option<(Option<Ended>, bool, bool, u64, u64)> {
+    let mut pair = new_pair(alloc, fails_at, answers)?;
+    let (ended, idle) = run(rt, alloc, &mut pair)?;
+    let (calls, failures) = pair.counts();
+    Some((ended, idle, pair.has_printed(b"2"), calls, failures))
+}
+
+#[test]
+fn a_rank_ends_by_its_script(rt: HostRuntime) {
+    let shown = run_pair(&rt, rt.alloc(), 100_000, true).map(|(ended, idle, printed, _, failures)| (
+        ended, idle, printed, failures,
+    ));
+    assert_eq!(rt; shown, Some((Some(Ended::Runner(0, None)), true, true, 0)));
+}
+
+#[test]
+fn a_rank_ends_by_its_patience(rt: HostRuntime) {
+    let shown = run_pair(&rt, rt.alloc(), 100_000, false).map(|(
+        ended,
+        idle,
+        printed,
+        _,
+        failures,
+    )| (ended, idle, printed, failures));
+    assert_eq!(rt; shown, Some((Some(Ended::Patience), false, false, 0)));
+}
+
+/// Over a transport in memory that gives nothing.
+fn run_alone<R: Wait>(rt: &R, alloc: Global, calls: u64) -> Option<(Option<Ended>, bool)> {
+    let mut memory = Memory::new(alloc, VecDeque::new(alloc), calls);
+    run(rt, alloc, &mut memory)
+}
+
+#[test]
+fn a_rank_alone_ends_by_its_patience(rt: HostRuntime) {
+    assert_eq!(rt;
+        run_alone(&rt, rt.alloc(), 99_999),
+        Some((Some(Ended::Patience), false))
+    );
+    assert_eq!(rt; Ended::Patience.status(), 4);
+}
+
+fn assert_fault<R: Wait + Abort>(rt: &R, alloc: Global, at: u64) {
+    let shown = run_pair(rt, alloc, at, true).map(|(ended, _, _, calls, failures)| (
+        ended, calls, failures,
+    ));
+    assert_eq!(rt; shown, Some((None, at, 1)), "at call {at}");
+}
+
+#[test]
+fn each_call_may_fail(rt: HostRuntime) {
+    let whole = run_pair(&rt, rt.alloc(), 100_000, true).map(|(_, _, _, calls, _)| calls);
+    let calls = whole.unwrap_or(0);
+    assert!(rt; calls > 100);
+    for at in 1..calls {
+        assert_fault(&rt, rt.alloc(), at);
+    }
+}

@@ -1,0 +1,210 @@
+//! A transport in memory behind which another rank runs.
+
+ghost use Rattle.std.specs.Prelude.{◌≡◌, ◌+◌, ◌<◌, ◌≤◌, ◌^◌, length, IfSome};
+
+use datagram::Bytes;
+use engine::{Engine, Place, Reply};
+use rank_drive::{Runner, Step, Transport, TransportFault};
+use rank_script::ScriptRunner;
+use script_files::parse;
+use std::alloc::Global;
+use std::collections::VecDeque;
+use vocabulary::Endpoint;
+
+/// The script of two ranks that play ping-pong.
+pub const PING_PONG: &[u8] =
+    b"on 0\nbuf a int32 1\nsend world 1 1 a\nrecv world 1 2 a\nprint a\non 1\nbuf b int32 0\nrecv world 0 1 b\nbuf c int32 2\nsend world 0 2 c\nprint b\n";
+
+/// One of two ranks.
+pub fn place_of_two(rank: u16) -> Place {
+    Place {
+        endpoint: Endpoint {
+            rank,
+            incarnation: 0,
+        },
+        size: 2,
+        job: 1,
+    }
+}
+
+/// The runner of a script for a rank.
+pub fn runner_of(alloc: Global, text: &[u8], rank: u16) -> Option<ScriptRunner> {
+    let script = parse(alloc, text).ok()?;
+    ScriptRunner::new(alloc, script, rank, 0).ok()
+}
+
+/// A transport of rank 0 behind which rank 1 runs, and which fails at its call of a given number.
+#[derive(Drop)]
+pub struct Pair {
+    alloc: Global,
+    engine: Engine,
+    runner: ScriptRunner,
+    /// What the runner is told next, if it may go on.
+    told: Option<Option<Reply>>,
+    /// What rank 1 has sent.
+    to_us: VecDeque<Bytes>,
+    /// Whether what rank 1 sends comes.
+    answers: bool,
+    /// What rank 0 has printed.
+    lines: Vec<Bytes>,
+    /// How many calls there were.
+    calls: u64,
+    /// At which call it fails.
+    fails_at: u64,
+    /// How often it has failed.
+    failures: u64,
+}
+
+/// A pair whose rank 1 answers, or doesn't, and which fails at its call of this number.
+pub fn new_pair(alloc: Global, fails_at: u64, answers: bool) -> Option<Pair>
+    ensures { IfSome result (λ p. p.failures ≡ 0) }
+{
+    let runner = runner_of(alloc, PING_PONG, 1)?;
+    let engine = Engine::new(alloc, place_of_two(1)).ok()?;
+    Some(Pair {
+        alloc,
+        engine,
+        runner,
+        told: Some(None),
+        to_us: VecDeque::new(alloc),
+        answers,
+        lines: Vec::new(alloc),
+        calls: 0,
+        fails_at,
+        failures: 0,
+    })
+}
+
+impl Pair {
+    /// How many calls there were, and how many of them failed.
+    pub fn counts(&self) -> (u64, u64) {
+        (self.calls, self.failures)
+    }
+
+    /// Whether rank 0 has printed this line, and no other.
+    pub fn has_printed(&self, line: &[u8]) -> bool {
+        match self.lines.as_slice() {
+            [only] => only.as_slice() == line,
+            _ => false,
+        }
+    }
+
+    fn fail(&mut self) -> TransportFault
+        requires { self.old.failures + 1 < 2 ^ 64 }
+        ensures { self.new.failures ≡ self.old.failures + 1 }
+    {
+        self.failures += 1;
+        TransportFault
+    }
+
+    /// Counts a call. Answers whether it fails.
+    fn is_faulty(&mut self) -> bool
+        ensures { self.new.failures ≡ self.old.failures }
+    {
+        self.calls = self.calls.saturating_add(1);
+        self.calls == self.fails_at
+    }
+
+    fn take_step(&mut self, step: Step)
+        ensures { self.new.failures ≡ self.old.failures }
+    {
+        match step {
+            Step::Call(call) => match self.engine.call(call) {
+                Reply::Blocked => {}
+                reply => self.told = Some(Some(reply)),
+            },
+            Step::Print(_) => self.told = Some(None),
+            Step::End(_, _) => {}
+        }
+    }
+
+    /// Rank 1 does what comes next, if it may go on.
+    fn go_on(&mut self)
+        ensures { self.new.failures ≡ self.old.failures }
+    {
+        if let Some(outcome) = self.engine.take_completion() {
+            self.told = Some(Some(Reply::Done(outcome)));
+        }
+        if let Some(reply) = self.told.take() {
+            let step = self.runner.next(reply);
+            self.take_step(step);
+        }
+    }
+
+    /// What rank 1 has emitted comes, if it answers.
+    fn hand_over(&mut self)
+        ensures { self.new.failures ≡ self.old.failures }
+    {
+        let mut out = self.engine.take_out();
+        if self.answers {
+            take_bytes(&mut self.to_us, &mut out);
+        }
+    }
+}
+
+/// Moves the datagrams, in order.
+fn take_bytes(to_us: &mut VecDeque<Bytes>, out: &mut Vec<(u16, Bytes)>) {
+    for (_, bytes) in out.drain(..) {
+        let _ = to_us.push_back(bytes);
+    }
+}
+
+/// Copies as many bytes as fit to the front of the buffer, and answers how many.
+fn put(buffer: &mut [u8], bytes: &[u8]) -> usize
+    ensures { result ≤ length buffer.new }
+{
+    let len = buffer.len().min(bytes.len());
+    buffer[..len].copy_from_slice(&bytes[..len]);
+    len
+}
+
+impl Transport for Pair {
+    ghost passed = { λ _ _ _. Unit {0} };
+
+    ghost failed = { λ t. t.failures };
+
+    fn receive(&mut self, buffer: &mut [u8]) -> Result<Option<usize>, TransportFault> {
+        if self.is_faulty() {
+            return Err(self.fail());
+        }
+        self.go_on();
+        self.hand_over();
+        match self.to_us.pop_front() {
+            Some(bytes) => Ok(Some(put(buffer, bytes.as_slice()))),
+            None => Ok(None),
+        }
+    }
+
+    fn send(&mut self, _target: u16, bytes: &[u8]) -> Result<(), TransportFault> {
+        if self.is_faulty() {
+            return Err(self.fail());
+        }
+        let _ = self.engine.on_datagram(bytes);
+        Ok(())
+    }
+
+    fn print(&mut self, line: &[u8]) -> Result<(), TransportFault> {
+        if self.is_faulty() {
+            return Err(self.fail());
+        }
+        if let Ok(copy) = Bytes::from_slice(self.alloc, line) {
+            let _ = self.lines.push(copy);
+        }
+        Ok(())
+    }
+
+    fn wait(&mut self, _most: u64) -> Result<(), TransportFault> {
+        if self.is_faulty() {
+            return Err(self.fail());
+        }
+        Ok(())
+    }
+
+    fn failures(&self) -> u64 {
+        self.failures
+    }
+
+    ghost none = { λ _. tt };
+
+    ghost joined = { λ _ _ _ _ _ _ _. tt };
+}

@@ -1,0 +1,8 @@
+//! The operations of reductions, and the fold of members' elements by one of them.
+#![tactic(auto)]
+
+mod folding;
+mod operation;
+
+pub use folding::{accumulate, fold};
+pub use operation::{Op, ReduceOp, Reduction};

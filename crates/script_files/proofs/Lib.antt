@@ -1,0 +1,5 @@
+pub mod VerbLaws
+pub mod MemberLaws
+pub mod ItemLaws
+pub mod ScriptLaws
+pub mod ScriptSteps

@@ -1,0 +1,8 @@
+use Rattle.script_files.proofs.ScriptLaws.{is_found, is_only}
+use Rattle.script_files.proofs.parsing.parse.Goals as goal
+
+pub returns-clause-found : goal.returns-clause-found
+returns-clause-found c = is_found c.args.text.now c.script_of.result c.script_of.ensures
+
+pub returns-clause-only : goal.returns-clause-only
+returns-clause-only c = is_only c.args.text.now c.script_of.result c.script_of.ensures

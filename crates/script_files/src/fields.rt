@@ -1,0 +1,66 @@
+//! Whom lines are for, as the words of `on` say it.
+
+ghost use Rattle.std.specs.Prelude.{◌≡◌};
+ghost use Rattle.std.specs.List.{position};
+ghost use Rattle.statements.specs.Results.{Gives};
+ghost use Rattle.statements.specs.Reading.{each};
+ghost use Rattle.script_files.specs.Reading.{is_point, member_of, one_member, audience_of};
+
+use crate::audience::{Audience, Member, Members};
+use statements::{LineError, Word, is, number_or, rank_of};
+use std::alloc::Global;
+
+fn point_place(word: &[u8]) -> Option<usize>
+    ensures { result ≡ position is_point word.now }
+{
+    word.iter().position(|byte| *byte == b'.')
+}
+
+/// `R`, or `R.I`.
+#[tactic(auto, unfolding(crate::specs::Reading::member_of))]
+fn member_of(word: &[u8]) -> Result<Member, LineError>
+    ensures { Gives (λ x. x) result (member_of word.now) }
+{
+    let Some(place) = point_place(word) else {
+        let rank = rank_of(word)?;
+        return Ok(Member {
+            rank,
+            incarnation: None,
+        });
+    };
+    let (rank, back) = word.split_at(place);
+    let (_, incarnation) = back.split_at(1);
+    let rank = rank_of(rank)?;
+    match number_or(incarnation, 65_536) {
+        Some(one) => Ok(Member {
+            rank,
+            incarnation: Some(one as u32),
+        }),
+        None => Err(LineError::Faulty),
+    }
+}
+
+fn members_of(alloc: Global, words: &[Word]) -> Result<Members, LineError>
+    ensures { Gives (λ x. x) result (each one_member words.now) }
+{
+    let mut members = Members::new(alloc);
+    for word in words {
+        let member = member_of(word.as_bytes())?;
+        members.push(member)?;
+    }
+    Ok(members)
+}
+
+/// `all`, or at least one rank.
+#[tactic(auto, unfolding(crate::specs::Reading::audience_of))]
+pub(crate) fn audience_of(alloc: Global, words: &[Word]) -> Result<Audience, LineError>
+    ensures { Gives (λ x. x) result (audience_of words.now) }
+{
+    let Some((word, rest)) = words.split_first() else {
+        return Err(LineError::Faulty);
+    };
+    if is(word.as_bytes(), b"all") && rest.is_empty() {
+        return Ok(Audience::All);
+    }
+    Ok(Audience::Ranks(members_of(alloc, words)?))
+}

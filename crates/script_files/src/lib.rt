@@ -1,0 +1,20 @@
+//! Scripts of ranks: the lines that say what the ranks of a program do, and how they are read.
+//!
+//! A script is the statements that files of events have too, and a few more; `on` says which ranks the lines behind it are
+//! for. The language is this project's own.
+#![tactic(auto)]
+
+mod audience;
+mod fields;
+mod parsing;
+mod reading;
+mod script;
+mod verb;
+
+pub use audience::{Audience, Member, Members};
+pub use parsing::parse;
+pub use script::{Item, Line, RankLine, RankLines, Script, Statement};
+pub use statements::{
+    Action, BufferLine, Communicator, Name, ParseError, Receiving, Requested, Sending, Tag, Target,
+    Word, Words,
+};

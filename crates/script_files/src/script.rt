@@ -1,0 +1,198 @@
+//! What a script says.
+
+ghost use Rattle.std.specs.Prelude.{◌≡◌, ◌++◌, [], ◌∷◌, List, length, IfOk, OnOk};
+ghost use Rattle.script_files.specs.Selections.{lines_for, said_for, kept, FirstOf};
+ghost use Rattle.script_files.specs.declared.script.Line.{Line};
+
+use crate::audience::Audience;
+use statements::{Action, Name, Receiving, Sending, Words};
+use std::alloc::{AllocError, AllocFailed, Global};
+use std::collections::VecDeque;
+use std::marker::Model;
+
+/// What a line of a script asks a rank to do.
+#[derive(Debug, Drop)]
+pub enum Statement {
+    /// What a line of a file of events asks for as well.
+    Action(Action),
+    /// `send COMM DEST TAG B`: starts a send and waits for it.
+    Send(Sending),
+    /// `recv COMM SRC TAG B`: starts a receive and waits for it.
+    Recv(Receiving),
+    /// `print B`: prints the elements of the buffer of this name.
+    Print(Name),
+    /// `status`: prints the status of the last receive.
+    Status,
+    /// `say WORD ..`: prints the words, of which there is at least one.
+    Say(Words),
+    /// `fail`: ends the rank.
+    Fail,
+}
+
+/// What a line of a script says.
+#[derive(Debug, Drop)]
+pub enum Item {
+    /// `on ..`: whom the lines behind it are for, up to the next `on`.
+    On(Audience),
+    /// What the ranks do whom the line is for.
+    Does(Statement),
+}
+
+/// A line that isn't skipped.
+#[derive(Debug, Drop)]
+pub struct Line {
+    /// The number of the line; the first line is 1, and skipped ones count.
+    pub number: usize,
+    /// What it says.
+    pub item: Item,
+}
+
+/// A line that is for one rank.
+#[derive(Debug, Drop)]
+pub struct RankLine {
+    /// The number of the line in the script; the first line is 1, and skipped ones count.
+    pub number: usize,
+    /// What the rank does.
+    pub statement: Statement,
+}
+
+/// A script, read whole. Contracts see it as the list of its lines that aren't skipped.
+#[derive(Debug, Drop)]
+pub struct Script {
+    lines: Vec<Line>,
+}
+
+impl Model for Script {
+    ghost use Rattle.std.specs.Prelude.{List};
+    ghost use Rattle.script_files.specs.declared.script.Line.{Line};
+
+    ghost Value = { List Line };
+
+    ghost view = { λ s. s.lines.items };
+}
+
+impl Script {
+    /// No lines. It takes no memory.
+    pub(crate) fn new(alloc: Global) -> Script
+        ensures { result ≡ [] }
+    {
+        Script {
+            lines: Vec::new(alloc),
+        }
+    }
+
+    /// Adds a line at the end.
+    pub(crate) fn push(&mut self, line: Line) -> Result<(), AllocFailed<Line>>
+        ensures { OnOk result (self.new ≡ self.old ++ line ∷ []) }
+    {
+        self.lines.push(line)
+    }
+
+    /// The lines, in order.
+    pub fn lines(&self) -> &[Line]
+        ensures { result.now ≡ self.now }
+    {
+        self.lines.as_slice()
+    }
+
+    /// The lines for this rank at this incarnation, in order: those before the first `on`, and those behind an `on` that
+    /// includes it, up to the next. They are moved, and not copied. The only error is want of memory.
+    pub fn into_lines_for(
+        self,
+        alloc: Global,
+        rank: u16,
+        incarnation: u16,
+    ) -> Result<RankLines, AllocError>
+        ensures { IfOk result (λ lines. lines ≡ lines_for rank incarnation self) }
+    {
+        lines_among(alloc, rank, incarnation, self.lines)
+    }
+}
+
+#[tactic(auto, using(crate::proofs::ScriptSteps::none_taken, crate::proofs::ScriptSteps::one_taken, crate::proofs::ScriptSteps::all_taken))]
+fn lines_among(
+    alloc: Global,
+    rank: u16,
+    incarnation: u16,
+    lines: Vec<Line>,
+) -> Result<RankLines, AllocError>
+    ensures { IfOk result (λ found. found ≡ lines_for rank incarnation lines.items) }
+{
+    let mut found = RankLines::new(alloc);
+    let mut here = true;
+    for line in lines {
+        here = found.take_line(here, rank, incarnation, line)?;
+    }
+    Ok(found)
+}
+
+/// The lines for one rank that are left, in order. Contracts see them as a list.
+#[derive(Debug, Drop)]
+pub struct RankLines {
+    lines: VecDeque<RankLine>,
+}
+
+impl Model for RankLines {
+    ghost use Rattle.std.specs.Prelude.{List};
+    ghost use Rattle.script_files.specs.declared.script.RankLine.{RankLine};
+
+    ghost Value = { List RankLine };
+
+    ghost view = { λ l. l.lines.items };
+}
+
+impl RankLines {
+    /// No lines. It takes no memory.
+    fn new(alloc: Global) -> RankLines
+        ensures { result ≡ [] }
+    {
+        RankLines {
+            lines: VecDeque::new(alloc),
+        }
+    }
+
+    /// Takes the line if lines are for this rank `here`. Answers whether those behind it are.
+    fn take_line(
+        &mut self,
+        here: bool,
+        rank: u16,
+        incarnation: u16,
+        line: Line,
+    ) -> Result<bool, AllocError>
+        ensures { IfOk result (λ next. (rest : List Line) →
+            self.new ++ said_for rank incarnation next rest ≡ self.old ++ said_for rank incarnation here (line ∷ rest)) }
+    {
+        let Line { number, item } = line;
+        match item {
+            Item::On(audience) => Ok(audience.includes(rank, incarnation)),
+            Item::Does(statement) => {
+                self.keep(here, RankLine { number, statement })?;
+                Ok(here)
+            }
+        }
+    }
+
+    /// Adds the line at the end, if lines are for this rank `here`.
+    fn keep(&mut self, here: bool, line: RankLine) -> Result<(), AllocError>
+        ensures { OnOk result (self.new ≡ self.old ++ kept here line) }
+    {
+        if here {
+            self.lines.push_back(line).map_err(AllocError::from)?;
+        }
+        Ok(())
+    }
+
+    /// The next line, which is left no more; none where none is left.
+    pub fn next(&mut self) -> Option<RankLine>
+        ensures { FirstOf self.old result self.new }
+    {
+        self.lines.pop_front()
+    }
+
+    /// How many lines are left.
+    pub fn len(&self) -> usize
+        ensures { result ≡ length self.now }
+    {
+        self.lines.len()
+    }
+}

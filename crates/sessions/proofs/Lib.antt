@@ -1,0 +1,9 @@
+pub mod Lists
+pub mod PeerLemmas
+pub mod Judged
+pub mod Meeting
+pub mod Numbers
+pub mod Ahead
+pub mod Undoing
+pub mod Whole
+pub mod Amounts

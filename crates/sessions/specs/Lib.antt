@@ -1,0 +1,13 @@
+pub mod Peers
+pub mod Refusals
+pub mod Places
+pub mod Invariant
+pub mod SessionsState
+pub mod Ticks
+pub mod Spellings
+pub mod Heard
+pub mod Events
+pub mod Carrying
+pub use Rattle.datagram.specs.Spelling
+pub use Rattle.datagram.specs.Reading
+pub use Rattle.reliable_link.specs.SenderState

@@ -1,0 +1,228 @@
+//! The session with each rank of the job.
+
+ghost use Rattle.std.specs.Prelude.{◌≡◌, ◌≢◌, ◌≤◌, ◌<◌, ◌+◌, ◌-◌, ◌*◌, ◌++◌, ◌↔◌, length, All, IsTrue, IfOk, OnOk, OnErr, IfErr, nat_lt, ◌^◌, [], ◌∷◌, if◌then◌else◌, vec_len, vec_capacity};
+ghost use Rattle.reliable_link.specs.SenderState.{after_accept, after_ack, entered_on_ack, due_at, out_end};
+ghost use Rattle.reliable_link.specs.Accepting.{HasNumberLeft};
+ghost use Rattle.std.specs.List.{range_with_len};
+ghost use Rattle.sessions.specs.Carrying.{taken_back};
+ghost use Rattle.sessions.specs.Peers.{new_peers, peer_at, with_sender, with_receiver, with_new_session, frames_out, due_out, after_all_due, IsIdlePeer};
+
+use crate::refused::Refused;
+use datagram::Bytes;
+use reliable_link::{Receiver, Sender};
+use std::alloc::{AllocError, Global};
+use std::mem;
+use std::ops::Range;
+
+/// Both directions of the session with one rank. That with the rank itself stays empty.
+#[derive(Debug, Drop)]
+pub struct Peer {
+    /// What goes there.
+    pub sender: Sender,
+    /// What comes from there.
+    pub receiver: Receiver,
+}
+
+/// A session with each of `size` ranks, none of which has begun.
+pub(crate) fn new_peers(alloc: Global, size: u16) -> Result<Vec<Peer>, Refused>
+    ensures ok { IfOk result (λ peers. peers.items ≡ new_peers size) }
+    ensures err { IfErr result (λ e. e ≡ Refused.OutOfMemory) }
+{
+    let mut peers = Vec::new(alloc);
+    for _built in 0..size {
+        let peer = Peer {
+            sender: Sender::new(alloc),
+            receiver: Receiver::new(),
+        };
+        peers.push(peer).map_err(|_| Refused::OutOfMemory)?;
+    }
+    Ok(peers)
+}
+
+/// The session with a rank.
+pub(crate) fn peer_at(peers: &[Peer], rank: u16) -> &Peer
+    requires { rank < length peers.now }
+    ensures { result.now ≡ peer_at peers.now rank }
+{
+    &peers[rank as usize]
+}
+
+/// The session with a rank takes a frame over.
+pub(crate) fn accept_at(peers: &mut Vec<Peer>, rank: u16, frame: Bytes) -> Result<(), Refused>
+    requires there { rank < vec_len peers.old }
+    requires left { HasNumberLeft (peer_at peers.old.items rank).sender }
+    ensures state { OnOk result (peers.new.items ≡ with_sender peers.old.items rank
+        (after_accept (peer_at peers.old.items rank).sender frame)) }
+    ensures unchanged { OnErr result (peers.new.items ≡ peers.old.items) }
+    ensures err { IfErr result (λ e. e ≡ Refused.OutOfMemory) }
+{
+    let peer = &mut peers[rank as usize];
+    match peer.sender.accept(frame) {
+        Ok(_) => Ok(()),
+        Err(_) => Err(Refused::OutOfMemory),
+    }
+}
+
+/// The session with a rank gives the frame back that it took over last.
+pub(crate) fn take_back_at(peers: &mut Vec<Peer>, rank: u16)
+    requires { rank < vec_len peers.old }
+    ensures { peers.new.items ≡ taken_back peers.old.items rank }
+{
+    let peer = &mut peers[rank as usize];
+    peer.sender.take_back();
+}
+
+/// The session with a rank hands its next frame up.
+pub(crate) fn raise_at(peers: &mut Vec<Peer>, rank: u16)
+    requires there { rank < vec_len peers.old }
+    requires left { (peer_at peers.old.items rank).receiver ≢ 18446744073709551615 }
+    ensures { peers.new.items ≡ with_receiver peers.old.items rank ((peer_at peers.old.items rank).receiver + 1) }
+{
+    let peer = &mut peers[rank as usize];
+    let next = peer.receiver.next();
+    let _ = peer.receiver.on_frame(next);
+}
+
+/// The session with a rank heeds an acknowledgement of all frames below `n`.
+pub(crate) fn acknowledge_at(peers: &mut Vec<Peer>, rank: u16, n: u64)
+    requires room { rank < vec_len peers.old }
+    requires sent { n ≤ out_end (peer_at peers.old.items rank).sender }
+    ensures { peers.new.items ≡ with_sender peers.old.items rank (after_ack (peer_at peers.old.items rank).sender n) }
+{
+    let peer = &mut peers[rank as usize];
+    let _ = peer.sender.on_ack(n);
+}
+
+/// Both directions of the session with a rank start anew; the former session is handed out.
+pub(crate) fn begin_anew_at(peers: &mut Vec<Peer>, rank: u16) -> Peer
+    requires { rank < vec_len peers.old }
+    ensures former { result ≡ peer_at peers.old.items rank }
+    ensures state { peers.new.items ≡ with_new_session peers.old.items rank }
+{
+    let peer = &mut peers[rank as usize];
+    let anew = Peer {
+        sender: peer.sender.renewed(),
+        receiver: Receiver::new(),
+    };
+    mem::replace(peer, anew)
+}
+
+/// The frames of these numbers, as they go out to a rank.
+pub(crate) fn copies_of(
+    alloc: Global,
+    target: u16,
+    sender: &Sender,
+    numbers: &[u64],
+) -> Result<Vec<(u16, Bytes)>, Refused>
+    ensures ok { IfOk result (λ copies. copies.items ≡ frames_out target sender.now numbers.now) }
+    ensures few { IfOk result (λ copies. vec_len copies ≤ length numbers.now) }
+    ensures err { IfErr result (λ e. e ≡ Refused.OutOfMemory) }
+{
+    let mut copies = Vec::new(alloc);
+    for number in numbers {
+        if let Some(frame) = sender.frame(*number) {
+            let copy = Bytes::from_slice(alloc, frame).map_err(|_| Refused::OutOfMemory)?;
+            copies
+                .push((target, copy))
+                .map_err(|_| Refused::OutOfMemory)?;
+        }
+    }
+    Ok(copies)
+}
+
+#[tactic(auto, using(crate::proofs::PeerLemmas::range_more))]
+fn numbers_in(alloc: Global, range: Range<u64>) -> Result<Vec<u64>, AllocError>
+    ensures { IfOk result (λ numbers. numbers.items ≡ range_with_len range.start (range.end - range.start)) }
+{
+    let mut numbers = Vec::new(alloc);
+    for place in 0..range.end.saturating_sub(range.start) {
+        numbers.push(range.start + place)?;
+    }
+    Ok(numbers)
+}
+
+/// The frames that an acknowledgement of all frames below `n` brings into the window, as they go out to a rank.
+pub(crate) fn entering_copies(
+    alloc: Global,
+    target: u16,
+    sender: &Sender,
+    n: u64,
+) -> Result<Vec<(u16, Bytes)>, Refused>
+    requires { n ≤ out_end sender.now }
+    ensures ok { IfOk result (λ copies. copies.items ≡ frames_out target sender.now (entered_on_ack sender.now n)) }
+    ensures few { IfOk result (λ copies. vec_len copies ≤ 64) }
+    ensures err { IfErr result (λ e. e ≡ Refused.OutOfMemory) }
+{
+    let range = sender.entering(n);
+    match numbers_in(alloc, range) {
+        Ok(numbers) => copies_of(alloc, target, sender, &numbers),
+        Err(_) => Err(Refused::OutOfMemory),
+    }
+}
+
+/// The frames of one session that are due at this time, as they go out to its rank.
+#[tactic(auto, using(crate::proofs::PeerLemmas::few_due))]
+fn due_copies_of(
+    alloc: Global,
+    rank: u16,
+    peer: &Peer,
+    now: u64,
+) -> Result<Vec<(u16, Bytes)>, Refused>
+    requires { peer.now.sender.clock ≤ now }
+    ensures ok { IfOk result (λ copies.
+        copies.items ≡ frames_out rank peer.now.sender (due_at peer.now.sender now)) }
+    ensures few { IfOk result (λ copies. vec_len copies ≤ 64) }
+    ensures err { IfErr result (λ e. e ≡ Refused.OutOfMemory) }
+{
+    match peer.sender.due(now) {
+        Ok(numbers) => copies_of(alloc, rank, &peer.sender, &numbers),
+        Err(_) => Err(Refused::OutOfMemory),
+    }
+}
+
+/// The frames that are due at this time, by rising rank.
+#[tactic(auto, using(crate::proofs::PeerLemmas::due_out_more))]
+pub(crate) fn due_copies(
+    alloc: Global,
+    peers: &[Peer],
+    now: u64,
+) -> Result<Vec<(u16, Bytes)>, Refused>
+    requires small { length peers.now ≤ 256 }
+    requires clocks { All (λ p. p.sender.clock ≤ now) peers.now }
+    ensures ok { IfOk result (λ copies. copies.items ≡ due_out 0 peers.now now) }
+    ensures few { IfOk result (λ copies. vec_len copies ≤ 64 * length peers.now) }
+    ensures err { IfErr result (λ e. e ≡ Refused.OutOfMemory) }
+{
+    let mut copies = Vec::new(alloc);
+    for (rank, peer) in peers.iter().enumerate() {
+        let mut due = due_copies_of(alloc, rank as u16, peer, now)?;
+        if copies.append(&mut due).is_err() {
+            return Err(Refused::OutOfMemory);
+        }
+    }
+    Ok(copies)
+}
+
+fn mark_each_sent(peers: &mut [Peer], now: u64)
+    requires { All (λ p. p.sender.clock ≤ now) peers.old }
+    ensures { peers.new ≡ after_all_due peers.old now }
+{
+    for peer in peers.iter_mut() {
+        peer.sender.mark_sent(now);
+    }
+}
+
+/// The frames that are due count as sent now.
+pub(crate) fn mark_all_sent(peers: &mut Vec<Peer>, now: u64)
+    requires { All (λ p. p.sender.clock ≤ now) peers.old.items }
+    ensures { peers.new.items ≡ after_all_due peers.old.items now }
+{
+    mark_each_sent(peers, now);
+}
+
+/// Whether no frame waits or is unacknowledged.
+pub(crate) fn are_idle(peers: &[Peer]) -> bool
+    ensures { IsTrue result ↔ All IsIdlePeer peers.now }
+{
+    peers.iter().all(|peer| peer.sender.is_empty())
+}

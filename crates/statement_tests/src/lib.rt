@@ -1,0 +1,11 @@
+//! Rows of what lines spell, of what files of events and scripts say, and of the texts of answers.
+#![tactic(auto)]
+
+#[cfg(test)]
+mod answer_tests;
+#[cfg(test)]
+mod event_files_tests;
+#[cfg(test)]
+mod line_tests;
+#[cfg(test)]
+mod script_files_tests;

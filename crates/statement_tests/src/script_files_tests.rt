@@ -1,0 +1,135 @@
+//! Each line of a script is read, the lines for a rank are found, and a faulty line is named.
+
+use script_files::*;
+use std::alloc::Global;
+
+/// Whether the lines for this rank have these numbers, in order.
+fn are_lines_for(
+    alloc: Global,
+    text: &str,
+    rank: u16,
+    incarnation: u16,
+    numbers: &[usize],
+) -> Option<bool> {
+    let script = parse(alloc, text.as_bytes()).ok()?;
+    let mut lines = script.into_lines_for(alloc, rank, incarnation).ok()?;
+    if lines.len() != numbers.len() {
+        return Some(false);
+    }
+    let mut same = true;
+    for number in numbers {
+        same = same && is_line(lines.next(), *number);
+    }
+    Some(same)
+}
+
+fn is_line(line: Option<RankLine>, number: usize) -> bool {
+    match line {
+        Some(line) => line.number == number,
+        None => false,
+    }
+}
+
+const FOR_SOME: &str =
+    "status\non 0 2.1\nsay a\n\non 1\nsay b\n# c\non all\nsay d\non 70000 1.70000\nfail";
+
+#[test]
+fn lines_are_for_their_ranks(rt: HostRuntime) {
+    assert_eq!(rt;
+        are_lines_for(rt.alloc(), FOR_SOME, 0, 5, &[1, 3, 9]),
+        Some(true)
+    );
+    assert_eq!(rt;
+        are_lines_for(rt.alloc(), FOR_SOME, 1, 0, &[1, 6, 9]),
+        Some(true)
+    );
+    assert_eq!(rt;
+        are_lines_for(rt.alloc(), FOR_SOME, 2, 0, &[1, 9]),
+        Some(true)
+    );
+    assert_eq!(rt;
+        are_lines_for(rt.alloc(), FOR_SOME, 2, 1, &[1, 3, 9]),
+        Some(true)
+    );
+    assert_eq!(rt;
+        are_lines_for(rt.alloc(), FOR_SOME, 1, 65_535, &[1, 6, 9]),
+        Some(true)
+    );
+}
+
+/// A line of each kind.
+const EVERY_STATEMENT: &str =
+    "buf a uint8 1\nisend q world 1 2 a\nirecv q self any 2 a\nwait q\nsend world null 3 a\nrecv c 4 any a\nprint a\nstatus\nsay #a b\nfail";
+
+/// Whether the statement of the line of this number is as the row says.
+fn is_as_said(number: usize, statement: &Statement) -> bool {
+    match (number, statement) {
+        (1, Statement::Action(Action::Buffer(_))) => true,
+        (2, Statement::Action(Action::Isend(_, _))) => true,
+        (3, Statement::Action(Action::Irecv(_, _))) => true,
+        (4, Statement::Action(Action::Wait(_))) => true,
+        (5, Statement::Send(send)) => send.target.rank().is_none(),
+        (6, Statement::Recv(receive)) => matches!(&receive.communicator, Communicator::Named(_)),
+        (7, Statement::Print(name)) => name.as_bytes() == b"a".as_slice(),
+        (8, Statement::Status) => true,
+        (9, Statement::Say(words)) => words.len() == 2,
+        (10, Statement::Fail) => true,
+        _ => false,
+    }
+}
+
+/// How many lines are as the row says.
+fn every_statement(alloc: Global) -> Option<usize> {
+    let script = parse(alloc, EVERY_STATEMENT.as_bytes()).ok()?;
+    let mut good = 0;
+    for line in script.lines() {
+        if let Item::Does(statement) = &line.item {
+            if is_as_said(line.number, statement) {
+                good = 1_usize.saturating_add(good);
+            }
+        }
+    }
+    Some(good)
+}
+
+#[test]
+fn every_statement_is_read(rt: HostRuntime) {
+    assert_eq!(rt; every_statement(rt.alloc()), Some(10));
+}
+
+/// The line that the text is faulty at.
+fn faulty_line(alloc: Global, text: &str) -> Option<usize> {
+    match parse(alloc, text.as_bytes()) {
+        Err(ParseError::Line(line)) => Some(line),
+        _ => None,
+    }
+}
+
+#[test]
+fn faulty_lines_answer_their_number(rt: HostRuntime) {
+    for (text, line) in [
+        ("on\n", 1),
+        ("on all 1\n", 1),
+        ("on 1.\n", 1),
+        ("on .1\n", 1),
+        ("on 1.2.3\n", 1),
+        ("on 01\n", 1),
+        ("say\n", 1),
+        ("status a\n", 1),
+        ("\nfail 5\n", 2),
+        ("print\n", 1),
+        ("print a b\n", 1),
+        ("print world\n", 1),
+        ("send world 1 2\n", 1),
+        ("recv world 1 2 a b\n", 1),
+        ("0 wait q\n", 1),
+        ("test q\n", 1),
+        ("count l\n", 1),
+        ("fail\t\n", 1),
+        ("#\ta\n", 1),
+        ("fail\r\n", 1),
+    ] {
+        assert_eq!(rt; faulty_line(rt.alloc(), text), Some(line), "{text}");
+    }
+    assert_eq!(rt; faulty_line(rt.alloc(), ""), None);
+}

@@ -1,0 +1,187 @@
+-- What ranks do: reading and the grammar agree.
+use Rattle.std.proofs.Common.{◌≡◌, ◌≢◌, ℕ, Bool, true, false, cond, List, [], ◌∷◌, ◌++◌, Option, Some, None, refl, sym, ap, subst, ◌∙◌}
+use Rattle.std.specs.Prelude.{codes}
+use Rattle.std.specs.Str.{bytes_eq}
+use Rattle.vocabulary.specs.declared.basic_type.BasicType.{BasicType}
+use Rattle.vocabulary.specs.declared.envelope.Source.{Source}
+use Rattle.datatypes.specs.Contents.{Contents}
+use Rattle.statements.specs.declared.verb.Verb.{Verb}
+use Rattle.statements.specs.declared.verb.Verb.TheVariants as verbs
+use Rattle.statements.specs.declared.action.Communicator.{Communicator}
+use Rattle.statements.specs.declared.action.Target.{Target}
+use Rattle.statements.specs.declared.action.Tag.{Tag}
+use Rattle.statements.specs.declared.action.Requested.{Requested}
+use Rattle.statements.specs.declared.action.BufferLine.{BufferLine}
+use Rattle.statements.specs.declared.action.Sending.{Sending}
+use Rattle.statements.specs.declared.action.Receiving.{Receiving}
+use Rattle.statements.specs.declared.action.Action.{Action}
+use Rattle.statements.specs.declared.action.Action.TheVariants as actions
+use Rattle.statements.specs.Grammar.{Word, IsBuffer, IsSending, IsReceiving, Spells, type_word, NamesIt, AreElements, IsCommunicator, IsTarget, IsSource, IsTag, IsRequested}
+use Rattle.statements.specs.Words.{basic_type_of, verb_of}
+use Rattle.statements.specs.Results.{◌>>=◌}
+use Rattle.statements.specs.Reading.{first, ended, name_of, communicator_of, target_of, source_of, tag_of, requested_of, each, elements_of, buffer_with, buffer_of, sending_of, receiving_of, isend_of, irecv_of, one_of, action_by, action_of}
+use Rattle.statements.proofs.WordLaws.{bind_ok, made, type_takes, type_again, verb_word, verb_takes, verb_again}
+use Rattle.statements.proofs.FieldLaws.{named_takes, named_again, communicator_takes, communicator_again, target_takes, target_again, source_takes, source_again, tag_takes, tag_again, requested_takes, requested_again}
+use Rattle.statements.proofs.ElementLaws.{elements_take, elements_again}
+
+-- ---- fields that don't depend on one another
+
+pub four : {A B C D S : Type 0} (a : Option A) (b : Option B) (c : Option C) (d : Option D) (make : A → B → C → D → S) (s : S)
+    → (a >>= λ x. b >>= λ y. c >>= λ z. d >>= λ u. Some (make x y z u)) ≡ Some s
+    → (x : A) × (y : B) × (z : C) × (u : D) × (a ≡ Some x) × (b ≡ Some y) × (c ≡ Some z) × (d ≡ Some u) × (make x y z u ≡ s)
+four (Some x) (Some y) (Some z) (Some u) make s h = (x, y, z, u, refl, refl, refl, refl, cc)
+four None b c d make s h = absurd cc
+four (Some x) None c d make s h = absurd cc
+four (Some x) (Some y) None d make s h = absurd cc
+four (Some x) (Some y) (Some z) None make s h = absurd cc
+
+-- ---- arguments
+
+send_made : Communicator → Target → Tag → Word → Sending
+send_made c r t b = record { communicator = c; target = r; tag = t; buffer = b }
+
+pub sending_takes : (words : List Word) (send : Sending) → sending_of words ≡ Some send → IsSending words send
+unfolding sending_of first ended send_made
+sending_takes [] send e = absurd cc
+sending_takes (a ∷ []) send e = absurd cc
+sending_takes (a ∷ b ∷ []) send e = absurd cc
+sending_takes (a ∷ b ∷ c ∷ []) send e = absurd cc
+sending_takes (a ∷ b ∷ c ∷ d ∷ f ∷ rest) send e = absurd cc
+sending_takes (a ∷ b ∷ c ∷ d ∷ []) send e =
+    let p = four (communicator_of a) (target_of b) (tag_of c) (name_of d) send_made send e in
+    subst (IsSending (a ∷ b ∷ c ∷ d ∷ [])) p.8
+    (a, b, c, d, refl, communicator_takes a p.0 p.4, target_takes b p.1 p.5, tag_takes c p.2 p.6, named_takes d p.3 p.7)
+
+send_from : (a b c d : Word) (send : Sending) → communicator_of a ≡ Some send.communicator → target_of b ≡ Some send.target → tag_of c ≡ Some send.tag → name_of d ≡ Some send.buffer
+    → sending_of (a ∷ b ∷ c ∷ d ∷ []) ≡ Some send
+unfolding sending_of first ended
+send_from a b c d send qa qb qc qd = rw (qa, qb, qc, qd) refl
+
+pub sending_again : (words : List Word) (send : Sending) → IsSending words send → sending_of words ≡ Some send
+sending_again words send h =
+    ap sending_of h.4 ∙ send_from h.0 h.1 h.2 h.3 send (communicator_again h.0 send.communicator h.5) (target_again h.1 send.target h.6) (tag_again h.2 send.tag h.7) (named_again h.3 send.buffer h.8)
+
+receive_made : Communicator → Source → Tag → Word → Receiving
+receive_made c r t b = record { communicator = c; source = r; tag = t; buffer = b }
+
+pub receiving_takes : (words : List Word) (receive : Receiving) → receiving_of words ≡ Some receive → IsReceiving words receive
+unfolding receiving_of first ended receive_made
+receiving_takes [] receive e = absurd cc
+receiving_takes (a ∷ []) receive e = absurd cc
+receiving_takes (a ∷ b ∷ []) receive e = absurd cc
+receiving_takes (a ∷ b ∷ c ∷ []) receive e = absurd cc
+receiving_takes (a ∷ b ∷ c ∷ d ∷ f ∷ rest) receive e = absurd cc
+receiving_takes (a ∷ b ∷ c ∷ d ∷ []) receive e =
+    let p = four (communicator_of a) (source_of b) (tag_of c) (name_of d) receive_made receive e in
+    subst (IsReceiving (a ∷ b ∷ c ∷ d ∷ [])) p.8
+    (a, b, c, d, refl, communicator_takes a p.0 p.4, source_takes b p.1 p.5, tag_takes c p.2 p.6, named_takes d p.3 p.7)
+
+receive_from : (a b c d : Word) (receive : Receiving) → communicator_of a ≡ Some receive.communicator → source_of b ≡ Some receive.source → tag_of c ≡ Some receive.tag → name_of d ≡ Some receive.buffer
+    → receiving_of (a ∷ b ∷ c ∷ d ∷ []) ≡ Some receive
+unfolding receiving_of first ended
+receive_from a b c d receive qa qb qc qd = rw (qa, qb, qc, qd) refl
+
+pub receiving_again : (words : List Word) (receive : Receiving) → IsReceiving words receive → receiving_of words ≡ Some receive
+receiving_again words receive h =
+    ap receiving_of h.4 ∙ receive_from h.0 h.1 h.2 h.3 receive (communicator_again h.0 receive.communicator h.5) (source_again h.1 receive.source h.6) (tag_again h.2 receive.tag h.7) (named_again h.3 receive.buffer h.8)
+
+-- ---- requests
+
+isend_takes : (words : List Word) (made : Word × Sending) → isend_of words ≡ Some made → Spells (codes "isend" ∷ words) (actions.Isend made.0 made.1)
+unfolding isend_of first
+isend_takes [] made e = absurd cc
+isend_takes (w ∷ ws) m e =
+    let a = bind_ok (name_of w) (λ q. sending_of ws >>= λ send. Some (q, send)) m e in
+    let b = bind_ok (sending_of ws) (λ send. Some (a.0, send)) m a.2 in
+    made (λ (m : Word × Sending). Spells (codes "isend" ∷ w ∷ ws) (actions.Isend m.0 m.1)) (a.0, b.0) m (w, ws, refl, named_takes w a.0 a.1, sending_takes ws b.0 b.1) b.2
+
+isend_from : (name : Word) (rest : List Word) (request : Word) (send : Sending) → name_of name ≡ Some request → sending_of rest ≡ Some send → isend_of (name ∷ rest) ≡ Some (request, send)
+unfolding isend_of first
+isend_from name rest request send q s = rw (q, s) refl
+
+irecv_takes : (words : List Word) (made : Word × Receiving) → irecv_of words ≡ Some made → Spells (codes "irecv" ∷ words) (actions.Irecv made.0 made.1)
+unfolding irecv_of first
+irecv_takes [] made e = absurd cc
+irecv_takes (w ∷ ws) m e =
+    let a = bind_ok (name_of w) (λ q. receiving_of ws >>= λ receive. Some (q, receive)) m e in
+    let b = bind_ok (receiving_of ws) (λ receive. Some (a.0, receive)) m a.2 in
+    made (λ (m : Word × Receiving). Spells (codes "irecv" ∷ w ∷ ws) (actions.Irecv m.0 m.1)) (a.0, b.0) m (w, ws, refl, named_takes w a.0 a.1, receiving_takes ws b.0 b.1) b.2
+
+irecv_from : (name : Word) (rest : List Word) (request : Word) (receive : Receiving) → name_of name ≡ Some request → receiving_of rest ≡ Some receive → irecv_of (name ∷ rest) ≡ Some (request, receive)
+unfolding irecv_of first
+irecv_from name rest request receive q r = rw (q, r) refl
+
+wait_takes : (words : List Word) (r : Requested) → one_of words ≡ Some r → Spells (codes "wait" ∷ words) (actions.Wait r)
+unfolding one_of first ended
+wait_takes [] r e = absurd cc
+wait_takes (a ∷ []) r e = (a, refl, requested_takes a r e)
+wait_takes (a ∷ b ∷ ws) r e = absurd cc
+
+one_from : (a : Word) (r : Requested) → requested_of a ≡ Some r → one_of (a ∷ []) ≡ Some r
+unfolding one_of first ended
+one_from a r e = e
+
+-- ---- buffers
+
+pub buffer_takes : (words : List Word) (line : BufferLine) → buffer_of words ≡ Some line → IsBuffer words line
+unfolding buffer_of first buffer_with
+buffer_takes [] line e = absurd cc
+buffer_takes (a ∷ []) line e = absurd cc
+buffer_takes (a ∷ b ∷ rest) line e =
+    let p = bind_ok (name_of a) (λ buffer. basic_type_of b >>= λ kind. buffer_with kind rest >>= λ contents. Some (record { name = buffer; value = contents })) line e in
+    let q = bind_ok (basic_type_of b) (λ kind. buffer_with kind rest >>= λ contents. Some (record { name = p.0; value = contents })) line p.2 in
+    let r = bind_ok (buffer_with q.0 rest) (λ contents. Some (record { name = p.0; value = contents })) line q.2 in
+    let s = bind_ok (each (elements_of q.0) rest) (λ elements. Some (record { basic = q.0; values = elements })) r.0 r.1 in
+    made (IsBuffer (a ∷ b ∷ rest)) (record { name = p.0; value = r.0 }) line
+    (made (λ (contents : Contents). IsBuffer (a ∷ b ∷ rest) (record { name = p.0; value = contents })) (record { basic = q.0; values = s.0 }) r.0
+    (a, rest, ap (λ (w : Word). a ∷ w ∷ rest) (type_takes b q.0 q.1), named_takes a p.0 p.1, elements_take q.0 rest s.0 s.1) s.2) r.2
+
+with_from : (buffer : Contents) (rest : List Word) → each (elements_of buffer.basic) rest ≡ Some buffer.values → buffer_with buffer.basic rest ≡ Some buffer
+unfolding buffer_with
+with_from buffer rest v = rw v refl
+
+buffer_from : (a : Word) (rest : List Word) (line : BufferLine) → name_of a ≡ Some line.name → basic_type_of (type_word line.value.basic) ≡ Some line.value.basic → buffer_with line.value.basic rest ≡ Some line.value
+    → buffer_of (a ∷ type_word line.value.basic ∷ rest) ≡ Some line
+unfolding buffer_of first
+buffer_from a rest line n t v = rw (n, t, v) refl
+
+pub buffer_again : (words : List Word) (line : BufferLine) → IsBuffer words line → buffer_of words ≡ Some line
+buffer_again words line h =
+    ap buffer_of h.2 ∙ buffer_from h.0 h.1 line (named_again h.0 line.name h.3) (type_again line.value.basic) (with_from line.value h.1 (elements_again line.value.basic h.1 line.value.values h.4))
+
+-- ---- what ranks do
+
+by_takes : (verb : Verb) (words : List Word) (s : Action) → action_by verb words ≡ Some s → Spells (verb_word verb ∷ words) s
+by_takes verbs.Buffer words s e = let b = bind_ok (buffer_of words) (λ x. Some (actions.Buffer x)) s e in made (Spells (codes "buf" ∷ words)) (actions.Buffer b.0) s (words, refl, buffer_takes words b.0 b.1) b.2
+by_takes verbs.Isend words s e = let b = bind_ok (isend_of words) (λ x. Some (actions.Isend x.0 x.1)) s e in made (Spells (codes "isend" ∷ words)) (actions.Isend b.0.0 b.0.1) s (isend_takes words b.0 b.1) b.2
+by_takes verbs.Irecv words s e = let b = bind_ok (irecv_of words) (λ x. Some (actions.Irecv x.0 x.1)) s e in made (Spells (codes "irecv" ∷ words)) (actions.Irecv b.0.0 b.0.1) s (irecv_takes words b.0 b.1) b.2
+by_takes verbs.Wait words s e = let b = bind_ok (one_of words) (λ x. Some (actions.Wait x)) s e in made (Spells (codes "wait" ∷ words)) (actions.Wait b.0) s (wait_takes words b.0 b.1) b.2
+
+pub action_takes : (words : List Word) (s : Action) → action_of words ≡ Some s → Spells words s
+unfolding action_of first
+action_takes [] s e = absurd cc
+action_takes (w ∷ ws) s e =
+    let b = bind_ok (verb_of w) (λ v. action_by v ws) s e in
+    subst (λ (x : Word). Spells (x ∷ ws) s) (sym (verb_takes w b.0 b.1)) (by_takes b.0 ws s b.2)
+
+from_verb : (verb : Verb) (words : List Word) (s : Action) → action_by verb words ≡ Some s → action_of (verb_word verb ∷ words) ≡ Some s
+unfolding action_of first
+from_verb verb words s e = rw (verb_again verb) e
+
+then_some : {A : Type 0} (read : Option A) (make : A → Action) (x : A) → read ≡ Some x → (read >>= λ y. Some (make y)) ≡ Some (make x)
+then_some read make x e = rw e refl
+
+pub action_again : (words : List Word) (s : Action) → Spells words s → action_of words ≡ Some s
+action_again words (actions.Buffer x) h = ap action_of h.1 ∙ from_verb verbs.Buffer h.0 (actions.Buffer x) (then_some (buffer_of h.0) (λ y. actions.Buffer y) x (buffer_again h.0 x h.2))
+action_again words (actions.Isend q x) h =
+    ap action_of h.2 ∙ from_verb verbs.Isend (h.0 ∷ h.1) (actions.Isend q x) (then_some (isend_of (h.0 ∷ h.1)) (λ y. actions.Isend y.0 y.1) (q, x) (isend_from h.0 h.1 q x (named_again h.0 q h.3) (sending_again h.1 x h.4)))
+action_again words (actions.Irecv q x) h =
+    ap action_of h.2 ∙ from_verb verbs.Irecv (h.0 ∷ h.1) (actions.Irecv q x) (then_some (irecv_of (h.0 ∷ h.1)) (λ y. actions.Irecv y.0 y.1) (q, x) (irecv_from h.0 h.1 q x (named_again h.0 q h.3) (receiving_again h.1 x h.4)))
+action_again words (actions.Wait x) h = ap action_of h.1 ∙ from_verb verbs.Wait (h.0 ∷ []) (actions.Wait x) (then_some (one_of (h.0 ∷ [])) (λ y. actions.Wait y) x (one_from h.0 x (requested_again h.0 x h.2)))
+
+-- what spells something begins with one of these words
+pub begins : (words : List Word) (s : Action) → Spells words s → (verb : Verb) × (rest : List Word) × (words ≡ verb_word verb ∷ rest)
+begins words (actions.Buffer x) h = (verbs.Buffer, h.0, h.1)
+begins words (actions.Isend q x) h = (verbs.Isend, h.0 ∷ h.1, h.2)
+begins words (actions.Irecv q x) h = (verbs.Irecv, h.0 ∷ h.1, h.2)
+begins words (actions.Wait x) h = (verbs.Wait, h.0 ∷ [], h.1)

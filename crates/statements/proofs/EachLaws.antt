@@ -1,0 +1,80 @@
+-- What the words give one after the other, as a loop reads them.
+use Rattle.std.proofs.Common.{◌≡◌, ℕ, ◌+◌, ◌<◌, ◌≤◌, List, [], ◌∷◌, ◌++◌, length, get_or, drop, Option, Some, None, replicate, refl, sym, ap, ◌∙◌, append_assoc}
+use Rattle.std.proofs.lemmas.List.{append-nil, at_drop_more, at_drop_all}
+use Rattle.statements.specs.declared.fault.LineError.{LineError}
+use Rattle.statements.specs.declared.fault.LineError.TheVariants as errors
+use Rattle.vocabulary.specs.declared.basic_type.BasicType.{BasicType}
+use Rattle.datatypes.specs.Contents.{Contents}
+use Rattle.statements.specs.Grammar.{Word}
+use Rattle.statements.specs.Results.{◌>>=◌, Fails}
+use Rattle.statements.specs.Reading.{each, copies_of, elements_of, buffer_with}
+
+-- what was read before, and what is still read
+abbrev pub with_more : {A : Type 0} → List A → Option (List A) → Option (List A)
+with_more front read = read >>= λ rest. Some (front ++ rest)
+
+regroup : {A : Type 0} (front more : List A) (read : Option (List A)) → with_more front (read >>= λ rest. Some (more ++ rest)) ≡ with_more (front ++ more) read
+regroup {A} front more (Some x) = ap (λ (xs : List A). Some xs) (simp append_assoc)
+regroup front more None = refl
+
+one_more : {A : Type 0} (read : Word → Option (List A)) (front more : List A) (word : Word) (words : List Word) → read word ≡ Some more → with_more front (each read (word ∷ words)) ≡ with_more (front ++ more) (each read words)
+unfolding each
+one_more read front more word words e = rw e (regroup front more (each read words))
+
+no_more : {A : Type 0} (read : Word → Option (List A)) (front : List A) (word : Word) (words : List Word) → read word ≡ None → with_more front (each read (word ∷ words)) ≡ None
+unfolding each
+no_more read front word words e = rw e refl
+
+item_here : (words : List Word) (i : ℕ) (word : Word) → i < length words → word ≡ get_or words i word → drop i words ≡ word ∷ drop (i + 1) words
+item_here words i word lt is = at_drop_more (λ (ws : List Word). ws) words i word lt ∙ ap (λ (w : Word). w ∷ drop (i + 1) words) (sym is)
+
+-- the word at this place gave more
+pub each_goes_on : {A : Type 0} (read : Word → Option (List A)) (front more : List A) (words : List Word) (i : ℕ) (word : Word) → i < length words → word ≡ get_or words i word → read word ≡ Some more
+    → with_more front (each read (drop i words)) ≡ each read words → with_more (front ++ more) (each read (drop (i + 1) words)) ≡ each read words
+each_goes_on {A} read front more words i word lt is e so_far =
+    let here = item_here words i word lt is in
+    sym (one_more read front more word (drop (i + 1) words) e) ∙ ap (λ (ws : List Word). with_more front (each read ws)) (sym here) ∙ so_far
+
+-- a line that failed fails so too
+fails_on : {Y Z : Type 0} (e : LineError) (read : Option Y) (next : Option Z) → (read ≡ None → next ≡ None) → Fails e read → Fails e next
+fails_on errors.OutOfMemory read next go h = tt
+fails_on errors.Faulty read next go h = go h
+
+-- the word at this place gave nothing
+pub each_ends : {A : Type 0} (read : Word → Option (List A)) (e : LineError) (front : List A) (words : List Word) (i : ℕ) (word : Word) → i < length words → word ≡ get_or words i word → Fails e (read word)
+    → with_more front (each read (drop i words)) ≡ each read words → Fails e (each read words)
+each_ends read e front words i word lt is fails so_far =
+    let here = item_here words i word lt is in
+    fails_on e (read word) (each read words) (λ h. sym so_far ∙ ap (λ (ws : List Word). with_more front (each read ws)) here ∙ no_more read front word (drop (i + 1) words) h) fails
+
+nothing_left : {A : Type 0} (read : Word → Option (List A)) (front : List A) → with_more front (each read []) ≡ Some front
+unfolding each
+nothing_left {A} read front = ap (λ (xs : List A). Some xs) (append-nil front)
+
+pub each_is_done : {A : Type 0} (read : Word → Option (List A)) (front : List A) (words : List Word) (i : ℕ) → length words ≤ i → with_more front (each read (drop i words)) ≡ each read words → each read words ≡ Some front
+each_is_done read front words i le so_far =
+    sym so_far ∙ ap (λ (ws : List Word). with_more front (each read ws)) (at_drop_all (λ (ws : List Word). ws) words i le) ∙ nothing_left read front
+
+-- ---- elements
+
+pub bind_fails : {A B : Type 0} (e : LineError) (read : Option A) (f : A → Option B) → Fails e read → Fails e (read >>= f)
+bind_fails {A} {B} errors.OutOfMemory read f h = tt
+bind_fails {A} {B} errors.Faulty read f h = ap (λ (r : Option A). r >>= f) h
+
+pub elements_fail : (basic : BasicType) (e : LineError) (bytes word : Word) → bytes ≡ word → Fails e (copies_of basic bytes) → Fails e (elements_of basic word)
+elements_fail basic e bytes word is h =
+    bind_fails e (copies_of basic word) _ (rw (sym is) h)
+
+pub elements_are : (basic : BasicType) (count number : ℕ) (bytes word : Word) → bytes ≡ word → copies_of basic bytes ≡ Some (count, number) → elements_of basic word ≡ Some (replicate count number)
+elements_are basic count number bytes word is h = let e : copies_of basic word ≡ Some (count, number) = ap (copies_of basic) (sym is) ∙ h in rw e refl
+
+pub buffer_fails : (basic : BasicType) (e : LineError) (words : List Word) → Fails e (each (elements_of basic) words) → Fails e (buffer_with basic words)
+unfolding buffer_with
+buffer_fails basic e words h = bind_fails e (each (elements_of basic) words) (λ elements. Some (record { basic = basic; values = elements })) h
+
+held : BasicType → List ℕ → Contents
+held kind elements = record { basic = kind; values = elements }
+
+pub buffer_is : (basic : BasicType) (buffer : Contents) (words : List Word) → buffer.basic ≡ basic → each (elements_of basic) words ≡ Some buffer.values → buffer_with basic words ≡ Some buffer
+unfolding buffer_with held
+buffer_is basic buffer words is h = rw h (ap (λ (kind : BasicType). Some (held kind buffer.values)) (sym is))

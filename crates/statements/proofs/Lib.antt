@@ -1,0 +1,9 @@
+pub mod Numerals
+pub mod Lists
+pub mod EachLaws
+pub mod WordLaws
+pub mod FieldLaws
+pub mod ElementLaws
+pub mod ActionLaws
+pub mod LineSteps
+pub mod LineLaws

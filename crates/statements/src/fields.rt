@@ -1,0 +1,128 @@
+//! What one word stands for.
+
+ghost use Rattle.std.specs.Prelude.{◌≡◌};
+ghost use Rattle.statements.specs.Reading.{first, name_of, communicator_of, target_of, source_of, tag_of, requested_of, ended, rank_of};
+ghost use Rattle.statements.specs.Results.{Gives};
+
+use crate::action::{Communicator, Requested, Tag, Target};
+use crate::fault::LineError;
+use crate::name::{Name, is_name};
+pub use crate::number::{number_or, number_up_to};
+use crate::word::{Word, is};
+use std::alloc::Global;
+use vocabulary::Source;
+
+/// A value that has to be there; where it isn't, the line is faulty.
+pub fn required<T>(value: Option<T>) -> Result<T, LineError>
+    ensures { Gives (λ x. x) result value }
+{
+    match value {
+        Some(value) => Ok(value),
+        None => Err(LineError::Faulty),
+    }
+}
+
+/// The first word, and the words behind it.
+#[tactic(auto, unfolding(crate::specs::Reading::first))]
+pub fn first(words: &[Word]) -> Result<(&[u8], &[Word]), LineError>
+    ensures { Gives (λ x. (x.0.now, x.1.now)) result (first words.now) }
+{
+    match words.split_first() {
+        Some((word, rest)) => Ok((word.as_bytes(), rest)),
+        None => Err(LineError::Faulty),
+    }
+}
+
+/// Nothing more may stand in the line.
+#[tactic(auto, unfolding(crate::specs::Reading::ended))]
+pub fn ended(words: &[Word]) -> Result<(), LineError>
+    ensures { Gives (λ x. x) result (ended words.now) }
+{
+    if words.is_empty() {
+        Ok(())
+    } else {
+        Err(LineError::Faulty)
+    }
+}
+
+/// The name that the word is.
+#[tactic(auto, unfolding(crate::specs::Reading::name_of))]
+pub fn name_of(alloc: Global, word: &[u8]) -> Result<Name, LineError>
+    ensures { Gives (λ x. x) result (name_of word.now) }
+{
+    if !is_name(word) {
+        return Err(LineError::Faulty);
+    }
+    Ok(Name::from_slice(alloc, word)?)
+}
+
+/// A rank; one that 16 bits don't hold stands as the greatest number that they hold.
+#[tactic(auto, unfolding(crate::specs::Reading::rank_of))]
+pub fn rank_of(word: &[u8]) -> Result<u16, LineError>
+    ensures { Gives (λ x. x) result (rank_of word.now) }
+{
+    match number_or(word, 65_535) {
+        Some(rank) => Ok(rank as u16),
+        None => Err(LineError::Faulty),
+    }
+}
+
+#[tactic(auto, unfolding(crate::specs::Reading::communicator_of))]
+pub(crate) fn communicator_of(alloc: Global, word: &[u8]) -> Result<Communicator, LineError>
+    ensures { Gives (λ x. x) result (communicator_of word.now) }
+{
+    if is(word, b"world") {
+        Ok(Communicator::World)
+    } else if is(word, b"self") {
+        Ok(Communicator::Own)
+    } else {
+        Ok(Communicator::Named(name_of(alloc, word)?))
+    }
+}
+
+#[tactic(auto, unfolding(crate::specs::Reading::target_of))]
+pub(crate) fn target_of(word: &[u8]) -> Result<Target, LineError>
+    ensures { Gives (λ x. x) result (target_of word.now) }
+{
+    if is(word, b"null") {
+        return Ok(Target::Null);
+    }
+    Ok(Target::Rank(rank_of(word)?))
+}
+
+#[tactic(auto, unfolding(crate::specs::Reading::source_of))]
+pub(crate) fn source_of(word: &[u8]) -> Result<Source, LineError>
+    ensures { Gives (λ x. x) result (source_of word.now) }
+{
+    if is(word, b"any") {
+        return Ok(Source::Any);
+    }
+    if is(word, b"null") {
+        return Ok(Source::Null);
+    }
+    Ok(Source::Rank(rank_of(word)?))
+}
+
+#[tactic(auto, unfolding(crate::specs::Reading::tag_of))]
+pub(crate) fn tag_of(word: &[u8]) -> Result<Tag, LineError>
+    ensures { Gives (λ x. x) result (tag_of word.now) }
+{
+    if is(word, b"any") {
+        return Ok(Tag::Any);
+    }
+    match number_or(word, 4_294_967_295) {
+        Some(tag) => Ok(Tag::Number(tag as u32)),
+        None => Err(LineError::Faulty),
+    }
+}
+
+#[tactic(auto, unfolding(crate::specs::Reading::requested_of))]
+pub(crate) fn requested_of(alloc: Global, word: &[u8]) -> Result<Requested, LineError>
+    ensures { Gives (λ x. x) result (requested_of word.now) }
+{
+    if is(word, b"null") {
+        Ok(Requested::Null)
+    } else {
+        Ok(Requested::Named(name_of(alloc, word)?))
+    }
+}

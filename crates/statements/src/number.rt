@@ -1,0 +1,89 @@
+//! Numbers in words.
+
+ghost use Rattle.std.specs.Prelude.{◌≡◌, ◌≤◌, ◌<◌, ◌^◌, ◌↔◌, IsTrue, IfSome};
+ghost use Rattle.std.specs.Option.{SomeIff};
+ghost use Rattle.std.specs.Str.{all_ascii_digits};
+ghost use Rattle.std.specs.Str.Parse.{digits_value};
+ghost use Rattle.statements.specs.Numbers.{is_numeral, number_up_to, number_or};
+ghost use Rattle.statements.specs.Reading.{count_of};
+ghost use Rattle.statements.specs.Results.{Gives};
+
+use crate::fault::LineError;
+use std::str;
+
+fn are_digits(word: &[u8]) -> bool
+    ensures { result ≡ all_ascii_digits word.now }
+{
+    for b in word {
+        if !b.is_ascii_digit() {
+            return false;
+        }
+    }
+    true
+}
+
+/// Whether the word is decimal digits, at least one, without leading zeros.
+fn is_numeral(word: &[u8]) -> bool
+    ensures { result ≡ is_numeral word.now }
+{
+    if word.is_empty() {
+        return false;
+    }
+    if word[0] == b'0' && word.len() > 1 {
+        return false;
+    }
+    are_digits(word)
+}
+
+/// The number that a numeral stands for, where it fits.
+fn numeral_value(word: &[u8]) -> Option<u64>
+    requires { IsTrue (is_numeral word.now) }
+    ensures { SomeIff result (digits_value 10 word.now < 2 ^ 64) (digits_value 10 word.now) }
+{
+    match str::from_utf8(word) {
+        Ok(text) => text.parse::<u64>().ok(),
+        Err(_) => None,
+    }
+}
+
+/// The number that the word spells, where it is at most this one.
+#[tactic(auto, unfolding(crate::specs::Numbers::number_up_to))]
+pub fn number_up_to(word: &[u8], most: u64) -> Option<u64>
+    ensures exact { result ≡ number_up_to most word.now }
+    ensures most { IfSome result (λ n. n ≤ most) }
+{
+    if !is_numeral(word) {
+        return None;
+    }
+    let number = numeral_value(word)?;
+    if number <= most { Some(number) } else { None }
+}
+
+/// The number that the word spells, or this one where it is greater.
+#[tactic(auto, unfolding(crate::specs::Numbers::number_or))]
+pub fn number_or(word: &[u8], most: u64) -> Option<u64>
+    ensures exact { result ≡ number_or most word.now }
+    ensures most { IfSome result (λ n. n ≤ most) }
+{
+    if !is_numeral(word) {
+        return None;
+    }
+    match numeral_value(word) {
+        Some(number) if number < most => Some(number),
+        _ => Some(most),
+    }
+}
+
+/// The number that the word spells. One that 64 bits don't hold counts more copies than memory does.
+#[tactic(auto, unfolding(crate::specs::Reading::count_of))]
+pub(crate) fn numeral_of(word: &[u8]) -> Result<u64, LineError>
+    ensures { Gives (λ x. x) result (count_of word.now) }
+{
+    if !is_numeral(word) {
+        return Err(LineError::Faulty);
+    }
+    match numeral_value(word) {
+        Some(number) => Ok(number),
+        None => Err(LineError::OutOfMemory),
+    }
+}

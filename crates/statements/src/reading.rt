@@ -1,0 +1,112 @@
+//! What a rank does, by the words that spell it.
+
+ghost use Rattle.std.specs.Prelude.{◌≡◌};
+ghost use Rattle.statements.specs.Reading.{buffer_of, sending_of, receiving_of, isend_of, irecv_of, one_of, action_of};
+ghost use Rattle.statements.specs.Results.{Gives};
+
+use crate::action::{Action, BufferLine, Receiving, Requested, Sending};
+use crate::fault::LineError;
+use crate::fields::{
+    communicator_of, ended, first, name_of, requested_of, required, source_of, tag_of, target_of,
+};
+use crate::name::Name;
+use crate::types::basic_type_of;
+use crate::values::buffer_with;
+use crate::verb::{Verb, verb_of};
+use crate::word::Word;
+use std::alloc::Global;
+
+#[tactic(auto, unfolding(crate::specs::Reading::buffer_of))]
+fn buffer_of(alloc: Global, words: &[Word]) -> Result<BufferLine, LineError>
+    ensures { Gives (λ x. x) result (buffer_of words.now) }
+{
+    let (name, rest) = first(words)?;
+    let (basic, rest) = first(rest)?;
+    let name = name_of(alloc, name)?;
+    let basic = required(basic_type_of(basic))?;
+    let value = buffer_with(alloc, basic, rest)?;
+    Ok(BufferLine { name, value })
+}
+
+/// The arguments of a send, which the words `COMM DEST TAG B` spell.
+#[tactic(auto, unfolding(crate::specs::Reading::sending_of))]
+pub fn sending_of(alloc: Global, words: &[Word]) -> Result<Sending, LineError>
+    ensures { Gives (λ x. x) result (sending_of words.now) }
+{
+    let (communicator, rest) = first(words)?;
+    let (target, rest) = first(rest)?;
+    let (tag, rest) = first(rest)?;
+    let (buffer, rest) = first(rest)?;
+    ended(rest)?;
+    Ok(Sending {
+        communicator: communicator_of(alloc, communicator)?,
+        target: target_of(target)?,
+        tag: tag_of(tag)?,
+        buffer: name_of(alloc, buffer)?,
+    })
+}
+
+/// The arguments of a receive, which the words `COMM SRC TAG B` spell.
+#[tactic(auto, unfolding(crate::specs::Reading::receiving_of))]
+pub fn receiving_of(alloc: Global, words: &[Word]) -> Result<Receiving, LineError>
+    ensures { Gives (λ x. x) result (receiving_of words.now) }
+{
+    let (communicator, rest) = first(words)?;
+    let (source, rest) = first(rest)?;
+    let (tag, rest) = first(rest)?;
+    let (buffer, rest) = first(rest)?;
+    ended(rest)?;
+    Ok(Receiving {
+        communicator: communicator_of(alloc, communicator)?,
+        source: source_of(source)?,
+        tag: tag_of(tag)?,
+        buffer: name_of(alloc, buffer)?,
+    })
+}
+
+#[tactic(auto, unfolding(crate::specs::Reading::isend_of))]
+fn isend_of(alloc: Global, words: &[Word]) -> Result<(Name, Sending), LineError>
+    ensures { Gives (λ x. x) result (isend_of words.now) }
+{
+    let (request, rest) = first(words)?;
+    let request = name_of(alloc, request)?;
+    Ok((request, sending_of(alloc, rest)?))
+}
+
+#[tactic(auto, unfolding(crate::specs::Reading::irecv_of))]
+fn irecv_of(alloc: Global, words: &[Word]) -> Result<(Name, Receiving), LineError>
+    ensures { Gives (λ x. x) result (irecv_of words.now) }
+{
+    let (request, rest) = first(words)?;
+    let request = name_of(alloc, request)?;
+    Ok((request, receiving_of(alloc, rest)?))
+}
+
+#[tactic(auto, unfolding(crate::specs::Reading::one_of))]
+fn one_of(alloc: Global, words: &[Word]) -> Result<Requested, LineError>
+    ensures { Gives (λ x. x) result (one_of words.now) }
+{
+    let (request, rest) = first(words)?;
+    ended(rest)?;
+    requested_of(alloc, request)
+}
+
+/// What a rank does, which the words spell.
+#[tactic(auto, unfolding(crate::specs::Reading::action_of))]
+pub fn action_of(alloc: Global, words: &[Word]) -> Result<Action, LineError>
+    ensures { Gives (λ x. x) result (action_of words.now) }
+{
+    let (verb, rest) = first(words)?;
+    match required(verb_of(verb))? {
+        Verb::Buffer => Ok(Action::Buffer(buffer_of(alloc, rest)?)),
+        Verb::Isend => {
+            let (request, send) = isend_of(alloc, rest)?;
+            Ok(Action::Isend(request, send))
+        }
+        Verb::Irecv => {
+            let (request, receive) = irecv_of(alloc, rest)?;
+            Ok(Action::Irecv(request, receive))
+        }
+        Verb::Wait => Ok(Action::Wait(one_of(alloc, rest)?)),
+    }
+}

@@ -1,0 +1,77 @@
+//! The elements of a buffer.
+
+ghost use Rattle.std.specs.Prelude.{◌≡◌, ◌<◌, IfOk, IfSome};
+ghost use Rattle.std.specs.List.{position};
+ghost use Rattle.datatypes.specs.Elements.{numbers_of};
+ghost use Rattle.statements.specs.Reading.{value_of, is_star, count_of, copies_of, buffer_with};
+ghost use Rattle.statements.specs.Results.{Gives};
+
+use crate::fault::LineError;
+use crate::fields::required;
+use crate::number::{number_up_to, numeral_of};
+use crate::word::Word;
+use datatypes::{Buffer, number_of};
+use std::alloc::Global;
+use vocabulary::BasicType;
+
+/// The element that the word spells.
+#[tactic(auto, unfolding(crate::specs::Reading::value_of))]
+fn value_of(basic: BasicType, word: &[u8]) -> Option<u64>
+    ensures exact { result ≡ value_of basic word.now }
+    ensures within { IfSome result (λ number. number < numbers_of basic) }
+{
+    if !word.is_empty() && word[0] == b'-' {
+        let (_, digits) = word.split_at(1);
+        let magnitude = number_up_to(digits, u64::MAX)?;
+        number_of(basic, true, magnitude)
+    } else {
+        let magnitude = number_up_to(word, u64::MAX)?;
+        number_of(basic, false, magnitude)
+    }
+}
+
+fn star_place(word: &[u8]) -> Option<usize>
+    ensures { result ≡ position is_star word.now }
+{
+    word.iter().position(|byte| *byte == b'*')
+}
+
+/// How many copies, and of which element.
+#[tactic(auto, unfolding(crate::specs::Reading::copies_of))]
+fn copies_of(basic: BasicType, word: &[u8]) -> Result<(u64, u64), LineError>
+    ensures exact { Gives (λ x. x) result (copies_of basic word.now) }
+    ensures within { IfOk result (λ copies. copies.1 < numbers_of basic) }
+{
+    let Some(place) = star_place(word) else {
+        let number = required_value(basic, word)?;
+        return Ok((1, number));
+    };
+    let (count, back) = word.split_at(place);
+    let (_, value) = back.split_at(1);
+    let number = required_value(basic, value)?;
+    let count = numeral_of(count)?;
+    Ok((count, number))
+}
+
+fn required_value(basic: BasicType, word: &[u8]) -> Result<u64, LineError>
+    ensures exact { Gives (λ x. x) result (value_of basic word.now) }
+    ensures within { IfOk result (λ number. number < numbers_of basic) }
+{
+    required(value_of(basic, word))
+}
+
+/// The buffer of the elements that the words spell.
+pub(crate) fn buffer_with(
+    alloc: Global,
+    basic: BasicType,
+    words: &[Word],
+) -> Result<Buffer, LineError>
+    ensures { Gives (λ x. x) result (buffer_with basic words.now) }
+{
+    let mut buffer = Buffer::new(alloc, basic);
+    for word in words {
+        let (count, number) = copies_of(basic, word.as_bytes())?;
+        buffer.push_copies(number, count as usize)?;
+    }
+    Ok(buffer)
+}

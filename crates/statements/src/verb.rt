@@ -1,0 +1,37 @@
+//! The first word of what a rank does.
+
+ghost use Rattle.std.specs.Prelude.{◌≡◌};
+ghost use Rattle.statements.specs.Words.{verb_of};
+
+use crate::word::is;
+
+/// What a rank does, by its first word.
+#[derive(Clone, Copy, Debug, PartialEq, Eq)]
+pub(crate) enum Verb {
+    /// `buf`
+    Buffer,
+    /// `isend`
+    Isend,
+    /// `irecv`
+    Irecv,
+    /// `wait`
+    Wait,
+}
+
+/// What the first word says.
+#[tactic(auto, unfolding(crate::specs::Words::verb_of))]
+pub(crate) fn verb_of(word: &[u8]) -> Option<Verb>
+    ensures { result ≡ verb_of word.now }
+{
+    if is(word, b"buf") {
+        Some(Verb::Buffer)
+    } else if is(word, b"isend") {
+        Some(Verb::Isend)
+    } else if is(word, b"irecv") {
+        Some(Verb::Irecv)
+    } else if is(word, b"wait") {
+        Some(Verb::Wait)
+    } else {
+        None
+    }
+}

@@ -1,0 +1,73 @@
+/* What plain UDP sockets take between two processes on 127.0.0.1, with blocking receives.
+ *
+ *   udp_floor pong COUNT ACKS        half a round trip of a datagram of 56 bytes, in microseconds
+ *   udp_floor window COUNT ACKS      datagrams of 56 bytes one way, 64 at a time and then one back: datagrams a second
+ *
+ * 56 bytes are those of a message of 4 bytes between two ranks. With ACKS 1 each datagram is answered by one of 32 bytes first, as a
+ * rank acknowledges it. */
+#include <arpa/inet.h>
+#include <netinet/in.h>
+#include <stdio.h>
+#include <stdlib.h>
+#include <string.h>
+#include <sys/socket.h>
+#include <sys/wait.h>
+#include <time.h>
+#include <unistd.h>
+
+enum { MESSAGE = 56, ACK = 32, WINDOW = 64 };
+
+static int mine;
+static struct sockaddr_in other;
+static char buffer[2048];
+
+static double now(void) {
+    struct timespec t;
+    clock_gettime(CLOCK_MONOTONIC, &t);
+    return t.tv_sec + t.tv_nsec * 1e-9;
+}
+
+static void give(size_t bytes) { sendto(mine, buffer, bytes, 0, (void *)&other, sizeof other); }
+
+static void take(ssize_t bytes) {
+    while (recv(mine, buffer, sizeof buffer, 0) != bytes) {}
+}
+
+int main(int count, char **words) {
+    if (count != 4) return 2;
+    int windowed = !strcmp(words[1], "window"), turns = atoi(words[2]), acks = atoi(words[3]);
+    int sockets[2];
+    struct sockaddr_in addresses[2];
+    socklen_t size = sizeof addresses[0];
+    for (int i = 0; i < 2; i++) {
+        sockets[i] = socket(AF_INET, SOCK_DGRAM, 0);
+        addresses[i] = (struct sockaddr_in){.sin_family = AF_INET, .sin_addr.s_addr = htonl(INADDR_LOOPBACK)};
+        if (bind(sockets[i], (void *)&addresses[i], size)) return 1;
+        getsockname(sockets[i], (void *)&addresses[i], &size);
+    }
+    int child = fork() == 0;
+    mine = sockets[child];
+    other = addresses[!child];
+    int one_way = windowed ? WINDOW : 1;
+    double start = now();
+    for (int turn = 0; turn < turns; turn++) {
+        for (int leg = 0; leg < 2; leg++) {
+            int datagrams = leg == 0 ? one_way : 1;
+            if (leg == child) {
+                for (int i = 0; i < datagrams; i++) give(MESSAGE);
+            } else {
+                for (int i = 0; i < datagrams; i++) {
+                    take(MESSAGE);
+                    if (acks) give(ACK);
+                }
+            }
+        }
+    }
+    double took = now() - start;
+    if (!child) {
+        if (windowed) printf("%.0f\n", (double)turns * WINDOW / took);
+        else printf("%.3f\n", took / turns / 2 * 1e6);
+        wait(0);
+    }
+    return 0;
+}
