@@ -180,8 +180,9 @@ action_again words (actions.Irecv q x) h =
 action_again words (actions.Wait x) h = ap action_of h.1 ∙ from_verb verbs.Wait (h.0 ∷ []) (actions.Wait x) (then_some (one_of (h.0 ∷ [])) (λ y. actions.Wait y) x (one_from h.0 x (requested_again h.0 x h.2)))
 
 -- what spells something begins with one of these words
-pub begins : (words : List Word) (s : Action) → Spells words s → (verb : Verb) × (rest : List Word) × (words ≡ verb_word verb ∷ rest)
-begins words (actions.Buffer x) h = (verbs.Buffer, h.0, h.1)
-begins words (actions.Isend q x) h = (verbs.Isend, h.0 ∷ h.1, h.2)
-begins words (actions.Irecv q x) h = (verbs.Irecv, h.0 ∷ h.1, h.2)
-begins words (actions.Wait x) h = (verbs.Wait, h.0 ∷ [], h.1)
+pub begins : (words : List Word) (s : Action) → Spells words s → (P : Word → Type 0) → P (codes "buf") → P (codes "isend") → P (codes "irecv") → P (codes "wait")
+    → (word : Word) × (rest : List Word) × (words ≡ word ∷ rest) × P word
+begins words (actions.Buffer x) h P b i r w = (codes "buf", h.0, h.1, b)
+begins words (actions.Isend q x) h P b i r w = (codes "isend", h.0 ∷ h.1, h.2, i)
+begins words (actions.Irecv q x) h P b i r w = (codes "irecv", h.0 ∷ h.1, h.2, r)
+begins words (actions.Wait x) h P b i r w = (codes "wait", h.0 ∷ [], h.1, w)
