@@ -88,7 +88,8 @@ impl Engine {
         self.sessions.take_out()
     }
 
-    /// Hands out the answer of a blocked call, once, after the event in which it was ready.
+    /// Hands out the answer of a blocked call, once, after the event in which it was ready. An answer that isn't taken is
+    /// lost when the next one comes.
     pub fn take_completion(&mut self) -> Option<Outcome>
         ensures completion { result ≡ self.old.completion }
         ensures rest { self.new ≡ record self.old { completion = None } }

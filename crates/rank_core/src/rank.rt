@@ -68,7 +68,8 @@ impl Core {
         self.place
     }
 
-    /// Hands out the answer of a blocked call, once, after the event in which it was ready.
+    /// Hands out the answer of a blocked call, once, after the event in which it was ready. An answer that isn't taken is
+    /// lost when the next one comes.
     pub fn take_completion(&mut self) -> Option<Outcome>
         ensures completion { result ≡ self.old.state.completion }
         ensures rest { self.new.state ≡ record self.old.state { completion = None } }
