@@ -276,8 +276,8 @@ taken n r s engines datagrams links current e new c handed within emitted =
     witnessed : (a b : Endpoint) → IsWitnessed n (datagrams ++ new.out) a b (after a b)
     witnessed a b = link_cases (λ l. IsWitnessed n (datagrams ++ new.out) a b l) links s own further a b
         (λ es ed. subst (λ (x : Endpoint). IsWitnessed n (datagrams ++ new.out) x b further) (sym es)
-            (subst (λ (y : Endpoint). IsWitnessed n (datagrams ++ new.out) s y further) (sym ed)
-            (witnessed_next n datagrams new.out s own link (c.true_now.witnessed s own) emitted gave)))
+        (subst (λ (y : Endpoint). IsWitnessed n (datagrams ++ new.out) s y further) (sym ed)
+        (witnessed_next n datagrams new.out s own link (c.true_now.witnessed s own) emitted gave)))
         (λ k. witnessed_more n datagrams new.out a b (links a b) (links a b) refl (λ q f h. h) (c.true_now.witnessed a b))
 
 -- ---- a word of an endpoint

@@ -106,9 +106,11 @@ each_stands n r current links old tells x y lt is =
 -- the law of ticks
 pub ticks_are_true : TicksAreTrue
 ticks_are_true n r now engines datagrams links current old new true_now here gives =
-    subst (λ (e : EngineState). OnlySessions old e × LeavesTrue n engines datagrams r e links current) (sym gives.1)
-    (refl, world_leaves n r engines datagrams links links current (after_tick old now) true_now (grows_none r links) (tick_tells n r now current links old tells r_is) (links_fit n engines datagrams links current true_now) told
-    (all_witnessed n r engines datagrams (after_tick old now).out links links current true_now (grows_none r links) (λ s d. refl)))
+    subst (λ (e : EngineState). OnlySessions old e × LeavesTrue n engines datagrams r e links current) (sym gives.1) (
+      refl,
+      world_leaves n r engines datagrams links links current (after_tick old now) true_now (grows_none r links) (tick_tells n r now current links old tells r_is) (links_fit n engines datagrams links current true_now) told
+          (all_witnessed n r engines datagrams (after_tick old now).out links links current true_now (grows_none r links) (λ s d. refl)),
+    )
   where
     r_is : r < n
     r_is = omega (arith, slice_get_within engines r old here.there, true_now.count)

@@ -6,12 +6,12 @@ use Rattle.requests.specs.Outcomes.{number_of_failure}
 use Rattle.requests.specs.declared.outcome.Outcome.{Outcome}
 use Rattle.requests.specs.declared.outcome.Outcome.TheVariants as outcomes
 use Rattle.requests.specs.declared.table.Request.{Request}
-use Rattle.engine.specs.Refusals.{number_of_refusal}
-use Rattle.engine.specs.declared.refused.Refused.{Refused}
-use Rattle.engine.specs.declared.call.Call.{Call}
-use Rattle.engine.specs.declared.call.Call.TheVariants as calls
-use Rattle.engine.specs.declared.call.Reply.{Reply}
-use Rattle.engine.specs.declared.call.Reply.TheVariants as replies
+use Rattle.rank_core.specs.Refusals.{number_of_refusal}
+use Rattle.rank_core.specs.declared.refused.Refused.{Refused}
+use Rattle.rank_core.specs.declared.call.Call.{Call}
+use Rattle.rank_core.specs.declared.call.Call.TheVariants as calls
+use Rattle.rank_core.specs.declared.call.Reply.{Reply}
+use Rattle.rank_core.specs.declared.call.Reply.TheVariants as replies
 use Rattle.rank_drive.specs.declared.runner.Step.TheVariants as steps
 use Rattle.rank_script.specs.declared.names.Doing.{Doing}
 use Rattle.rank_script.specs.declared.names.Held.{Held}
