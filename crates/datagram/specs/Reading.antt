@@ -3,6 +3,7 @@ use Rattle.std.specs.Prelude.{◌≡◌, ℕ, ◌*◌, List, length, drop, slice
 use Rattle.byteorder.specs.Endian.{big_number}
 use Rattle.vocabulary.specs.declared.basic_type.BasicType.{BasicType}
 use Rattle.vocabulary.specs.BasicTypes.{code_of, size_of, type_at}
+use Rattle.vocabulary.specs.Limits.{eager_limit, highest_tag}
 use Rattle.datagram.specs.declared.refused.Refused.{Refused}
 use Rattle.datagram.specs.declared.refused.Refused.TheVariants as refusals
 use Rattle.datagram.specs.declared.kinds.Kind.{Kind}
@@ -82,8 +83,8 @@ eager_of body =
       plane ← required (plane_at (slice_index body 1)) refusals.BadFrame
       basic ← required (type_at (slice_index body 2)) refusals.BadFrame
       guard (basic_fits_plane plane basic) refusals.BadFrame
-          (guard (nat_le (number_at 4 4 body) 2147483647) refusals.BadFrame
-          (guard (nat_le (length (drop 20 body)) 1024) refusals.BadFrame
+          (guard (nat_le (number_at 4 4 body) highest_tag) refusals.BadFrame
+          (guard (nat_le (length (drop 20 body)) eager_limit) refusals.BadFrame
           (guard (length (drop 20 body) == number_at 16 4 body * size_of basic) refusals.BadFrame
           (Ok (record {
             plane = plane;

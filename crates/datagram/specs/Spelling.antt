@@ -5,6 +5,7 @@ use Rattle.vocabulary.specs.declared.basic_type.BasicType.{BasicType}
 use Rattle.vocabulary.specs.declared.basic_type.BasicType.TheVariants.{Byte}
 use Rattle.vocabulary.specs.declared.endpoint.Endpoint.{Endpoint}
 use Rattle.vocabulary.specs.BasicTypes.{code_of, size_of}
+use Rattle.vocabulary.specs.Limits.{eager_limit, highest_tag}
 use Rattle.datagram.specs.declared.kinds.Kind.{Kind}
 use Rattle.datagram.specs.declared.kinds.Kind.TheVariants as kinds
 use Rattle.datagram.specs.declared.kinds.Plane.{Plane}
@@ -74,9 +75,9 @@ BasicFitsPlane Collective basic = basic ≡ Byte
 
 -- the tag is within its bound, and the elements are as many as said, of at most 1,024 bytes
 pub record EagerFits (e : EagerText) : Type 0 where
-  pub tag : e.tag ≤ 2147483647
+  pub tag : e.tag ≤ highest_tag
   pub size : length e.elements ≡ e.count * size_of e.basic
-  pub limit : length e.elements ≤ 1024
+  pub limit : length e.elements ≤ eager_limit
   pub plane : BasicFitsPlane e.plane e.basic
 
 -- the same of any body; an acknowledgement and a reset have none

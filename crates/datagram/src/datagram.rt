@@ -4,7 +4,7 @@ ghost use Rattle.std.specs.Prelude.{◌≡◌, ◌≤◌, ◌↔◌, length, IsT
 ghost use Rattle.datagram.specs.Spelling.{eager_text, frame_text, body_spelling, EagerFits, BodyFits};
 
 use crate::kinds::Plane;
-use vocabulary::{BasicType, Endpoint};
+use vocabulary::{BasicType, EAGER_LIMIT, Endpoint, HIGHEST_TAG};
 
 /// What every datagram begins with, beside its kind and the length of its body.
 #[derive(Clone, Copy, Debug, PartialEq, Eq)]
@@ -45,9 +45,9 @@ impl Eager<'_> {
         ensures { IsTrue result ↔ EagerFits (eager_text self.now) }
     {
         let size = u64::from(self.count) * u64::from(self.basic.size());
-        self.tag <= 2_147_483_647
+        self.tag <= HIGHEST_TAG
             && self.elements.len() as u64 == size
-            && self.elements.len() <= 1024
+            && self.elements.len() <= EAGER_LIMIT
             && (self.plane == Plane::PointToPoint || self.basic == BasicType::Byte)
     }
 }

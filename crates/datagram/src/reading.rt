@@ -8,7 +8,7 @@ use crate::datagram::{Content, Datagram, Eager, Frame, Header};
 use crate::kinds::{Kind, Plane};
 use crate::refused::Refused;
 use byteorder::{BigEndian, ByteOrder};
-use vocabulary::{BasicType, Endpoint};
+use vocabulary::{BasicType, EAGER_LIMIT, Endpoint, HIGHEST_TAG};
 
 /// The first four bytes of every datagram.
 const MAGIC: u32 = 0x4d50_5544;
@@ -98,7 +98,7 @@ fn eager_of(body: &[u8]) -> Result<Eager<'_>, Refused>
     let context = BigEndian::read_u64(&body[8..]);
     let count = BigEndian::read_u32(&body[16..]);
     let (_, elements) = body.split_at(EAGER_BYTES);
-    if tag > 2_147_483_647 || elements.len() > 1024 {
+    if tag > HIGHEST_TAG || elements.len() > EAGER_LIMIT {
         return Err(Refused::BadFrame);
     }
     if elements.len() as u64 != u64::from(count) * u64::from(basic.size()) {

@@ -8,7 +8,8 @@ use Rattle.rank_core.specs.declared.call.Handed.{Handed}
 use Rattle.rank_core.specs.declared.refused.Refused.{Refused}
 use Rattle.rank_core.specs.declared.refused.Refused.TheVariants as refusals
 use Rattle.rank_core.specs.Refusals.{IsRefusal}
-use Rattle.rank_core.specs.Receiving.{is_tag_above, is_no_source, posted_by, progress_on_post}
+use Rattle.perfect_queues.specs.Refusals.{is_tag_above}
+use Rattle.rank_core.specs.Receiving.{is_no_source, posted_by, progress_on_post}
 use Rattle.engine.specs.EngineState.{EngineState}
 
 -- the first rule or limit that a receive meets

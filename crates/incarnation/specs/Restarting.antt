@@ -1,11 +1,8 @@
 -- The incarnations of a rank, one after the other.
 use Rattle.std.specs.Prelude.{ℕ, ◌+◌, ◌==◌, Result, Ok, Err, if◌then◌else◌}
+use Rattle.vocabulary.specs.Endpoints.{last_incarnation}
 use Rattle.incarnation.specs.declared.refused.Refused.{Refused}
 use Rattle.incarnation.specs.declared.refused.Refused.TheVariants.{Limit}
-
--- the last one: a rank is started anew at most so often
-abbrev pub last_incarnation : ℕ
-last_incarnation = 65535
 
 -- the next higher one, which the last one lacks
 abbrev pub incarnation_after : ℕ → Result ℕ Refused

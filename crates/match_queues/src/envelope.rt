@@ -1,9 +1,9 @@
 //! What a receive accepts.
 
 ghost use Rattle.std.specs.Prelude.{◌≡◌};
-ghost use Rattle.match_queues.specs.Accepts.{accepts, is_from, has_tag};
+ghost use Rattle.match_queues.specs.Accepts.{accepts};
 ghost use Rattle.vocabulary.specs.Endpoints.{is_former};
-ghost use Rattle.perfect_queues.specs.Receives.{names};
+ghost use Rattle.perfect_queues.specs.Receives.{is_from, has_tag, names};
 
 use datatypes::Buffer;
 use vocabulary::{Endpoint, Source};

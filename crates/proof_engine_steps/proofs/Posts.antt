@@ -24,7 +24,8 @@ use Rattle.rank_core.specs.declared.call.Reply.TheVariants as replies
 use Rattle.rank_core.specs.declared.refused.Refused.TheVariants as refusals
 use Rattle.engine.specs.EngineState.{EngineState}
 use Rattle.engine.specs.Receiving.{IsPosted, receive_fault}
-use Rattle.rank_core.specs.Receiving.{is_no_source, is_tag_above, posted_by, progress_on_post, status_of}
+use Rattle.perfect_queues.specs.Refusals.{is_tag_above}
+use Rattle.rank_core.specs.Receiving.{is_no_source, posted_by, progress_on_post, status_of}
 use Rattle.requests.specs.Table.{is_full}
 use Rattle.proof_engine_view.specs.Rows.{IsWhole, Row, held_of, posted_rows}
 use Rattle.proof_engine_view.specs.Seen.{receive_seen}
@@ -44,11 +45,6 @@ receive_rules e v h =
     two_tests (is_tag_above v.tag) (is_no_source e.place.size v.source) refusals.Tag refusals.Rank (if is_full e.slots e.serial then Some refusals.Limit else None) h in
     (t.0, t.1)
 
--- the rule on tags is one
-pub tag_low : (t : Option ℕ) → is_tag_above t ≡ false → rules.is_tag_above t ≡ false
-tag_low None h = refl
-tag_low (Some tag) h = h
-
 -- the rule on sources is one
 source_inside : (n : ℕ) (s : Source) → is_no_source n s ≡ false → rules.is_source_beyond n s ≡ false
 source_inside n sources.Any h = refl
@@ -67,7 +63,7 @@ pub post_fit : (n : ℕ) (core : Core) (v : Receive) → ReceivesFit → core.bl
 post_fit n core v fit free tag source =
     fault_free n core (machine.Irecv (receive_seen v)) free ∙
     no_fault false false (rules.is_type_wrong (machine.Irecv (receive_seen v))) (rules.is_count_wrong (machine.Irecv (receive_seen v))) (rules.is_tag_above v.tag) (rules.is_source_beyond n v.source)
-    refl refl (fit v).0 (fit v).1 (tag_low v.tag tag) (source_inside n v.source source)
+    refl refl (fit v).0 (fit v).1 tag (source_inside n v.source source)
 
 -- BOTH
 

@@ -1,4 +1,5 @@
 -- A send or a receive that an engine refuses has a reason.
+use Rattle.vocabulary.specs.Limits.{highest_tag}
 use Rattle.std.proofs.Common.{◌≡◌, ℕ, ◌*◌, ◌≤◌, Bool, true, false, List, [], ◌∷◌, length, Option, Some, None, Err, if◌then◌else◌, ◌==◌, ◌||◌, nat_le, nat_lt, refl, sym, ap, ◌∙◌, subst, arith, ◌⊎◌, inl, inr}
 use Rattle.std.proofs.lemmas.Bool.{le-leb, le-ltb, ltb-false, ltb-true}
 use Rattle.vocabulary.specs.BasicTypes.{size_of}
@@ -19,7 +20,8 @@ use Rattle.rank_core.specs.declared.refused.Refused.{Refused}
 use Rattle.rank_core.specs.declared.refused.Refused.TheVariants as refusals
 use Rattle.engine.specs.EngineState.{EngineState}
 use Rattle.sessions.specs.Peers.{peer_at}
-use Rattle.rank_core.specs.Receiving.{is_no_source, is_tag_above}
+use Rattle.perfect_queues.specs.Refusals.{is_tag_above}
+use Rattle.rank_core.specs.Receiving.{is_no_source}
 use Rattle.engine.specs.Receiving.{receive_fault}
 use Rattle.rank_core.specs.Refusals.{IsRefusal}
 use Rattle.engine.specs.Sending.{SendGives, SendGivesAt, SendToAnyGives}
@@ -29,7 +31,7 @@ use Rattle.proof_engine_view.specs.Seen.{receive_seen}
 use Rattle.proof_engine_view.specs.Shown.{IsShown}
 use Rattle.proof_engine_matching.specs.Matches.{ReceivesFit}
 use Rattle.proof_engine_steps.specs.Refused.{Narrower, NoRoom, HasReason, MachinesFault, IsOutOfRoom, fault_seen}
-use Rattle.proof_engine_steps.proofs.Posts.{post_fit, tag_low}
+use Rattle.proof_engine_steps.proofs.Posts.{post_fit}
 use Rattle.proof_engine_steps.proofs.Sends.{KeepsRules, send_fit, send_rules}
 use Rattle.proof_engine_steps.proofs.Starting.{core_free, fault_free}
 
@@ -63,7 +65,7 @@ send_tag : (n : ℕ) (core : Core) (target : Option ℕ) (tag : ℕ) (basic : Ba
     nat_lt 2147483647 tag ≡ true → rules.fault n (view blank core) (machine.Isend rules.world target tag basic values) ≡ Some 3
 send_tag n core target tag basic values free few high =
     fault_free n core (machine.Isend rules.world target tag basic values) free ∙
-    tag_fault false false false (nat_lt rules.send_limit (length values * size_of basic)) (nat_lt rules.highest_tag tag)
+    tag_fault false false false (nat_lt rules.send_limit (length values * size_of basic)) (nat_lt highest_tag tag)
     (rules.is_rank_wrong n (machine.Isend rules.world target tag basic values))
     refl refl refl (le-ltb rules.send_limit (length values * size_of basic) (omega arith)) high
 
@@ -72,7 +74,7 @@ send_rank : (n : ℕ) (core : Core) (to tag : ℕ) (basic : BasicType) (values :
     nat_lt 2147483647 tag ≡ false → n ≤ to → rules.fault n (view blank core) (machine.Isend rules.world (Some to) tag basic values) ≡ Some 5
 send_rank n core to tag basic values free few low beyond =
     fault_free n core (machine.Isend rules.world (Some to) tag basic values) free ∙
-    rank_fault false false false (nat_lt rules.send_limit (length values * size_of basic)) (nat_lt rules.highest_tag tag) (nat_le n to)
+    rank_fault false false false (nat_lt rules.send_limit (length values * size_of basic)) (nat_lt highest_tag tag) (nat_le n to)
     refl refl refl (le-ltb rules.send_limit (length values * size_of basic) (omega arith)) low (le-leb n to beyond)
 
 -- a send that breaks a rule of the engine
@@ -136,11 +138,6 @@ send_reason old new core s why shown free gives = go (send_fault old.place s) re
 
 -- RECEIVES
 
--- a tag that is too high for the engine is so for the machine
-tag_high : (t : Option ℕ) → is_tag_above t ≡ true → rules.is_tag_above t ≡ true
-tag_high None h = absurd (grind arith)
-tag_high (Some tag) h = h
-
 -- a source that the engine refuses is beyond the machine's ranks, or the null process
 source_beyond : (n : ℕ) (s : Source) → is_no_source n s ≡ true → (rules.is_source_beyond n s ≡ true) ⊎ (s ≡ sources.Null)
 source_beyond n sources.Any h = absurd (grind arith)
@@ -154,7 +151,7 @@ receive_tag n core v fit free high =
     fault_free n core (machine.Irecv (receive_seen v)) free ∙
     tag_fault false false (rules.is_type_wrong (machine.Irecv (receive_seen v))) (rules.is_count_wrong (machine.Irecv (receive_seen v)))
     (rules.is_tag_above v.tag) (rules.is_source_beyond n v.source)
-    refl refl (fit v).0 (fit v).1 (tag_high v.tag high)
+    refl refl (fit v).0 (fit v).1 high
 
 -- a receive from a rank that isn't there
 receive_rank : (n : ℕ) (core : Core) (v : Receive) → ReceivesFit → core.blocked ≡ None → is_tag_above v.tag ≡ false → rules.is_source_beyond n v.source ≡ true →
@@ -163,7 +160,7 @@ receive_rank n core v fit free low beyond =
     fault_free n core (machine.Irecv (receive_seen v)) free ∙
     rank_fault false false (rules.is_type_wrong (machine.Irecv (receive_seen v))) (rules.is_count_wrong (machine.Irecv (receive_seen v)))
     (rules.is_tag_above v.tag) (rules.is_source_beyond n v.source)
-    refl refl (fit v).0 (fit v).1 (tag_low v.tag low) beyond
+    refl refl (fit v).0 (fit v).1 low beyond
 
 -- a receive that was refused
 pub receive_reason : ReceivesFit → (old : EngineState) (core : Core) (v : Receive) (why : Refused) → IsShown old core → old.blocked ≡ None →

@@ -1,4 +1,5 @@
 -- A send of an engine is that of its core.
+use Rattle.vocabulary.specs.Limits.{eager_limit, highest_tag}
 use Rattle.std.proofs.Common.{◌≡◌, ℕ, ◌*◌, ◌≤◌, ◌<◌, Bool, true, false, List, [], ◌∷◌, ◌++◌, map, length, Option, Some, None, if◌then◌else◌, ◌==◌, nat_le, nat_lt, slice_index, refl, sym, ap, ◌∙◌, arith, append-nil}
 use Rattle.std.proofs.lemmas.Bool.{and_left, le-leb, le-ltb, lt-leb, ltb-false, ltb-true, or_left}
 use Rattle.vocabulary.specs.BasicTypes.{size_of}
@@ -59,11 +60,11 @@ send_rules p target s fine to =
 -- THE CORE'S SEND
 
 -- a small send to another rank
-pub core_sends : (core : Core) (own : Endpoint) (to i c tag : ℕ) (basic : BasicType) (values : List ℕ) → (to == own.rank) ≡ false → nat_le (length values * size_of basic) machine.eager_limit ≡ true → core.known to ≡ i →
+pub core_sends : (core : Core) (own : Endpoint) (to i c tag : ℕ) (basic : BasicType) (values : List ℕ) → (to == own.rank) ≡ false → nat_le (length values * size_of basic) eager_limit ≡ true → core.known to ≡ i →
     sends_to own core c (Some to) tag basic values ≡ effect (pushed_over core) ((record { rank = to; incarnation = i }, Eager c tag basic values) ∷ [])
 core_sends core own to i c tag basic values other small known =
     ap (λ (b : Bool). sends own core d b c tag basic values eager) (and_left (to == own.rank) (core.known to == own.incarnation) other) ∙
-    (ap (λ (b : Bool). sends own core d false c tag basic values b) (or_left (nat_le (length values * size_of basic) machine.eager_limit) (is_same d own) small) ∙
+    (ap (λ (b : Bool). sends own core d false c tag basic values b) (or_left (nat_le (length values * size_of basic) eager_limit) (is_same d own) small) ∙
     ap (λ (n : ℕ). effect (pushed_over core) ((record { rank = to; incarnation = n }, Eager c tag basic values) ∷ [])) known)
   where
     d : Endpoint
@@ -77,7 +78,7 @@ pub send_fit : (n : ℕ) (core : Core) (to tag : ℕ) (basic : BasicType) (value
     rules.fault n (view blank core) (machine.Isend rules.world (Some to) tag basic values) ≡ None
 send_fit n core to tag basic values free few low inside =
     fault_free n core (machine.Isend rules.world (Some to) tag basic values) free ∙
-    no_fault false false false (nat_lt rules.send_limit (length values * size_of basic)) (nat_lt rules.highest_tag tag) (nat_le n to)
+    no_fault false false false (nat_lt rules.send_limit (length values * size_of basic)) (nat_lt highest_tag tag) (nat_le n to)
     refl refl refl (le-ltb rules.send_limit (length values * size_of basic) (omega arith)) low (lt-leb n to inside)
 
 -- THE ENGINE'S SEND

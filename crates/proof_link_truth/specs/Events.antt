@@ -2,7 +2,7 @@
 use Rattle.std.specs.Prelude.{◌≡◌, ℕ, zero, suc, ◌<◌, ◌≤◌, ◌⊎◌, false, List, [], ◌∷◌, ◌++◌, Some, None, Ok, Err, slice_get, slice_set, slice_index, ◌==◌}
 use Rattle.vocabulary.specs.declared.basic_type.BasicType.{BasicType}
 use Rattle.vocabulary.specs.declared.endpoint.Endpoint.{Endpoint}
-use Rattle.perfect_queues.specs.Events.{last_incarnation}
+use Rattle.vocabulary.specs.Endpoints.{last_incarnation}
 use Rattle.perfect_queues.specs.State.{with_number}
 use Rattle.match_queues.specs.declared.envelope.Message.{Message}
 use Rattle.rank_core.specs.declared.call.Call.{Call}

@@ -2,7 +2,7 @@
 use Rattle.std.specs.Prelude.{◌≡◌, ℕ, ◌<◌, ◌≤◌, false, List, [], length, Some, slice_get}
 use Rattle.std.specs.List.{AllByRecursion}
 use Rattle.vocabulary.specs.declared.endpoint.Endpoint.{Endpoint}
-use Rattle.perfect_queues.specs.Events.{last_incarnation}
+use Rattle.vocabulary.specs.Endpoints.{last_incarnation}
 use Rattle.engine.specs.EngineState.{EngineState}
 use Rattle.proof_link_truth.specs.Sessions.{EngineTells, IsLink, Links, is_pair}
 use Rattle.proof_link_truth.specs.Told.{IsTold}

@@ -9,6 +9,7 @@ use Rattle.engine.specs.Calls.{CallGives, IsTaken}
 use Rattle.rank_core.specs.Calls.{IsWithin}
 use Rattle.engine.specs.EngineState.{EngineState, opening}
 use Rattle.perfect_queues.specs.Events as machine
+use Rattle.vocabulary.specs.Endpoints.{last_incarnation}
 use Rattle.perfect_queues.specs.Quiet.{IsAtRest}
 use Rattle.perfect_queues.specs.Runs.{IsRun, after_run, seen}
 use Rattle.perfect_queues.specs.State as machine_state
@@ -78,7 +79,7 @@ RestartsFollow =
     (n r : ℕ) (engines : List EngineState) (datagrams : List (ℕ × List ℕ)) (history : List machine.Entry)
     (old : EngineState) →
     IsFollowed n engines datagrams history → slice_get engines r ≡ Some old →
-    old.place.endpoint.incarnation < machine.last_incarnation →
+    old.place.endpoint.incarnation < last_incarnation →
     IsFollowed n (slice_set engines r (opening (next_place old.place))) datagrams
     (history ++ machine.Restarted r ∷ [])
 

@@ -2,8 +2,8 @@
 -- of it the other's side handed up.
 use Rattle.std.specs.Prelude.{◌≡◌, ℕ, zero, suc, Bool, ◌&&◌, not, List, [], ◌∷◌, ◌++◌, Option, Some, None, if◌then◌else◌, ◌==◌, slice_get, nat_lt, nat_le, is_none}
 use Rattle.perfect_queues.specs.Calls.{Call, Cancel, Irecv, Isend, Reply, Test, Wait}
-use Rattle.vocabulary.specs.Endpoints.{is_same}
-use Rattle.perfect_queues.specs.Events.{Entry, Event, Restarted, last_incarnation, call_and_reply, told}
+use Rattle.vocabulary.specs.Endpoints.{is_same, last_incarnation}
+use Rattle.perfect_queues.specs.Events.{Entry, Event, Restarted, call_and_reply, told}
 use Rattle.perfect_queues.specs.Quiet.{IsAtRest}
 use Rattle.perfect_queues.specs.Refusals.{fault}
 use Rattle.perfect_queues.specs.Runs.{IsRun, after_run, seen}

@@ -1,9 +1,10 @@
 -- What a receive does to the core (MPI 3.1, 3.2.4 and 3.7).
-use Rattle.std.specs.Prelude.{◌≡◌, ℕ, ◌+◌, nat_le, nat_lt, Bool, true, false, List, Option, Some, None, length, if◌then◌else◌}
+use Rattle.std.specs.Prelude.{◌≡◌, ℕ, ◌+◌, nat_le, Bool, true, false, List, Option, Some, None, length, if◌then◌else◌}
 use Rattle.vocabulary.specs.declared.envelope.Source.{Source}
 use Rattle.vocabulary.specs.declared.envelope.Source.TheVariants as sources
 use Rattle.vocabulary.specs.declared.envelope.Status.{Status}
 use Rattle.datatypes.specs.Contents.{Contents}
+use Rattle.perfect_queues.specs.Refusals.{is_tag_above}
 use Rattle.match_queues.specs.declared.envelope.Receive as posted
 use Rattle.match_queues.specs.declared.envelope.Message.{Message}
 use Rattle.match_queues.specs.declared.queues.Arrival.{Arrival}
@@ -19,11 +20,6 @@ use Rattle.rank_core.specs.declared.call.Receive.{Receive}
 use Rattle.rank_core.specs.declared.refused.Refused.{Refused}
 use Rattle.rank_core.specs.declared.refused.Refused.TheVariants as refusals
 use Rattle.rank_core.specs.CoreState.{CoreState}
-
--- whether a tag is above the highest, 2,147,483,647 (our own); the wildcard isn't
-abbrev pub is_tag_above : Option ℕ → Bool
-is_tag_above None = false
-is_tag_above (Some tag) = nat_lt 2147483647 tag
 
 -- for now no receive names the null process
 abbrev pub is_no_source : ℕ → Source → Bool

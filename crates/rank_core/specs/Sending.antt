@@ -1,6 +1,7 @@
 -- What a send does to the core (MPI 3.1, 3.4 and 3.7).
 use Rattle.std.specs.Prelude.{◌≡◌, ℕ, ◌+◌, ◌*◌, ◌≤◌, nat_lt, ◌==◌, List, length, Option, Some, None, Bool, true, false, if◌then◌else◌}
 use Rattle.vocabulary.specs.BasicTypes.{size_of}
+use Rattle.vocabulary.specs.Limits.{eager_limit, highest_tag}
 use Rattle.datatypes.specs.Contents.{Contents, bytes_of}
 use Rattle.datagram.specs.declared.kinds.Plane.TheVariants.{PointToPoint}
 use Rattle.datagram.specs.Spelling.{BodyText, EagerBody, frame_text}
@@ -26,8 +27,8 @@ byte_count c = length c.values * size_of c.basic
 
 -- what a send to another rank is, for now: it goes in one frame
 pub record IsSmall (s : Send) : Type 0 where
-  pub count : byte_count s.elements ≤ 1024
-  pub tag : s.tag ≤ 2147483647
+  pub count : byte_count s.elements ≤ eager_limit
+  pub tag : s.tag ≤ highest_tag
 
 -- for now a send goes to a rank of the job, and not to the null process
 abbrev pub target_fault : Place → Option ℕ → Option Refused
@@ -37,8 +38,8 @@ target_fault p (Some target) = if nat_lt target p.size then None else Some refus
 -- the first rule that a send breaks; for now it has at most 1,024 bytes, also to the own rank
 unfoldable pub send_fault : Place → Send → Option Refused
 send_fault p s =
-    if nat_lt 1024 (byte_count s.elements) then Some refusals.Count
-    else (if nat_lt 2147483647 s.tag then Some refusals.Tag
+    if nat_lt eager_limit (byte_count s.elements) then Some refusals.Count
+    else (if nat_lt highest_tag s.tag then Some refusals.Tag
     else target_fault p s.target)
 
 -- a rule's fault, or else the limit of requests

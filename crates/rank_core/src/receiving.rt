@@ -1,14 +1,14 @@
 //! What a receive asks for, and what a message makes of it.
 
 ghost use Rattle.std.specs.Prelude.{◌≡◌};
-ghost use Rattle.rank_core.specs.Receiving.{is_tag_above, is_no_source, posted_by, status_of, progress_on_post};
+ghost use Rattle.perfect_queues.specs.Refusals.{is_tag_above};
+ghost use Rattle.rank_core.specs.Receiving.{is_no_source, posted_by, status_of, progress_on_post};
 
 use crate::call::Receive;
-use crate::sending::GREATEST_TAG;
 use datatypes::Buffer;
 use match_queues::Message;
 use requests::{Progress, received};
-use vocabulary::{Source, Status};
+use vocabulary::{HIGHEST_TAG, Source, Status};
 
 /// Whether the tag is above the greatest one.
 pub(crate) fn is_tag_above(tag: Option<u32>) -> bool
@@ -16,7 +16,7 @@ pub(crate) fn is_tag_above(tag: Option<u32>) -> bool
 {
     match tag {
         None => false,
-        Some(tag) => tag > GREATEST_TAG,
+        Some(tag) => tag > HIGHEST_TAG,
     }
 }
 

@@ -11,12 +11,7 @@ use crate::refused::Refused;
 use datagram::{Eager, Frame, Plane};
 use incarnation::Place;
 use match_queues::Message;
-
-/// The most bytes of data that a message in one frame has, and for now any message.
-const EAGER_LIMIT: usize = 1024;
-
-/// The greatest tag.
-pub(crate) const GREATEST_TAG: u32 = 2_147_483_647;
+use vocabulary::{EAGER_LIMIT, HIGHEST_TAG};
 
 /// A frame for a rank.
 #[derive(Clone, Copy, Debug)]
@@ -53,7 +48,7 @@ pub(crate) fn fault_of(place: Place, send: &Send) -> Option<Refused>
     if send.elements.byte_len() > EAGER_LIMIT {
         return Some(Refused::Count);
     }
-    if send.tag > GREATEST_TAG {
+    if send.tag > HIGHEST_TAG {
         return Some(Refused::Tag);
     }
     fault_of_target(place, send.target)

@@ -18,6 +18,6 @@ mod spelling;
 pub use heard::{Heard, Outgoing, Unheard, Word};
 pub use incarnation::Place;
 pub use peers::Peer;
-pub use place::MOST_RANKS;
 pub use refused::Refused;
 pub use sessions::{Session, Sessions};
+pub use vocabulary::MOST_RANKS;

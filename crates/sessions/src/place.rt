@@ -7,10 +7,7 @@ ghost use Rattle.sessions.specs.Places.{place_fault};
 
 use crate::refused::Refused;
 use incarnation::{Peers, Place};
-use vocabulary::Endpoint;
-
-/// The most ranks of a job.
-pub const MOST_RANKS: u16 = 256;
+use vocabulary::{Endpoint, MOST_RANKS};
 
 /// Why there is no such place: 5 where the rank is not below the size, 13 where the size is above 256.
 pub(crate) fn fault_of_place(place: Place) -> Option<Refused>

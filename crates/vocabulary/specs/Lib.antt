@@ -1,2 +1,3 @@
 pub mod BasicTypes
 pub mod Endpoints
+pub mod Limits

@@ -1,10 +1,12 @@
-//! What everything speaks of: endpoints, basic types, sources and statuses.
+//! What everything speaks of: endpoints, basic types, sources, statuses and limits.
 #![tactic(auto)]
 
 mod basic_type;
 mod endpoint;
 mod envelope;
+mod limits;
 
 pub use basic_type::BasicType;
 pub use endpoint::Endpoint;
 pub use envelope::{Source, Status};
+pub use limits::{EAGER_LIMIT, HIGHEST_TAG, MOST_RANKS};

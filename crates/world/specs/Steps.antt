@@ -1,7 +1,7 @@
 -- What an event does to a world: the engine of one rank goes on, what it emits is numbered, and what it answers stands in the history.
 use Rattle.std.specs.Prelude.{◌≡◌, ℕ, ◌⊎◌, false, List, [], ◌∷◌, ◌++◌, length, Option, Some, None, Result, Ok, Err, slice_get, slice_set, ◌==◌, if◌then◌else◌}
 use Rattle.vocabulary.specs.declared.endpoint.Endpoint.{Endpoint}
-use Rattle.perfect_queues.specs.Events.{last_incarnation}
+use Rattle.vocabulary.specs.Endpoints.{last_incarnation}
 use Rattle.incarnation.specs.declared.place.Place.{Place}
 use Rattle.engine.specs.EngineState.{EngineState, opening}
 use Rattle.engine.specs.Calls.{CallGives, IsTaken}
