@@ -1,12 +1,16 @@
 /* What plain UDP sockets take between two processes on 127.0.0.1, with blocking receives.
  *
- *   udp_floor pong COUNT ACKS        half a round trip of a datagram of 56 bytes, in microseconds
- *   udp_floor window COUNT ACKS      datagrams of 56 bytes one way, 64 at a time and then one back: datagrams a second
+ *   udp_floor pong COUNT ACKS CORE CORE     half a round trip of a datagram of 56 bytes, in microseconds
+ *   udp_floor window COUNT ACKS CORE CORE   datagrams of 56 bytes one way, 64 at a time and then one back: datagrams a second
+ *
+ * Each process is kept on the core that is named for it, as ranks are by tools/rank_benchmark: left to themselves both mostly sit on one.
  *
  * 56 bytes are those of a message of 4 bytes between two ranks. With ACKS 1 each datagram is answered by one of 32 bytes first, as a
  * rank acknowledges it. */
+#define _GNU_SOURCE
 #include <arpa/inet.h>
 #include <netinet/in.h>
+#include <sched.h>
 #include <stdio.h>
 #include <stdlib.h>
 #include <string.h>
@@ -34,7 +38,7 @@ static void take(ssize_t bytes) {
 }
 
 int main(int count, char **words) {
-    if (count != 4) return 2;
+    if (count != 6) return 2;
     int windowed = !strcmp(words[1], "window"), turns = atoi(words[2]), acks = atoi(words[3]);
     int sockets[2];
     struct sockaddr_in addresses[2];
@@ -48,6 +52,10 @@ int main(int count, char **words) {
     int child = fork() == 0;
     mine = sockets[child];
     other = addresses[!child];
+    cpu_set_t core;
+    CPU_ZERO(&core);
+    CPU_SET(atoi(words[4 + child]), &core);
+    if (sched_setaffinity(0, sizeof core, &core)) return 1;
     int one_way = windowed ? WINDOW : 1;
     double start = now();
     for (int turn = 0; turn < turns; turn++) {

@@ -153,6 +153,52 @@ fn what_is_of_former_incarnations_goes(rt: HostRuntime) {
     );
 }
 
+/// Whether a receive waits and is then cancelled, once, and whether a message that it accepts is then kept, and comes to
+/// the receive that was posted behind it.
+fn cancel(alloc: Global, queues: &mut Queues) -> ([bool; 4], Option<usize>) {
+    let posted = [
+        is_posted(queues, receive(3, Source::Any, None)),
+        is_posted(queues, receive(4, Source::Any, None)),
+    ];
+    let cancelled = [queues.cancel(3), queues.cancel(3)];
+    let steps = [posted[0], posted[1], cancelled[0], cancelled[1]];
+    (steps, matched(alloc, queues, 1))
+}
+
+#[test]
+fn a_cancelled_receive_gets_nothing(rt: HostRuntime) {
+    let mut queues = Queues::new(rt.alloc());
+    assert_eq!(rt;
+        cancel(rt.alloc(), &mut queues),
+        ([true, true, true, false], Some(4))
+    );
+}
+
+fn keep_many(alloc: Global, queues: &mut Queues, count: u32) -> bool {
+    for tag in 0..count {
+        if !is_kept(alloc, queues, tag) {
+            return false;
+        }
+    }
+    true
+}
+
+fn take_many(queues: &mut Queues, count: u32) -> bool {
+    for tag in 0..count {
+        if found(queues, receive(0, Source::Any, None)) != Some(tag) {
+            return false;
+        }
+    }
+    true
+}
+
+#[test]
+fn many_unexpected_messages_are_taken_in_order(rt: HostRuntime) {
+    let mut queues = Queues::new(rt.alloc());
+    assert!(rt; keep_many(rt.alloc(), &mut queues, 40_000));
+    assert!(rt; take_many(&mut queues, 40_000));
+}
+
 #[test]
 fn number_of_want_of_memory(rt: HostRuntime) {
     assert_eq!(rt; OutOfMemory {}.number(), 14);

@@ -4,3 +4,6 @@ pub mod SpanLaws
 pub mod TransferLaws
 pub mod PieceLaws
 pub mod PlaceLaws
+pub mod RunLaws
+pub mod FillLaws
+pub mod CombinationLaws

@@ -3,8 +3,9 @@ use Rattle.std.proofs.Common.{◌≡◌, ℕ, zero, suc, ◌+◌, ◌-◌, ◌*�
 use Rattle.byteorder.specs.Endian.{big_bytes}
 use Rattle.byteorder.specs.Numbers.{length-bytes_high_first}
 use Rattle.std.proofs.Math.Nat.{div-eq_of_lt, mod-eq_of_lt, add-mul-div_right, mul-add-mod_self_right, suc-mul, zero-mul}
+use Rattle.std.proofs.Math.Seq.{take-add, take-append-add}
 use Rattle.std.proofs.lemmas.Bool.{cases_lt, ltb-false, eq-eqb}
-use Rattle.std.proofs.lemmas.List.{length-append, length-take, get_or-take, get_or-map, get_or_append_left, get_or-append_right, append_assoc, set_split, take_more, take_all, ext_get_or}
+use Rattle.std.proofs.lemmas.List.{length-append, length-take, length-drop, get_or-drop, get_or-take, map_push, take-map, get_or-map, get_or_append_left, get_or-append_right, append_assoc, set_split, take_more, take_all, ext_get_or}
 use Rattle.std.proofs.lemmas.List.FromFn.{length-map-range_with_len, get_or-map-range_with_len, map-range_with_len_more}
 use Rattle.datatypes.specs.Contents.{Contents, values_of, AreWhole}
 use Rattle.datatypes.specs.ContentLaws.{IsBytes-take, no_rest, values_of-append, values_of-take, values_of-drop}
@@ -14,7 +15,7 @@ use Rattle.datatypes.specs.declared.refusal.Refusal.TheVariants.{WrongType, TooS
 use Rattle.datatypes.specs.Layouts.{Shape, extent_of, moved, places, copies_at, has_repeats}
 use Rattle.datatypes.specs.Pieces.{piece_at}
 use Rattle.datatypes.specs.Transfers.{room_for, put_at, is_same_type, send_fault, receive_fault, unpack_fault, place_of, first_places, AreNear}
-use Rattle.datatypes.proofs.LayoutLaws.{copies_at-none, copies_at-suc, length-moved}
+use Rattle.datatypes.proofs.LayoutLaws.{copies_at-none, copies_at-suc, copies_at-more, length-moved}
 use Rattle.datatypes.proofs.PieceLaws.{AreWhole-piece, near_from_room}
 
 -- ---- refusals
@@ -134,15 +135,6 @@ put_at-take values [] (m ∷ ms) = refl
 put_at-take values (p ∷ at) [] = refl
 put_at-take values (p ∷ at) (m ∷ ms) = put_at-take (set values p m) at ms
 
-pub put_more : (values offsets ms : List ℕ) (k : ℕ) → k < length ms
-    → put_at values (first_places (k + 1) offsets) (take (k + 1) ms) ≡ set (put_at values (first_places k offsets) (take k ms)) (place_of offsets k) (get_or ms k 0)
-put_more values offsets ms k lt =
-    let len = length-map-range_with_len (place_of offsets) 0 k in
-    let t = length-take k ms in
-    ap (λ (p : List ℕ). put_at values p (take (k + 1) ms)) (map-range_with_len_more (place_of offsets) 0 k k (omega arith))
-    ∙ ap (put_at values (first_places k offsets ++ place_of offsets k ∷ [])) (take_more ms k 0 lt)
-    ∙ put_at-push values (first_places k offsets) (take k ms) (place_of offsets k) (get_or ms k 0) (omega arith)
-
 -- the bytes with those of another element at a place
 abbrev pub with_piece : ℕ → List ℕ → ℕ → List ℕ → List ℕ
 with_piece size bytes place piece = take (place * size) bytes ++ piece ++ drop (place * size + size) bytes
@@ -208,3 +200,88 @@ with_number-is size bytes place m h small w lt =
     let same : get_or (values_of size (big_bytes size m)) 0 0 ≡ m = ap (λ (t : List ℕ). get_or t 0 0) is in
     subst (λ (t : List ℕ). AreWhole size (with_piece size bytes place t) × (values_of size (with_piece size bytes place t) ≡ set (values_of size bytes) place m)) all
     (subst (λ (n : ℕ). AreWhole size (with_piece size bytes place (piece_at size (big_bytes size m) 0)) × (values_of size (with_piece size bytes place (piece_at size (big_bytes size m) 0)) ≡ set (values_of size bytes) place n)) same put)
+
+-- ---- elements put at offsets from a place on
+
+pub near_moved : (from i elements : ℕ) (xs : List ℕ) → i < length xs → AreNear (moved from xs) elements → from + get_or xs i 0 < elements
+near_moved from i elements xs lt near =
+    let here = get_or-map (λ (o : ℕ). from + o) xs i 0 0 lt in
+    let n = near i (omega (arith, length-moved from xs)) in
+    omega arith
+
+pub moved_more : (values xs ms : List ℕ) (from start i : ℕ) → i < length xs → start + i < length ms
+    → put_at values (moved from (take (i + 1) xs)) (take (i + 1) (drop start ms)) ≡ set (put_at values (moved from (take i xs)) (take i (drop start ms))) (from + get_or xs i 0) (get_or ms (start + i) 0)
+moved_more values xs ms from start i lt lm =
+    let ns = drop start ms in
+    let ln : i < length ns = omega (arith, length-drop start ms) in
+    let a = moved from (take i xs) in
+    ap (λ (t : List ℕ). put_at values (moved from t) (take (i + 1) ns)) (take_more xs i 0 lt)
+    ∙ ap (λ (t : List ℕ). put_at values t (take (i + 1) ns)) (map_push (λ (o : ℕ). from + o) (take i xs) (get_or xs i 0))
+    ∙ ap (put_at values (a ++ (from + get_or xs i 0) ∷ [])) (take_more ns i 0 ln)
+    ∙ put_at-push values a (take i ns) (from + get_or xs i 0) (get_or ns i 0) (omega (arith, length-moved from (take i xs), length-take i xs, length-take i ns))
+    ∙ ap (set (put_at values a (take i ns)) (from + get_or xs i 0)) (get_or-drop start ms i 0)
+
+pub put_at-append : (values a b ms ns : List ℕ) → length a ≡ length ms → put_at values (a ++ b) (ms ++ ns) ≡ put_at (put_at values a ms) b ns
+put_at-append values [] b [] ns e = refl
+put_at-append values [] b (m ∷ ms) ns e = absurd (omega arith)
+put_at-append values (p ∷ a) b [] ns e = absurd (omega arith)
+put_at-append values (p ∷ a) b (m ∷ ms) ns e = put_at-append (set values p m) a b ms ns (omega arith)
+
+-- the elements put at places, and those of more places
+pub part_more : (values front part ms : List ℕ) (n r : ℕ) → length front ≡ n → n ≤ length ms
+    → put_at values (front ++ part) (take (n + r) ms) ≡ put_at (put_at values front (take n ms)) part (take r (drop n ms))
+part_more values front part ms n r e le =
+    ap (put_at values (front ++ part)) (take-add n r ms)
+    ∙ put_at-append values front part (take n ms) (take r (drop n ms)) (omega (arith, length-take n ms))
+
+pub places_suc : (copies : ℕ) (xs : List ℕ) → places (copies + 1) xs ≡ places copies xs ++ moved (copies * extent_of xs) xs
+places_suc copies xs =
+    let e : 0 + copies ≡ copies = omega arith in
+    copies_at-more 0 copies xs ∙ ap (λ (k : ℕ). places copies xs ++ moved (k * extent_of xs) xs) e
+
+pub whole_more : (values xs ms : List ℕ) (copies : ℕ) → copies * length xs ≤ length ms
+    → put_at values (places (copies + 1) xs) (take ((copies + 1) * length xs) ms)
+    ≡ put_at (put_at values (places copies xs) (take (copies * length xs) ms)) (moved (copies * extent_of xs) xs) (take (length xs) (drop (copies * length xs) ms))
+whole_more values xs ms copies le =
+    let more : (copies + 1) * length xs ≡ copies * length xs + length xs = omega arith in
+    let l = length-copies_at 0 copies xs in
+    ap (λ (t : List ℕ). put_at values t (take ((copies + 1) * length xs) ms)) (places_suc copies xs)
+    ∙ ap (λ (k : ℕ). put_at values (places copies xs ++ moved (copies * extent_of xs) xs) (take k ms)) more
+    ∙ part_more values (places copies xs) (moved (copies * extent_of xs) xs) ms (copies * length xs) (length xs) l le
+
+-- the first places are those of whole copies and of a part of one
+pub first_split : (copies r : ℕ) (xs : List ℕ) → r ≤ length xs → first_places (copies * length xs + r) xs ≡ places copies xs ++ moved (copies * extent_of xs) (take r xs)
+first_split copies r xs le =
+    let n = copies * length xs in
+    let by = copies * extent_of xs in
+    let l = length-copies_at 0 copies xs in
+    let m = length-copies_at 0 (copies + 1) xs in
+    let more : (copies + 1) * length xs ≡ n + length xs = omega arith in
+    first_places-is (copies + 1) (n + r) xs (omega arith)
+    ∙ ap (take (n + r)) (places_suc copies xs)
+    ∙ ap (λ (k : ℕ). take (k + r) (places copies xs ++ moved by xs)) (sym l)
+    ∙ take-append-add (places copies xs) (moved by xs) r
+    ∙ ap (λ (t : List ℕ). places copies xs ++ t) (take-map (λ (o : ℕ). by + o) r xs)
+
+-- the places of a copy, or of a part of one, are near where the first places are
+pub near_part : (count copies r elements : ℕ) (xs : List ℕ) → r ≤ length xs → copies * length xs + r ≤ count → AreNear (first_places count xs) elements → AreNear (moved (copies * extent_of xs) (take r xs)) elements
+near_part count copies r elements xs le room near i lt =
+    let len = length-moved (copies * extent_of xs) (take r xs) in
+    let lr = length-take r xs in
+    let below : i < r = omega arith in
+    let inside : i < length xs = omega arith in
+    let p : 0 < length xs = omega arith in
+    let k = copies * length xs + i in
+    let e : k ≡ i + copies * length xs = omega arith in
+    let q : k / length xs ≡ copies = ap (λ (n : ℕ). n / length xs) e ∙ add-mul-div_right i copies p ∙ ap (λ (n : ℕ). n + copies) (div-eq_of_lt inside) ∙ omega arith in
+    let m : k % length xs ≡ i = mul-add-mod_self_right copies (length xs) i ∙ mod-eq_of_lt inside in
+    let n = near_place count k elements xs (omega arith) near in
+    let is : place_of xs k ≡ copies * extent_of xs + get_or xs i 0 = ap (λ (c : ℕ). c * extent_of xs + get_or xs (k % length xs) 0) q ∙ ap (λ (j : ℕ). copies * extent_of xs + get_or xs j 0) m in
+    let here : get_or (moved (copies * extent_of xs) (take r xs)) i 0 ≡ copies * extent_of xs + get_or xs i 0 =
+    get_or-map (λ (o : ℕ). copies * extent_of xs + o) (take r xs) i 0 0 (omega arith) ∙ ap (λ (o : ℕ). copies * extent_of xs + o) (get_or-take r xs i 0 below)
+    in
+    omega arith
+
+pub near_copy_whole : (count copies elements : ℕ) (xs : List ℕ) → copies * length xs + length xs ≤ count → AreNear (first_places count xs) elements → AreNear (moved (copies * extent_of xs) xs) elements
+near_copy_whole count copies elements xs room near =
+    subst (λ (t : List ℕ). AreNear (moved (copies * extent_of xs) t) elements) (take_all (length xs) xs (omega arith)) (near_part count copies (length xs) elements xs (omega arith) room near)

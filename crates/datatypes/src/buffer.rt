@@ -4,11 +4,14 @@ ghost use Rattle.std.specs.Prelude.{◌≡◌, ◌%◌, ◌*◌, ◌^◌, ◌<�
 ghost use Rattle.datatypes.specs.Layouts.{places};
 ghost use Rattle.datatypes.specs.Transfers.{send_fault, receive_fault, unpack_fault, elements_at, put_at, first_places, AreNear, PackGives, UnpackGives};
 ghost use Rattle.vocabulary.specs.BasicTypes.{size_of};
+ghost use Rattle.datatypes.specs.Combinations.{combined_values, IsLike};
 ghost use Rattle.datatypes.specs.Contents.{values_of, bytes_of, AreWithin};
 
-use crate::bytes::{append_copies, append_number, number_at, put_over};
-use crate::gathering::{append_places, put_number, put_places};
+use crate::bytes::{append_copies, append_number, number_at, put_number, put_over};
+use crate::combining::{PairOp, combine_bytes};
+use crate::gathering::gathered;
 use crate::layout::Layout;
+use crate::placing::put_places;
 use crate::refusal::Refusal;
 use std::alloc::{AllocError, Global};
 use std::marker::Model;
@@ -197,10 +200,8 @@ impl Buffer {
             }) }
     {
         let size = usize::from(self.basic.size());
-        let room = layout.place_count(copies).saturating_mul(size as u64);
-        let mut bytes = Vec::with_capacity(alloc, room as usize)?;
-        append_places(
-            &mut bytes,
+        let bytes = gathered(
+            alloc,
             self.bytes.as_slice(),
             size,
             layout.offsets(),
@@ -278,5 +279,20 @@ impl Buffer {
     {
         let size = usize::from(self.basic.size());
         put_number(&mut self.bytes, number, size, place);
+    }
+
+    /// Puts what is made of each element, which comes first, and that of `next` at the same place in
+    /// its place. It is compiled for each type that a caller's operation names.
+    #[inline(always)]
+    pub fn combine_with<P: PairOp>(&mut self, op: &P, next: &Buffer)
+        requires basic { self.old.basic ≡ P.type_of op.now }
+        requires like { IsLike self.old.basic self.old.values next.now }
+        ensures { self.new ≡
+            record self.old {
+              values = combined_values (P.makes op.now) self.old.values next.now.values;
+            } }
+    {
+        let size = usize::from(op.element_type().size());
+        combine_bytes(op, size, &mut self.bytes, next.bytes.as_slice());
     }
 }

@@ -1,8 +1,9 @@
 //! Numbers of a given size as bytes, the highest byte first.
 
-ghost use Rattle.std.specs.Prelude.{◌≡◌, ◌≤◌, ◌<◌, ◌+◌, ◌*◌, ◌^◌, ◌++◌, length, drop, replicate, vec_len, vec_capacity, if◌then◌else◌, is_ok};
+ghost use Rattle.std.specs.Prelude.{◌≡◌, ◌≤◌, ◌<◌, ◌+◌, ◌*◌, ◌^◌, ◌++◌, length, take, drop, replicate, slice_set, vec_len, vec_capacity, if◌then◌else◌, is_ok};
 ghost use Rattle.byteorder.specs.Endian.{big_bytes};
-ghost use Rattle.datatypes.specs.Contents.{element_at, bytes_of, copies_of};
+ghost use Rattle.datatypes.specs.Contents.{element_at, values_of, bytes_of, copies_of, AreWhole};
+ghost use Rattle.datatypes.specs.Pieces.{piece_at};
 
 use byteorder::{BigEndian, ByteOrder};
 use std::alloc::AllocError;
@@ -23,6 +24,7 @@ fn copy_front(bytes: &mut [u8], front: &[u8])
 }
 
 /// The number in the `size` bytes at a place, where each place has `size` bytes.
+#[inline(always)]
 pub fn number_at(bytes: &[u8], size: usize, place: usize) -> u64
     requires low { 1 ≤ size }
     requires high { size ≤ 8 }
@@ -75,4 +77,55 @@ fn fill_up(bytes: &mut Vec<u8>, piece: &[u8], count: usize)
     for _ in 0..count {
         bytes.extend_from_slice(piece).unwrap();
     }
+}
+
+/// The bytes of the element at a place, where each element has `size` bytes.
+#[inline(always)]
+fn piece(bytes: &[u8], size: usize, place: usize) -> &[u8]
+    requires { (place + 1) * size ≤ length bytes.now }
+    ensures { result.now ≡ piece_at size bytes.now place }
+{
+    let (_, rest) = bytes.split_at(place * size);
+    let (here, _) = rest.split_at(size);
+    here
+}
+
+/// Puts the bytes over those from a place on, which is counted in bytes.
+#[inline(always)]
+pub fn copy_within(bytes: &mut [u8], at: usize, piece: &[u8])
+    requires { at + length piece.now ≤ length bytes.old }
+    ensures { bytes.new ≡ take at bytes.old ++ piece.now ++ drop (at + length piece.now) bytes.old }
+{
+    bytes[at..at + piece.len()].copy_from_slice(piece);
+}
+
+/// Puts the number in `size` bytes at a place of a slice, where each place has `size` bytes.
+#[inline(always)]
+pub fn put_number_at(bytes: &mut [u8], number: u64, size: usize, place: usize)
+    requires low { 1 ≤ size }
+    requires high { size ≤ 8 }
+    requires fits { number < 256 ^ size }
+    requires bytes { AreWhole size bytes.old }
+    requires place { place < length (values_of size bytes.old) }
+    ensures whole { AreWhole size bytes.new }
+    ensures len { length bytes.new ≡ length bytes.old }
+    ensures values { values_of size bytes.new ≡ slice_set (values_of size bytes.old) place number }
+{
+    let mut room = [0; 8];
+    BigEndian::write_uint(&mut room, number, size);
+    copy_within(bytes, place * size, piece(&room, size, 0));
+}
+
+/// Puts the number in `size` bytes at a place, where each place has `size` bytes.
+pub fn put_number(bytes: &mut Vec<u8>, number: u64, size: usize, place: usize)
+    requires low { 1 ≤ size }
+    requires high { size ≤ 8 }
+    requires fits { number < 256 ^ size }
+    requires bytes { AreWhole size bytes.old.items }
+    requires place { place < length (values_of size bytes.old.items) }
+    ensures whole { AreWhole size bytes.new.items }
+    ensures values { values_of size bytes.new.items ≡
+        slice_set (values_of size bytes.old.items) place number }
+{
+    put_number_at(bytes, number, size, place);
 }

@@ -1,6 +1,2 @@
-pub mod Heard
-pub mod Joining
-pub mod Current
-pub mod Anew
-pub mod Judged
-pub mod CallLemmas
+pub mod Calling
+pub mod Hearing

@@ -1,60 +1,73 @@
--- What a call does to the engine.
-use Rattle.std.specs.Prelude.{◌≡◌, Option, Some, None, Ok, Err}
-use Rattle.requests.specs.declared.table.Request.{Request}
-use Rattle.rank_core.specs.declared.call.Send.{Send}
-use Rattle.rank_core.specs.declared.call.Receive.{Receive}
+-- What a call does to the engine: the core answers it, and the sessions send its frame.
+use Rattle.std.specs.Prelude.{◌≡◌, List, [], ◌∷◌, Option, Some, None, Result, Ok, Err}
 use Rattle.rank_core.specs.declared.call.Call.{Call}
-use Rattle.rank_core.specs.declared.call.Call.TheVariants as calls
 use Rattle.rank_core.specs.declared.call.Reply.{Reply}
 use Rattle.rank_core.specs.declared.call.Reply.TheVariants as replies
+use Rattle.rank_core.specs.declared.refused.Refused.{Refused}
 use Rattle.rank_core.specs.declared.refused.Refused.TheVariants as refusals
-use Rattle.requests.specs.declared.outcome.Outcome.TheVariants as outcomes
+use Rattle.rank_core.specs.Calls.{Answers, NeedsMemory, call_fault, call_frame}
+use Rattle.rank_core.specs.Refusals.{IsRefusal}
+use Rattle.rank_core.specs.Sending.{FrameFor}
+use Rattle.sessions.specs.SessionsState.{SessionsState}
+use Rattle.sessions.specs.Events.{Sending, after_event, event_limit}
 use Rattle.engine.specs.EngineState.{EngineState}
-use Rattle.engine.specs.Sending.{SendGives}
-use Rattle.engine.specs.Receiving.{ReceiveGives}
-use Rattle.engine.specs.Waiting.{WaitGives}
+use Rattle.engine.specs.Refusals.{fault_of_sessions, first_fault}
 
--- a send answers the request that it started; or it is refused, and handed back as it was (MPI 3.1, 3.7.2)
-abbrev pub IsendGives : EngineState → Send → Reply → EngineState → Type 0
-IsendGives old s (replies.Started r) new = SendGives old s (Ok r) new
-IsendGives old s (replies.Refused e back) new = (back ≡ calls.Isend s) × SendGives old s (Err e) new
-IsendGives old s (replies.Done o) new = ⊥
-IsendGives old s replies.Blocked new = ⊥
+-- THE FRAME OF A CALL
 
--- a receive answers the request that it started; or it is refused, and handed back as it was (MPI 3.1, 3.7.2)
-abbrev pub IrecvGives : EngineState → Receive → Reply → EngineState → Type 0
-IrecvGives old v (replies.Started r) new = ReceiveGives old v (Ok r) new
-IrecvGives old v (replies.Refused e back) new = (back ≡ calls.Irecv v) × ReceiveGives old v (Err (record { refused = e; value = v })) new
-IrecvGives old v (replies.Done o) new = ⊥
-IrecvGives old v replies.Blocked new = ⊥
+-- what the sessions are to send
+abbrev pub sendings_of : Option FrameFor → List Sending
+sendings_of None = []
+sendings_of (Some f) = record { rank = f.rank; body = f.body } ∷ []
 
--- what a call gives while no earlier one is blocked
-abbrev pub FreeCallGives : EngineState → Call → Reply → EngineState → Type 0
-FreeCallGives old (calls.Isend s) reply new = IsendGives old s reply new
-FreeCallGives old (calls.Irecv v) reply new = IrecvGives old v reply new
-FreeCallGives old (calls.Wait (Some q)) reply new = WaitGives old q reply new
--- the null request answers the empty outcome (MPI 3.1, 3.7.3)
-FreeCallGives old (calls.Wait None) reply new = (reply ≡ replies.Done outcomes.Empty) × (new ≡ old)
+-- the sessions once the frame, if the call has one, is on its way
+abbrev pub after_frame : SessionsState → Option FrameFor → SessionsState
+after_frame s None = s
+after_frame s (Some f) = after_event s None (sendings_of (Some f))
 
--- by whether an earlier call is blocked; that a call is then refused is our own
-abbrev pub CallGivesAt : Option Request → EngineState → Call → Reply → EngineState → Type 0
-CallGivesAt (Some q) old call reply new = (reply ≡ replies.Refused refusals.Request call) × (new ≡ old)
-CallGivesAt None old call reply new = FreeCallGives old call reply new
+-- the limit that the frame meets
+abbrev pub frame_limit : SessionsState → Option FrameFor → Option Refused
+frame_limit s None = None
+frame_limit s (Some f) = fault_of_sessions (event_limit s None (sendings_of (Some f)))
 
--- while an earlier call is blocked, every call is refused
+-- the frame is on its way; or the limit, or want of memory, refused it
+abbrev pub FrameGives : SessionsState → Option FrameFor → Result (Unit {0}) Refused → SessionsState → Type 0
+FrameGives s f (Ok x) t = (frame_limit s f ≡ None) × (t ≡ after_frame s f)
+FrameGives s f (Err e) t = (t ≡ s) × IsRefusal (frame_limit s f) e
+
+-- THE CALL
+
+-- the first rule or limit that a call meets: of the core's, and then the limit of its frame
+abbrev pub fault_of : EngineState → Call → Option Refused
+fault_of e call = first_fault (call_fault e.core call) (frame_limit e.sessions (call_frame e.core call))
+
+-- a call is refused by the rule or limit that it meets; where it meets none, for want of memory, if it needs any
+abbrev pub WhyRefused : Option Refused → Call → Refused → Type 0
+WhyRefused (Some fault) call why = why ≡ fault
+WhyRefused None call why = (why ≡ refusals.OutOfMemory) × NeedsMemory call
+
+-- a call that is refused comes back as it was handed in, and changes nothing
+pub record IsRefused (old : EngineState) (call : Call) (why : Refused) (back : Call) (new : EngineState) : Type 0 where
+  pub handed : back ≡ call
+  pub unchanged : new ≡ old
+  pub reason : WhyRefused (fault_of old call) call why
+
+-- a call that meets no rule and no limit is answered by the core, and its frame, if it has one, is on its way
+pub record IsAnswered (old : EngineState) (call : Call) (reply : Reply) (new : EngineState) : Type 0 where
+  pub allowed : fault_of old call ≡ None
+  pub core : Answers old.core call reply new.core
+  pub sessions : new.sessions ≡ after_frame old.sessions (call_frame old.core call)
+
+-- a call is answered or refused
 abbrev pub CallGives : EngineState → Call → Reply → EngineState → Type 0
-CallGives old call reply new = CallGivesAt old.blocked old call reply new
+CallGives old call (replies.Refused why back) new = IsRefused old call why back new
+CallGives old call (replies.Started r) new = IsAnswered old call (replies.Started r) new
+CallGives old call (replies.Done o) new = IsAnswered old call (replies.Done o) new
+CallGives old call replies.Blocked new = IsAnswered old call replies.Blocked new
 
--- a refused call comes back as it was handed in, and leaves the engine as it was
+-- a refused call leaves the engine as it was
 abbrev pub RefusedLeaves : Reply → EngineState → EngineState → Type 0
 RefusedLeaves (replies.Refused e back) old new = new ≡ old
 RefusedLeaves (replies.Started r) old new = Unit {0}
 RefusedLeaves (replies.Done o) old new = Unit {0}
 RefusedLeaves replies.Blocked old new = Unit {0}
-
--- a call that was taken
-abbrev pub IsTaken : Reply → Type 0
-IsTaken (replies.Refused e back) = ⊥
-IsTaken (replies.Started r) = Unit {0}
-IsTaken (replies.Done o) = Unit {0}
-IsTaken replies.Blocked = Unit {0}

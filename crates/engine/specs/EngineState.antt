@@ -1,81 +1,30 @@
--- What a rank's engine holds: a core and its sessions, seen as one.
-use Rattle.std.specs.Prelude.{ℕ, List, [], Option, None}
+-- What a rank's engine holds: a core and its sessions.
+use Rattle.std.specs.Prelude.{[], None}
 use Rattle.incarnation.specs.declared.place.Place.{Place}
-use Rattle.incarnation.specs.Knowing as knowing
-use Rattle.match_queues.specs.State.{State}
-use Rattle.requests.specs.declared.table.Entry.{Entry}
-use Rattle.requests.specs.declared.table.Request.{Request}
-use Rattle.requests.specs.declared.outcome.Outcome.{Outcome}
 use Rattle.rank_core.specs.CoreState.{CoreState}
-use Rattle.sessions.specs.declared.peers.Peer.{Peer}
-use Rattle.sessions.specs.Peers.{new_peers}
+use Rattle.rank_core.specs.CoreState as cores
 use Rattle.sessions.specs.SessionsState.{SessionsState}
+use Rattle.sessions.specs.SessionsState as links
 
--- the engine of one rank: where it stands, what it knows, and what is pending
+-- the engine of one rank; both halves stand at one place
 pub record EngineState : Type 0 where
-  pub place : Place
-  -- the incarnation at which it knows each rank, by rank
-  pub known : List ℕ
-  pub queues : State
-  -- what stands under each key in the table of requests, and how many were started
-  pub slots : List (Option Entry)
-  pub serial : ℕ
-  -- the session with each rank
-  pub peers : List Peer
-  pub clock : ℕ
-  -- the request that the blocked call waits for
-  pub blocked : Option Request
-  -- what was emitted, and the blocked call's answer, until they are taken out
-  pub out : List (ℕ × List ℕ)
-  pub completion : Option Outcome
+  -- what it is to the machine: its calls, its requests, and the messages that it has and wants
+  pub core : CoreState
+  -- what it knows of the other ranks, its links with them, the time, and what was emitted
+  pub sessions : SessionsState
 
 -- an engine at its start: it knows every other rank at incarnation 0, and nothing is pending (our own)
 abbrev pub opening : Place → EngineState
-opening p = record {
-  place = p;
-  known = (knowing.opening p).known;
-  queues = record { posted = []; unexpected = [] };
-  slots = [];
-  serial = 0;
-  peers = new_peers p.size;
-  clock = 0;
-  blocked = None;
-  out = [];
-  completion = None;
-}
+opening p = record { core = cores.opening p; sessions = links.opening p }
 
--- where it stands, with what it knows
-abbrev pub knowledge : EngineState → knowing.Knowledge
-knowledge e = record { place = e.place; known = e.known }
+-- the engine once what it emitted was taken out of it
+abbrev pub without_out : EngineState → EngineState
+without_out e = record e { sessions = record e.sessions { out = [] } }
 
--- THE TWO HALVES
+-- the engine once the answer of a blocked call was taken out of it
+abbrev pub without_completion : EngineState → EngineState
+without_completion e = record e { core = record e.core { completion = None } }
 
--- what its core holds
-abbrev pub core_of : EngineState → CoreState
-core_of e = record {
-  place = e.place;
-  queues = e.queues;
-  slots = e.slots;
-  serial = e.serial;
-  blocked = e.blocked;
-  completion = e.completion;
-}
-
--- what its sessions hold
-abbrev pub sessions_of : EngineState → SessionsState
-sessions_of e = record { place = e.place; known = e.known; peers = e.peers; clock = e.clock; out = e.out }
-
--- the engine of a core and its sessions, which stand at the same place
-abbrev pub joined : CoreState → SessionsState → EngineState
-joined c s = record {
-  place = s.place;
-  known = s.known;
-  queues = c.queues;
-  slots = c.slots;
-  serial = c.serial;
-  peers = s.peers;
-  clock = s.clock;
-  blocked = c.blocked;
-  out = s.out;
-  completion = c.completion;
-}
+-- the engine once both were taken out
+abbrev pub emptied : EngineState → EngineState
+emptied e = without_completion (without_out e)

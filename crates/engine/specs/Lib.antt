@@ -1,15 +1,9 @@
 pub mod Refusals
 pub mod Places
 pub mod EngineState
-pub mod Sessions
-pub mod Receiving
-pub mod Sending
-pub mod Waiting
-pub mod Learning
 pub mod Calls
 pub mod Datagrams
 pub mod Ticks
-pub mod Halves
 pub use Rattle.datagram.specs.Spelling
 pub use Rattle.datagram.specs.Reading
 pub use Rattle.match_queues.specs.State

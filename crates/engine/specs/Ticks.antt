@@ -1,14 +1,20 @@
--- What a tick does to the engine.
-use Rattle.std.specs.Prelude.{ℕ, ◌++◌, nat_lt, Option, Some, None, if◌then◌else◌}
+-- What a tick does to the engine: to its sessions alone.
+use Rattle.std.specs.Prelude.{◌≡◌, ℕ, Option, None, Result, Ok, Err}
 use Rattle.rank_core.specs.declared.refused.Refused.{Refused}
-use Rattle.rank_core.specs.declared.refused.Refused.TheVariants as refusals
+use Rattle.rank_core.specs.Refusals.{IsRefusal}
+use Rattle.sessions.specs.Ticks as lower
 use Rattle.engine.specs.EngineState.{EngineState}
-use Rattle.sessions.specs.Peers.{due_out, after_all_due}
+use Rattle.engine.specs.Refusals.{fault_of_sessions}
 
 -- the clock never goes back
-abbrev pub clock_fault : ℕ → ℕ → Option Refused
-clock_fault clock now = if nat_lt now clock then Some refusals.ClockBack else None
+abbrev pub clock_fault : EngineState → ℕ → Option Refused
+clock_fault e now = fault_of_sessions (lower.clock_fault e.sessions.clock now)
 
 -- the frames that are due go out again
 abbrev pub after_tick : EngineState → ℕ → EngineState
-after_tick e now = record e { clock = now; peers = after_all_due e.peers now; out = e.out ++ due_out 0 e.peers now }
+after_tick e now = record e { sessions = lower.after_tick e.sessions now }
+
+-- a tick does this, unless the clock would go back, or else for want of memory; a refusal changes nothing
+abbrev pub TickGives : EngineState → ℕ → Result (Unit {0}) Refused → EngineState → Type 0
+TickGives old now (Ok x) new = (clock_fault old now ≡ None) × (new ≡ after_tick old now)
+TickGives old now (Err e) new = (new ≡ old) × IsRefusal (clock_fault old now) e

@@ -3,8 +3,7 @@
 ghost use Rattle.std.specs.Prelude.{◌≡◌, ◌≤◌, ◌<◌, ◌+◌, length, OnOk, Some};
 ghost use Rattle.rank_core.specs.Hearing.{frame_option};
 ghost use Rattle.sessions.specs.Heard.{heard_text, word_text, CanHear, WordFits};
-ghost use Rattle.engine.specs.Datagrams.{DatagramGives, SourceIsKnown, RefusedDatagramLeaves};
-ghost use Rattle.engine.specs.Halves.{HeardGives, frame_in, says_nothing};
+ghost use Rattle.engine.specs.Datagrams.{DatagramGives, HeardGives, SourceIsKnown, RefusedDatagramLeaves, frame_in, says_nothing};
 
 use crate::engine::Engine;
 use crate::refusals::of_sessions;
@@ -43,10 +42,12 @@ fn says_nothing(heard: Heard<'_>) -> bool
 fn hear(core: &mut Core, sessions: &mut Sessions, heard: Heard<'_>) -> Result<(), Refused>
     requires can { CanHear sessions.old (Some (heard_text heard)) }
     requires fits { WordFits (word_text heard.word) }
-    ensures exact { HeardGives core.old.state sessions.old (heard_text heard.entry) result core.new.state sessions.new }
+    ensures exact { HeardGives
+        (record { core = core.old.state; sessions = sessions.old }) (heard_text heard.entry) result
+        (record { core = core.new.state; sessions = sessions.new }) }
     ensures few { length sessions.new.out ≤ length sessions.old.out + 64 }
-    ensures core_placed { core.new.state.place ≡ core.old.state.place }
     ensures placed { sessions.new.place ≡ sessions.old.place }
+    ensures core_placed { core.new.state.place ≡ core.old.state.place }
 {
     if says_nothing(heard) {
         return Ok(());
@@ -89,10 +90,11 @@ impl Engine {
         ensures exact { DatagramGives self.old bytes.now result self.new }
         ensures known { OnOk result (SourceIsKnown self.new bytes.now) }
         ensures unchanged { RefusedDatagramLeaves result self.old self.new }
-        ensures few { length self.new.out ≤ length self.old.out + 64 }
-        ensures placed { self.new.place ≡ self.old.place }
+        ensures few { length self.new.sessions.out ≤ length self.old.sessions.out + 64 }
+        ensures placed { self.new.sessions.place ≡ self.old.sessions.place }
+        ensures core_placed { self.new.core.place ≡ self.old.core.place }
     {
-        // The place shows that there is a session and a known incarnation for each rank.
+        // The place shows that there is a known incarnation for each rank.
         let _place = self.sessions.place();
         match self.sessions.judge(bytes) {
             Ok(heard) => hear(&mut self.core, &mut self.sessions, heard),

@@ -3,11 +3,10 @@
 ghost use Rattle.std.specs.Prelude.{◌≡◌, ◌≤◌, ◌+◌, ◌*◌, ◌↔◌, length, [], All, IsTrue, IfOk, OnOk, OnErr, None, IfErr};
 ghost use Rattle.rank_core.specs.Refusals.{IsRefusal};
 ghost use Rattle.sessions.specs.Peers.{IsIdlePeer};
+ghost use Rattle.sessions.specs.SessionsState.{SessionGives};
 ghost use Rattle.engine.specs.Places.{place_fault};
-ghost use Rattle.engine.specs.EngineState.{opening};
-ghost use Rattle.engine.specs.Sessions.{SessionGives};
-ghost use Rattle.engine.specs.Datagrams.{GivesUnless};
-ghost use Rattle.engine.specs.Ticks.{clock_fault, after_tick};
+ghost use Rattle.engine.specs.EngineState.{opening, without_completion, without_out};
+ghost use Rattle.engine.specs.Ticks.{TickGives};
 
 use crate::refusals::of_sessions;
 use datagram::Bytes;
@@ -29,11 +28,11 @@ pub struct Engine {
 
 impl Model for Engine {
     ghost use Rattle.std.specs.Prelude.{◌≡◌};
-    ghost use Rattle.engine.specs.EngineState.{EngineState, joined};
+    ghost use Rattle.engine.specs.EngineState.{EngineState};
 
     ghost Value = { EngineState };
 
-    ghost view = { λ e. joined e.core.state e.sessions };
+    ghost view = { λ e. record { core = e.core.state; sessions = e.sessions } };
 
     ghost invariant = { λ e. e.core.state.place ≡ e.sessions.place };
 }
@@ -59,7 +58,8 @@ impl Engine {
 
     /// Which rank of which job this is, and at which incarnation.
     pub fn place(&self) -> Place
-        ensures { result ≡ self.now.place }
+        ensures sessions { result ≡ self.now.sessions.place }
+        ensures core { result ≡ self.now.core.place }
     {
         self.sessions.place()
     }
@@ -68,10 +68,11 @@ impl Engine {
     ///
     /// Refused with 41 exactly where `now` is below the last tick, and with 14. A refusal changes nothing.
     pub fn tick(&mut self, now: u64) -> Result<(), Refused>
-        ensures exact { GivesUnless (clock_fault self.old.clock now) self.old (after_tick self.old now) result self.new }
+        ensures exact { TickGives self.old now result self.new }
         ensures unchanged { OnErr result (self.new ≡ self.old) }
-        ensures few { length self.new.out ≤ length self.old.out + 64 * self.old.place.size }
-        ensures placed { self.new.place ≡ self.old.place }
+        ensures few { length self.new.sessions.out ≤ length self.old.sessions.out + 64 * self.old.sessions.place.size }
+        ensures placed { self.new.sessions.place ≡ self.old.sessions.place }
+        ensures core { self.new.core ≡ self.old.core }
     {
         match self.sessions.tick(now) {
             Ok(()) => Ok(()),
@@ -82,8 +83,8 @@ impl Engine {
     /// Hands out what was emitted since the last time, with the rank that each datagram goes to, in order: of each
     /// event first its acknowledgement or reset, then frames by rising rank and, for one rank, by their numbers.
     pub fn take_out(&mut self) -> Vec<(u16, Bytes)>
-        ensures all { result.items ≡ self.old.out }
-        ensures rest { self.new ≡ record self.old { out = [] } }
+        ensures all { result.items ≡ self.old.sessions.out }
+        ensures rest { self.new ≡ without_out self.old }
     {
         self.sessions.take_out()
     }
@@ -91,15 +92,15 @@ impl Engine {
     /// Hands out the answer of a blocked call, once, after the event in which it was ready. An answer that isn't taken is
     /// lost when the next one comes.
     pub fn take_completion(&mut self) -> Option<Outcome>
-        ensures completion { result ≡ self.old.completion }
-        ensures rest { self.new ≡ record self.old { completion = None } }
+        ensures completion { result ≡ self.old.core.completion }
+        ensures rest { self.new ≡ without_completion self.old }
     {
         self.core.take_completion()
     }
 
     /// Whether no frame of any session waits or is unacknowledged. It takes no memory.
     pub fn is_idle(&self) -> bool
-        ensures { IsTrue result ↔ All IsIdlePeer self.now.peers }
+        ensures { IsTrue result ↔ All IsIdlePeer self.now.sessions.peers }
     {
         self.sessions.is_idle()
     }
@@ -107,7 +108,7 @@ impl Engine {
     /// How the session with another rank of the job stands; none with the rank itself, or with one that is not there.
     /// It takes no memory.
     pub fn session(&self, rank: u16) -> Option<Session>
-        ensures { SessionGives self.now rank result }
+        ensures { SessionGives self.now.sessions rank result }
     {
         self.sessions.session(rank)
     }

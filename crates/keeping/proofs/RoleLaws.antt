@@ -5,10 +5,10 @@ use Rattle.std.specs.Str.{bytes_eq}
 use Rattle.std.specs.Fmt.{decimal}
 use Rattle.std.proofs.lemmas.Slice.Eq.{bytes_eq-Decides}
 use Rattle.keeping.specs.declared.role.Kept.{Kept}
-use Rattle.keeping.specs.Numbers.{number_between}
+use Rattle.numerals.specs.Numbers.{number_between}
 use Rattle.keeping.specs.Words.{Word}
 use Rattle.keeping.specs.Roles.{keeper_words, KeptText, kept_text, kept_by, kept_of}
-use Rattle.keeping.proofs.Numerals.{number_takes, number_again}
+use Rattle.numerals.proofs.Numerals.{number_takes, number_again}
 
 pub kept_again : (rank : ℕ) (rest : List Word) → rank ≤ 255 → kept_of (keeper_words rank rest) ≡ Some (record { rank = rank; words = rest })
 unfolding kept_of

@@ -1,5 +1,4 @@
 pub mod Words
-pub mod Numbers
 pub mod Statuses
 pub mod Keepers
 pub mod Reports

@@ -1,11 +1,10 @@
-//! What the launcher and its keepers share: words and the numbers in them, a keeper's words, what it
+//! What the launcher and its keepers share: words, a keeper's words, what it
 //! does after its program has ended and what it reports, and the outputs of the ranks as one text.
 #![tactic(auto)]
 
 mod ending;
 mod joined;
 mod keeper;
-mod number;
 mod report;
 mod role;
 mod word;
@@ -14,7 +13,6 @@ mod words;
 pub use ending::{Ending, launch_status};
 pub use joined::{join, join_from};
 pub use keeper::{After, Keeper};
-pub use number::number_between;
 pub use report::Report;
 pub use role::{Kept, keeper_words, kept_rank};
 pub use word::Word;

@@ -5,9 +5,9 @@ ghost use Rattle.std.specs.Str.{bytes_eq};
 ghost use Rattle.keeping.specs.Words.{Word};
 ghost use Rattle.keeping.specs.Roles.{keeper_words, kept_text, kept_of};
 
-use crate::number::number_between;
 use crate::word::Word;
 use crate::words::Words;
+use numerals::number_between;
 use std::alloc::{AllocError, Global};
 
 /// The first word of a keeper.

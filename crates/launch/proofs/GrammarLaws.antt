@@ -9,13 +9,13 @@ use Rattle.launch.specs.declared.refused.Refused.TheVariants as refusals
 use Rattle.launch.specs.declared.symbol.Symbol.{Symbol}
 use Rattle.launch.specs.declared.symbol.Symbol.TheVariants as symbols
 use Rattle.launch.specs.declared.process_set.ProcessSet.{ProcessSet}
-use Rattle.keeping.specs.Numbers.{number_between}
+use Rattle.numerals.specs.Numbers.{number_between}
 use Rattle.keeping.specs.Words.{Word}
 use Rattle.launch.specs.Symbols.{is_separator, symbol_of}
 use Rattle.launch.specs.Results.{◌>>=◌, required}
 use Rattle.launch.specs.Sets.{where_program, program_of, counted, where_set, set_of, each_set}
 use Rattle.launch.specs.Grammar.{colon, IsProgram, IsSet, AreLineSets}
-use Rattle.keeping.proofs.Numerals.{number_takes, number_again}
+use Rattle.numerals.proofs.Numerals.{number_takes, number_again}
 use Rattle.launch.proofs.SymbolLaws.{other_word, differs, Means, means, program_again, count_again}
 
 -- ---- steps that did not fail

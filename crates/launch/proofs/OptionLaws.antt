@@ -10,13 +10,13 @@ use Rattle.launch.specs.declared.symbol.OwnOption.TheVariants.{Job, BasePort, Re
 use Rattle.launch.specs.declared.symbol.Symbol.{Symbol}
 use Rattle.launch.specs.declared.symbol.Symbol.TheVariants as symbols
 use Rattle.launch.specs.declared.given.Given.{Given}
-use Rattle.keeping.specs.Numbers.{number_between}
+use Rattle.numerals.specs.Numbers.{number_between}
 use Rattle.keeping.specs.Words.{Word}
 use Rattle.launch.specs.Symbols.{symbol_of, least_of, greatest_of}
 use Rattle.launch.specs.Results.{◌>>=◌, required}
 use Rattle.launch.specs.Options.{nothing_given, given_of, is_given, with_number, with_value, Opening, at_sets, at_file, where_last, where_option, opening_of, name_in}
 use Rattle.launch.specs.Grammar.{IsOption, AreOptions, file_option, ReachesFile}
-use Rattle.keeping.proofs.Numerals.{Spells, number_takes, number_again}
+use Rattle.numerals.proofs.Numerals.{Spells, number_takes, number_again}
 use Rattle.launch.proofs.SymbolLaws.{Means, means, file_again, count_again, own_again}
 use Rattle.launch.proofs.GrammarLaws.{bind_ok, done, ok_is, required_ok}
 use Rattle.launch.proofs.OpeningLaws.{goes_on}

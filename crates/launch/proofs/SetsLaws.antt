@@ -12,7 +12,7 @@ use Rattle.keeping.specs.Words.{Word}
 use Rattle.launch.specs.Symbols.{is_separator}
 use Rattle.launch.specs.Sets.{sets_of}
 use Rattle.launch.specs.Grammar.{colon, IsSet, AreSets, AreLineSets}
-use Rattle.keeping.proofs.Numerals.{decimal_is}
+use Rattle.numerals.proofs.Numerals.{decimal_is}
 use Rattle.launch.proofs.SymbolLaws.{same_word, other_word, differs}
 use Rattle.launch.proofs.GrammarLaws.{HasNoColon, lines_take, lines_again}
 

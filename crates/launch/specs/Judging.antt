@@ -9,7 +9,7 @@ use Rattle.launch.specs.declared.stage.Stage.{Stage}
 use Rattle.launch.specs.declared.stage.Stage.TheVariants as stages
 use Rattle.launch.specs.declared.judging.Tally.{Tally}
 use Rattle.launch.specs.declared.process_set.ProcessSet.{ProcessSet}
-use Rattle.keeping.specs.Numbers.{number_between}
+use Rattle.numerals.specs.Numbers.{number_between}
 use Rattle.keeping.specs.Words.{Word}
 use Rattle.launch.specs.Symbols.{is_separator, symbol_of}
 use Rattle.launch.specs.Results.{◌>>=◌, required}

@@ -7,7 +7,7 @@ use Rattle.launch.specs.declared.symbol.OwnOption.TheVariants.{Job, BasePort, Re
 use Rattle.launch.specs.declared.symbol.Symbol.{Symbol}
 use Rattle.launch.specs.declared.symbol.Symbol.TheVariants as symbols
 use Rattle.launch.specs.declared.given.Given.{Given}
-use Rattle.keeping.specs.Numbers.{number_between}
+use Rattle.numerals.specs.Numbers.{number_between}
 use Rattle.keeping.specs.Words.{Word}
 use Rattle.launch.specs.Symbols.{symbol_of, least_of, greatest_of}
 use Rattle.launch.specs.Results.{◌>>=◌, required}

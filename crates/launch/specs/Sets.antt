@@ -6,7 +6,7 @@ use Rattle.launch.specs.declared.refused.Refused.TheVariants as refusals
 use Rattle.launch.specs.declared.symbol.Symbol.{Symbol}
 use Rattle.launch.specs.declared.symbol.Symbol.TheVariants as symbols
 use Rattle.launch.specs.declared.process_set.ProcessSet.{ProcessSet}
-use Rattle.keeping.specs.Numbers.{number_between}
+use Rattle.numerals.specs.Numbers.{number_between}
 use Rattle.keeping.specs.Words.{Word}
 use Rattle.launch.specs.Symbols.{is_separator, symbol_of}
 use Rattle.launch.specs.Results.{◌>>=◌, required}

@@ -6,7 +6,7 @@ ghost use Rattle.launch.specs.Results.{GivesExactly};
 
 use crate::refused::Refused;
 use crate::symbol::OwnOption;
-use keeping::number_between;
+use numerals::number_between;
 
 /// The port of rank 0 where none is given.
 pub(crate) const BASE_PORT: u16 = 47_000;

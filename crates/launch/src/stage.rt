@@ -6,7 +6,7 @@ ghost use Rattle.launch.specs.Judging.{misplaced, begun_by, named_by, stage_afte
 
 use crate::refused::Refused;
 use crate::symbol::{Symbol, is_separator, symbol_of};
-use keeping::number_between;
+use numerals::number_between;
 
 /// The most processes of one set.
 const MOST_PROCESSES: u64 = 256;

@@ -223,101 +223,109 @@ fn line_of(alloc: Global, plan: &Plan, rank: u16, inc: u16) -> Option<Vec<u8>> {
     Some(line)
 }
 
+/// The words of a rank at an incarnation, in one line.
 fn line_planned(
     alloc: Global,
     line: &str,
     config: Option<&[u8]>,
-    rank: u16,
-    inc: u16,
+    at: (u16, u16),
 ) -> Option<Vec<u8>> {
-    line_of(alloc, &planned(alloc, line, config)?, rank, inc)
+    line_of(alloc, &planned(alloc, line, config)?, at.0, at.1)
 }
 
-fn assert_line(
-    rt: &impl Abort,
+/// Whether these are the words of the rank at the incarnation.
+fn has_words(
     alloc: Global,
     line: &str,
     config: Option<&[u8]>,
     at: (u16, u16),
     want: &[u8],
-) {
-    match line_planned(alloc, line, config, at.0, at.1) {
-        Some(found) => assert_eq!(rt; found.as_slice(), want, "{line}: {config:?} {at:?}"),
-        None => assert!(rt; false, "{line}: no plan"),
+) -> bool {
+    match line_planned(alloc, line, config, at) {
+        Some(found) => found.as_slice() == want,
+        None => false,
     }
 }
 
+/// The words of ranks of lines: the line, the rank and its incarnation, and its words, of which a rank that the plan lacks has
+/// none.
+const RANKS_OF_LINES: [(&str, (u16, u16), &str); 4] = [
+    (
+        "-job 5 -n 1 echo hi : -n 1 echo ho",
+        (0, 0),
+        "echo --rank 0 --size 2 --inc 0 --job 5 --port 47000 hi",
+    ),
+    (
+        "-job 5 -n 1 echo hi : -n 1 echo ho",
+        (1, 0),
+        "echo --rank 1 --size 2 --inc 0 --job 5 --port 47001 ho",
+    ),
+    ("-job 5 -n 1 echo hi : -n 1 echo ho", (2, 0), ""),
+    (
+        "-restart 3 -patience 250 -baseport 100 -n 2 run x  y",
+        (1, 65_535),
+        "run --rank 1 --size 2 --inc 65535 --job 1 --port 101 --patience 250 x  y",
+    ),
+];
+
 #[test]
-fn ranks_have_their_words(rt: HostRuntime) {
-    let two = "-job 5 -n 1 echo hi : -n 1 echo ho";
-    let sets: &[u8] = b"# two sets\n-n 1 echo \\\na b\n-n 2 echo c\n";
-    let restarts = "-restart 3 -patience 250 -baseport 100 -n 2 run x  y";
-    let rows: [(&str, Option<&[u8]>, (u16, u16), &[u8]); 12] = [
-        (
-            two,
-            None,
-            (0, 0),
-            b"echo --rank 0 --size 2 --inc 0 --job 5 --port 47000 hi",
-        ),
-        (
-            two,
-            None,
-            (1, 0),
-            b"echo --rank 1 --size 2 --inc 0 --job 5 --port 47001 ho",
-        ),
-        (two, None, (2, 0), b""),
-        (
-            "-configfile f",
-            Some(sets),
-            (0, 0),
-            b"echo --rank 0 --size 3 --inc 0 --job 1 --port 47000 a b",
-        ),
-        (
-            "-configfile f",
-            Some(sets),
-            (1, 0),
-            b"echo --rank 1 --size 3 --inc 0 --job 1 --port 47001 c",
-        ),
-        (
-            "-configfile f",
-            Some(sets),
-            (2, 0),
-            b"echo --rank 2 --size 3 --inc 0 --job 1 --port 47002 c",
-        ),
-        ("-configfile f", Some(sets), (3, 0), b""),
-        (
-            restarts,
-            None,
-            (1, 65_535),
-            b"run --rank 1 --size 2 --inc 65535 --job 1 --port 101 --patience 250 x  y",
-        ),
-        (
-            "-configfile f",
-            Some(b"-n 1 \xff \xfe\r\n"),
-            (0, 0),
-            b"\xff --rank 0 --size 1 --inc 0 --job 1 --port 47000 \xfe\r",
-        ),
-        (
-            "-configfile f",
-            Some(b"-n 1\\\n# a\n"),
-            (0, 0),
-            b"# --rank 0 --size 1 --inc 0 --job 1 --port 47000 a",
-        ),
-        (
-            "-configfile f",
-            Some(b"-n 1 a\\\\\n b\n"),
-            (0, 0),
-            b"a\\ --rank 0 --size 1 --inc 0 --job 1 --port 47000 b",
-        ),
-        (
-            "-configfile f",
-            Some(b"-n 1 a b\\"),
-            (0, 0),
-            b"a --rank 0 --size 1 --inc 0 --job 1 --port 47000 b",
-        ),
-    ];
-    for (line, config, at, want) in rows {
-        assert_line(&rt, rt.alloc(), line, config, at, want);
+fn ranks_of_lines_have_their_words(rt: HostRuntime) {
+    for (line, at, want) in RANKS_OF_LINES {
+        assert!(rt;
+            has_words(rt.alloc(), line, None, at, want.as_bytes()),
+            "{line}: {at:?}"
+        );
+    }
+}
+
+/// A configuration file of two sets.
+const TWO_SETS: &[u8] = b"# two sets\n-n 1 echo \\\na b\n-n 2 echo c\n";
+
+/// The words of ranks of configuration files: what the file holds, the rank, and its words.
+const RANKS_OF_FILES: [(&[u8], u16, &[u8]); 8] = [
+    (
+        TWO_SETS,
+        0,
+        b"echo --rank 0 --size 3 --inc 0 --job 1 --port 47000 a b",
+    ),
+    (
+        TWO_SETS,
+        1,
+        b"echo --rank 1 --size 3 --inc 0 --job 1 --port 47001 c",
+    ),
+    (
+        TWO_SETS,
+        2,
+        b"echo --rank 2 --size 3 --inc 0 --job 1 --port 47002 c",
+    ),
+    (TWO_SETS, 3, b""),
+    (
+        b"-n 1 \xff \xfe\r\n",
+        0,
+        b"\xff --rank 0 --size 1 --inc 0 --job 1 --port 47000 \xfe\r",
+    ),
+    (
+        b"-n 1\\\n# a\n",
+        0,
+        b"# --rank 0 --size 1 --inc 0 --job 1 --port 47000 a",
+    ),
+    (
+        b"-n 1 a\\\\\n b\n",
+        0,
+        b"a\\ --rank 0 --size 1 --inc 0 --job 1 --port 47000 b",
+    ),
+    (
+        b"-n 1 a b\\",
+        0,
+        b"a --rank 0 --size 1 --inc 0 --job 1 --port 47000 b",
+    ),
+];
+
+#[test]
+fn ranks_of_files_have_their_words(rt: HostRuntime) {
+    for (file, rank, want) in RANKS_OF_FILES {
+        let holds = has_words(rt.alloc(), "-configfile f", Some(file), (rank, 0), want);
+        assert!(rt; holds, "{file:?}: {rank}");
     }
 }
 

@@ -1,38 +1,39 @@
 //! The queues.
 
-ghost use Rattle.std.specs.Prelude.{◌≡◌, ◌≤◌, ◌<◌, not, filter, [], IfOk, OnOk, position, Some, None};
-ghost use Rattle.std.specs.Vec.{vec_len, vec_capacity};
+ghost use Rattle.std.specs.Prelude.{◌≡◌, ℕ, ◌≤◌, ◌<◌, not, filter, [], IfOk, OnOk, position, Some, None, is_some};
+ghost use Rattle.std.specs.VecDeque.{deque_len, deque_capacity};
 ghost use Rattle.vocabulary.specs.Endpoints.{is_former};
 ghost use Rattle.perfect_queues.specs.Receives.{names};
-ghost use Rattle.match_queues.specs.State.{State, message_at, receive_at, message_for, receive_for, after_post, after_arrival, after_drop, keys_naming};
+ghost use Rattle.match_queues.specs.State.{State, message_at, receive_at, message_for, receive_for, posted_for, after_post, after_arrival, after_cancel, after_drop, keys_naming};
 ghost use Rattle.match_queues.specs.Arrivals.{arrival_of};
-ghost use Rattle.match_queues.specs.Oldest.{IsOldestMessage, IsOldestReceive};
+ghost use Rattle.match_queues.specs.Oldest.{IsOldestMessage, IsOldestReceive, IsCancelled};
 ghost use Rattle.match_queues.specs.declared.envelope.Receive.{Receive};
 ghost use Rattle.match_queues.specs.declared.envelope.Message.{Message};
 
 use crate::envelope::{Message, Receive, is_former, names};
 use crate::refused::OutOfMemory;
 use std::alloc::Global;
+use std::collections::VecDeque;
 use std::marker::Model;
 
 /// What a rank has posted and not yet received, and what came and was not yet wanted. The oldest stand first.
 #[derive(Debug, Drop)]
 pub struct Queues {
-    posted: Vec<Receive>,
-    unexpected: Vec<Message>,
+    posted: VecDeque<Receive>,
+    unexpected: VecDeque<Message>,
 }
 
 impl Model for Queues {
     ghost use Rattle.std.specs.Prelude.{◌-◌};
-    ghost use Rattle.std.specs.Vec.{vec_len, vec_capacity};
+    ghost use Rattle.std.specs.VecDeque.{deque_len, deque_capacity};
     ghost use Rattle.match_queues.specs.State.{Held};
 
     ghost Value = { Held };
 
     ghost view = { λ q. record {
       state = record { posted = q.posted.items; unexpected = q.unexpected.items };
-      receives = vec_capacity q.posted - vec_len q.posted;
-      messages = vec_capacity q.unexpected - vec_len q.unexpected;
+      receives = deque_capacity q.posted - deque_len q.posted;
+      messages = deque_capacity q.unexpected - deque_len q.unexpected;
     } };
 }
 
@@ -45,37 +46,49 @@ pub enum Arrival {
     Kept,
 }
 
-fn place_of_message(receive: &Receive, messages: &[Message]) -> Option<usize>
-    ensures { result ≡ message_for receive.now messages.now }
+fn place_of_message(receive: &Receive, messages: &VecDeque<Message>) -> Option<usize>
+    ensures { result ≡ message_for receive.now messages.now.items }
 {
     messages.iter().position(|message| receive.accepts(message))
 }
 
-fn place_of_receive(message: &Message, receives: &[Receive]) -> Option<usize>
-    ensures { result ≡ receive_for message.now receives.now }
+fn place_of_receive(message: &Message, receives: &VecDeque<Receive>) -> Option<usize>
+    ensures { result ≡ receive_for message.now receives.now.items }
 {
     receives.iter().position(|receive| receive.accepts(message))
 }
 
+fn place_of_request(request: usize, receives: &VecDeque<Receive>) -> Option<usize>
+    ensures { result ≡ posted_for request receives.now.items }
+{
+    receives
+        .iter()
+        .position(|receive| receive.request == request)
+}
+
 /// Drops the receives that name the rank.
-fn drop_receives(posted: &mut Vec<Receive>, rank: u16)
+fn drop_receives(posted: &mut VecDeque<Receive>, rank: u16)
     ensures { posted.new.items ≡ filter (λ r. not (names r.source rank)) posted.old.items }
 {
     posted.retain(|receive| !names(receive, rank));
 }
 
 /// Drops the messages from incarnations of the rank before this one.
-fn drop_messages(unexpected: &mut Vec<Message>, rank: u16, incarnation: u16)
+fn drop_messages(unexpected: &mut VecDeque<Message>, rank: u16, incarnation: u16)
     ensures items { unexpected.new.items ≡ filter (λ m. not (is_former rank incarnation m.sender)) unexpected.old.items }
-    ensures bound { vec_len unexpected.new ≤ vec_len unexpected.old }
-    ensures capacity { vec_capacity unexpected.new ≡ vec_capacity unexpected.old }
+    ensures bound { deque_len unexpected.new ≤ deque_len unexpected.old }
+    ensures capacity { deque_capacity unexpected.new ≡ deque_capacity unexpected.old }
 {
     unexpected.retain(|message| !is_former(message, rank, incarnation));
 }
 
 /// The keys of the receives that name the rank, or want of memory.
-fn keys_among(alloc: Global, receives: &[Receive], rank: u16) -> Result<Vec<usize>, OutOfMemory>
-    ensures { IfOk result (λ keys. keys.items ≡ keys_naming rank receives.now) }
+fn keys_among(
+    alloc: Global,
+    receives: &VecDeque<Receive>,
+    rank: u16,
+) -> Result<Vec<usize>, OutOfMemory>
+    ensures { IfOk result (λ keys. keys.items ≡ keys_naming rank receives.now.items) }
 {
     match receives
         .iter()
@@ -88,12 +101,14 @@ fn keys_among(alloc: Global, receives: &[Receive], rank: u16) -> Result<Vec<usiz
     }
 }
 
-/// A law of `post` and `arrive`: what is taken is the oldest that fits, and what is kept, nothing there fits
-/// (MPI 3.1, 3.5).
+/// A law of `post`, `arrive` and `cancel`: what is taken is the oldest that fits, and what is kept, nothing there fits
+/// (MPI 3.1, 3.5); what is cancelled is the receive of its request, and nothing else changes.
 pub fn oldest_is_taken()
     ensures messages { (old : State) (r : Receive) →
         IsOldestMessage old r (message_at old.unexpected (message_for r old.unexpected)) (after_post old r) }
     ensures receives { (old : State) (m : Message) → IsOldestReceive old m (arrival_of old m) (after_arrival old m) }
+    ensures cancelled { (old : State) (request : ℕ) →
+        IsCancelled old request (is_some (posted_for request old.posted)) (after_cancel old request) }
 {}
 
 impl Queues {
@@ -103,8 +118,8 @@ impl Queues {
         ensures unexpected { result.state.unexpected ≡ [] }
     {
         Queues {
-            posted: Vec::new(alloc),
-            unexpected: Vec::new(alloc),
+            posted: VecDeque::new(alloc),
+            unexpected: VecDeque::new(alloc),
         }
     }
 
@@ -132,9 +147,9 @@ impl Queues {
         ensures found { result ≡ message_at self.old.state.unexpected (message_for receive self.old.state.unexpected) }
     {
         match place_of_message(&receive, &self.unexpected) {
-            Some(place) => Some(self.unexpected.remove(place)),
+            Some(place) => self.unexpected.remove(place),
             None => {
-                let _ = self.posted.push(receive);
+                self.posted.push_back_reserved(receive);
                 None
             }
         }
@@ -147,12 +162,33 @@ impl Queues {
         ensures state { self.new.state ≡ after_arrival self.old.state message }
         ensures what { result ≡ arrival_of self.old.state message }
     {
-        match place_of_receive(&message, &self.posted) {
-            Some(place) => Arrival::Matched(self.posted.remove(place), message),
+        let found = match place_of_receive(&message, &self.posted) {
+            Some(place) => self.posted.remove(place),
+            None => None,
+        };
+        match found {
+            Some(receive) => Arrival::Matched(receive, message),
             None => {
-                let _ = self.unexpected.push(message);
+                self.unexpected.push_back_reserved(message);
                 Arrival::Kept
             }
+        }
+    }
+
+    /// Removes the receive that was posted for this request, and no other, and tells whether one was. It takes no memory
+    /// (MPI 3.1, 3.8.4).
+    pub fn cancel(&mut self, request: usize) -> bool
+        ensures state { self.new.state ≡ after_cancel self.old.state request }
+        ensures was_posted { result ≡ is_some (posted_for request self.old.state.posted) }
+        ensures room { self.old.receives ≤ self.new.receives }
+        ensures messages { self.new.messages ≡ self.old.messages }
+    {
+        match place_of_request(request, &self.posted) {
+            Some(place) => {
+                let _cancelled = self.posted.remove(place);
+                true
+            }
+            None => false,
         }
     }
 

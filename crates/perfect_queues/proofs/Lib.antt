@@ -1,7 +1,7 @@
 pub mod EndpointLemmas
 pub mod ListLemmas
 pub mod LawProofs
-pub mod FirstPlaces
+pub mod BufferLaws
 pub mod ExampleRun
 pub mod Following
 pub mod Waiting

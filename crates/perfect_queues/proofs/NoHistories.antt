@@ -1,11 +1,13 @@
 -- Four histories that no run has: followed entry by entry, up to the answer that can't come.
 use Rattle.std.proofs.Common.{◌≡◌, ℕ, zero, suc, Bool, List, [], ◌∷◌, ◌++◌, Option, Some, None, if◌then◌else◌, slice_get, option_map, refl, sym, ap, subst, ◌∙◌, arith}
 use Rattle.std.specs.List.{AllByRecursion}
+use Rattle.layouts.specs.Layouts.{copies_at}
+use Rattle.vocabulary.specs.declared.envelope.Source.TheVariants.{Rank}
 use Rattle.perfect_queues.specs.Calls.{Call, Isend, Irecv, Wait, Started, Done, Blocked, ready_answer, after_settling, after_answer}
 use Rattle.perfect_queues.specs.Completions.{Awaited, One, Answer, ForOne, outcome_at}
 use Rattle.perfect_queues.specs.CounterExamples.{IsNoHistory, received_twice, overtaken, other_data, replaced_by_nobody, sends, receives, waits, arrives}
 use Rattle.perfect_queues.specs.Events.{At, Entry, Called, start, settle, told, after_event}
-use Rattle.perfect_queues.specs.Example.{rank_0, rank_1, three_from_0}
+use Rattle.perfect_queues.specs.Example.{rank_0, rank_1, numbers, three_from_0}
 use Rattle.perfect_queues.specs.Messages.{Message}
 use Rattle.perfect_queues.specs.Outcomes.{Outcome, Sent, Received, Replaced, outcome}
 use Rattle.perfect_queues.specs.Refusals.{world}
@@ -23,7 +25,7 @@ abbrev three : (a b c : ℕ) → Message
 three a b c = record { sender = rank_0; context = world; tag = 7; basic = Int32; values = a ∷ b ∷ c ∷ []; request = None }
 
 abbrev send_of : (a b c : ℕ) → Call
-send_of a b c = Isend world (Some 1) 7 Int32 (a ∷ b ∷ c ∷ [])
+send_of a b c = Isend world (Rank 1) (Some 7) (numbers (a ∷ b ∷ c ∷ []))
 
 abbrev wait_for : (k : ℕ) → Call
 wait_for k = Wait (One (Some k))
@@ -69,6 +71,7 @@ sent_stands rs ms s a b c h = record { now = h.now; knows = h.knows; part = more
 
 start_stands : (rs : List Request) (ms : List Message) (s : State) (a b c : ℕ) → Stands s (Holds None rs ms) →
     Stands (start s rank_0 (Some (send_of a b c))) (Holds None rs (ms ++ three a b c ∷ []))
+unfolding copies_at
 start_stands rs ms s a b c h =
     subst (λ (i : ℕ). Stands (sent_to s (three a b c) i) (Holds None rs (ms ++ three a b c ∷ []))) (sym h.knows) (sent_stands rs ms s a b c h)
 
@@ -190,6 +193,7 @@ then_receives n a b c rest o differs s steps vs h are tells run q =
 -- DATA THAT NOBODY SENT
 
 other_sent : (n : ℕ) → Next n (Holds None [] []) (receives 0 ∷ waits 0 (arrives (1 ∷ 2 ∷ 4 ∷ [])) ∷ []) (Started 0) rank_0 (send_of 1 2 3)
+unfolding copies_at
 other_sent n s steps vs h are tells run q =
     follow n (Holds None [] (three 1 2 3 ∷ [])) (kept None [] (three 1 2 3 ∷ []) tt) (waits 0 (arrives (1 ∷ 2 ∷ 4 ∷ [])) ∷ []) (Started 0) rank_1
     (Irecv three_from_0)
@@ -208,6 +212,7 @@ abbrev after_overtaking : List Entry
 after_overtaking = receives 0 ∷ waits 0 (arrives (4 ∷ 5 ∷ 6 ∷ [])) ∷ []
 
 second_sent : (n : ℕ) → Next n (Holds None [] (three 1 2 3 ∷ [])) after_overtaking (Started 1) rank_0 (send_of 4 5 6)
+unfolding copies_at
 second_sent n s steps vs h are tells run q =
     follow n (Holds None [] (three 1 2 3 ∷ three 4 5 6 ∷ [])) (kept None [] (three 1 2 3 ∷ three 4 5 6 ∷ []) tt)
     (waits 0 (arrives (4 ∷ 5 ∷ 6 ∷ [])) ∷ []) (Started 0) rank_1 (Irecv three_from_0)

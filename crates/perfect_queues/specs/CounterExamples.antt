@@ -4,16 +4,15 @@ use Rattle.std.specs.Prelude.{ℕ, List, [], ◌∷◌, ◌++◌, Some}
 use Rattle.perfect_queues.specs.Calls.{Reply, Isend, Irecv, Wait, Started, Done, Blocked}
 use Rattle.perfect_queues.specs.Completions.{One, ForOne}
 use Rattle.perfect_queues.specs.Events.{Entry, Called, Restarted}
-use Rattle.perfect_queues.specs.Example.{rank_0, rank_1, three_from_0}
+use Rattle.perfect_queues.specs.Example.{rank_0, rank_1, numbers, three_from_0}
 use Rattle.perfect_queues.specs.Outcomes.{Outcome, Received, Replaced}
 use Rattle.perfect_queues.specs.Refusals.{world}
 use Rattle.perfect_queues.specs.Runs.{IsHistory}
-use Rattle.vocabulary.specs.declared.basic_type.BasicType.TheVariants.{Int32}
 use Rattle.vocabulary.specs.declared.envelope.Source.TheVariants.{Rank}
 
 -- rank 0 sends these elements to rank 1 with tag 7, and its request has this serial
 abbrev pub sends : (serial : ℕ) → List ℕ → Entry
-sends k values = Called rank_0 (Isend world (Some 1) 7 Int32 values) (Started k)
+sends k values = Called rank_0 (Isend world (Rank 1) (Some 7) (numbers values)) (Started k)
 
 -- rank 1 starts a receive of three elements from rank 0 with tag 7, whose request has this serial
 abbrev pub receives : (serial : ℕ) → Entry

@@ -1,5 +1,6 @@
--- An example: rank 0 sends 1, 2 and 3 with tag 7 to rank 1, which receives and waits for them.
-use Rattle.std.specs.Prelude.{List, [], ◌∷◌, Some}
+-- Examples: rank 0 sends 1, 2 and 3 with tag 7 to rank 1, which receives and waits for them.
+use Rattle.std.specs.Prelude.{ℕ, List, [], ◌∷◌, Some, None}
+use Rattle.perfect_queues.specs.Buffers.{Handed, whole}
 use Rattle.perfect_queues.specs.Calls.{Isend, Irecv, Wait, Started, Done}
 use Rattle.perfect_queues.specs.Completions.{One, ForOne}
 use Rattle.perfect_queues.specs.Events.{Entry, Called}
@@ -18,6 +19,10 @@ rank_0 = record { rank = 0; incarnation = 0 }
 abbrev pub rank_1 : Endpoint
 rank_1 = record { rank = 1; incarnation = 0 }
 
+-- a buffer of these numbers, handed in whole
+abbrev pub numbers : List ℕ → Handed
+numbers values = whole (record { basic = Int32; values = values })
+
 -- a receive of three elements from rank 0 with tag 7
 abbrev pub three_from_0 : Receive
 three_from_0 =
@@ -25,16 +30,46 @@ three_from_0 =
       source = Rank 0;
       tag = Some 7;
       context = world;
-      basic = Int32;
-      layout = 0 ∷ [];
-      copies = 3;
-      buffer = 0 ∷ 0 ∷ 0 ∷ [];
+      group = None;
+      into = numbers (0 ∷ 0 ∷ 0 ∷ []);
     }
 
 -- what is seen: each call with its reply; the wait answers source 0, tag 7, count 3 and the data
 abbrev pub received_once : List Entry
 received_once =
-    Called rank_0 (Isend world (Some 1) 7 Int32 (1 ∷ 2 ∷ 3 ∷ [])) (Started 0) ∷
+    Called rank_0 (Isend world (Rank 1) (Some 7) (numbers (1 ∷ 2 ∷ 3 ∷ []))) (Started 0) ∷
     Called rank_1 (Irecv three_from_0) (Started 0) ∷
     Called rank_1 (Wait (One (Some 0)))
     (Done (ForOne (Received (record { source = Rank 0; tag = Some 7; count = 3 }) (1 ∷ 2 ∷ 3 ∷ [])))) ∷ []
+
+-- four elements, of which one copy of the offsets 0 and 3 is sent
+abbrev pub first_and_last : Handed
+first_and_last =
+    record {
+      buffer = record { basic = Int32; values = 1 ∷ 2 ∷ 3 ∷ 4 ∷ [] };
+      layout = record { basic = Int32; offsets = 0 ∷ 3 ∷ [] };
+      copies = 1;
+    }
+
+-- six elements, into which one copy of the offsets 1, 2 and 5 is received, from rank 0 with tag 7
+abbrev pub blocks_from_0 : Receive
+blocks_from_0 =
+    record {
+      source = Rank 0;
+      tag = Some 7;
+      context = world;
+      group = None;
+      into = record {
+        buffer = record { basic = Int32; values = 0 ∷ 0 ∷ 0 ∷ 0 ∷ 0 ∷ 0 ∷ [] };
+        layout = record { basic = Int32; offsets = 1 ∷ 2 ∷ 5 ∷ [] };
+        copies = 1;
+      };
+    }
+
+-- what is seen: the first and the last element come, and take the first two of three places
+abbrev pub received_through_layouts : List Entry
+received_through_layouts =
+    Called rank_0 (Isend world (Rank 1) (Some 7) first_and_last) (Started 0) ∷
+    Called rank_1 (Irecv blocks_from_0) (Started 0) ∷
+    Called rank_1 (Wait (One (Some 0)))
+    (Done (ForOne (Received (record { source = Rank 0; tag = Some 7; count = 2 }) (0 ∷ 1 ∷ 4 ∷ 0 ∷ 0 ∷ 0 ∷ [])))) ∷ []

@@ -1,4 +1,5 @@
-pub mod Layouts
+pub mod Groups
+pub mod Buffers
 pub mod Messages
 pub mod Receives
 pub mod Outcomes

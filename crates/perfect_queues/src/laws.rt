@@ -9,7 +9,7 @@ ghost use Rattle.perfect_queues.specs.CounterExamples.{
   other_data,
   replaced_by_nobody,
 };
-ghost use Rattle.perfect_queues.specs.Example.{received_once};
+ghost use Rattle.perfect_queues.specs.Example.{received_once, received_through_layouts};
 ghost use Rattle.perfect_queues.specs.Quiet.{IsAtRest};
 ghost use Rattle.perfect_queues.specs.Runs.{IsHistory};
 ghost use Rattle.perfect_queues.specs.State.{opening};
@@ -20,8 +20,12 @@ ghost use Rattle.perfect_queues.specs.Laws.{
   AcceptsByEnvelope,
   AnyAcceptsAll,
   NullAcceptsNone,
-  ShorterMessageWritesItsPlaces,
-  BasicTypeTakesFirstPlaces,
+  ReceiveLeavesItsPlaces,
+  UnfitLeavesBuffer,
+  WholeBuffersAreTaken,
+  OverlapIsRefused,
+  SendsAreJudged,
+  WorldNamesItsRanks,
   EagerSendIsFinished,
   WaitAnswersOnce,
   SettlingLeavesNoAnswer,
@@ -39,6 +43,7 @@ ghost use Rattle.perfect_queues.specs.Laws.{
 pub fn definitions_hold_together()
     ensures no_events { (n : ℕ) → OpensEmpty n }
     ensures example_is_history { IsHistory 2 received_once }
+    ensures layouts_are_history { IsHistory 2 received_through_layouts }
     ensures none_is_received_twice { IsNoHistory received_twice }
     ensures none_is_overtaken { IsNoHistory overtaken }
     ensures none_is_invented { IsNoHistory other_data }
@@ -50,8 +55,12 @@ pub fn definitions_hold_together()
     ensures accepts_by_envelope { AcceptsByEnvelope }
     ensures any_accepts_all { AnyAcceptsAll }
     ensures null_accepts_none { NullAcceptsNone }
-    ensures shorter_message { ShorterMessageWritesItsPlaces }
-    ensures basic_type { BasicTypeTakesFirstPlaces }
+    ensures receive_leaves_its_places { ReceiveLeavesItsPlaces }
+    ensures unfit_leaves_buffer { UnfitLeavesBuffer }
+    ensures whole_buffers { WholeBuffersAreTaken }
+    ensures overlap_is_refused { OverlapIsRefused }
+    ensures sends_are_judged { SendsAreJudged }
+    ensures world_names_its_ranks { WorldNamesItsRanks }
     ensures eager_send { EagerSendIsFinished }
     ensures wait_answers_once { WaitAnswersOnce }
     ensures settles_whole { SettlingLeavesNoAnswer }

@@ -1,17 +1,24 @@
 -- A receive into a whole buffer ends alike, and breaks no rule on layouts.
-use Rattle.std.proofs.Common.{◌≡◌, ℕ, ◌≤◌, Bool, true, false, ◌&&◌, ◌==◌, nat_le, List, [], ◌∷◌, ◌++◌, length, drop, refl, ap, ap₂, ◌∙◌, arith, if◌then◌else◌}
+use Rattle.std.proofs.Common.{◌≡◌, ℕ, ◌≤◌, Bool, true, false, ◌&&◌, ◌||◌, ◌==◌, Option, None, nat_le, List, [], ◌∷◌, ◌++◌, length, drop, refl, ap, ap₂, ◌∙◌, arith, if◌then◌else◌}
 use Rattle.std.proofs.lemmas.Bool.{leb-true, le-ltb}
 use Rattle.vocabulary.specs.BasicTypes.{code_of}
-use Rattle.perfect_queues.specs.Layouts.{places_of, written}
+use Rattle.layouts.specs.Buffers.{Contents, is_same_type, put_at}
+use Rattle.perfect_queues.specs.Buffers.{places_in, whole}
+use Rattle.perfect_queues.specs.Laws.{IsTakenWhole}
 use Rattle.perfect_queues.specs.Outcomes as machine
-use Rattle.perfect_queues.specs.Receives.{Receive, places}
+use Rattle.perfect_queues.specs.Outcomes.{outcome}
+use Rattle.perfect_queues.specs.Receives.{Receive}
+use Rattle.match_queues.specs.declared.envelope.Message.{Message}
+use Rattle.vocabulary.specs.declared.envelope.Source.{Source}
+use Rattle.proof_pure_network.specs.Held.{full}
+use Rattle.requests.specs.Outcomes.{outcome_of}
 use Rattle.vocabulary.specs.declared.basic_type.BasicType.{BasicType}
 use Rattle.vocabulary.specs.declared.envelope.Status.{Status}
-use Rattle.perfect_queues.proofs.FirstPlaces.{first_places}
+use Rattle.perfect_queues.proofs.BufferLaws.{whole_are_taken}
 use Rattle.requests.specs.declared.outcome.Failure.TheVariants.{WrongType, Truncated}
 use Rattle.requests.specs.declared.outcome.Outcome.TheVariants as outcomes
 use Rattle.rank_core.specs.Receiving.{status_of}
-use Rattle.proof_engine_view.specs.Rows.{IsWhole}
+use Rattle.proof_engine_view.specs.Rows.{held_of}
 use Rattle.proof_engine_view.specs.Seen.{outcome_seen}
 use Rattle.proof_engine_matching.specs.Matches.{OutcomesAgree, ReceivesFit}
 
@@ -23,35 +30,34 @@ ends true true basic status told kept buffer h = ap (λ (b : List ℕ). machine.
 ends true false basic status told kept buffer h = refl
 ends false room basic status told kept buffer h = refl
 
--- the places of a receive into a whole buffer
-whole_places : (p : Receive) → IsWhole p → places p ≡ places_of (0 ∷ []) (length p.buffer)
-whole_places p w = ap₂ places_of w.layout w.copies
+-- what is written to a whole buffer: the values, and then the buffer as it was
+whole_written : (b : Contents) (values : List ℕ) → nat_le (length values) (length b.values) ≡ true →
+    put_at b.values (places_in (whole b)) values ≡ values ++ drop (length values) b.values
+whole_written b values h = (whole_are_taken b).receives values (leb-true (length values) (length b.values) h)
 
--- as many as the buffer has
-whole_room : (p : Receive) → IsWhole p → length (places p) ≡ length p.buffer
-whole_room p w = ap length (whole_places p w) ∙ (first_places (length p.buffer) p.buffer []).room
-
--- what is written there: the values, and then the buffer as it was
-whole_written : (p : Receive) (values : List ℕ) → IsWhole p → nat_le (length values) (length p.buffer) ≡ true →
-    written (places p) p.buffer values ≡ values ++ drop (length values) p.buffer
-whole_written p values w h =
-    let few : length values ≤ length p.buffer = leb-true (length values) (length p.buffer) h in
-    ap (λ (ps : List ℕ). written ps p.buffer values) (whole_places p w)
-    ∙ (first_places (length p.buffer) p.buffer values).buffer_is few (omega arith)
+-- how it ends
+whole_ends : (source : Source) (tag : Option ℕ) (context : ℕ) (b : Contents) (m : Message) →
+    outcome (record { source = source; tag = tag; context = context; group = None; into = whole b }) (full (held_of m) m.elements.values)
+    ≡ outcome_seen (outcome_of b (status_of m) m.elements)
+whole_ends source tag context b m =
+    let values : List ℕ = m.elements.values in
+    let same : Bool = is_same_type b.basic m.elements.basic in
+    ap (λ (n : ℕ).
+    if same && nat_le (length values) n then machine.Received (status_of m) (put_at b.values (places_in (whole b)) values)
+    else machine.Ended (if same then 10 else 2) (status_of m) b.values) (whole_are_taken b).has_places
+    ∙ ends same (nat_le (length values) (length b.values)) b.basic (status_of m) (put_at b.values (places_in (whole b)) values)
+    (values ++ drop (length values) b.values) b.values (whole_written b values)
 
 -- the law of outcomes
 pub outcomes_agree : OutcomesAgree
 outcomes_agree p m w =
-    let values : List ℕ = m.elements.values in
-    let same : Bool = code_of p.basic == code_of m.elements.basic in
-    ap (λ (n : ℕ).
-    if same && nat_le (length values) n then machine.Received (status_of m) (written (places p) p.buffer values)
-    else machine.Ended (if same then 10 else 2) (status_of m) p.buffer) (whole_room p w)
-    ∙ ends same (nat_le (length values) (length p.buffer)) p.basic (status_of m) (written (places p) p.buffer values)
-    (values ++ drop (length values) p.buffer) p.buffer (whole_written p values w)
+    ap (λ (r : Receive). outcome r (full (held_of m) m.elements.values)) same ∙ whole_ends p.source p.tag p.context p.into.buffer m
+  where
+    same : p ≡ record { source = p.source; tag = p.tag; context = p.context; group = None; into = whole p.into.buffer }
+    same = λ i. record { source = p.source; tag = p.tag; context = p.context; group = w.group i; into = w.into i }
 
 -- the law of layouts
 pub receives_fit : ReceivesFit
 receives_fit v =
-    let n : ℕ = length v.buffer.values in
-    (refl, (first_places n v.buffer.values []).too_short ∙ le-ltb n n (omega arith))
+    let taken : IsTakenWhole v.buffer = whole_are_taken v.buffer in
+    (ap (λ (t : Bool). t || false) taken.is_one_type, taken.is_long_enough)

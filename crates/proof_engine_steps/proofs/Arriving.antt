@@ -19,25 +19,20 @@ use Rattle.requests.specs.declared.table.Entry.{Entry}
 use Rattle.requests.specs.declared.table.Progress.{Progress}
 use Rattle.requests.specs.declared.table.Progress.TheVariants.{Receiving, Finished}
 use Rattle.requests.specs.declared.table.Request.{Request}
-use Rattle.engine.specs.Datagrams.{handed_up}
-use Rattle.rank_core.specs.Receiving.{slots_on_arrival}
-use Rattle.engine.specs.EngineState.{EngineState}
-use Rattle.engine.specs.Learning.{met}
-use Rattle.rank_core.specs.Receiving.{status_of}
+use Rattle.rank_core.specs.CoreState.{CoreState}
+use Rattle.rank_core.specs.Receiving.{slots_on_arrival, status_of}
+use Rattle.rank_core.specs.Sending as rank
 use Rattle.proof_pure_network.proofs.JobLemmas.{get_set_same}
 use Rattle.proof_pure_network.specs.Core.{Core, Effect}
-use Rattle.proof_pure_network.specs.Engine as network
 use Rattle.proof_pure_network.specs.Held.{Held, full}
 use Rattle.proof_pure_network.specs.Jobs.{Job, Over, Waiting, oldest_posted}
 use Rattle.proof_pure_network.specs.Matching.{arrived, arrived_at}
 use Rattle.proof_engine_view.specs.Rows.{Fits, Holds, IsTable, IsWhole, Row, contents_of, held_of, jobs_of, posted_rows}
 use Rattle.proof_engine_view.specs.Seen.{outcome_seen}
 use Rattle.proof_engine_matching.specs.Matches.{ArrivalsMatch, IsKept, IsMatchedTo, OutcomesAgree}
-use Rattle.proof_engine_steps.specs.Steps.{ArrivalsAreShown}
 use Rattle.proof_engine_steps.proofs.RowLemmas.{set_jobs}
-use Rattle.proof_engine_steps.proofs.Meeting.{HoldBoth, met_holds}
 use Rattle.proof_engine_steps.proofs.Tables.{Says, changed_table, held_at, says_some, set_is_set}
-use Rattle.proof_engine_steps.proofs.Waking.{Holding, IsAwaited, IsOpen, IsSettled, known_still, settles}
+use Rattle.proof_engine_steps.proofs.Waking.{Holding, IsAwaited, IsOpen, known_still}
 
 -- what a message leaves of the rows
 pub record Arrives (rows : List Row) (slots : List (Option Entry)) (queues : State) (core : Core) (after : Effect) : Type 0 where
@@ -164,49 +159,47 @@ message_arrives match agree rows slots queues core m js table po he = go (match 
         (subst (λ (a : Arrival). Arrives rows (slots_on_arrival slots a) (after_arrival queues m) core (arrived_at core (held_of m) (Some (t.0, t.2)))) (sym h.arrival)
         (arrives_matched agree rows slots (after_arrival queues m) core m t.0 t.1 t.2 js table (he ∙ ap (λ (ms : List Message). map held_of ms) (sym h.unexpected)) h.row h.posted))
 
--- what a message leaves of an engine and of its core, before a blocked call is answered
-pub record IsHeldAfter (rows : List Row) (new : EngineState) (core : Core) (after : Effect) : Type 0 where
+-- what a message leaves of a rank and of its core, before a blocked call is answered
+pub record IsHeldAfter (rows : List Row) (new : CoreState) (known : List ℕ) (core : Core) (after : Effect) : Type 0 where
   pub left : List Row
-  pub holding : Holding new after.core left
+  pub holding : Holding new known after.core left
   pub blocked : after.core.blocked ≡ core.blocked
   pub sends : after.out ≡ []
   pub waits : (k key : ℕ) → IsOpen rows k key → IsOpen left k key
 
--- an engine takes a message into its queues and its slots, and its core takes it too
-pub message_holds : ArrivalsMatch → OutcomesAgree → (old new : EngineState) (core : Core) (rows : List Row) (m : Message) → Holding old core rows →
-    new.slots ≡ slots_on_arrival old.slots (arrival_of old.queues m) → new.queues ≡ after_arrival old.queues m → new.serial ≡ old.serial → new.place ≡ old.place → new.known ≡ old.known →
-    IsHeldAfter rows new core (arrived core (held_of m))
-message_holds match agree old new core rows m h slots queues serial place known =
+-- a rank takes a message into its queues and its slots, and its core takes it too
+pub message_holds : ArrivalsMatch → OutcomesAgree → (old : CoreState) (known : List ℕ) (core : Core) (rows : List Row) (m : Message) → Holding old known core rows →
+    IsHeldAfter rows (rank.arrived old m) known core (arrived core (held_of m))
+unfolding rank.arrived
+message_holds match agree old known core rows m h =
     let a : Arrives rows (slots_on_arrival old.slots (arrival_of old.queues m)) (after_arrival old.queues m) core (arrived core (held_of m)) =
     message_arrives match agree rows old.slots old.queues core m h.jobs h.table h.posted h.held in
     record {
       left = a.left;
       holding = record {
         jobs = a.jobs;
-        count = a.count ∙ (h.count ∙ sym serial);
-        table = subst (λ (t : List (Option Entry)). IsTable t a.left) (sym slots) a.table;
-        posted = ap (λ (s : State). s.posted) queues ∙ a.posted;
-        held = a.held ∙ ap (λ (s : State). map held_of s.unexpected) (sym queues);
-        knowing = known_still old.place new.place old.known new.known core.known (arrived core (held_of m)).core.known h.knowing place known a.known;
+        count = a.count ∙ h.count;
+        table = a.table;
+        posted = a.posted;
+        held = a.held;
+        knowing = known_still old.place old.place known core.known (arrived core (held_of m)).core.known h.knowing refl a.known;
       };
       blocked = a.blocked;
       sends = a.sends;
       waits = a.waits;
     }
 
+-- what a message leaves as it was
+pub record Keeps (old new : CoreState) : Type 0 where
+  pub place : new.place ≡ old.place
+  pub blocked : new.blocked ≡ old.blocked
+  pub completion : new.completion ≡ old.completion
+
+pub arrived_keeps : (c : CoreState) (m : Message) → Keeps c (rank.arrived c m)
+unfolding rank.arrived
+arrived_keeps c m = record { place = refl; blocked = refl; completion = refl }
+
 -- the blocked call still waits for its request, or this is over
-still_awaited : (rows left : List Row) (b : Option Request) (x y : Option Awaited) → IsAwaited rows b x → y ≡ x → ((k key : ℕ) → IsOpen rows k key → IsOpen left k key) → IsAwaited left b y
+pub still_awaited : (rows left : List Row) (b : Option Request) (x y : Option Awaited) → IsAwaited rows b x → y ≡ x → ((k key : ℕ) → IsOpen rows k key → IsOpen left k key) → IsAwaited left b y
 still_awaited rows left None x y h e w = e ∙ h
 still_awaited rows left (Some q) x y h e w = (e ∙ h.0, w q.serial q.key h.1)
-
--- each message that comes keeps what an engine shows
-pub arrivals_are_shown : ArrivalsMatch → OutcomesAgree → ArrivalsAreShown
-unfolding handed_up
-arrivals_are_shown match agree old core s m shown free other =
-    let b : HoldBoth (met old s) (network.met core s) = met_holds old core s shown free other in
-    let a : IsHeldAfter b.rows (handed_up (met old s) s.rank m) (network.met core s) (arrived (network.met core s) (held_of m)) =
-    message_holds match agree (met old s) (handed_up (met old s) s.rank m) (network.met core s) b.rows m b.holding refl refl refl refl refl in
-    let t : IsSettled (handed_up (met old s) s.rank m) (arrived (network.met core s) (held_of m)).core =
-    settles (handed_up (met old s) s.rank m) (arrived (network.met core s) (held_of m)).core a.left a.holding
-    (still_awaited b.rows a.left (met old s).blocked (network.met core s).blocked (arrived (network.met core s) (held_of m)).core.blocked b.awaited a.blocked a.waits) b.free in
-    record { shown = t.shown; sends = a.sends; tells = t.tells old.place.endpoint }

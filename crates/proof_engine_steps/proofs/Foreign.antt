@@ -7,7 +7,7 @@ use Rattle.requests.specs.Table.{progress_at, progress_of, slot_at}
 use Rattle.requests.specs.declared.table.Entry.{Entry}
 use Rattle.requests.specs.declared.table.Progress.{Progress}
 use Rattle.requests.specs.declared.table.Request.{Request}
-use Rattle.engine.specs.EngineState.{EngineState}
+use Rattle.rank_core.specs.CoreState.{CoreState}
 use Rattle.proof_engine_view.specs.Rows.{Holds}
 use Rattle.proof_engine_view.specs.Seen.{has_serial, is_foreign, serial_meant}
 
@@ -57,11 +57,11 @@ foreign_of slots q key j h own held =
     absurd cc
 
 -- such a one stands for the next serial
-pub meant_foreign : (e : EngineState) (q : Request) → is_foreign e.slots q ≡ true → serial_meant e q ≡ e.serial
+pub meant_foreign : (e : CoreState) (q : Request) → is_foreign e.slots q ≡ true → serial_meant e q ≡ e.serial
 meant_foreign e q h = ap (λ (b : Bool). if b then e.serial else q.serial) h
 
 -- any other for its own
-pub meant_own : (e : EngineState) (q : Request) → is_foreign e.slots q ≡ false → serial_meant e q ≡ q.serial
+pub meant_own : (e : CoreState) (q : Request) → is_foreign e.slots q ≡ false → serial_meant e q ≡ q.serial
 meant_own e q h = ap (λ (b : Bool). if b then e.serial else q.serial) h
 
 -- nothing is foreign that stands under its key
@@ -70,6 +70,6 @@ and_not true b h = ap (λ (x : Bool). not x) h
 and_not false b h = refl
 
 -- a request that the table holds stands for its own serial
-pub held_own : (e : EngineState) (q : Request) (g : Progress) → progress_at e.slots q.key q.serial ≡ Some g → serial_meant e q ≡ q.serial
+pub held_own : (e : CoreState) (q : Request) (g : Progress) → progress_at e.slots q.key q.serial ≡ Some g → serial_meant e q ≡ q.serial
 held_own e q g h =
     meant_own e q (and_not (list_any (has_serial q.serial) e.slots) (has_serial q.serial (slot_at e.slots q.key)) (told_held (slot_at e.slots q.key) q.serial g h))

@@ -1,4 +1,4 @@
--- What an engine and its core know of the ranks.
+-- What a rank and its core know of the ranks.
 use Rattle.std.proofs.Common.{◌≡◌, ℕ, zero, suc, ◌<◌, Bool, true, false, List, length, max, if◌then◌else◌, ◌==◌, slice_index, slice_set, replicate, refl, sym, ap, ◌∙◌, subst, arith}
 use Rattle.std.proofs.lemmas.Bool.{eqb-false, eqb-true}
 use Rattle.std.proofs.lemmas.List.{get_or-set_other, get_or-set_same, length-replicate, length-set}

@@ -1,5 +1,5 @@
--- A word of an endpoint teaches the engine what it teaches its core.
-use Rattle.std.proofs.Common.{◌≡◌, ℕ, ◌<◌, Bool, true, false, List, map, filter, not, Option, Some, None, if◌then◌else◌, nat_lt, slice_get, slice_index, refl, sym, ap, ◌∙◌, subst, inl, inr}
+-- A word of an endpoint teaches a rank what it teaches its core in the network.
+use Rattle.std.proofs.Common.{◌≡◌, ℕ, ◌<◌, Bool, true, false, List, map, filter, not, Option, Some, None, if◌then◌else◌, nat_lt, slice_get, slice_index, sym, ap, ◌∙◌, subst, inl, inr}
 use Rattle.std.proofs.lemmas.Bool.{ltb-true}
 use Rattle.std.proofs.lemmas.List.{length-map}
 use Rattle.perfect_queues.specs.Completions.{Awaited}
@@ -11,12 +11,13 @@ use Rattle.match_queues.specs.declared.envelope.Receive as queued
 use Rattle.match_queues.specs.State.{keys_naming}
 use Rattle.requests.specs.Table.{after_replaces}
 use Rattle.requests.specs.declared.table.Request.{Request}
-use Rattle.engine.specs.EngineState.{EngineState}
-use Rattle.engine.specs.Learning.{learned, met}
+use Rattle.rank_core.specs.CoreState.{CoreState}
+use Rattle.rank_core.specs.Hearing.{NewsText, replaced, taught}
 use Rattle.proof_pure_network.specs.Core.{Core}
 use Rattle.proof_pure_network.specs.Engine as network
 use Rattle.proof_pure_network.specs.Held.{Held}
 use Rattle.proof_pure_network.specs.Jobs.{Job, Over, Waiting, ended}
+use Rattle.proof_engine_view.specs.Frames.{known_after}
 use Rattle.proof_engine_view.specs.Rows.{IsTable, Row}
 use Rattle.proof_engine_view.specs.Shown.{IsBlocked, IsShown}
 use Rattle.proof_engine_steps.specs.Steps.{IsFromOther}
@@ -26,10 +27,10 @@ use Rattle.proof_engine_steps.proofs.Replacing.{replaced_table}
 use Rattle.proof_engine_steps.proofs.Starting.{holding_of}
 use Rattle.proof_engine_steps.proofs.Waking.{Holding, IsAwaited, IsOpen, awaited_of}
 
--- what an engine and its core hold once both learnt, before a blocked call is answered
-pub record HoldBoth (e : EngineState) (core : Core) : Type 0 where
+-- what a rank and its core hold once both learnt, before a blocked call is answered
+pub record HoldBoth (e : CoreState) (known : List ℕ) (core : Core) : Type 0 where
   pub rows : List Row
-  pub holding : Holding e core rows
+  pub holding : Holding e known core rows
   pub awaited : IsAwaited rows e.blocked core.blocked
   pub free : e.completion ≡ None
 
@@ -39,8 +40,8 @@ ended_open : (r i : ℕ) (rows : List Row) (k key : ℕ) (p : Receive) →
 ended_open r i rows k key p h = go (names p.source r) (ended_at r i rows k (record { key = key; job = Waiting p }) h)
   where
     go : (b : Bool) →
-        slice_get (map (ended_row r i) rows) k ≡ Some (record { key = key; job = if b then Over (machine.Replaced (Some p.buffer)) else Waiting p }) → IsOpen (map (ended_row r i) rows) k key
-    go true e = inr (machine.Replaced (Some p.buffer), e)
+        slice_get (map (ended_row r i) rows) k ≡ Some (record { key = key; job = if b then Over (machine.Replaced (Some p.into.buffer.values)) else Waiting p }) → IsOpen (map (ended_row r i) rows) k key
+    go true e = inr (machine.Replaced (Some p.into.buffer.values), e)
     go false e = inl (p, e)
 
 -- what the blocked call waits for still waits or has ended
@@ -50,34 +51,45 @@ ended_awaited r i rows None x h = h
 ended_awaited r i rows (Some q) x h = (h.0, ended_open r i rows q.serial q.key h.1.0 h.1.1)
 
 -- both learn a later incarnation of another rank
-learned_holds : (e : EngineState) (core : Core) (rows : List Row) (r i : ℕ) → Holding e core rows → r < e.place.size →
-    (r ≡ e.place.endpoint.rank → ⊥) → slice_index e.known r < i →
-    Holding (learned e r i) (network.learned core r i) (map (ended_row r i) rows)
-learned_holds e core rows r i h inside apart later =
+learned_holds : (e : CoreState) (known : List ℕ) (core : Core) (rows : List Row) (s : Endpoint) → Holding e known core rows → s.rank < e.place.size →
+    (s.rank ≡ e.place.endpoint.rank → ⊥) → slice_index known s.rank < s.incarnation →
+    Holding (replaced e s) (known_after true known s) (network.learned core s.rank s.incarnation) (map (ended_row s.rank s.incarnation) rows)
+learned_holds e known core rows s h inside apart later =
     record {
       jobs = ap (λ (js : List Job). map (ended r i) js) h.jobs ∙ ended_jobs r i rows;
       count = length-map rows (ended_row r i) ∙ h.count;
       table = subst (λ (ps : List queued.Receive). IsTable (after_replaces e.slots (keys_naming r ps)) (map (ended_row r i) rows)) (sym h.posted) (replaced_table e.slots rows r i h.table);
       posted = ap (λ (ps : List queued.Receive). filter (λ (x : queued.Receive). not (names x.source r)) ps) h.posted ∙ posted_left r i rows;
       held = ap (λ (hs : List Held). filter (λ (x : Held). not (is_former r i x.sender)) hs) h.held ∙ held_left r i e.queues.unexpected;
-      knowing = learnt_known e.place e.known core.known r i h.knowing inside apart later;
+      knowing = learnt_known e.place known core.known r i h.knowing inside apart later;
     }
-
--- a word of another rank of the job leaves both holding the same
-pub met_holds : (e : EngineState) (core : Core) (s : Endpoint) → IsShown e core → e.completion ≡ None → IsFromOther e s →
-    HoldBoth (met e s) (network.met core s)
-met_holds e core s shown free other =
-    subst (λ (n : ℕ). HoldBoth (met e s) (if nat_lt n s.incarnation then network.learned core s.rank s.incarnation else core)) (sym (shown.known s.rank))
-    (go (nat_lt (slice_index e.known s.rank) s.incarnation) refl)
   where
-    go : (b : Bool) → nat_lt (slice_index e.known s.rank) s.incarnation ≡ b →
-        HoldBoth (if b then learned e s.rank s.incarnation else e) (if b then network.learned core s.rank s.incarnation else core)
+    r : ℕ
+    r = s.rank
+
+    i : ℕ
+    i = s.incarnation
+
+-- what a word of another rank of the job leaves both holding, by whether it is a lesson
+pub met_holds : (e : CoreState) (known : List ℕ) (core : Core) (news : NewsText) → IsShown e known core → e.completion ≡ None → IsFromOther e known news →
+    HoldBoth (taught news.lesson e news.source) (known_after news.lesson known news.source) (network.met core news.source)
+met_holds e known core news shown free other =
+    subst (λ (c : Core). HoldBoth (taught news.lesson e s) (known_after news.lesson known s) c) (sym met_is) (go news.lesson other.lesson)
+  where
+    s : Endpoint
+    s = news.source
+
+    met_is : network.met core s ≡ (if news.lesson then network.learned core s.rank s.incarnation else core)
+    met_is = ap (λ (b : Bool). if b then network.learned core s.rank s.incarnation else core) (ap (λ (n : ℕ). nat_lt n s.incarnation) (shown.known_alike s.rank) ∙ other.lesson)
+
+    go : (b : Bool) → nat_lt (slice_index known s.rank) s.incarnation ≡ b →
+        HoldBoth (taught b e s) (known_after b known s) (if b then network.learned core s.rank s.incarnation else core)
     go true later =
         record {
           rows = map (ended_row s.rank s.incarnation) shown.rows;
-          holding = learned_holds e core shown.rows s.rank s.incarnation (holding_of e core shown) other.there other.apart (ltb-true (slice_index e.known s.rank) s.incarnation later);
+          holding = learned_holds e known core shown.rows s (holding_of e known core shown) other.there other.apart (ltb-true (slice_index known s.rank) s.incarnation later);
           awaited = ended_awaited s.rank s.incarnation shown.rows e.blocked core.blocked shown.blocked;
           free = free;
         }
     go false later =
-        record { rows = shown.rows; holding = holding_of e core shown; awaited = awaited_of shown.rows e.blocked core.blocked shown.blocked; free = free }
+        record { rows = shown.rows; holding = holding_of e known core shown; awaited = awaited_of shown.rows e.blocked core.blocked shown.blocked; free = free }

@@ -1,4 +1,4 @@
--- A new engine holds what a new core holds.
+-- A new rank holds what a new core of the network holds.
 use Rattle.std.proofs.Common.{[], refl}
 use Rattle.proof_engine_steps.specs.Steps.{OpeningIsShown}
 use Rattle.proof_engine_steps.proofs.Knowing.{opening_known}
@@ -15,6 +15,6 @@ opening_is_shown p inside =
       held = refl;
       blocked = refl;
       width = k.width;
-      known = k.same;
+      known_alike = k.same;
       itself = k.itself;
     }

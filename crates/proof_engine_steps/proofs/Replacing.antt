@@ -79,7 +79,7 @@ replaces_among (x ∷ xs) slots key h = go (cases_eq key x) (cases_among key xs)
 fits_replaced : (g : Progress) (r i : ℕ) (job : Job) → Fits g job →
     ((p : Receive) → job ≡ Waiting p → names p.source r ≡ true) → Fits (replaced_progress g) (ended r i job)
 fits_replaced (Receiving b) r i (Waiting p) f named =
-    subst (λ (x : Bool). Fits (replaced_progress (Receiving b)) (if x then Over (machine.Replaced (Some p.buffer)) else Waiting p)) (sym (named p refl))
+    subst (λ (x : Bool). Fits (replaced_progress (Receiving b)) (if x then Over (machine.Replaced (Some p.into.buffer.values)) else Waiting p)) (sym (named p refl))
     (ap (λ c. machine.Replaced (Some c.values)) (sym f.0))
 fits_replaced (Receiving b) r i (Collecting p h got) f named = absurd f
 fits_replaced (Receiving b) r i (Offering d values) f named = absurd f
@@ -95,7 +95,7 @@ fits_replaced (Finished o) r i Closed f named = absurd f
 fits_kept : (g : Progress) (r i : ℕ) (job : Job) → Fits g job →
     ((p : Receive) → job ≡ Waiting p → names p.source r ≡ false) → Fits g (ended r i job)
 fits_kept (Receiving b) r i (Waiting p) f named =
-    subst (λ (x : Bool). Fits (Receiving b) (if x then Over (machine.Replaced (Some p.buffer)) else Waiting p)) (sym (named p refl)) f
+    subst (λ (x : Bool). Fits (Receiving b) (if x then Over (machine.Replaced (Some p.into.buffer.values)) else Waiting p)) (sym (named p refl)) f
 fits_kept (Receiving b) r i (Collecting p h got) f named = absurd f
 fits_kept (Receiving b) r i (Offering d values) f named = absurd f
 fits_kept (Receiving b) r i (Over x) f named = absurd f
@@ -178,8 +178,8 @@ stands_replaced slots rows r i k key (Waiting p) table at =
     go (names p.source r) (holds_replaced slots rows r i k key (Waiting p) table at (table.stands k (record { key = key; job = Waiting p }) at))
   where
     go : (b : Bool) →
-        Holds (slot_at (after_replaces slots (keys_naming r (posted_rows rows))) key) k (if b then Over (machine.Replaced (Some p.buffer)) else Waiting p) →
-        Stands (slot_at (after_replaces slots (keys_naming r (posted_rows rows))) key) k (if b then Over (machine.Replaced (Some p.buffer)) else Waiting p)
+        Holds (slot_at (after_replaces slots (keys_naming r (posted_rows rows))) key) k (if b then Over (machine.Replaced (Some p.into.buffer.values)) else Waiting p) →
+        Stands (slot_at (after_replaces slots (keys_naming r (posted_rows rows))) key) k (if b then Over (machine.Replaced (Some p.into.buffer.values)) else Waiting p)
     go true h = h
     go false h = h
 stands_replaced slots rows r i k key (Collecting p h got) table at = absurd (table.stands k (record { key = key; job = Collecting p h got }) at)

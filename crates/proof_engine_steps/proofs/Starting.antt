@@ -1,4 +1,4 @@
--- A call that starts a request: what it leaves of an engine and of its core.
+-- A call that starts a request: what it leaves of a rank and of its core in the network.
 use Rattle.std.proofs.Common.{◌≡◌, ℕ, ◌+◌, Bool, true, false, List, [], ◌∷◌, ◌++◌, map, length, Option, Some, None, if◌then◌else◌, slice_get, refl, sym, ap, ◌∙◌, subst, arith, length-append}
 use Rattle.std.proofs.lemmas.List.{length-map}
 use Rattle.perfect_queues.specs.Calls as machine
@@ -15,9 +15,11 @@ use Rattle.requests.specs.declared.table.Request.{Request}
 use Rattle.rank_core.specs.declared.call.Call.{Call}
 use Rattle.rank_core.specs.declared.call.Reply.TheVariants as replies
 use Rattle.rank_core.specs.declared.refused.Refused.{Refused}
-use Rattle.engine.specs.EngineState.{EngineState}
+use Rattle.rank_core.specs.Calls.{IsWithin, call_frame}
+use Rattle.rank_core.specs.CoreState.{CoreState}
 use Rattle.proof_engine_view.specs.Rows.{Fits, Row, held_of, posted_job, posted_rows}
-use Rattle.proof_engine_view.specs.Seen.{call_seen, sent_by}
+use Rattle.proof_engine_view.specs.Frames.{sent_by}
+use Rattle.proof_engine_view.specs.Seen.{call_seen}
 use Rattle.proof_engine_view.specs.Shown.{IsBlocked, IsShown}
 use Rattle.proof_engine_steps.specs.Steps.{IsCalled}
 use Rattle.proof_engine_steps.proofs.RowLemmas.{posted_push, push_jobs}
@@ -26,24 +28,24 @@ use Rattle.proof_engine_steps.proofs.Tables.{Says, says_some, started_table}
 use Rattle.proof_engine_steps.proofs.Waking.{Holding, known_still, shown_with}
 
 -- what is shown is held
-pub holding_of : (e : EngineState) (core : Core) → (s : IsShown e core) → Holding e core s.rows
-holding_of e core s =
+pub holding_of : (e : CoreState) (known : List ℕ) (core : Core) → (s : IsShown e known core) → Holding e known core s.rows
+holding_of e known core s =
     record {
       jobs = s.jobs;
       count = s.count;
       table = s.table;
       posted = s.posted;
       held = s.held;
-      knowing = record { width = s.width; same = s.known; itself = s.itself };
+      knowing = record { width = s.width; same = s.known_alike; itself = s.itself };
     }
 
--- where the engine's call is not blocked, the core's isn't
-pub core_free : (e : EngineState) (core : Core) → IsShown e core → e.blocked ≡ None → core.blocked ≡ None
-core_free e core s h = subst (λ (b : Option Request). IsBlocked s.rows b core.blocked) h s.blocked
+-- where the rank's call is not blocked, the core's isn't
+pub core_free : (e : CoreState) (known : List ℕ) (core : Core) → IsShown e known core → e.blocked ≡ None → core.blocked ≡ None
+core_free e known core s h = subst (λ (b : Option Request). IsBlocked s.rows b core.blocked) h s.blocked
 
 -- what is held is shown, where no call is blocked
-pub shown_free : (e : EngineState) (core : Core) (rows : List Row) → Holding e core rows → e.blocked ≡ None → core.blocked ≡ None → IsShown e core
-shown_free e core rows h a b = shown_with e core rows h (subst (λ (x : Option Request). IsBlocked rows x core.blocked) (sym a) b)
+pub shown_free : (e : CoreState) (known : List ℕ) (core : Core) (rows : List Row) → Holding e known core rows → e.blocked ≡ None → core.blocked ≡ None → IsShown e known core
+shown_free e known core rows h a b = shown_with e known core rows h (subst (λ (x : Option Request). IsBlocked rows x core.blocked) (sym a) b)
 
 -- the fault of a call while no other is blocked
 pub fault_free : (n : ℕ) (core : Core) (c : machine.Call) → core.blocked ≡ None → fault n (view blank core) c ≡ fault_by n false (λ k. standing (slice_get (map (request_of blank) core.jobs) k)) c
@@ -61,11 +63,11 @@ two_tests false true x y o h = absurd (grind arith)
 two_tests false false x y o h = (refl, refl, h)
 
 -- one more request, in both
-pub holding_started : (e e' : EngineState) (core core' : Core) (rows : List Row) (key : ℕ) (g : Progress) (job : Job) → Holding e core rows → slot_at e.slots key ≡ None →
+pub holding_started : (e e' : CoreState) (known : List ℕ) (core core' : Core) (rows : List Row) (key : ℕ) (g : Progress) (job : Job) → Holding e known core rows → slot_at e.slots key ≡ None →
     IsSet e.slots e'.slots key (Some (record { serial = e.serial; progress = g })) → Fits g job → core'.jobs ≡ core.jobs ++ job ∷ [] → e'.serial ≡ e.serial + 1 →
-    e'.queues.posted ≡ posted_rows rows ++ posted_job key job → core'.held ≡ map held_of e'.queues.unexpected → core'.known ≡ core.known → e'.place ≡ e.place → e'.known ≡ e.known →
-    Holding e' core' (rows ++ record { key = key; job = job } ∷ [])
-holding_started e e' core core' rows key g job h fresh set fits js se po he kn pl ek =
+    e'.queues.posted ≡ posted_rows rows ++ posted_job key job → core'.held ≡ map held_of e'.queues.unexpected → core'.known ≡ core.known → e'.place ≡ e.place →
+    Holding e' known core' (rows ++ record { key = key; job = job } ∷ [])
+holding_started e e' known core core' rows key g job h fresh set fits js se po he kn pl =
     record {
       jobs = js ∙ (ap (λ (ys : List Job). ys ++ job ∷ []) h.jobs ∙ sym (push_jobs rows key job));
       count = length-append rows (record { key = key; job = job } ∷ []) ∙ (ap (λ (n : ℕ). n + 1) h.count ∙ sym se);
@@ -73,22 +75,35 @@ holding_started e e' core core' rows key g job h fresh set fits js se po he kn p
           (subst (λ (n : ℕ). Says (Some (record { serial = e.serial; progress = g })) n job) (sym h.count) (says_some e.serial g job fits));
       posted = po ∙ sym (posted_push rows key job);
       held = he;
-      knowing = known_still e.place e'.place e.known e'.known core.known core'.known h.knowing pl ek kn;
+      knowing = known_still e.place e'.place known core.known core'.known h.knowing pl kn;
     }
 
 -- the serial that the machine gives
-pub serial_told : (e : EngineState) (core : Core) (q : Request) → IsShown e core → q.serial ≡ e.serial → length (map (request_of blank) core.jobs) ≡ q.serial
-serial_told e core q s h =
+pub serial_told : (e : CoreState) (known : List ℕ) (core : Core) (q : Request) → IsShown e known core → q.serial ≡ e.serial → length (map (request_of blank) core.jobs) ≡ q.serial
+serial_told e known core q s h =
     length-map core.jobs (request_of blank) ∙ (ap (λ (js : List Job). length js) s.jobs ∙ (length-map s.rows (λ (r : Row). r.job) ∙ (s.count ∙ sym h)))
 
--- a call that starts a request is answered by its serial
-pub started_call : (old new : EngineState) (core : Core) (call : Call) (q : Request) (after : Effect) → called old.place.endpoint core (call_seen call) ≡ after →
-    fault old.place.size (view blank core) (call_seen call) ≡ None → after.core.blocked ≡ None → IsShown new after.core → after.out ≡ sent_by old call →
-    call_and_reply (view blank core) (Some (call_seen call)) ≡ Some (call_seen call, Some (machine.Started q.serial)) → IsCalled old core call (replies.Started q) new
-started_call old new core call q after is fit free shown sends reply =
+-- what a call that starts a request leaves, while no other is blocked
+pub record IsStart (old : CoreState) (known : List ℕ) (core : Core) (call : Call) (q : Request) (new : CoreState) (after : Effect) : Type 0 where
+  pub is : called old.place.endpoint core (call_seen call) ≡ after
+  pub fit : fault old.place.size (view blank core) (call_seen call) ≡ None
+  pub place : new.place ≡ old.place
+  pub completion : new.completion ≡ old.completion
+  pub free : after.core.blocked ≡ None
+  pub shown : IsShown new known after.core
+  pub sends : IsWithin call → after.out ≡ sent_by known (call_frame old call)
+  pub reply : call_and_reply (view blank core) (Some (call_seen call)) ≡ Some (call_seen call, Some (machine.Started q.serial))
+
+-- such a call is answered by its serial
+pub started_call : (old new : CoreState) (known : List ℕ) (core : Core) (call : Call) (q : Request) (after : Effect) → IsStart old known core call q new after →
+    IsCalled old known core call (replies.Started q) new
+started_call old new known core call q after s =
     record {
-      fit = fit;
-      shown = subst (λ (f : Effect). IsShown new (core_settled f.core)) (sym is) (subst (λ (c : Core). IsShown new c) (sym (settled_free after.core free)) shown);
-      sends = ap (λ (f : Effect). f.out) is ∙ sends;
-      tells = ap (λ (o : Option (machine.Call × Option machine.Reply)). told old.place.endpoint o (core_ready (called old.place.endpoint core (call_seen call)).core)) reply;
+      fit = s.fit;
+      place = s.place;
+      completion = s.completion;
+      shown = subst (λ (f : Effect). IsShown new known (core_settled f.core)) (sym s.is)
+          (subst (λ (c : Core). IsShown new known c) (sym (settled_free after.core s.free)) s.shown);
+      sends = λ within. ap (λ (f : Effect). f.out) s.is ∙ s.sends within;
+      tells = ap (λ (o : Option (machine.Call × Option machine.Reply)). told old.place.endpoint o (core_ready (called old.place.endpoint core (call_seen call)).core)) s.reply;
     }

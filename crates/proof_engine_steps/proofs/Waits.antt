@@ -1,4 +1,4 @@
--- A wait of an engine is that of its core.
+-- A wait of a rank is that of its core in the network.
 use Rattle.std.proofs.Common.{◌≡◌, ℕ, true, false, List, [], ◌∷◌, map, Option, Some, None, ◌==◌, slice_get, slice_set, refl, sym, ap, ◌∙◌, subst, arith}
 use Rattle.std.proofs.lemmas.Bool.{eqb-true}
 use Rattle.std.proofs.lemmas.Option.{cond_some, none-some}
@@ -22,27 +22,19 @@ use Rattle.requests.specs.declared.table.Entry.{Entry}
 use Rattle.requests.specs.declared.table.Progress.{Progress}
 use Rattle.requests.specs.declared.table.Progress.TheVariants.{Receiving, Finished}
 use Rattle.requests.specs.declared.table.Request.{Request}
-use Rattle.rank_core.specs.declared.call.Call.{Call}
 use Rattle.rank_core.specs.declared.call.Call.TheVariants as calls
 use Rattle.rank_core.specs.declared.call.Reply.{Reply}
 use Rattle.rank_core.specs.declared.call.Reply.TheVariants as replies
-use Rattle.rank_core.specs.declared.refused.Refused.{Refused}
-use Rattle.rank_core.specs.declared.refused.Refused.TheVariants as refusals
-use Rattle.engine.specs.EngineState.{EngineState}
-use Rattle.engine.specs.Waiting.{WaitGives, WaitGivesAt}
+use Rattle.rank_core.specs.CoreState.{CoreState}
+use Rattle.rank_core.specs.Waiting.{Waits, WaitsAt}
 use Rattle.proof_engine_view.specs.Rows.{Fits, IsRow, IsTable, Row}
 use Rattle.proof_engine_view.specs.Seen.{outcome_seen}
-use Rattle.engine.specs.Calls.{IsTaken}
 use Rattle.proof_engine_view.specs.Shown.{IsShown}
 use Rattle.proof_engine_steps.specs.Steps.{IsCalled}
 use Rattle.proof_engine_steps.proofs.RowLemmas.{job_at}
 use Rattle.proof_engine_steps.proofs.Settling.{ready_over, ready_waiting}
 use Rattle.proof_engine_steps.proofs.Starting.{core_free, fault_free, holding_of, shown_free}
 use Rattle.proof_engine_steps.proofs.Waking.{Holding, core_answered, holding_taken, settled_over}
-
--- a refused call was not taken
-pub taken_refused : (reply : Reply) (e : Refused) (back : Call) → reply ≡ replies.Refused e back → IsTaken reply → ⊥
-taken_refused reply e back h t = subst IsTaken h t
 
 -- A WAIT ON THE NULL REQUEST
 
@@ -51,22 +43,25 @@ abbrev pub core_unblocked : Core → Core
 core_unblocked core = record core { blocked = None }
 
 -- it is answered at once
-wait_none_done : (old : EngineState) (core : Core) → IsShown old core → old.blocked ≡ None → IsCalled old core (calls.Wait None) (replies.Done outcomes.Empty) old
-wait_none_done old core shown free =
-    let h : Holding old core shown.rows = holding_of old core shown in
+wait_none_done : (old : CoreState) (known : List ℕ) (core : Core) → IsShown old known core → old.blocked ≡ None → IsCalled old known core (calls.Wait None) (replies.Done outcomes.Empty) old
+wait_none_done old known core shown free =
+    let h : Holding old known core shown.rows = holding_of old known core shown in
     record {
-      fit = fault_free old.place.size core (machine.Wait (One None)) (core_free old core shown free);
-      shown = shown_free old (core_unblocked core) shown.rows
+      fit = fault_free old.place.size core (machine.Wait (One None)) (core_free old known core shown free);
+      place = refl;
+      completion = refl;
+      shown = shown_free old known (core_unblocked core) shown.rows
           (record { jobs = h.jobs; count = h.count; table = h.table; posted = h.posted; held = h.held; knowing = h.knowing }) free refl;
-      sends = refl;
+      sends = λ within. refl;
       tells = refl;
     }
 
 -- whatever its reply and what it leaves are called
-pub wait_none : (old new : EngineState) (core : Core) (reply : Reply) → IsShown old core → old.blocked ≡ None → reply ≡ replies.Done outcomes.Empty → new ≡ old → IsCalled old core (calls.Wait None) reply new
-wait_none old new core reply shown free r n =
-    subst (λ (x : Reply). IsCalled old core (calls.Wait None) x new) (sym r)
-    (subst (λ (x : EngineState). IsCalled old core (calls.Wait None) (replies.Done outcomes.Empty) x) (sym n) (wait_none_done old core shown free))
+pub wait_none : (old new : CoreState) (known : List ℕ) (core : Core) (reply : Reply) → IsShown old known core → old.blocked ≡ None → reply ≡ replies.Done outcomes.Empty → new ≡ old →
+    IsCalled old known core (calls.Wait None) reply new
+wait_none old new known core reply shown free r n =
+    subst (λ (x : Reply). IsCalled old known core (calls.Wait None) x new) (sym r)
+    (subst (λ (x : CoreState). IsCalled old known core (calls.Wait None) (replies.Done outcomes.Empty) x) (sym n) (wait_none_done old known core shown free))
 
 -- A WAIT ON A REQUEST
 
@@ -128,7 +123,7 @@ standing_fits n k rules.Receiving h = refl
 standing_fits n k rules.Sends h = refl
 
 -- no rule of the machine is broken
-wait_fit : (n : ℕ) (core : Core) (k : ℕ) (j : Job) → core.blocked ≡ None → slice_get core.jobs k ≡ Some j → rules.is_missing (rules.standing (Some (request_of blank j))) ≡ false →
+pub wait_fit : (n : ℕ) (core : Core) (k : ℕ) (j : Job) → core.blocked ≡ None → slice_get core.jobs k ≡ Some j → rules.is_missing (rules.standing (Some (request_of blank j))) ≡ false →
     rules.fault n (view blank core) (machine.Wait (One (Some k))) ≡ None
 wait_fit n core k j free h m =
     fault_free n core (machine.Wait (One (Some k))) free ∙
@@ -140,14 +135,28 @@ abbrev pub core_waits : Core → ℕ → Core
 core_waits core k = record core { blocked = Some (One (Some k)) }
 
 -- its receive waits: the call is blocked
-wait_blocked : (old : EngineState) (core : Core) (q : Request) (p : receives.Receive) → (shown : IsShown old core) → core.blocked ≡ None → slice_get shown.rows q.serial ≡ Some (record { key = q.key; job = Waiting p }) →
-    slice_get core.jobs q.serial ≡ Some (Waiting p) → IsCalled old core (calls.Wait (Some q)) replies.Blocked (record old { blocked = Some q })
-wait_blocked old core q p shown free row job =
+wait_blocked : (old : CoreState) (known : List ℕ) (core : Core) (q : Request) (p : receives.Receive) → (shown : IsShown old known core) → core.blocked ≡ None →
+    slice_get shown.rows q.serial ≡ Some (record { key = q.key; job = Waiting p }) →
+    slice_get core.jobs q.serial ≡ Some (Waiting p) → IsCalled old known core (calls.Wait (Some q)) replies.Blocked (record old { blocked = Some q })
+wait_blocked old known core q p shown free row job =
     record {
       fit = wait_fit old.place.size core q.serial (Waiting p) free job refl;
-      shown = subst (λ (c : Core). IsShown (record old { blocked = Some q }) c) (sym (ap (core_settled_by (core_waits core q.serial)) ready))
-          (record { rows = shown.rows; jobs = shown.jobs; count = shown.count; table = shown.table; posted = shown.posted; held = shown.held; blocked = (refl, (p, row)); width = shown.width; known = shown.known; itself = shown.itself });
-      sends = refl;
+      place = refl;
+      completion = refl;
+      shown = subst (λ (c : Core). IsShown (record old { blocked = Some q }) known c) (sym (ap (core_settled_by (core_waits core q.serial)) ready))
+          (record {
+            rows = shown.rows;
+            jobs = shown.jobs;
+            count = shown.count;
+            table = shown.table;
+            posted = shown.posted;
+            held = shown.held;
+            blocked = (refl, (p, row));
+            width = shown.width;
+            known_alike = shown.known_alike;
+            itself = shown.itself;
+          });
+      sends = λ within. refl;
       tells = ap (told old.place.endpoint (Some (machine.Wait (One (Some q.serial)), None))) ready;
     }
   where
@@ -155,48 +164,79 @@ wait_blocked old core q p shown free row job =
     ready = ready_waiting (core_waits core q.serial) shown.rows q.serial q.key p refl shown.jobs row
 
 -- its request is over: the call is answered
-wait_done : (old : EngineState) (core : Core) (q : Request) (o : Outcome) → (shown : IsShown old core) → old.blocked ≡ None → core.blocked ≡ None →
+wait_done : (old : CoreState) (known : List ℕ) (core : Core) (q : Request) (o : Outcome) → (shown : IsShown old known core) → old.blocked ≡ None → core.blocked ≡ None →
     slice_get shown.rows q.serial ≡ Some (record { key = q.key; job = Over (outcome_seen o) }) →
-    slice_get core.jobs q.serial ≡ Some (Over (outcome_seen o)) → IsCalled old core (calls.Wait (Some q)) (replies.Done o) (record old { slots = slice_set old.slots q.key None })
-wait_done old core q o shown engine_free free row job =
+    slice_get core.jobs q.serial ≡ Some (Over (outcome_seen o)) → IsCalled old known core (calls.Wait (Some q)) (replies.Done o) (record old { slots = slice_set old.slots q.key None })
+wait_done old known core q o shown rank_free free row job =
     record {
       fit = wait_fit old.place.size core q.serial (Over (outcome_seen o)) free job (outcome_stands (outcome_seen o));
-      shown = subst (λ (c : Core). IsShown new c) (sym (settled_over (core_waits core q.serial) q.serial (outcome_seen o) ready))
-          (shown_free new (core_answered (core_waits core q.serial) q.serial) (slice_set shown.rows q.serial (record { key = q.key; job = Closed }))
-          (holding_taken old new core (core_answered (core_waits core q.serial) q.serial) shown.rows q.serial q.key (outcome_seen o) (holding_of old core shown) row refl refl refl refl refl refl refl refl) engine_free refl);
-      sends = refl;
+      place = refl;
+      completion = refl;
+      shown = subst (λ (c : Core). IsShown new known c) (sym (settled_over (core_waits core q.serial) q.serial (outcome_seen o) ready))
+          (shown_free new known (core_answered (core_waits core q.serial) q.serial) (slice_set shown.rows q.serial (record { key = q.key; job = Closed }))
+          (holding_taken old new known core (core_answered (core_waits core q.serial) q.serial) shown.rows q.serial q.key (outcome_seen o) (holding_of old known core shown) row refl refl refl refl refl refl refl) rank_free refl);
+      sends = λ within. refl;
       tells = ap (told old.place.endpoint (Some (machine.Wait (One (Some q.serial)), None))) ready;
     }
   where
-    new : EngineState
+    new : CoreState
     new = record old { slots = slice_set old.slots q.key None }
 
     ready : core_ready (core_waits core q.serial) ≡ Some (ForOne (outcome_seen o), q.serial ∷ [])
     ready = ready_over (core_waits core q.serial) shown.rows q.serial q.key (outcome_seen o) refl shown.jobs row
 
 -- the job of a row, in the core
-core_job : (old : EngineState) (core : Core) (k key : ℕ) (j : Job) → (shown : IsShown old core) → slice_get shown.rows k ≡ Some (record { key = key; job = j }) → slice_get core.jobs k ≡ Some j
-core_job old core k key j shown h = ap (λ (js : List Job). slice_get js k) shown.jobs ∙ job_at shown.rows k key j h
+core_job : (old : CoreState) (known : List ℕ) (core : Core) (k key : ℕ) (j : Job) → (shown : IsShown old known core) → slice_get shown.rows k ≡ Some (record { key = key; job = j }) → slice_get core.jobs k ≡ Some j
+core_job old known core k key j shown h = ap (λ (js : List Job). slice_get js k) shown.jobs ∙ job_at shown.rows k key j h
 
--- a wait that was taken, by how far its request is
-pub wait_some : (old new : EngineState) (core : Core) (q : Request) (reply : Reply) → IsShown old core → IsTaken reply → old.blocked ≡ None → WaitGives old q reply new → IsCalled old core (calls.Wait (Some q)) reply new
-wait_some old new core q reply shown taken free gives = go (progress_at old.slots q.key q.serial) refl gives
+-- a request that the table holds, in the rows and in the core
+pub record IsThere (rows : List Row) (core : Core) (q : Request) (j : Job) : Type 0 where
+  pub row : slice_get rows q.serial ≡ Some (record { key = q.key; job = j })
+  pub job : slice_get core.jobs q.serial ≡ Some j
+
+-- a receive that waits
+pub there_waiting : (old : CoreState) (known : List ℕ) (core : Core) (q : Request) (b : Contents) → (shown : IsShown old known core) → progress_at old.slots q.key q.serial ≡ Some (Receiving b) →
+    (p : receives.Receive) × IsThere shown.rows core q (Waiting p)
+there_waiting old known core q b shown e =
+    let r : HasRow shown.rows q.serial q.key (Receiving b) = row_of old.slots shown.rows q.serial q.key (Receiving b) shown.table e in
+    let p : (p : receives.Receive) × (r.job ≡ Waiting p) = waiting_of b r.job r.fits in
+    let row : slice_get shown.rows q.serial ≡ Some (record { key = q.key; job = Waiting p.0 }) = r.there ∙ ap (λ (j : Job). Some (record { key = q.key; job = j })) p.1 in
+    (p.0, record { row = row; job = core_job old known core q.serial q.key (Waiting p.0) shown row })
+
+-- a request that is over
+pub there_over : (old : CoreState) (known : List ℕ) (core : Core) (q : Request) (o : Outcome) → (shown : IsShown old known core) → progress_at old.slots q.key q.serial ≡ Some (Finished o) →
+    IsThere shown.rows core q (Over (outcome_seen o))
+there_over old known core q o shown e =
+    let r : HasRow shown.rows q.serial q.key (Finished o) = row_of old.slots shown.rows q.serial q.key (Finished o) shown.table e in
+    let row : slice_get shown.rows q.serial ≡ Some (record { key = q.key; job = Over (outcome_seen o) }) = r.there ∙ ap (λ (j : Job). Some (record { key = q.key; job = j })) (over_of o r.job r.fits) in
+    record { row = row; job = core_job old known core q.serial q.key (Over (outcome_seen o)) shown row }
+
+-- a wait on a request that is there breaks no rule of the machine
+pub wait_faultless : (old : CoreState) (known : List ℕ) (core : Core) (q : Request) (g : Progress) → IsShown old known core → old.blocked ≡ None → progress_at old.slots q.key q.serial ≡ Some g →
+    rules.fault old.place.size (view blank core) (machine.Wait (One (Some q.serial))) ≡ None
+wait_faultless old known core q (Receiving b) shown free e =
+    let t = there_waiting old known core q b shown e in
+    wait_fit old.place.size core q.serial (Waiting t.0) (core_free old known core shown free) t.1.job refl
+wait_faultless old known core q (Finished o) shown free e =
+    wait_fit old.place.size core q.serial (Over (outcome_seen o)) (core_free old known core shown free) (there_over old known core q o shown e).job (outcome_stands (outcome_seen o))
+
+-- a wait on a request that is there, by how far this is
+pub wait_some : (old new : CoreState) (known : List ℕ) (core : Core) (q : Request) (reply : Reply) → IsShown old known core → old.blocked ≡ None → Waits old q reply new →
+    IsCalled old known core (calls.Wait (Some q)) reply new
+wait_some old new known core q reply shown free waits = go (progress_at old.slots q.key q.serial) refl waits
   where
     core_is : core.blocked ≡ None
-    core_is = core_free old core shown free
+    core_is = core_free old known core shown free
 
-    go : (g : Option Progress) → progress_at old.slots q.key q.serial ≡ g → WaitGivesAt old q g reply new → IsCalled old core (calls.Wait (Some q)) reply new
-    go None e w = absurd (taken_refused reply refusals.Request (calls.Wait (Some q)) w.0 taken)
+    go : (g : Option Progress) → progress_at old.slots q.key q.serial ≡ g → WaitsAt old q g reply new → IsCalled old known core (calls.Wait (Some q)) reply new
+    go None e w = absurd w
     go (Some (Receiving b)) e w =
-        let r : HasRow shown.rows q.serial q.key (Receiving b) = row_of old.slots shown.rows q.serial q.key (Receiving b) shown.table e in
-        let p : (p : receives.Receive) × (r.job ≡ Waiting p) = waiting_of b r.job r.fits in
-        let row : slice_get shown.rows q.serial ≡ Some (record { key = q.key; job = Waiting p.0 }) = r.there ∙ ap (λ (j : Job). Some (record { key = q.key; job = j })) p.1 in
-        subst (λ (x : Reply). IsCalled old core (calls.Wait (Some q)) x new) (sym w.0)
-        (subst (λ (x : EngineState). IsCalled old core (calls.Wait (Some q)) replies.Blocked x) (sym w.1)
-        (wait_blocked old core q p.0 shown core_is row (core_job old core q.serial q.key (Waiting p.0) shown row)))
+        let t = there_waiting old known core q b shown e in
+        subst (λ (x : Reply). IsCalled old known core (calls.Wait (Some q)) x new) (sym w.0)
+        (subst (λ (x : CoreState). IsCalled old known core (calls.Wait (Some q)) replies.Blocked x) (sym w.1)
+        (wait_blocked old known core q t.0 shown core_is t.1.row t.1.job))
     go (Some (Finished o)) e w =
-        let r : HasRow shown.rows q.serial q.key (Finished o) = row_of old.slots shown.rows q.serial q.key (Finished o) shown.table e in
-        let row : slice_get shown.rows q.serial ≡ Some (record { key = q.key; job = Over (outcome_seen o) }) = r.there ∙ ap (λ (j : Job). Some (record { key = q.key; job = j })) (over_of o r.job r.fits) in
-        subst (λ (x : Reply). IsCalled old core (calls.Wait (Some q)) x new) (sym w.0)
-        (subst (λ (x : EngineState). IsCalled old core (calls.Wait (Some q)) (replies.Done o) x) (sym w.1)
-        (wait_done old core q o shown free core_is row (core_job old core q.serial q.key (Over (outcome_seen o)) shown row)))
+        let t = there_over old known core q o shown e in
+        subst (λ (x : Reply). IsCalled old known core (calls.Wait (Some q)) x new) (sym w.0)
+        (subst (λ (x : CoreState). IsCalled old known core (calls.Wait (Some q)) (replies.Done o) x) (sym w.1)
+        (wait_done old known core q o shown free core_is t.row t.job))

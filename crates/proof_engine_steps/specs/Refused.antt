@@ -1,13 +1,11 @@
--- Why an engine refuses a call, and that it takes none with a fault.
-use Rattle.std.specs.Prelude.{◌≡◌, ℕ, ◌<◌, ◌⊎◌, Option, Some, None}
+-- Why a rank refuses a call, and that it takes none with a fault.
+use Rattle.std.specs.Prelude.{◌≡◌, ℕ, ◌<◌, ◌⊎◌, List, Option, Some, None}
 use Rattle.rank_core.specs.declared.call.Call.{Call}
 use Rattle.rank_core.specs.declared.call.Call.TheVariants as calls
-use Rattle.rank_core.specs.declared.call.Reply.{Reply}
-use Rattle.rank_core.specs.declared.call.Reply.TheVariants as replies
 use Rattle.rank_core.specs.declared.refused.Refused.{Refused}
 use Rattle.rank_core.specs.declared.refused.Refused.TheVariants as refusals
-use Rattle.engine.specs.Calls.{CallGives, IsTaken}
-use Rattle.engine.specs.EngineState.{EngineState}
+use Rattle.rank_core.specs.Calls.{call_fault}
+use Rattle.rank_core.specs.CoreState.{CoreState}
 use Rattle.rank_core.specs.Refusals.{number_of_refusal}
 use Rattle.rank_core.specs.Sending.{byte_count}
 use Rattle.vocabulary.specs.declared.envelope.Source.TheVariants as sources
@@ -17,8 +15,8 @@ use Rattle.proof_pure_network.specs.Held.{blank}
 use Rattle.proof_engine_view.specs.Seen.{call_meant, call_seen}
 use Rattle.proof_engine_view.specs.Shown.{IsShown}
 
--- the fault that the machine finds with what a call means at an engine
-abbrev pub fault_seen : EngineState → Core → Call → Option ℕ
+-- the fault that the machine finds with what a call means at a rank
+abbrev pub fault_seen : CoreState → Core → Call → Option ℕ
 fault_seen old core call = fault old.place.size (view blank core) (call_meant old call)
 
 -- The rules by which the engine is for now narrower than the machine: a send has at most 1,024 bytes (1), and no call names
@@ -43,23 +41,29 @@ pub data IsReason (found : Option ℕ) (call : Call) (why : Refused) : Type 0 wh
   Narrower : IsNarrower call why → IsReason found call why
 
 -- a call is refused for such a reason, by the fault that the machine finds
-abbrev pub HasReason : EngineState → Core → Call → Refused → Type 0
+abbrev pub HasReason : CoreState → Core → Call → Refused → Type 0
 HasReason old core call why = IsReason (fault_seen old core call) call why
 
--- Every call that an engine refuses is refused for such a reason
-abbrev pub RefusedCallsHaveReasons : Type 0
-RefusedCallsHaveReasons =
-    (old new : EngineState) (core : Core) (call back : Call) (why : Refused) →
-    IsShown old core → CallGives old call (replies.Refused why back) new → HasReason old core call why
+-- Every rule and limit of a rank's core that a call meets is such a reason
+abbrev pub FaultsHaveReasons : Type 0
+FaultsHaveReasons =
+    (old : CoreState) (known : List ℕ) (core : Core) (call : Call) (why : Refused) →
+    IsShown old known core → call_fault old call ≡ Some why → HasReason old core call why
 
 -- a call that names no request of another engine, and with which the machine finds no fault
-pub record IsFaultless (found : Option ℕ) (e : EngineState) (call : Call) : Type 0 where
-  pub own : call_meant e call ≡ call_seen call
+pub record IsFaultless (found : Option ℕ) (c : CoreState) (call : Call) : Type 0 where
+  pub own : call_meant c call ≡ call_seen call
   pub none : found ≡ None
 
--- Every call that an engine takes is without a fault
-abbrev pub TakenCallsAreFaultless : Type 0
-TakenCallsAreFaultless =
-    (old new : EngineState) (core : Core) (call : Call) (reply : Reply) →
-    IsShown old core → IsTaken reply → CallGives old call reply new →
+-- Every call that meets no rule and no limit of a rank's core is without a fault
+abbrev pub AllowedCallsAreFaultless : Type 0
+AllowedCallsAreFaultless =
+    (old : CoreState) (known : List ℕ) (core : Core) (call : Call) →
+    IsShown old known core → call_fault old call ≡ None →
     IsFaultless (fault old.place.size (view blank core) (call_seen call)) old call
+
+-- So where a call is refused that meets none, for a limit or for want of memory, that is a reason
+abbrev pub RoomIsAReason : Type 0
+RoomIsAReason =
+    (old : CoreState) (known : List ℕ) (core : Core) (call : Call) (why : Refused) →
+    IsShown old known core → call_fault old call ≡ None → IsOutOfRoom why → HasReason old core call why

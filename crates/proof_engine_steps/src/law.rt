@@ -1,18 +1,19 @@
-//! The law that joins an engine to its core.
+//! The law that joins a rank's core to its core in the pure network.
 
-ghost use Rattle.proof_engine_steps.specs.Steps.{OpeningIsShown, CallsAreShown, WordsAreShown, ArrivalsAreShown};
-ghost use Rattle.proof_engine_steps.specs.Refused.{RefusedCallsHaveReasons, TakenCallsAreFaultless};
+ghost use Rattle.proof_engine_steps.specs.Steps.{OpeningIsShown, CallsAreShown, NewsAreShown};
+ghost use Rattle.proof_engine_steps.specs.Refused.{FaultsHaveReasons, AllowedCallsAreFaultless, RoomIsAReason};
 
-/// States that an engine holds what a core of the pure network holds, at whatever incarnation it starts, and that each call
-/// that is taken, each word that teaches a later incarnation and each message that arrives keeps that: the machine finds no
-/// fault with the call, is told the same reply and completion, and the core gives the same frames to its links. Each call
-/// that is refused has the machine's first fault, or meets a limit or want of memory, or one of the few rules by which the
-/// engine is narrower for now; and a call that is taken names no request of another engine. It does nothing when it is called.
+/// States that a rank's core holds what a core of the pure network holds, at whatever incarnation it starts, and that each call
+/// that is taken and all that is heard, be it a lesson or not, with a frame or without, keeps that: the machine finds no
+/// fault with the call, is told the same reply and completion, and the network's core gives the same frames to its links.
+/// Each call that meets a rule or a limit has the machine's first fault, or a limit met it, or one of the few rules by which
+/// the engine is narrower for now; each call that meets none names no request of another engine, and the machine finds no
+/// fault with it, so that a limit of its frame or want of memory is a reason. It does nothing when it is called.
 pub fn engines_are_cores()
     ensures opening { OpeningIsShown }
     ensures calls { CallsAreShown }
-    ensures refused { RefusedCallsHaveReasons }
-    ensures taken { TakenCallsAreFaultless }
-    ensures words { WordsAreShown }
-    ensures arrivals { ArrivalsAreShown }
+    ensures news { NewsAreShown }
+    ensures faults { FaultsHaveReasons }
+    ensures allowed { AllowedCallsAreFaultless }
+    ensures room { RoomIsAReason }
 {}

@@ -1,3 +1,4 @@
 pub mod Seen
+pub mod Frames
 pub mod Rows
 pub mod Shown

@@ -1,5 +1,5 @@
--- An engine's requests by their serials, each with the key under which it stands in the table.
-use Rattle.std.specs.Prelude.{◌≡◌, ℕ, List, [], ◌∷◌, ◌++◌, length, map, Option, Some, slice_get}
+-- A rank's requests by their serials, each with the key under which it stands in the table.
+use Rattle.std.specs.Prelude.{◌≡◌, ℕ, List, [], ◌∷◌, ◌++◌, length, map, Option, Some, None, slice_get}
 use Rattle.datatypes.specs.Contents.{Contents}
 use Rattle.match_queues.specs.declared.envelope.Receive as posted
 use Rattle.match_queues.specs.declared.envelope.Message.{Message}
@@ -7,6 +7,7 @@ use Rattle.requests.specs.declared.table.Entry.{Entry}
 use Rattle.requests.specs.declared.table.Progress.{Progress}
 use Rattle.requests.specs.declared.table.Progress.TheVariants.{Receiving, Finished}
 use Rattle.requests.specs.Table.{slot_at}
+use Rattle.perfect_queues.specs.Buffers.{whole}
 use Rattle.perfect_queues.specs.Receives.{Receive}
 use Rattle.proof_pure_network.specs.Held.{Held, Whole}
 use Rattle.proof_pure_network.specs.Jobs.{Job, Waiting, Collecting, Offering, Over, Closed}
@@ -23,13 +24,13 @@ jobs_of rows = map (λ (r : Row). r.job) rows
 
 -- the buffer of a receive
 abbrev pub contents_of : Receive → Contents
-contents_of p = record { basic = p.basic; values = p.buffer }
+contents_of p = p.into.buffer
 
 -- the receive is into the whole buffer, on world
 pub record IsWhole (p : Receive) : Type 0 where
   pub context : p.context ≡ 0
-  pub layout : p.layout ≡ 0 ∷ []
-  pub copies : p.copies ≡ length p.buffer
+  pub group : p.group ≡ None
+  pub into : p.into ≡ whole p.into.buffer
 
 -- how far the request is says what the job says
 abbrev pub Fits : Progress → Job → Type 0

@@ -1,8 +1,7 @@
--- What the machine of perfect queues sees of an engine's calls, replies and outcomes.
+-- What the machine of perfect queues sees of a rank's calls, replies and outcomes.
 use Rattle.std.specs.Prelude.{ℕ, Bool, false, not, ◌&&◌, List, [], ◌∷◌, length, Option, Some, None, if◌then◌else◌, ◌==◌, option_map}
 use Rattle.std.specs.List.{list_any}
 use Rattle.vocabulary.specs.declared.endpoint.Endpoint.{Endpoint}
-use Rattle.proof_pure_network.specs.Frames.{Eager, Frame}
 use Rattle.requests.specs.declared.outcome.Outcome.{Outcome}
 use Rattle.requests.specs.declared.outcome.Outcome.TheVariants as outcomes
 use Rattle.requests.specs.Outcomes.{number_of_failure}
@@ -15,14 +14,17 @@ use Rattle.rank_core.specs.declared.call.Call.{Call}
 use Rattle.rank_core.specs.declared.call.Call.TheVariants as calls
 use Rattle.rank_core.specs.declared.call.Reply.{Reply}
 use Rattle.rank_core.specs.declared.call.Reply.TheVariants as replies
-use Rattle.engine.specs.EngineState.{EngineState}
-use Rattle.sessions.specs.SessionsState.{known_endpoint}
+use Rattle.rank_core.specs.CoreState.{CoreState}
 use Rattle.perfect_queues.specs.Outcomes as machine_outcomes
 use Rattle.perfect_queues.specs.Receives as machine_receives
 use Rattle.perfect_queues.specs.Calls as machine
 use Rattle.perfect_queues.specs.Completions.{One, ForOne}
 use Rattle.perfect_queues.specs.Events.{Entry, Called, Completed}
+use Rattle.perfect_queues.specs.Buffers.{whole}
 use Rattle.perfect_queues.specs.Refusals.{world}
+use Rattle.rank_core.specs.declared.call.Send.{Send}
+use Rattle.vocabulary.specs.declared.envelope.Source.{Source}
+use Rattle.vocabulary.specs.declared.envelope.Source.TheVariants.{Rank, Null}
 
 -- how an operation ended
 abbrev pub outcome_seen : Outcome → machine_outcomes.Outcome
@@ -32,22 +34,23 @@ outcome_seen (outcomes.Ended why status b) = machine_outcomes.Ended (number_of_f
 outcome_seen (outcomes.Replaced b) = machine_outcomes.Replaced (option_map (λ c. c.values) b)
 outcome_seen outcomes.Empty = machine_outcomes.Empty
 
--- A receive into a whole buffer: its values take the buffer's places from the first on
+-- A receive on world into a whole buffer: its values take the buffer's places from the first on
 abbrev pub receive_seen : Receive → machine_receives.Receive
 receive_seen v =
-    record {
-      source = v.source;
-      tag = v.tag;
-      context = world;
-      basic = v.buffer.basic;
-      layout = 0 ∷ [];
-      copies = length v.buffer.values;
-      buffer = v.buffer.values;
-    }
+    record { source = v.source; tag = v.tag; context = world; group = None; into = whole v.buffer }
+
+-- whom a send names: a rank, or the null process
+abbrev pub target_seen : Option ℕ → Source
+target_seen None = Null
+target_seen (Some to) = Rank to
+
+-- a send of a whole buffer
+abbrev pub send_seen : Send → machine.Call
+send_seen s = machine.Isend world (target_seen s.target) (Some s.tag) (whole s.elements)
 
 -- a request is named by its serial
 abbrev pub call_seen : Call → machine.Call
-call_seen (calls.Isend s) = machine.Isend world s.target s.tag s.elements.basic s.elements.values
+call_seen (calls.Isend s) = send_seen s
 call_seen (calls.Irecv v) = machine.Irecv (receive_seen v)
 call_seen (calls.Wait None) = machine.Wait (One None)
 call_seen (calls.Wait (Some q)) = machine.Wait (One (Some q.serial))
@@ -57,20 +60,20 @@ abbrev pub has_serial : (serial : ℕ) → Option table.Entry → Bool
 has_serial serial None = false
 has_serial serial (Some t) = t.serial == serial
 
--- whether another engine gave the request: one with its serial stands in this engine's table, though not under its key
+-- whether another engine gave the request: one with its serial stands in this rank's table, though not under its key
 abbrev pub is_foreign : (slots : List (Option table.Entry)) → Request → Bool
 is_foreign slots q = list_any (has_serial q.serial) slots && not (has_serial q.serial (slot_at slots q.key))
 
--- the serial that a request stands for at an engine: its own; that of another engine's is the next one, which no request has
-abbrev pub serial_meant : EngineState → Request → ℕ
-serial_meant e q = if is_foreign e.slots q then e.serial else q.serial
+-- the serial that a request stands for at a rank: its own; that of another engine's is the next one, which no request has
+abbrev pub serial_meant : CoreState → Request → ℕ
+serial_meant c q = if is_foreign c.slots q then c.serial else q.serial
 
--- what a call means at an engine: what is seen of it, but that a request of another engine is one that it never gave
-abbrev pub call_meant : EngineState → Call → machine.Call
-call_meant e (calls.Isend s) = call_seen (calls.Isend s)
-call_meant e (calls.Irecv v) = call_seen (calls.Irecv v)
-call_meant e (calls.Wait None) = call_seen (calls.Wait None)
-call_meant e (calls.Wait (Some q)) = machine.Wait (One (Some (serial_meant e q)))
+-- what a call means at a rank: what is seen of it, but that a request of another engine is one that it never gave
+abbrev pub call_meant : CoreState → Call → machine.Call
+call_meant c (calls.Isend s) = call_seen (calls.Isend s)
+call_meant c (calls.Irecv v) = call_seen (calls.Irecv v)
+call_meant c (calls.Wait None) = call_seen (calls.Wait None)
+call_meant c (calls.Wait (Some q)) = machine.Wait (One (Some (serial_meant c q)))
 
 -- what is seen of a call at an endpoint that was answered so; of a refused one nothing is
 abbrev pub told_call : Endpoint → Call → Option Reply → List Entry
@@ -84,17 +87,3 @@ told_call e call (Some (replies.Refused why back)) = []
 abbrev pub told_completion : Endpoint → Option Outcome → List Entry
 told_completion e None = []
 told_completion e (Some o) = Completed e (ForOne (outcome_seen o)) ∷ []
-
--- the frames that a call of rank `own` gives to links, each to the incarnation at which it knows its target; a send to
--- the own rank gives none
-abbrev pub sent_to : (own : ℕ) (known : List ℕ) → Send → Option ℕ → List (Endpoint × Frame)
-sent_to own known s None = []
-sent_to own known s (Some target) =
-    if target == own then []
-    else (known_endpoint known target, Eager world s.tag s.elements.basic s.elements.values) ∷ []
-
--- the frames that a call gives to links: those of a send alone
-abbrev pub sent_by : EngineState → Call → List (Endpoint × Frame)
-sent_by e (calls.Isend s) = sent_to e.place.endpoint.rank e.known s s.target
-sent_by e (calls.Irecv v) = []
-sent_by e (calls.Wait q) = []

@@ -1,56 +1,48 @@
--- That the machine and `datatypes` mean the same by a layout (MPI 3.1, 4.1).
-use Rattle.std.specs.Prelude.{◌≡◌, ℕ, true, false, List, length, None, nat_le, nat_lt}
-use Rattle.std.specs.List.{list_any}
-use Rattle.vocabulary.specs.declared.basic_type.BasicType.{BasicType}
-use Rattle.datatypes.specs.Contents.{Contents}
-use Rattle.datatypes.specs.Layouts.{Shape, extent_of, places, has_repeats}
-use Rattle.datatypes.specs.Transfers.{room_for, is_same_type, unpack_fault, put_at}
+-- That the machine and `datatypes` mean the same by a layout (MPI 3.1, 4.1): both speak of one definition of places, and
+-- here stands what each makes of it.
+use Rattle.std.specs.Prelude.{◌≡◌, Bool, true, false, Option, Some, None, length}
+use Rattle.datatypes.specs.declared.refusal.Refusal.{Refusal}
+use Rattle.datatypes.specs.declared.refusal.Refusal.TheVariants.{WrongType, TooShort}
+use Rattle.datatypes.specs.Transfers.{send_fault, receive_fault, unpack_fault}
+use Rattle.layouts.specs.Buffers.{Contents, elements_at, put_at}
+use Rattle.layouts.specs.Layouts.{places}
+use Rattle.perfect_queues.specs.Buffers.{Handed, data_of, differs_in_type, is_too_short}
 use Rattle.perfect_queues.specs.Calls.{Irecv}
-use Rattle.perfect_queues.specs.Layouts as machine
 use Rattle.perfect_queues.specs.Messages.{Message}
 use Rattle.perfect_queues.specs.Outcomes.{Received, outcome, status_of}
-use Rattle.perfect_queues.specs.Receives.{Receive, is_of_type, has_room}
-use Rattle.perfect_queues.specs.Refusals.{is_twice, is_type_wrong, is_count_wrong}
+use Rattle.perfect_queues.specs.Receives.{Receive, has_room}
+use Rattle.perfect_queues.specs.Refusals.{is_type_wrong, is_count_wrong}
 
--- how far one copy lies from the next (4.1.7)
-abbrev pub ExtentsAgree : Type 0
-ExtentsAgree = (layout : List ℕ) → machine.extent_of layout ≡ extent_of layout
+-- the refusal by whether the machine finds the type wrong (2), and whether it finds the buffer too short (1)
+abbrev pub refusal_by : (wrong_type too_short : Bool) → Option Refusal
+refusal_by true short = Some WrongType
+refusal_by false true = Some TooShort
+refusal_by false false = None
 
--- the places of several copies, in order (4.1.2)
-abbrev pub PlacesAgree : Type 0
-PlacesAgree = (layout : List ℕ) (copies : ℕ) → machine.places_of layout copies ≡ places copies layout
+-- A send's buffer is refused by packing as by the machine, which judges the limit of bytes beside it (3.3.1, 4.1.11)
+abbrev pub SendFaultsAgree : Type 0
+SendFaultsAgree =
+    (h : Handed) → send_fault h.buffer h.layout h.copies ≡ refusal_by (differs_in_type h) (is_too_short h)
 
--- a buffer once values took some places, in order (3.2.4)
-abbrev pub WritingAgrees : Type 0
-WritingAgrees = (at buffer values : List ℕ) → machine.written at buffer values ≡ put_at buffer at values
+-- a receive's buffer is refused by unpacking as by the machine
+abbrev pub ReceiveFaultsAgree : Type 0
+ReceiveFaultsAgree =
+    (p : Receive) →
+    receive_fault p.into.buffer p.into.layout p.into.copies ≡ refusal_by (is_type_wrong (Irecv p)) (is_count_wrong (Irecv p))
 
--- whether a layout names a place twice (4.1.11)
-abbrev pub RepeatsAgree : Type 0
-RepeatsAgree = (layout : List ℕ) → is_twice layout ≡ has_repeats layout
-
--- whether a place lies beyond a buffer of so many elements
-abbrev pub RoomAgrees : Type 0
-RoomAgrees = (size : ℕ) (at : List ℕ) → list_any (λ o. nat_le size o) at ≡ nat_lt size (room_for at)
-
--- whether two basic types are one
-abbrev pub TypesAgree : Type 0
-TypesAgree = (a b : BasicType) → is_of_type a b ≡ is_same_type a b
-
--- the buffer of a receive, and its layout, as `datatypes` sees them
-abbrev pub buffer_of : Receive → Contents
-buffer_of p = record { basic = p.basic; values = p.buffer }
-
-abbrev pub shape_of : Receive → Shape
-shape_of p = record { basic = p.basic; offsets = p.layout }
+-- what packing takes out of a buffer is what the machine sends (4.1.2)
+abbrev pub DataAgree : Type 0
+DataAgree = (h : Handed) → elements_at h.buffer.values (places h.copies h.layout.offsets) ≡ data_of h
 
 -- a message's data, as `datatypes` sees them
-abbrev pub data_of : Message → Contents
-data_of m = record { basic = m.basic; values = m.values }
+abbrev pub contents_of : Message → Contents
+contents_of m = record { basic = m.basic; values = m.values }
 
 -- a receive and a message that fits it: the machine's receive ends with the buffer that `unpack` leaves
 pub record ReceiveAgrees (p : Receive) (m : Message) : Type 0 where
-  pub no_fault : unpack_fault (data_of m) (buffer_of p) (shape_of p) p.copies ≡ None
-  pub ends : outcome p m ≡ Received (status_of m) (put_at p.buffer (places p.copies p.layout) m.values)
+  pub no_fault : unpack_fault (contents_of m) p.into.buffer p.into.layout p.into.copies ≡ None
+  pub ends : outcome p m
+      ≡ Received (status_of p m) (put_at p.into.buffer.values (places p.into.copies p.into.layout.offsets) m.values)
 
 -- Whatever receive the machine takes, and whatever message fits it: unpacking has no fault, and both leave the same (3.2.4)
 abbrev pub ReceivesAgree : Type 0

@@ -1,5 +1,5 @@
 -- Links grow: more is accepted at their ends, and more is handed up.
-use Rattle.std.proofs.Common.{◌≡◌, ℕ, suc, ◌+◌, ◌<◌, ◌≤◌, ◌^◌, Bool, true, false, ◌&&◌, List, [], ◌∷◌, ◌++◌, length, Some, if◌then◌else◌, ◌==◌, slice_get, refl, sym, ap, ◌∙◌, subst, arith, inl, inr, ◌⊎◌}
+use Rattle.std.proofs.Common.{◌≡◌, ℕ, suc, ◌+◌, ◌<◌, ◌≤◌, ◌^◌, Bool, true, false, ◌&&◌, List, [], ◌∷◌, ◌++◌, length, Some, if◌then◌else◌, ◌==◌, slice_get, refl, sym, ap, ◌∙◌, subst, arith}
 use Rattle.std.proofs.lemmas.Bool.{and_parts, eq-eqb, both_ways}
 use Rattle.std.proofs.lemmas.List.{length-append}
 use Rattle.vocabulary.specs.Endpoints.{is_same}
@@ -9,9 +9,9 @@ use Rattle.proof_pure_network.specs.Frames.{Frame}
 use Rattle.proof_pure_network.specs.Links.{Link, accept, handed_on, with_link}
 use Rattle.proof_pure_network.proofs.JobLemmas.{All_append}
 use Rattle.reliable_link.proofs.Places.{place_stays}
-use Rattle.engine.specs.EngineState.{EngineState}
+use Rattle.sessions.specs.SessionsState.{SessionsState}
 use Rattle.proof_link_truth.specs.Sessions.{IsLink, Links, is_pair}
-use Rattle.proof_link_truth.specs.Told.{IsTold, TellsAck, TellsFrame, TellsReset}
+use Rattle.proof_link_truth.specs.Told.{IsTold, Tells, TellsAck, TellsFrame, TellsReset}
 use Rattle.proof_link_truth.specs.Truth.{AreTrue}
 use Rattle.proof_link_truth.specs.Wire.{IsSent}
 
@@ -96,11 +96,10 @@ told_more n r a b current grows t told = record {
   tells = go told.tells;
 }
   where
-    go : TellsFrame n told.source told.target a t.1 ⊎ (TellsAck n told.source told.target a t.1 ⊎ TellsReset n told.source told.target t.1)
-        → TellsFrame n told.source told.target b t.1 ⊎ (TellsAck n told.source told.target b t.1 ⊎ TellsReset n told.source told.target t.1)
-    go (inl x) = inl (record { number = x.number; frame = x.frame; there = grows.kept told.source told.target x.number x.frame x.there; bytes_are = x.bytes_are })
-    go (inr (inl x)) = inr (inl (record { number = x.number; there = omega (arith, x.there, grows.more told.target told.source); bytes_are = x.bytes_are }))
-    go (inr (inr x)) = inr (inr x)
+    go : Tells n told.source told.target a t.1 → Tells n told.source told.target b t.1
+    go (TellsFrame number frame there is) = TellsFrame number frame (grows.kept told.source told.target number frame there) is
+    go (TellsAck number there is) = TellsAck number (omega (arith, there, grows.more told.target told.source)) is
+    go (TellsReset is) = TellsReset is
 
 -- and once ranks are at later incarnations
 pub told_later : (n : ℕ) (a : Links) (current later : ℕ → ℕ) → ((x : ℕ) → current x ≤ later x) → (t : ℕ × List ℕ) → IsTold n a current t → IsTold n a later t
@@ -154,9 +153,9 @@ pub record LinksFit (n : ℕ) (links : Links) (current : ℕ → ℕ) : Type 0 w
   pub none_handed : (s d : Endpoint) → current d.rank < d.incarnation → (links s d).handed ≡ 0
 
 -- a world's links do
-pub links_fit : (n : ℕ) (engines : List EngineState) (datagrams : List (ℕ × List ℕ)) (links : Links) (current : ℕ → ℕ)
-    → AreTrue n engines datagrams links current → LinksFit n links current
-links_fit n engines datagrams links current true_now = record {
+pub links_fit : (n : ℕ) (sessions : List SessionsState) (datagrams : List (ℕ × List ℕ)) (links : Links) (current : ℕ → ℕ)
+    → AreTrue n sessions datagrams links current → LinksFit n links current
+links_fit n sessions datagrams links current true_now = record {
   sound = true_now.sound;
   strangers = true_now.strangers;
   none_accepted = true_now.none_accepted;

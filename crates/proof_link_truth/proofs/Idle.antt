@@ -8,10 +8,10 @@ use Rattle.proof_pure_network.specs.Links.{Link, in_flight}
 use Rattle.reliable_link.specs.declared.out_frame.OutFrame.{OutFrame}
 use Rattle.sessions.specs.declared.peers.Peer.{Peer}
 use Rattle.sessions.specs.Peers.{peer_at}
-use Rattle.engine.specs.EngineState.{EngineState}
+use Rattle.sessions.specs.SessionsState.{SessionsState}
 use Rattle.incarnation.specs.declared.place.Place.{Place}
 use Rattle.proof_link_truth.specs.Events.{IdleIsStill}
-use Rattle.proof_link_truth.specs.Sessions.{EngineTells, Links, PeerTells, SenderTells, bytes_kept, is_pair}
+use Rattle.proof_link_truth.specs.Sessions.{SessionsTell, Links, PeerTells, SenderTells, bytes_kept, is_pair}
 use Rattle.proof_link_truth.specs.Wire.{at, wires}
 use Rattle.proof_link_truth.proofs.Lists.{false_sym, get_within}
 use Rattle.proof_link_truth.proofs.Wires.{wires_length}
@@ -42,9 +42,9 @@ pair_is n s d h =
       target = ltb-true d.rank n b.1;
     }
 
--- the session of the one's engine with the other tells of their link
-session_tells : (n : ℕ) (current : ℕ → ℕ) (s d : Endpoint) (e : EngineState) (links : Links) → IsPair n s d → s.incarnation ≡ current s.rank
-    → slice_index e.known d.rank ≡ d.incarnation → EngineTells n current s.rank e links → SenderTells n s d (peer_at e.peers d.rank).sender (links s d)
+-- the one's session with the other tells of their link
+session_tells : (n : ℕ) (current : ℕ → ℕ) (s d : Endpoint) (e : SessionsState) (links : Links) → IsPair n s d → s.incarnation ≡ current s.rank
+    → slice_index e.known d.rank ≡ d.incarnation → SessionsTell n current s.rank e links → SenderTells n s d (peer_at e.peers d.rank).sender (links s d)
 session_tells n current s d e links pair s_is knows tells =
     let p : PeerTells n current (at s.rank (current s.rank)) d.rank (slice_index e.known d.rank) (peer_at e.peers d.rank) links =
     tells.peers d.rank pair.target pair.apart in
@@ -54,16 +54,16 @@ session_tells n current s d e links pair s_is knows tells =
 
 -- the law of idle worlds
 pub idle_is_still : IdleIsStill
-idle_is_still n engines datagrams links current true_now idle s d s_is d_is s_knows d_knows = go (is_pair n s d) refl
+idle_is_still n sessions datagrams links current true_now idle s d s_is d_is s_knows d_knows = go (is_pair n s d) refl
   where
     go : (t : Bool) → is_pair n s d ≡ t → in_flight (links s d) ≡ []
     go false h = ap (λ (fs : List Frame). drop (links s d).handed fs) (true_now.strangers s d h) ∙ drop_all (links s d).handed [] (omega arith)
     go true h =
         let pair : IsPair n s d = pair_is n s d h in
-        let e = get_within engines s.rank (omega (arith, pair.source, true_now.count)) in
-        let f = get_within engines d.rank (omega (arith, pair.target, true_now.count)) in
-        let e_tells : EngineTells n current s.rank e.0 links = true_now.tells s.rank e.0 e.1 in
-        let f_tells : EngineTells n current d.rank f.0 links = true_now.tells d.rank f.0 f.1 in
+        let e = get_within sessions s.rank (omega (arith, pair.source, true_now.count)) in
+        let f = get_within sessions d.rank (omega (arith, pair.target, true_now.count)) in
+        let e_tells : SessionsTell n current s.rank e.0 links = true_now.tells s.rank e.0 e.1 in
+        let f_tells : SessionsTell n current d.rank f.0 links = true_now.tells d.rank f.0 f.1 in
         let f_is : d.incarnation ≡ f.0.place.endpoint.incarnation = d_is ∙ sym (ap (λ (p : Place). p.endpoint.incarnation) f_tells.place) in
         let e_is : s.incarnation ≡ e.0.place.endpoint.incarnation = s_is ∙ sym (ap (λ (p : Place). p.endpoint.incarnation) e_tells.place) in
         let empty : (peer_at e.0.peers d.rank).sender.frames ≡ [] =

@@ -1,18 +1,19 @@
--- An engine that learns a later incarnation of a rank starts both directions of their session anew, as no link of that
+-- A rank that learns a later incarnation of another one starts both directions of their session anew, as no link of that
 -- incarnation has begun.
-use Rattle.std.proofs.Common.{◌≡◌, ℕ, ◌<◌, ◌≤◌, Bool, true, false, max, nat_lt, List, [], length, ◌==◌, if◌then◌else◌, slice_index, slice_set, refl, sym, ap, ◌∙◌, arith}
-use Rattle.std.proofs.lemmas.Bool.{eqb-false, ltb-true}
+use Rattle.std.proofs.Common.{◌≡◌, ℕ, ◌<◌, ◌≤◌, Bool, true, false, max, List, [], length, ◌==◌, slice_index, slice_set, refl, sym, ap, ◌∙◌, arith}
+use Rattle.std.proofs.lemmas.Bool.{eqb-false}
 use Rattle.std.proofs.lemmas.List.{get_or-set_other, get_or-set_same, length-set}
 use Rattle.vocabulary.specs.declared.endpoint.Endpoint.{Endpoint}
 use Rattle.proof_pure_network.specs.Frames.{Frame}
 use Rattle.sessions.specs.declared.peers.Peer.{Peer}
-use Rattle.engine.specs.EngineState.{EngineState}
-use Rattle.engine.specs.Learning.{learned, met}
+use Rattle.sessions.specs.Events.{taught, taught_known, taught_peers}
+use Rattle.sessions.specs.Heard.{session_met}
 use Rattle.sessions.specs.Peers.{new_session, peer_at}
-use Rattle.proof_link_truth.specs.Events.{IsHeard}
-use Rattle.proof_link_truth.specs.Sessions.{EngineTells, Links, PeerTells}
+use Rattle.sessions.specs.SessionsState.{SessionsState}
+use Rattle.proof_link_truth.specs.Events.{IsHeard, IsLesson}
+use Rattle.proof_link_truth.specs.Sessions.{Links, PeerTells, SessionsTell}
 use Rattle.proof_link_truth.specs.Wire.{at, wires}
-use Rattle.proof_link_truth.proofs.Engines.{IsKnown, engine_knows}
+use Rattle.proof_link_truth.proofs.Changing.{IsKnown, peer_set, sessions_know}
 
 -- a sender that keeps nothing tells the truth of a link that accepted nothing
 none_tells : (n : ℕ) (s d : Endpoint) (accepted : List Frame) → accepted ≡ [] → [] ≡ wires n s d 0 accepted
@@ -37,19 +38,29 @@ learned_known known x i within above = record {
   others = λ y other. get_or-set_other known x y (max (slice_index known x) i) 0 (eqb-false y x other);
 }
 
--- an engine that learnt a later incarnation holds what the same links hold
-pub learned_tells : (n r x i : ℕ) (current : ℕ → ℕ) (links : Links) (old : EngineState) → EngineTells n current r old links → x < n → (x == r) ≡ false
-    → slice_index old.known x < i → i ≤ current x → EngineTells n current r (learned old x i) links
-learned_tells n r x i current links old tells x_is apart above begun =
-    engine_knows n r x i current links links old (learned old x i) (new_session (peer_at old.peers x)) tells x_is apart
-    (new_session_tells n x (slice_index old.known x) i current (at r (current r)) (peer_at old.peers x) links above begun (tells.peers x x_is apart))
-    (λ y j o other p. p) refl (learned_known old.known x i (omega (arith, x_is, tells.width)) (omega (arith, above))) refl
+-- sessions that learnt a later incarnation hold what the same links hold
+pub learned_tells : (n r : ℕ) (current : ℕ → ℕ) (links : Links) (old : SessionsState) (s : Endpoint) → SessionsTell n current r old links → s.rank < n
+    → (s.rank == r) ≡ false → slice_index old.known s.rank < s.incarnation → s.incarnation ≤ current s.rank → SessionsTell n current r (taught true old s) links
+learned_tells n r current links old s tells s_is apart above begun =
+    let x : ℕ = s.rank in
+    let i : ℕ = s.incarnation in
+    sessions_know n r x i current links links old (taught true old s) (new_session (peer_at old.peers x)) tells s_is apart
+    (new_session_tells n x (slice_index old.known x) i current (at r (current r)) (peer_at old.peers x) links above begun (tells.peers x s_is apart))
+    (λ y j o other p. p) refl (learned_known old.known x i (omega (arith, s_is, tells.width)) (omega (arith, above))) refl
 
--- and so does one that heard a word, which may have taught nothing
-pub met_tells : (n r : ℕ) (current : ℕ → ℕ) (links : Links) (old : EngineState) (s : Endpoint) → EngineTells n current r old links → IsHeard n r current old s
-    → EngineTells n current r (met old s) links
-met_tells n r current links old s tells heard = go (nat_lt (slice_index old.known s.rank) s.incarnation) refl
-  where
-    go : (t : Bool) → nat_lt (slice_index old.known s.rank) s.incarnation ≡ t → EngineTells n current r (if t then learned old s.rank s.incarnation else old) links
-    go true h = learned_tells n r s.rank s.incarnation current links old tells heard.there heard.apart (ltb-true (slice_index old.known s.rank) s.incarnation h) heard.begun
-    go false h = tells
+-- and so do sessions that heard a word, which may have taught nothing
+pub taught_tells : (n r : ℕ) (current : ℕ → ℕ) (links : Links) (old : SessionsState) (s : Endpoint) (lesson : Bool) → SessionsTell n current r old links
+    → IsHeard n r current old.known s lesson → SessionsTell n current r (taught lesson old s) links
+taught_tells n r current links old s true tells heard = learned_tells n r current links old s tells heard.there heard.apart heard.incarnation heard.begun
+taught_tells n r current links old s false tells heard = tells
+
+-- once a word was heard, its endpoint is the known one
+pub taught_is : (known : List ℕ) (s : Endpoint) (lesson : Bool) → s.rank < length known → IsLesson lesson (slice_index known s.rank) s.incarnation
+    → slice_index (taught_known lesson known s) s.rank ≡ s.incarnation
+taught_is known s true within above = (learned_known known s.rank s.incarnation within (omega (arith, above))).here
+taught_is known s false within same = same
+
+-- the session that a word meets
+pub taught_peer : (peers : List Peer) (x : ℕ) (lesson : Bool) → x < length peers → peer_at (taught_peers lesson peers x) x ≡ session_met lesson (peer_at peers x)
+taught_peer peers x true within = peer_set peers x (new_session (peer_at peers x)) within
+taught_peer peers x false within = refl

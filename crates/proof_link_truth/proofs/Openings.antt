@@ -1,4 +1,4 @@
--- The world before anything happened, and an engine that is new.
+-- The world before anything happened, and sessions that are new.
 use Rattle.std.proofs.Common.{◌≡◌, ℕ, zero, suc, ◌+◌, ◌<◌, ◌==◌, false, List, [], length, replicate, Some, slice_get, slice_index, slice_set, refl, sym, ap, ◌∙◌, subst, arith, inl}
 use Rattle.std.proofs.lemmas.Bool.{eqb-false}
 use Rattle.std.proofs.lemmas.List.{get_or-replicate, get_or-set_other, length-replicate, length-set}
@@ -6,10 +6,10 @@ use Rattle.std.proofs.lemmas.Option.{same_Some}
 use Rattle.vocabulary.specs.declared.endpoint.Endpoint.{Endpoint}
 use Rattle.proof_pure_network.specs.Frames.{Frame}
 use Rattle.sessions.specs.declared.peers.Peer.{Peer}
-use Rattle.engine.specs.EngineState.{EngineState, opening}
+use Rattle.sessions.specs.SessionsState.{SessionsState, opening}
 use Rattle.sessions.specs.Peers.{new_peer, peer_at}
-use Rattle.proof_link_truth.specs.Events.{OpeningIsTrue, no_links, opening_engines}
-use Rattle.proof_link_truth.specs.Sessions.{EngineTells, Links, PeerTells}
+use Rattle.proof_link_truth.specs.Events.{OpeningIsTrue, no_links, opening_sessions}
+use Rattle.proof_link_truth.specs.Sessions.{SessionsTell, Links, PeerTells}
 use Rattle.proof_link_truth.specs.Wire.{at, place_of, wires}
 
 -- every session is a new one
@@ -37,10 +37,10 @@ new_tells n x current own links none = record {
   no_handed = λ i above. none.handed (at x i);
 }
 
--- a new engine, of which nothing was heard
-pub new_engine_tells : (n r : ℕ) (current : ℕ → ℕ) (links : Links) → IsUnheard (at r (current r)) links
-    → EngineTells n current r (opening (place_of n (at r (current r)))) links
-new_engine_tells n r current links none = record {
+-- new sessions, of which nothing was heard
+pub new_sessions_tell : (n r : ℕ) (current : ℕ → ℕ) (links : Links) → IsUnheard (at r (current r)) links
+    → SessionsTell n current r (opening (place_of n (at r (current r)))) links
+new_sessions_tell n r current links none = record {
   place = refl;
   each = length-replicate n new_peer;
   width = length-set (replicate n 0) r (current r) ∙ length-replicate n 0;
@@ -50,14 +50,14 @@ new_engine_tells n r current links none = record {
   itself = ap (λ (p : Peer). p.sender.frames) (new_at n r);
 }
 
--- at each place stands the engine of its rank
-stands : (n rank k r : ℕ) (e : EngineState) → slice_get (opening_engines n rank k) r ≡ Some e → e ≡ opening (place_of n (at (rank + r) 0))
+-- at each place stand the sessions of its rank
+stands : (n rank k r : ℕ) (e : SessionsState) → slice_get (opening_sessions n rank k) r ≡ Some e → e ≡ opening (place_of n (at (rank + r) 0))
 stands n rank zero r e h = absurd (grind arith)
 stands n rank (suc k) zero e h = sym (same_Some (opening (place_of n (at rank 0))) e h) ∙ ap (λ (m : ℕ). opening (place_of n (at m 0))) (omega arith)
 stands n rank (suc k) (suc r) e h = stands n (suc rank) k r e h ∙ ap (λ (m : ℕ). opening (place_of n (at m 0))) (omega arith)
 
 -- one for each rank
-many : (n rank k : ℕ) → length (opening_engines n rank k) ≡ k
+many : (n rank k : ℕ) → length (opening_sessions n rank k) ≡ k
 many n rank zero = refl
 many n rank (suc k) = ap suc (many n (suc rank) k)
 
@@ -69,8 +69,8 @@ opening_is_true n few = record {
   last = λ r. omega arith;
   tells = λ r e h.
       let e_is : e ≡ opening (place_of n (at r 0)) = stands n 0 n r e h ∙ ap (λ (m : ℕ). opening (place_of n (at m 0))) (omega arith) in
-      subst (λ (x : EngineState). EngineTells n (λ y. 0) r x no_links) (sym e_is)
-      (new_engine_tells n r (λ y. 0) no_links (record { accepted = λ d. refl; handed = λ s. refl }));
+      subst (λ (x : SessionsState). SessionsTell n (λ y. 0) r x no_links) (sym e_is)
+      (new_sessions_tell n r (λ y. 0) no_links (record { accepted = λ d. refl; handed = λ s. refl }));
   sound = λ s d. record { reach = omega arith; sent = tt; numbered = omega arith };
   strangers = λ s d h. refl;
   none_accepted = λ s d h. refl;

@@ -3,24 +3,20 @@ use Rattle.std.proofs.Common.{◌≡◌, ℕ, ◌*◌, ◌<◌, ◌≤◌, ◌^�
 use Rattle.vocabulary.specs.BasicTypes.{size_of}
 use Rattle.vocabulary.specs.declared.basic_type.BasicType.{BasicType}
 use Rattle.vocabulary.specs.declared.endpoint.Endpoint.{Endpoint}
-use Rattle.datatypes.specs.ContentLaws.{length-bytes_of, sizes, values_of-bytes_of}
-use Rattle.datatypes.specs.Contents.{AreWithin, bytes_of}
-use Rattle.datagram.specs.declared.kinds.Plane.TheVariants.{PointToPoint}
+use Rattle.datatypes.specs.ContentLaws.{length-bytes_of, sizes}
+use Rattle.datatypes.specs.Contents.{bytes_of}
 use Rattle.datagram.specs.declared.datagram.Frame.TheVariants as frames
 use Rattle.datagram.specs.declared.datagram.Content.{Content}
 use Rattle.datagram.specs.declared.datagram.Content.TheVariants as contents
 use Rattle.datagram.specs.declared.datagram.Datagram.{Datagram}
 use Rattle.datagram.specs.declared.refused.Refused as lower
 use Rattle.datagram.specs.Reading.{datagram_of}
-use Rattle.datagram.specs.Spelling.{AckBody, BodyText, DatagramFits, DatagramText, EagerBody, EagerText, HeaderIsWithinFields, ResetBody, content_text, datagram_text, spelling}
+use Rattle.datagram.specs.Spelling.{AckBody, BodyText, DatagramFits, DatagramText, EagerBody, HeaderIsWithinFields, ResetBody, content_text, datagram_text, spelling}
 use Rattle.datagram.proofs.Grammar.{is_only}
 use Rattle.sessions.specs.Spellings.{ack_bytes, reset_bytes}
-use Rattle.engine.specs.Datagrams.{message_of}
 use Rattle.sessions.specs.Spellings.{header_to}
 use Rattle.proof_link_truth.specs.Wire.{IsSmall, place_of, text_of, wire}
 use Rattle.proof_pure_network.specs.Frames as net
-use Rattle.proof_pure_network.specs.Held.{Whole}
-use Rattle.proof_engine_view.specs.Rows.{held_of}
 
 -- two endpoints of n ranks whose numbers have the widths of a header
 pub record HaveWidths (n : ℕ) (s d : Endpoint) : Type 0 where
@@ -100,23 +96,3 @@ pub reset_is_read : (n : ℕ) (s d : Endpoint) → HaveWidths n s d → datagram
 unfolding reset_bytes
 reset_is_read n s d w =
     spelled_is_read (reset_text n s d) (record { header = header_fits n s d 0 w (omega arith); width = tt; body = tt; sequence = refl })
-
--- what a frame says behind its header
-abbrev pub eager_said : (c tag : ℕ) (basic : BasicType) (values : List ℕ) → EagerText
-eager_said c tag basic values = record {
-  plane = PointToPoint;
-  basic = basic;
-  tag = tag;
-  context = c;
-  count = length values;
-  elements = bytes_of (size_of basic) values;
-}
-
--- the message of a frame, as it is held
-pub message_is_held : (n : ℕ) (s d : Endpoint) (q c tag : ℕ) (basic : BasicType) (values : List ℕ) → AreWithin (size_of basic) values
-    → held_of (message_of (header_to (place_of n s) d q) (eager_said c tag basic values))
-    ≡ record { sender = s; context = c; tag = tag; basic = basic; body = Whole values }
-unfolding message_of
-message_is_held n s d q c tag basic values within =
-    ap (λ (v : List ℕ). record { sender = s; context = c; tag = tag; basic = basic; body = Whole v })
-    (values_of-bytes_of (size_of basic) values (sizes basic).positive within)

@@ -1,86 +1,83 @@
--- A datagram of the world that is refused leaves the engine as it was, but that a reset may go out.
-use Rattle.std.proofs.Common.{◌≡◌, ℕ, ◌<◌, false, List, [], ◌∷◌, ◌++◌, Result, Ok, Err, ◌==◌, refl, sym, ap, subst, arith, inl, inr, ◌⊎◌}
+-- A datagram of the world that isn't heard leaves the sessions as they were, but that a reset may go out.
+use Rattle.std.proofs.Common.{◌≡◌, ℕ, ◌<◌, Bool, true, false, List, [], ◌∷◌, ◌++◌, Option, Some, None, Result, Ok, Err, ◌==◌, refl, sym, ap, ◌∙◌, subst, arith, inl, inr, ◌⊎◌}
 use Rattle.std.specs.List.{AllByRecursion}
-use Rattle.std.specs.Ordering.{nat_cmp}
-use Rattle.std.specs.declared.cmp.Ordering.{Ordering}
-use Rattle.std.specs.declared.cmp.Ordering.TheVariants.{Less, Equal, Greater}
 use Rattle.vocabulary.specs.declared.endpoint.Endpoint.{Endpoint}
 use Rattle.datagram.specs.declared.datagram.Header.{Header}
-use Rattle.datagram.specs.declared.refused.Refused as lower
-use Rattle.datagram.specs.Spelling.{AckBody, BodyText, DatagramText, EagerBody, EagerText, ResetBody}
+use Rattle.datagram.specs.Spelling.{AckBody, BodyText, DatagramText, EagerBody, ResetBody}
 use Rattle.incarnation.specs.declared.judgement.Judgement.{Judgement}
 use Rattle.incarnation.specs.declared.judgement.Judgement.TheVariants.{Current, Learn}
 use Rattle.incarnation.specs.declared.place.Place.{Place}
 use Rattle.incarnation.specs.declared.refused.Refused as judging
 use Rattle.incarnation.specs.declared.refused.Refused.TheVariants as judgings
 use Rattle.incarnation.specs.Judging.{judgement}
-use Rattle.rank_core.specs.declared.refused.Refused.{Refused}
-use Rattle.engine.specs.Datagrams.{BodyGives, EagerGivesAt, FirstWordGives, JudgedGives, ResetGives, StaleGives, TextGives, with_reset}
-use Rattle.sessions.specs.Spellings.{reset_bytes}
-use Rattle.engine.specs.EngineState.{EngineState, knowledge}
+use Rattle.sessions.specs.declared.heard.Unheard.{Unheard}
+use Rattle.sessions.specs.declared.refused.Refused.{Refused}
+use Rattle.sessions.specs.Events.{TurnedAway}
+use Rattle.sessions.specs.Heard.{HeardText, WordText, heard_by, said, session_met, unmeant, word_of}
 use Rattle.sessions.specs.Peers.{peer_at}
-use Rattle.sessions.specs.Spellings.{header_to}
-use Rattle.proof_link_truth.specs.Events.{IsAt, LeavesTrue, OnlySessions, RefusalsAreTrue}
-use Rattle.proof_link_truth.specs.Sessions.{EngineTells, Links}
-use Rattle.proof_link_truth.specs.Told.{IsTold}
+use Rattle.sessions.specs.SessionsState.{SessionsState, knowledge}
+use Rattle.sessions.specs.Spellings.{header_to, reset_bytes}
+use Rattle.proof_link_truth.specs.Events.{IsAt, LeavesTrue, RefusalsAreTrue}
+use Rattle.proof_link_truth.specs.Sessions.{Links, SessionsTell}
+use Rattle.proof_link_truth.specs.Told.{IsTold, TellsReset}
 use Rattle.proof_link_truth.specs.Truth.{AreTrue}
 use Rattle.proof_link_truth.specs.Wire.{at, place_of}
-use Rattle.proof_link_truth.proofs.Datagrams.{IsComing, is_coming}
+use Rattle.proof_link_truth.proofs.Datagrams.{IsComing, heard_read, is_coming}
 use Rattle.proof_link_truth.proofs.Hearing.{stays}
 use Rattle.proof_link_truth.proofs.Lists.{false_sym}
 use Rattle.proof_link_truth.proofs.Senders.{AreBegun, is_told}
+use Rattle.proof_link_truth.proofs.Sendings.{rest_is_true}
 use Rattle.proof_link_truth.proofs.Words.{word}
 
--- ---- what is refused changes nothing, or a reset goes out
+-- ---- to whom a reset goes
 
-module _ (old new : EngineState) (why : Refused) where
-  -- a frame
-  eager_refused : (o : Ordering) (h : Header) (t : EagerText) → EagerGivesAt {X = Unit {0}} o old h t (Err why) new → new ≡ old
-  eager_refused Less h t gives = gives.0
-  eager_refused Equal h t gives = gives.0
-  eager_refused Greater h t gives = gives.0
+-- to the source, if to anyone
+abbrev IsBack : Endpoint → Option Endpoint → Type 0
+IsBack s None = Unit {0}
+IsBack s (Some e) = e ≡ s
 
-  -- a datagram from the known incarnation
-  body_refused : (h : Header) (b : BodyText) → BodyGives {X = Unit {0}} old h b (Err why) new → new ≡ old
-  body_refused h (EagerBody t) gives = eager_refused (nat_cmp h.sequence (peer_at old.peers h.source.rank).receiver) h t gives
-  body_refused h AckBody gives = gives.0
-  body_refused h ResetBody gives = absurd gives
+-- why it wasn't heard, or else this
+abbrev unheard_or : Unheard → Result HeardText Unheard → Unheard
+unheard_or u (Ok h) = u
+unheard_or u (Err e) = e
 
-  -- one from a later incarnation
-  first_refused : (h : Header) (b : BodyText) → FirstWordGives {X = Unit {0}} old h b (Err why) new → new ≡ old
-  first_refused h (EagerBody t) gives = gives.0
-  first_refused h AckBody gives = gives.0
-  first_refused h ResetBody gives = gives.0
+-- a refusal that was answered
+abbrev refused : Unheard → Result HeardText Unheard
+refused e = Err e
 
-  -- one for a former incarnation
-  reset_refused : (s : Endpoint) → ResetGives {X = Unit {0}} old s (Err why) new → (new ≡ old) ⊎ (new ≡ with_reset old s)
-  reset_refused s (inl gives) = inr gives.1
-  reset_refused s (inr gives) = inl gives.1
+-- refusals that are answered alike are the same
+same_unheard : (e u : Unheard) → refused e ≡ Err u → e ≡ u
+same_unheard e u is = ap (unheard_or u) is
 
-  -- one for a former incarnation, whatever its body is
-  stale_refused : (h : Header) (b : BodyText) → StaleGives {X = Unit {0}} old h b (Err why) new → (new ≡ old) ⊎ (new ≡ with_reset old h.source)
-  stale_refused h (EagerBody t) gives = reset_refused h.source gives
-  stale_refused h AckBody gives = reset_refused h.source gives
-  stale_refused h ResetBody gives = inl gives.1
+-- a word of the link
+said_back : (s : Endpoint) (lesson : Bool) (o : Result WordText Refused) (u : Unheard) → said s lesson o ≡ Err u → IsBack s u.reset
+said_back s lesson (Ok w) u is = absurd cc
+said_back s lesson (Err e) u is = subst (λ (x : Unheard). IsBack s x.reset) (same_unheard (record { refused = _; reset = None }) u is) tt
 
-  -- by how it is judged
-  judged_refused : (j : Result Judgement judging.Refused) (d : DatagramText) → JudgedGives {X = Unit {0}} j old d (Err why) new
-      → (new ≡ old) ⊎ (new ≡ with_reset old d.header.source)
-  judged_refused (Ok Current) d gives = inl (body_refused d.header d.body gives)
-  judged_refused (Ok (Learn i)) d gives = inl (first_refused d.header d.body gives)
-  judged_refused (Err judgings.StaleTarget) d gives = stale_refused d.header d.body gives
-  judged_refused (Err judgings.StaleSource) d gives = inl gives.1
-  judged_refused (Err judgings.ForeignJob) d gives = inl gives.1
-  judged_refused (Err judgings.NotForMe) d gives = inl gives.1
-  judged_refused (Err judgings.Limit) d gives = inl gives.1
-  judged_refused (Err judgings.OutOfMemory) d gives = inl gives.1
+-- what isn't meant for the rank
+unmeant_back : (e : judging.Refused) (s : Endpoint) (b : BodyText) (u : Unheard) → unmeant {A = HeardText} e s b ≡ Err u → IsBack s u.reset
+unmeant_back judgings.StaleTarget s (EagerBody t) u is = subst (λ (x : Unheard). IsBack s x.reset) (same_unheard _ u is) refl
+unmeant_back judgings.StaleTarget s AckBody u is = subst (λ (x : Unheard). IsBack s x.reset) (same_unheard _ u is) refl
+unmeant_back judgings.StaleTarget s ResetBody u is = subst (λ (x : Unheard). IsBack s x.reset) (same_unheard _ u is) tt
+unmeant_back judgings.StaleSource s b u is = subst (λ (x : Unheard). IsBack s x.reset) (same_unheard _ u is) tt
+unmeant_back judgings.ForeignJob s b u is = subst (λ (x : Unheard). IsBack s x.reset) (same_unheard _ u is) tt
+unmeant_back judgings.NotForMe s b u is = subst (λ (x : Unheard). IsBack s x.reset) (same_unheard _ u is) tt
+unmeant_back judgings.Limit s b u is = subst (λ (x : Unheard). IsBack s x.reset) (same_unheard _ u is) tt
+unmeant_back judgings.OutOfMemory s b u is = subst (λ (x : Unheard). IsBack s x.reset) (same_unheard _ u is) tt
 
--- ---- both leave the links true
+-- whatever a datagram of s isn't heard for
+judged_back : (n : ℕ) (old : SessionsState) (s d : Endpoint) (q : ℕ) (b : BodyText) (u : Unheard) (j : Result Judgement judging.Refused)
+    → heard_by j old (word n s d q b) ≡ Err u → IsBack s u.reset
+judged_back n old s d q b u (Ok Current) is = said_back s false (word_of (session_met false (peer_at old.peers s.rank)) q b) u is
+judged_back n old s d q b u (Ok (Learn i)) is = said_back s true (word_of (session_met true (peer_at old.peers s.rank)) q b) u is
+judged_back n old s d q b u (Err e) is = unmeant_back e s b u is
 
-module _ (n r : ℕ) (engines : List EngineState) (datagrams : List (ℕ × List ℕ)) (links : Links) (current : ℕ → ℕ) (old : EngineState) (s d : Endpoint)
-    (true_now : AreTrue n engines datagrams links current) (stands : IsAt engines r old) (begun : AreBegun n s d current) (to : d.rank ≡ r) where
-  -- what the engine holds
-  tells : EngineTells n current r old links
+-- ---- it leaves the links true
+
+module _ (n r : ℕ) (sessions : List SessionsState) (datagrams : List (ℕ × List ℕ)) (links : Links) (current : ℕ → ℕ) (old : SessionsState) (s d : Endpoint)
+    (true_now : AreTrue n sessions datagrams links current) (stands : IsAt sessions r old) (begun : AreBegun n s d current) (to : d.rank ≡ r) where
+  -- what the rank's sessions hold
+  tells : SessionsTell n current r old links
   tells = true_now.tells r old stands.there
 
   -- what goes back to the source, whichever incarnation it named
@@ -96,25 +93,35 @@ module _ (n r : ℕ) (engines : List EngineState) (datagrams : List (ℕ × List
   -- a reset is told
   reset_is_told : IsTold n links current (s.rank, reset_bytes old.place s)
   reset_is_told = is_told n (at r (current r)) s links current (reset_bytes old.place s) back
-      (inr (inr (record { bytes_are = ap (λ (p : Place). reset_bytes p s) tells.place })))
+      (TellsReset (ap (λ (p : Place). reset_bytes p s) tells.place))
 
-  -- nothing changes, or a reset goes out
-  refused_leaves : (new : EngineState) → (new ≡ old) ⊎ (new ≡ with_reset old s) → OnlySessions old new × LeavesTrue n engines datagrams r new links current
-  refused_leaves new (inl is) =
-      let told : AllByRecursion (IsTold n links current) old.out = subst (AllByRecursion (IsTold n links current)) (sym stands.out) tt in
-      subst (λ (e : EngineState). OnlySessions old e × LeavesTrue n engines datagrams r e links current) (sym is)
-      (refl, stays n r engines datagrams links current old old true_now tells refl refl refl told)
-  refused_leaves new (inr is) =
+  -- nothing changes
+  stays_true : (new : SessionsState) → new ≡ old → LeavesTrue n sessions datagrams r new links current
+  stays_true new is =
+      subst (λ (e : SessionsState). LeavesTrue n sessions datagrams r e links current) (sym is)
+      (rest_is_true n r sessions datagrams links current old true_now stands)
+
+  -- a reset goes out
+  reset_leaves : (new : SessionsState) → new ≡ record old { out = old.out ++ (s.rank, reset_bytes old.place s) ∷ [] } → LeavesTrue n sessions datagrams r new links current
+  reset_leaves new is =
       let told : AllByRecursion (IsTold n links current) (old.out ++ (s.rank, reset_bytes old.place s) ∷ []) =
       subst (λ (out : List (ℕ × List ℕ)). AllByRecursion (IsTold n links current) (out ++ (s.rank, reset_bytes old.place s) ∷ [])) (sym stands.out) (reset_is_told, tt) in
-      subst (λ (e : EngineState). OnlySessions old e × LeavesTrue n engines datagrams r e links current) (sym is)
-      (refl, stays n r engines datagrams links current old (with_reset old s) true_now tells refl refl refl told)
+      subst (λ (e : SessionsState). LeavesTrue n sessions datagrams r e links current) (sym is)
+      (stays n r sessions datagrams links current old (record old { out = old.out ++ (s.rank, reset_bytes old.place s) ∷ [] }) true_now tells refl refl refl told)
+
+  -- by whether a reset is to go out
+  turned_away : (to_whom : Option Endpoint) (e why : Refused) (new : SessionsState) → IsBack s to_whom → TurnedAway to_whom e old why new
+      → LeavesTrue n sessions datagrams r new links current
+  turned_away None e why new is gives = stays_true new gives.1
+  turned_away (Some x) e why new is (inl gives) =
+      reset_leaves new (subst (λ (y : Endpoint). new ≡ record old { out = old.out ++ (y.rank, reset_bytes old.place y) ∷ [] }) is gives.1)
+  turned_away (Some x) e why new is (inr gives) = stays_true new gives.1
 
 -- the law of refusals
 pub refusals_are_true : RefusalsAreTrue
-refusals_are_true n r number bytes engines datagrams links current old new why true_now stands there gives =
-    let c : IsComing n r datagrams links current bytes = is_coming n r number bytes engines datagrams links current true_now there in
+refusals_are_true n r number bytes sessions datagrams links current old new unheard why true_now stands there hears gives =
+    let c : IsComing n r datagrams links current bytes = is_coming n r number bytes sessions datagrams links current true_now there in
     let text : DatagramText = word n c.source c.target c.says.number c.says.body in
-    refused_leaves n r engines datagrams links current old c.source c.target true_now stands c.begun c.to new
-    (judged_refused old new why (judgement (knowledge old) (header_to (place_of n c.source) c.target c.says.number)) text
-    (subst (λ (t : Result DatagramText lower.Refused). TextGives {X = Unit {0}} old t (Err why) new) c.says.read gives))
+    turned_away n r sessions datagrams links current old c.source c.target true_now stands c.begun c.to unheard.reset unheard.refused why new
+    (judged_back n old c.source c.target c.says.number c.says.body unheard (judgement (knowledge old) text.header)
+    (sym (heard_read old bytes text c.says.read) ∙ hears)) gives

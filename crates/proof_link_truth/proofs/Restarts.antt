@@ -1,18 +1,18 @@
--- A rank that is started anew: its engine is new, and no link of its new incarnation has begun.
+-- A rank that is started anew: its sessions are new, and no link of its new incarnation has begun.
 use Rattle.std.proofs.Common.{◌≡◌, ℕ, suc, ◌<◌, ◌≤◌, Bool, true, false, List, if◌then◌else◌, ◌==◌, refl, ap, ◌∙◌, subst, arith}
 use Rattle.std.proofs.lemmas.Bool.{eqb-true, eq-eqb}
 use Rattle.std.proofs.lemmas.List.{length-set}
 use Rattle.perfect_queues.specs.State.{with_number}
-use Rattle.engine.specs.EngineState.{EngineState, opening}
+use Rattle.sessions.specs.SessionsState.{SessionsState, opening}
 use Rattle.proof_link_truth.specs.Events.{RestartsAreTrue}
-use Rattle.proof_link_truth.specs.Sessions.{EngineTells, Links}
+use Rattle.proof_link_truth.specs.Sessions.{SessionsTell, Links}
 use Rattle.proof_link_truth.specs.Told.{IsTold}
 use Rattle.proof_link_truth.specs.Truth.{AreTrue}
 use Rattle.proof_link_truth.specs.Wire.{at, place_of}
-use Rattle.proof_link_truth.proofs.Engines.{engine_later}
+use Rattle.proof_link_truth.proofs.Changing.{sessions_later}
 use Rattle.proof_link_truth.proofs.Growing.{told_later}
 use Rattle.proof_link_truth.proofs.Lists.{All_more, set_each}
-use Rattle.proof_link_truth.proofs.Openings.{IsUnheard, new_engine_tells}
+use Rattle.proof_link_truth.proofs.Openings.{IsUnheard, new_sessions_tell}
 
 -- no rank's incarnation falls
 never_falls : (current : ℕ → ℕ) (r x : ℕ) → current x ≤ with_number current r (suc (current r)) x
@@ -38,24 +38,24 @@ is_next current r = ap (λ (t : Bool). if t then suc (current r) else current r)
 is_same_one : (current : ℕ → ℕ) (r x : ℕ) → (x == r) ≡ false → with_number current r (suc (current r)) x ≡ current x
 is_same_one current r x other = ap (λ (t : Bool). if t then suc (current r) else current x) other
 
--- the new engine
-restarted_tells : (n r : ℕ) (engines : List EngineState) (datagrams : List (ℕ × List ℕ)) (links : Links) (current : ℕ → ℕ) → AreTrue n engines datagrams links current
-    → EngineTells n (with_number current r (suc (current r))) r (opening (place_of n (at r (suc (current r))))) links
-restarted_tells n r engines datagrams links current true_now =
+-- the new sessions
+restarted_tells : (n r : ℕ) (sessions : List SessionsState) (datagrams : List (ℕ × List ℕ)) (links : Links) (current : ℕ → ℕ) → AreTrue n sessions datagrams links current
+    → SessionsTell n (with_number current r (suc (current r))) r (opening (place_of n (at r (suc (current r))))) links
+restarted_tells n r sessions datagrams links current true_now =
     let next = is_next current r in
     let none : (i : ℕ) → i ≡ suc (current r) → IsUnheard (at r i) links =
     λ i is. record { accepted = λ d. true_now.none_accepted (at r i) d (omega (arith, is)); handed = λ s. true_now.none_handed s (at r i) (omega (arith, is)) } in
     let later : ℕ → ℕ = with_number current r (suc (current r)) in
-    subst (λ (i : ℕ). EngineTells n later r (opening (place_of n (at r i))) links) next (new_engine_tells n r later links (none (later r) next))
+    subst (λ (i : ℕ). SessionsTell n later r (opening (place_of n (at r i))) links) next (new_sessions_tell n r later links (none (later r) next))
 
 -- the law of restarts
 pub restarts_are_true : RestartsAreTrue
-restarts_are_true n r engines datagrams links current old true_now there room = record {
-  count = length-set engines r new ∙ true_now.count;
+restarts_are_true n r sessions datagrams links current old true_now there room = record {
+  count = length-set sessions r new ∙ true_now.count;
   few = true_now.few;
   last = λ x. not_past current r x room (true_now.last x);
-  tells = set_each (λ y e. EngineTells n later y e links) engines r new (restarted_tells n r engines datagrams links current true_now)
-      (λ y e other h. engine_later n y current later links e (never_falls current r) (is_same_one current r y other) (true_now.tells y e h));
+  tells = set_each (λ y e. SessionsTell n later y e links) sessions r new (restarted_tells n r sessions datagrams links current true_now)
+      (λ y e other h. sessions_later n y current later links e (never_falls current r) (is_same_one current r y other) (true_now.tells y e h));
   sound = true_now.sound;
   strangers = true_now.strangers;
   none_accepted = λ s d above. true_now.none_accepted s d (omega (arith, above, never_falls current r s.rank));
@@ -67,5 +67,5 @@ restarts_are_true n r engines datagrams links current old true_now there room = 
     later : ℕ → ℕ
     later = with_number current r (suc (current r))
 
-    new : EngineState
+    new : SessionsState
     new = opening (place_of n (at r (suc (current r))))

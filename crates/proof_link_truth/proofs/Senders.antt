@@ -1,5 +1,5 @@
 -- What one sender keeps of its link, and what it sends.
-use Rattle.std.proofs.Common.{◌≡◌, ℕ, ◌+◌, ◌-◌, ◌<◌, ◌≤◌, Bool, true, false, cond, leb, nat_le, ◌==◌, List, [], ◌∷◌, ◌++◌, length, drop, Option, Some, None, slice_get, refl, sym, ap, subst, ◌∙◌, inl, inr, ◌⊎◌, arith}
+use Rattle.std.proofs.Common.{◌≡◌, ℕ, ◌+◌, ◌-◌, ◌<◌, ◌≤◌, Bool, true, false, cond, leb, nat_le, ◌==◌, List, [], ◌∷◌, ◌++◌, length, drop, Option, Some, None, slice_get, refl, sym, ap, subst, ◌∙◌, inl, inr, arith}
 use Rattle.std.specs.List.{AllByRecursion}
 use Rattle.std.specs.Option.{option_map}
 use Rattle.std.proofs.lemmas.Bool.{cases_lt, leb-true}
@@ -15,7 +15,7 @@ use Rattle.sessions.specs.Peers.{frame_out, frames_out}
 use Rattle.proof_pure_network.specs.Frames.{Frame}
 use Rattle.proof_pure_network.specs.Links.{Link}
 use Rattle.proof_link_truth.specs.Sessions.{Links, SenderTells}
-use Rattle.proof_link_truth.specs.Told.{IsTold, TellsAck, TellsFrame, TellsReset}
+use Rattle.proof_link_truth.specs.Told.{IsTold, Tells, TellsFrame}
 use Rattle.proof_link_truth.specs.Wire.{wire, wires}
 use Rattle.proof_link_truth.proofs.Lists.{All_flat}
 use Rattle.proof_link_truth.proofs.Wires.{IsWire, wires_get, wires_length, wires_push}
@@ -89,9 +89,9 @@ pub record AreBegun (n : ℕ) (s d : Endpoint) (current : ℕ → ℕ) : Type 0 
   pub source_begun : s.incarnation ≤ current s.rank
   pub target_begun : d.incarnation ≤ current d.rank
 
--- what tells one of three things between such endpoints is told
+-- what tells something between such endpoints is told
 pub is_told : (n : ℕ) (s d : Endpoint) (links : Links) (current : ℕ → ℕ) (bytes : List ℕ) → AreBegun n s d current
-    → TellsFrame n s d links bytes ⊎ (TellsAck n s d links bytes ⊎ TellsReset n s d bytes) → IsTold n links current (d.rank, bytes)
+    → Tells n s d links bytes → IsTold n links current (d.rank, bytes)
 is_told n s d links current bytes begun tells = record {
   source = s;
   target = d;
@@ -110,7 +110,7 @@ frame_is_told : (n : ℕ) (s d : Endpoint) (links : Links) (current : ℕ → �
 frame_is_told n s d links current q None begun says = tt
 frame_is_told n s d links current q (Some bytes) begun says =
     let w = says bytes refl in
-    (is_told n s d links current bytes begun (inl (record { number = q; frame = w.frame; there = w.there; bytes_are = w.bytes_are })), tt)
+    (is_told n s d links current bytes begun (TellsFrame q w.frame w.there w.bytes_are), tt)
 
 -- whatever numbers go out, each frame is told
 pub frames_are_told : (n : ℕ) (s d : Endpoint) (sender : SenderState) (links : Links) (current : ℕ → ℕ) (numbers : List ℕ) → AreBegun n s d current

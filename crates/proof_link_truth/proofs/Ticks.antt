@@ -9,14 +9,14 @@ use Rattle.reliable_link.specs.declared.out_frame.OutFrame.{OutFrame}
 use Rattle.reliable_link.specs.SenderState.{after_due, due_at}
 use Rattle.reliable_link.proofs.KeptBytes.{bytes_after_due, bytes_of}
 use Rattle.sessions.specs.declared.peers.Peer.{Peer}
-use Rattle.engine.specs.EngineState.{EngineState}
+use Rattle.sessions.specs.SessionsState.{SessionsState}
 use Rattle.sessions.specs.Peers.{after_all_due, due_out, due_peer, frames_out, peer_at}
-use Rattle.engine.specs.Ticks.{after_tick}
-use Rattle.proof_link_truth.specs.Events.{LeavesTrue, OnlySessions, TicksAreTrue}
-use Rattle.proof_link_truth.specs.Sessions.{EngineTells, Links, PeerTells}
+use Rattle.sessions.specs.Ticks.{after_tick}
+use Rattle.proof_link_truth.specs.Events.{TicksAreTrue}
+use Rattle.proof_link_truth.specs.Sessions.{SessionsTell, Links, PeerTells}
 use Rattle.proof_link_truth.specs.Told.{IsTold}
 use Rattle.proof_link_truth.specs.Wire.{at}
-use Rattle.proof_link_truth.proofs.Engines.{world_leaves}
+use Rattle.proof_link_truth.proofs.Changing.{world_leaves}
 use Rattle.proof_link_truth.proofs.Growing.{grows_none, links_fit}
 use Rattle.proof_link_truth.proofs.Lists.{false_sym}
 use Rattle.proof_link_truth.proofs.Witnesses.{all_witnessed}
@@ -35,8 +35,8 @@ due_keeps_none p now empty =
     sym (length-map (after_due p.sender now).frames (λ (f : OutFrame). f.bytes)) ∙ ap (λ (t : List (List ℕ)). length t) (bytes_after_due p.sender now)
     ∙ ap (λ (fs : List OutFrame). length (bytes_of fs)) empty)
 
--- the sessions of an engine after a tick
-tick_tells : (n r now : ℕ) (current : ℕ → ℕ) (links : Links) (old : EngineState) → EngineTells n current r old links → r < n → EngineTells n current r (after_tick old now) links
+-- the sessions of a rank after a tick
+tick_tells : (n r now : ℕ) (current : ℕ → ℕ) (links : Links) (old : SessionsState) → SessionsTell n current r old links → r < n → SessionsTell n current r (after_tick old now) links
 tick_tells n r now current links old tells r_is = record {
   place = tells.place;
   each = length-map old.peers (due_peer now) ∙ tells.each;
@@ -92,8 +92,8 @@ due_is_told n r now current links known rank (p ∷ ps) r_is each =
     (first_is_told n r rank current links known p (due_at p.sender now) r_is (each 0 rank (omega arith) (omega arith)))
     (due_is_told n r now current links known (suc rank) ps r_is (λ x y lt is. each (suc x) y (omega arith) (omega arith)))
 
--- a world's engine holds this of each session
-each_stands : (n r : ℕ) (current : ℕ → ℕ) (links : Links) (old : EngineState) → EngineTells n current r old links → Each n r current links old.known 0 old.peers
+-- a rank of the world holds this of each session
+each_stands : (n r : ℕ) (current : ℕ → ℕ) (links : Links) (old : SessionsState) → SessionsTell n current r old links → Each n r current links old.known 0 old.peers
 each_stands n r current links old tells x y lt is =
     let x_is : x < n = omega (arith, lt, tells.each) in
     let same : x ≡ y = omega arith in
@@ -105,17 +105,15 @@ each_stands n r current links old tells x y lt is =
 
 -- the law of ticks
 pub ticks_are_true : TicksAreTrue
-ticks_are_true n r now engines datagrams links current old new true_now here gives =
-    subst (λ (e : EngineState). OnlySessions old e × LeavesTrue n engines datagrams r e links current) (sym gives.1) (
-      refl,
-      world_leaves n r engines datagrams links links current (after_tick old now) true_now (grows_none r links) (tick_tells n r now current links old tells r_is) (links_fit n engines datagrams links current true_now) told
-          (all_witnessed n r engines datagrams (after_tick old now).out links links current true_now (grows_none r links) (λ s d. refl)),
-    )
+ticks_are_true n r now sessions datagrams links current old true_now here =
+    world_leaves n r sessions datagrams links links current (after_tick old now) true_now (grows_none r links) (tick_tells n r now current links old tells r_is)
+    (links_fit n sessions datagrams links current true_now) told
+    (all_witnessed n r sessions datagrams (after_tick old now).out links links current true_now (grows_none r links) (λ s d. refl))
   where
     r_is : r < n
-    r_is = omega (arith, slice_get_within engines r old here.there, true_now.count)
+    r_is = omega (arith, slice_get_within sessions r old here.there, true_now.count)
 
-    tells : EngineTells n current r old links
+    tells : SessionsTell n current r old links
     tells = true_now.tells r old here.there
 
     told : AllByRecursion (IsTold n links current) (old.out ++ due_out 0 old.peers now)

@@ -3,7 +3,7 @@ use Rattle.std.proofs.Common.{◌≡◌, ℕ, suc, ◌<◌, Bool, true, false, n
 use Rattle.std.proofs.lemmas.Bool.{ltb-false, ltb-true}
 use Rattle.vocabulary.specs.declared.endpoint.Endpoint.{Endpoint}
 use Rattle.sessions.specs.Spellings.{ack_bytes}
-use Rattle.engine.specs.EngineState.{EngineState}
+use Rattle.sessions.specs.SessionsState.{SessionsState}
 use Rattle.proof_pure_network.specs.Frames.{Frame}
 use Rattle.proof_pure_network.specs.Links.{Link}
 use Rattle.reliable_link.proofs.Places.{place_stays}
@@ -49,9 +49,9 @@ witnessed_more n ds out s d a b same kept w = record {
     go (inr t) = inr (subst (λ (k : ℕ). IsAmong (ds ++ out) (s.rank, ack_bytes (place_of n d) s k)) (sym same) (among_more ds out (s.rank, ack_bytes (place_of n d) s a.handed) t))
 
 -- all links, where an event hands nothing up
-pub all_witnessed : (n r : ℕ) (engines : List EngineState) (ds out : List (ℕ × List ℕ)) (a b : Links) (current : ℕ → ℕ) → AreTrue n engines ds a current → Grows r a b
+pub all_witnessed : (n r : ℕ) (sessions : List SessionsState) (ds out : List (ℕ × List ℕ)) (a b : Links) (current : ℕ → ℕ) → AreTrue n sessions ds a current → Grows r a b
     → ((s d : Endpoint) → (b s d).handed ≡ (a s d).handed) → (s d : Endpoint) → IsWitnessed n (ds ++ out) s d (b s d)
-all_witnessed n r engines ds out a b current true_now grows same s d =
+all_witnessed n r sessions ds out a b current true_now grows same s d =
     witnessed_more n ds out s d (a s d) (b s d) (same s d) (grows.kept s d) (true_now.witnessed s d)
 
 -- a link of which the next frame was handed up and acknowledged

@@ -1,33 +1,29 @@
 -- What the bytes of a told datagram say.
-use Rattle.std.proofs.Common.{◌≡◌, ℕ, ◌<◌, ◌≤◌, ◌^◌, List, length, Some, Ok, slice_get, refl, ap, ◌∙◌, subst, arith, inl, inr, ◌⊎◌}
+use Rattle.std.proofs.Common.{◌≡◌, ℕ, ◌<◌, ◌≤◌, ◌^◌, List, length, Some, Ok, slice_get, refl, ap, ◌∙◌, subst, arith}
 use Rattle.std.proofs.lemmas.Option.{slice_get_within}
-use Rattle.vocabulary.specs.declared.basic_type.BasicType.{BasicType}
 use Rattle.vocabulary.specs.declared.endpoint.Endpoint.{Endpoint}
 use Rattle.datagram.specs.Reading.{datagram_of}
-use Rattle.datagram.specs.Spelling.{AckBody, BodyText, DatagramText, EagerBody, EagerText, ResetBody}
+use Rattle.datagram.specs.Spelling.{AckBody, BodyText, DatagramText, EagerBody, ResetBody}
 use Rattle.sessions.specs.Spellings.{header_to}
 use Rattle.proof_pure_network.specs.Frames as net
 use Rattle.proof_link_truth.specs.Sessions.{IsLink, Links}
-use Rattle.proof_link_truth.specs.Told.{TellsAck, TellsFrame, TellsReset}
-use Rattle.proof_link_truth.specs.Wire.{IsSent, IsSmall, place_of, wire}
+use Rattle.proof_link_truth.specs.Told.{Tells, TellsAck, TellsFrame, TellsReset}
+use Rattle.proof_link_truth.specs.Wire.{IsSent, body_of, place_of, wire}
 use Rattle.proof_link_truth.specs.Witness.{IsAmong}
 use Rattle.proof_link_truth.proofs.Lists.{All_get}
-use Rattle.proof_link_truth.proofs.Reading.{HaveWidths, ack_is_read, eager_said, frame_is_read, reset_is_read}
+use Rattle.proof_link_truth.proofs.Reading.{HaveWidths, ack_is_read, frame_is_read, reset_is_read}
 
 -- a frame that was accepted under this number, may be sent, and was emitted
-pub record SaysFrame (n : ℕ) (datagrams : List (ℕ × List ℕ)) (s d : Endpoint) (links : Links) (q : ℕ) (t : EagerText) : Type 0 where
-  pub context : ℕ
-  pub tag : ℕ
-  pub basic : BasicType
-  pub values : List ℕ
-  pub small : IsSmall context tag basic values
-  pub there : slice_get (links s d).accepted q ≡ Some (net.Eager context tag basic values)
-  pub text : t ≡ eager_said context tag basic values
-  pub sent : IsAmong datagrams (d.rank, wire n s d q (net.Eager context tag basic values))
+pub record SaysFrame (n : ℕ) (datagrams : List (ℕ × List ℕ)) (s d : Endpoint) (links : Links) (q : ℕ) (body : BodyText) : Type 0 where
+  pub frame : net.Frame
+  pub carried : IsSent frame
+  pub there : slice_get (links s d).accepted q ≡ Some frame
+  pub body_is : body ≡ body_of frame
+  pub sent : IsAmong datagrams (d.rank, wire n s d q frame)
 
 -- what a body under a number says of the links
 abbrev pub Says : (n : ℕ) → (datagrams : List (ℕ × List ℕ)) → (s d : Endpoint) → Links → ℕ → BodyText → Type 0
-Says n datagrams s d links q (EagerBody t) = SaysFrame n datagrams s d links q t
+Says n datagrams s d links q (EagerBody t) = SaysFrame n datagrams s d links q (EagerBody t)
 Says n datagrams s d links q AckBody = q ≤ (links d s).handed
 Says n datagrams s d links q ResetBody = q ≡ 0
 
@@ -50,8 +46,14 @@ frame_is_word n datagrams s d links bytes q w link (net.Eager context tag basic 
     let numbered : q < 2 ^ 64 = omega (arith, below, link.numbered) in
     record {
       number = q;
-      body = EagerBody (eager_said context tag basic values);
-      says = record { context = context; tag = tag; basic = basic; values = values; small = small; there = there; text = refl; sent = subst (λ (x : List ℕ). IsAmong datagrams (d.rank, x)) is emitted };
+      body = body_of (net.Eager context tag basic values);
+      says = record {
+        frame = net.Eager context tag basic values;
+        carried = small;
+        there = there;
+        body_is = refl;
+        sent = subst (λ (x : List ℕ). IsAmong datagrams (d.rank, x)) is emitted;
+      };
       read = ap datagram_of is ∙ frame_is_read n s d q context tag basic values small w numbered;
     }
 frame_is_word n datagrams s d links bytes q w link (net.Rts context tag basic transfer count) never there is emitted = absurd never
@@ -60,12 +62,12 @@ frame_is_word n datagrams s d links bytes q w link (net.Data transfer offset val
 
 -- whatever is told is a word
 pub told_is_word : (n : ℕ) (datagrams : List (ℕ × List ℕ)) (s d : Endpoint) (links : Links) (bytes : List ℕ) → HaveWidths n s d → ((a b : Endpoint) → IsLink (links a b))
-    → TellsFrame n s d links bytes ⊎ (TellsAck n s d links bytes ⊎ TellsReset n s d bytes) → IsAmong datagrams (d.rank, bytes) → IsWord n datagrams s d links bytes
-told_is_word n datagrams s d links bytes w sound (inl t) emitted =
-    frame_is_word n datagrams s d links bytes t.number w (sound s d) t.frame (All_get IsSent (links s d).accepted t.number t.frame (sound s d).sent t.there) t.there t.bytes_are emitted
-told_is_word n datagrams s d links bytes w sound (inr (inl t)) emitted =
+    → Tells n s d links bytes → IsAmong datagrams (d.rank, bytes) → IsWord n datagrams s d links bytes
+told_is_word n datagrams s d links bytes w sound (TellsFrame number frame there is) emitted =
+    frame_is_word n datagrams s d links bytes number w (sound s d) frame (All_get IsSent (links s d).accepted number frame (sound s d).sent there) there is emitted
+told_is_word n datagrams s d links bytes w sound (TellsAck number there is) emitted =
     let link : IsLink (links d s) = sound d s in
-    let numbered : t.number < 2 ^ 64 = omega (arith, t.there, link.reach, link.numbered) in
-    record { number = t.number; body = AckBody; says = t.there; read = ap datagram_of t.bytes_are ∙ ack_is_read n s d t.number w numbered }
-told_is_word n datagrams s d links bytes w sound (inr (inr t)) emitted =
-    record { number = 0; body = ResetBody; says = refl; read = ap datagram_of t.bytes_are ∙ reset_is_read n s d w }
+    let numbered : number < 2 ^ 64 = omega (arith, there, link.reach, link.numbered) in
+    record { number = number; body = AckBody; says = there; read = ap datagram_of is ∙ ack_is_read n s d number w numbered }
+told_is_word n datagrams s d links bytes w sound (TellsReset is) emitted =
+    record { number = 0; body = ResetBody; says = refl; read = ap datagram_of is ∙ reset_is_read n s d w }

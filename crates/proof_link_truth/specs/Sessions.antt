@@ -1,11 +1,11 @@
--- What an engine's sessions hold of the links of the pure network.
+-- What the sessions of a rank hold of the links of the pure network.
 use Rattle.std.specs.Prelude.{◌≡◌, ℕ, ◌<◌, ◌≤◌, ◌^◌, Bool, false, ◌&&◌, not, List, [], map, drop, length, ◌==◌, nat_lt, slice_index}
 use Rattle.std.specs.List.{AllByRecursion}
 use Rattle.vocabulary.specs.declared.endpoint.Endpoint.{Endpoint}
 use Rattle.reliable_link.specs.declared.out_frame.OutFrame.{OutFrame}
 use Rattle.reliable_link.specs.SenderState.{SenderState}
 use Rattle.sessions.specs.declared.peers.Peer.{Peer}
-use Rattle.engine.specs.EngineState.{EngineState}
+use Rattle.sessions.specs.SessionsState.{SessionsState}
 use Rattle.sessions.specs.Peers.{peer_at}
 use Rattle.proof_pure_network.specs.Links.{Link}
 use Rattle.proof_link_truth.specs.Wire.{IsSent, at, place_of, wires}
@@ -38,16 +38,16 @@ pub record PeerTells (n : ℕ) (current : ℕ → ℕ) (own : Endpoint) (x k : �
   pub no_accepted : (i : ℕ) → k < i → (links own (at x i)).accepted ≡ []
   pub no_handed : (i : ℕ) → k < i → (links (at x i) own).handed ≡ 0
 
--- the engine of rank r, which is at its current incarnation
-pub record EngineTells (n : ℕ) (current : ℕ → ℕ) (r : ℕ) (e : EngineState) (links : Links) : Type 0 where
-  pub place : e.place ≡ place_of n (at r (current r))
-  pub each : length e.peers ≡ n
-  pub width : length e.known ≡ n
+-- the sessions of rank r, which is at its current incarnation
+pub record SessionsTell (n : ℕ) (current : ℕ → ℕ) (r : ℕ) (own : SessionsState) (links : Links) : Type 0 where
+  pub place : own.place ≡ place_of n (at r (current r))
+  pub each : length own.peers ≡ n
+  pub width : length own.known ≡ n
   pub peers :
       (x : ℕ) → x < n → (x == r) ≡ false →
-      PeerTells n current (at r (current r)) x (slice_index e.known x) (peer_at e.peers x) links
+      PeerTells n current (at r (current r)) x (slice_index own.known x) (peer_at own.peers x) links
   -- the session with itself stays empty
-  pub itself : (peer_at e.peers r).sender.frames ≡ []
+  pub itself : (peer_at own.peers r).sender.frames ≡ []
 
 -- endpoints of two ranks of n
 abbrev pub is_pair : (n : ℕ) → Endpoint → Endpoint → Bool

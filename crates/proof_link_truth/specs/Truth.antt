@@ -1,20 +1,20 @@
--- The links of a world: what its engines hold of them, and what its datagrams tell.
+-- The links of a world: what its sessions hold of them, and what its datagrams tell.
 use Rattle.std.specs.Prelude.{◌≡◌, ℕ, ◌<◌, ◌≤◌, false, List, [], length, Some, slice_get}
 use Rattle.std.specs.List.{AllByRecursion}
 use Rattle.vocabulary.specs.declared.endpoint.Endpoint.{Endpoint}
 use Rattle.vocabulary.specs.Endpoints.{last_incarnation}
-use Rattle.engine.specs.EngineState.{EngineState}
-use Rattle.proof_link_truth.specs.Sessions.{EngineTells, IsLink, Links, is_pair}
+use Rattle.sessions.specs.SessionsState.{SessionsState}
+use Rattle.proof_link_truth.specs.Sessions.{SessionsTell, IsLink, Links, is_pair}
 use Rattle.proof_link_truth.specs.Told.{IsTold}
 use Rattle.proof_link_truth.specs.Witness.{IsWitnessed}
 
--- sessions hold what the links carried, and datagrams tell of it; `current` is the incarnation of each rank
-pub record AreTrue (n : ℕ) (engines : List EngineState) (datagrams : List (ℕ × List ℕ)) (links : Links) (current : ℕ → ℕ)
+-- the sessions of each rank hold what the links carried, and datagrams tell of it; `current` is the incarnation of each rank
+pub record AreTrue (n : ℕ) (sessions : List SessionsState) (datagrams : List (ℕ × List ℕ)) (links : Links) (current : ℕ → ℕ)
     : Type 0 where
-  pub count : length engines ≡ n
+  pub count : length sessions ≡ n
   pub few : n ≤ 256
   pub last : (r : ℕ) → current r ≤ last_incarnation
-  pub tells : (r : ℕ) (e : EngineState) → slice_get engines r ≡ Some e → EngineTells n current r e links
+  pub tells : (r : ℕ) (s : SessionsState) → slice_get sessions r ≡ Some s → SessionsTell n current r s links
   pub sound : (s d : Endpoint) → IsLink (links s d)
   -- nothing goes from or to anyone else
   pub strangers : (s d : Endpoint) → is_pair n s d ≡ false → (links s d).accepted ≡ []

@@ -1,37 +1,23 @@
 -- What joins a world to a network stays after an event.
-use Rattle.std.proofs.Common.{◌≡◌, ◌⊎◌, inl, inr, ℕ, zero, suc, ◌<◌, ◌≤◌, Bool, true, false, List, [], ◌∷◌, Option, Some, None, refl, sym, ap, subst, ◌∙◌, arith}
-use Rattle.std.specs.Prelude.{slice_get, slice_set, Ok, ◌==◌}
+use Rattle.std.proofs.Common.{◌≡◌, ◌⊎◌, inl, inr, ℕ, zero, suc, ◌<◌, ◌≤◌, Bool, true, false, List, [], ◌∷◌, Some, refl, sym, ap, subst, ◌∙◌, arith}
+use Rattle.std.specs.Prelude.{slice_get, slice_set}
 use Rattle.std.proofs.lemmas.Bool.{ne_eqb}
-use Rattle.std.proofs.lemmas.Option.{same_Some}
+use Rattle.std.proofs.lemmas.Option.{same_Some, slice_get_within}
 use Rattle.vocabulary.specs.Endpoints.{is_same}
 use Rattle.perfect_queues.specs.Events.{Entry}
 use Rattle.perfect_queues.specs.State.{with_number}
 use Rattle.vocabulary.specs.declared.endpoint.Endpoint.{Endpoint}
 use Rattle.perfect_queues.proofs.EndpointLemmas.{same_eq}
-use Rattle.requests.specs.declared.table.Request.{Request}
-use Rattle.rank_core.specs.declared.call.Call.{Call}
-use Rattle.rank_core.specs.declared.call.Call.TheVariants as calls
-use Rattle.rank_core.specs.declared.call.Reply.{Reply}
-use Rattle.rank_core.specs.declared.call.Reply.TheVariants as replies
-use Rattle.rank_core.specs.declared.call.Send.{Send}
-use Rattle.rank_core.specs.declared.refused.Refused.{Refused}
-use Rattle.requests.specs.declared.table.Progress.{Progress}
-use Rattle.requests.specs.declared.table.Progress.TheVariants.{Finished, Receiving}
-use Rattle.requests.specs.Table.{progress_at}
-use Rattle.engine.specs.Calls.{CallGives, CallGivesAt, FreeCallGives, IsTaken}
-use Rattle.engine.specs.EngineState.{EngineState}
-use Rattle.engine.specs.Sending.{SendGivesAt, SendToAnyGives}
-use Rattle.rank_core.specs.Sending.{send_fault}
-use Rattle.engine.specs.Waiting.{WaitGivesAt}
+use Rattle.engine.specs.EngineState.{EngineState, emptied}
 use Rattle.proof_pure_network.specs.Core.{Core, new_core}
 use Rattle.proof_pure_network.specs.Network.{Network, here}
 use Rattle.proof_pure_network.proofs.EventKept.{current_more}
 use Rattle.proof_engine_view.specs.Shown.{IsShown}
-use Rattle.proof_link_truth.specs.Events.{OnlySessions, emptied}
 use Rattle.proof_link_truth.specs.Sessions.{Links}
 use Rattle.proof_link_truth.specs.Truth.{AreTrue}
-use Rattle.proof_link_truth.specs.Wire.{at}
-use Rattle.proof_network_bridge.specs.Joined.{IsClean, IsJoined}
+use Rattle.proof_link_truth.specs.Wire.{at, place_of}
+use Rattle.proof_network_bridge.specs.Joined.{IsClean, IsJoined, sessions_in}
+use Rattle.proof_network_bridge.proofs.Halves.{sessions_there}
 use Rattle.proof_network_bridge.proofs.Networks.{IsAfter, anew, with_new, with_old}
 
 -- what stands at a place of a list of which one place was set
@@ -67,55 +53,55 @@ later_apart w d r later = go (is_same d (here w r)) refl
         let incarnation_is : d.incarnation ≡ w.current r = ap (λ (e : Endpoint). e.incarnation) is in
         absurd (omega (arith, later, rank_is, incarnation_is))
 
--- what is emitted and answered doesn't belong to the core
-pub shown_emptied : (e : EngineState) (core : Core) → IsShown e core → IsShown (emptied e) core
-shown_emptied e core h =
-    record {
-      rows = h.rows;
-      jobs = h.jobs;
-      count = h.count;
-      table = h.table;
-      posted = h.posted;
-      held = h.held;
-      blocked = h.blocked;
-      width = h.width;
-      known = h.known;
-      itself = h.itself;
-    }
+-- an engine holds what a core of the network holds, and its halves stand at one place
+pub record IsHeld (e : EngineState) (core : Core) : Type 0 where
+  pub shown : IsShown e.core e.sessions.known core
+  pub placed : e.core.place ≡ e.sessions.place
 
--- nor do sessions and the clock
-pub shown_still : (old new : EngineState) (core : Core) → OnlySessions old new → IsShown old core → IsShown new core
-shown_still old new core only h =
-    subst (λ (e : EngineState). IsShown e core) (sym only)
-    (record {
-      rows = h.rows;
-      jobs = h.jobs;
-      count = h.count;
-      table = h.table;
-      posted = h.posted;
-      held = h.held;
-      blocked = h.blocked;
-      width = h.width;
-      known = h.known;
-      itself = h.itself;
-    })
+-- the engine at a rank does
+pub held_at : (n r : ℕ) (engines : List EngineState) (datagrams : List (ℕ × List ℕ)) (w : Network) (e : EngineState) → IsJoined n engines datagrams w → slice_get engines r ≡ Some e →
+    IsHeld e (w.core (here w r))
+held_at n r engines datagrams w e j there = record { shown = j.shown r e there; placed = j.placed r e there }
+
+-- where the sessions of the engine at a rank stand
+pub place_is : (n r : ℕ) (engines : List EngineState) (datagrams : List (ℕ × List ℕ)) (w : Network) (e : EngineState) → IsJoined n engines datagrams w → slice_get engines r ≡ Some e →
+    (r < n) × (e.sessions.place ≡ place_of n (here w r))
+place_is n r engines datagrams w e j there =
+    let sessions = sessions_there engines r e there in
+    (omega (arith, slice_get_within (sessions_in engines) r e.sessions sessions, j.links.count), (j.links.tells r e.sessions sessions).place)
+
+-- what is emitted and answered doesn't belong to the core
+pub held_emptied : (e : EngineState) (core : Core) → IsHeld e core → IsHeld (emptied e) core
+held_emptied e core h =
+    record {
+      shown = record {
+        rows = h.shown.rows;
+        jobs = h.shown.jobs;
+        count = h.shown.count;
+        table = h.shown.table;
+        posted = h.shown.posted;
+        held = h.shown.held;
+        blocked = h.shown.blocked;
+        width = h.shown.width;
+        known_alike = h.shown.known_alike;
+        itself = h.shown.itself;
+      };
+      placed = h.placed;
+    }
 
 pub clean_emptied : (e : EngineState) → IsClean (emptied e)
 clean_emptied e = record { out = refl; completion = refl }
 
 -- the world after an event at r is joined to the network after what happened there
 pub joined_after : (n r : ℕ) (engines : List EngineState) (datagrams datagrams' : List (ℕ × List ℕ)) (w w' : Network) (new : EngineState) (core : Core) (links : Links) (entries : List Entry) →
-    IsJoined n engines datagrams w → IsAfter w w' (here w r) core links entries → AreTrue n (slice_set engines r new) datagrams' links w.current → IsShown new core → IsClean new →
+    IsJoined n engines datagrams w → IsAfter w w' (here w r) core links entries → AreTrue n (sessions_in (slice_set engines r new)) datagrams' links w.current → IsHeld new core → IsClean new →
     IsJoined n (slice_set engines r new) datagrams' w'
-joined_after n r engines datagrams datagrams' w w' new core links entries j a truth shown clean =
+joined_after n r engines datagrams datagrams' w w' new core links entries j a truth held clean =
     record {
-      links = subst (λ (current : ℕ → ℕ). AreTrue n (slice_set engines r new) datagrams' w'.link current) (sym a.current_is)
-          (subst (λ (ls : Links). AreTrue n (slice_set engines r new) datagrams' ls w.current) (sym a.links_are) truth);
-      shown = λ x e is. subst (λ (current : ℕ → ℕ). IsShown e (w'.core (record { rank = x; incarnation = current x }))) (sym a.current_is) (elim (set_cases engines r new x e is) [
-        | inl p ↦ subst (λ (y : ℕ). IsShown e (w'.core (here w y))) (sym p.0)
-            (subst (λ (k : Core). IsShown e k) (sym a.at) (subst (λ (g : EngineState). IsShown g core) (sym p.1) shown))
-        | inr p ↦ subst (λ (k : Core). IsShown e k) (sym (a.others (here w x) (ranks_apart w x r p.0))) (j.shown x e p.1)
-      ]);
+      links = subst (λ (current : ℕ → ℕ). AreTrue n (sessions_in (slice_set engines r new)) datagrams' w'.link current) (sym a.current_is)
+          (subst (λ (ls : Links). AreTrue n (sessions_in (slice_set engines r new)) datagrams' ls w.current) (sym a.links_are) truth);
+      shown = λ x e is. (each x e is).shown;
+      placed = λ x e is. (each x e is).placed;
       clean = λ x e is. elim (set_cases engines r new x e is) [
         | inl p ↦ subst IsClean (sym p.1) clean
         | inr p ↦ j.clean x e p.1
@@ -124,41 +110,45 @@ joined_after n r engines datagrams datagrams' w w' new core links entries j a tr
           let before : w.current d.rank < d.incarnation = subst (λ (current : ℕ → ℕ). current d.rank < d.incarnation) a.current_is later in
           a.others d (later_apart w d r before) ∙ j.unborn d before;
     }
+  where
+    each : (x : ℕ) (e : EngineState) → slice_get (slice_set engines r new) x ≡ Some e → IsHeld e (w'.core (here w' x))
+    each x e is = subst (λ (current : ℕ → ℕ). IsHeld e (w'.core (record { rank = x; incarnation = current x }))) (sym a.current_is) (elim (set_cases engines r new x e is) [
+      | inl p ↦ subst (λ (y : ℕ). IsHeld e (w'.core (here w y))) (sym p.0)
+          (subst (λ (k : Core). IsHeld e k) (sym a.at) (subst (λ (g : EngineState). IsHeld g core) (sym p.1) held))
+      | inr p ↦ subst (λ (k : Core). IsHeld e k) (sym (a.others (here w x) (ranks_apart w x r p.0))) (held_at n x engines datagrams w e j p.1)
+    ])
 
 -- an event that is nothing to the network
-pub joined_still : (n r : ℕ) (engines : List EngineState) (datagrams datagrams' : List (ℕ × List ℕ)) (w : Network) (old mid : EngineState) →
-    IsJoined n engines datagrams w → slice_get engines r ≡ Some old → OnlySessions old mid → AreTrue n (slice_set engines r (emptied mid)) datagrams' w.link w.current →
-    IsJoined n (slice_set engines r (emptied mid)) datagrams' w
-joined_still n r engines datagrams datagrams' w old mid j there only truth =
+pub joined_still : (n r : ℕ) (engines : List EngineState) (datagrams datagrams' : List (ℕ × List ℕ)) (w : Network) (new : EngineState) →
+    IsJoined n engines datagrams w → AreTrue n (sessions_in (slice_set engines r new)) datagrams' w.link w.current → IsHeld new (w.core (here w r)) → IsClean new →
+    IsJoined n (slice_set engines r new) datagrams' w
+joined_still n r engines datagrams datagrams' w new j truth held clean =
     record {
       links = truth;
-      shown = λ x e is. elim (set_cases engines r (emptied mid) x e is) [
-        | inl p ↦ subst (λ (y : ℕ). IsShown e (w.core (here w y))) (sym p.0)
-            (subst (λ (g : EngineState). IsShown g (w.core (here w r))) (sym p.1)
-            (shown_emptied mid (w.core (here w r)) (shown_still old mid (w.core (here w r)) only (j.shown r old there))))
-        | inr p ↦ j.shown x e p.1
-      ];
-      clean = λ x e is. elim (set_cases engines r (emptied mid) x e is) [
-        | inl p ↦ subst IsClean (sym p.1) (clean_emptied mid)
+      shown = λ x e is. (each x e is).shown;
+      placed = λ x e is. (each x e is).placed;
+      clean = λ x e is. elim (set_cases engines r new x e is) [
+        | inl p ↦ subst IsClean (sym p.1) clean
         | inr p ↦ j.clean x e p.1
       ];
       unborn = j.unborn;
     }
+  where
+    each : (x : ℕ) (e : EngineState) → slice_get (slice_set engines r new) x ≡ Some e → IsHeld e (w.core (here w x))
+    each x e is = elim (set_cases engines r new x e is) [
+      | inl p ↦ subst (λ (y : ℕ). IsHeld e (w.core (here w y))) (sym p.0) (subst (λ (g : EngineState). IsHeld g (w.core (here w r))) (sym p.1) held)
+      | inr p ↦ held_at n x engines datagrams w e j p.1
+    ]
 
 -- a rank is started anew: its new engine shows the new core, and the other ranks' endpoints stay
 pub joined_anew : (n r : ℕ) (engines : List EngineState) (datagrams : List (ℕ × List ℕ)) (w : Network) (new : EngineState) →
-    IsJoined n engines datagrams w → AreTrue n (slice_set engines r new) datagrams w.link (anew w r).current → IsShown new (new_core (at r (suc (w.current r)))) → IsClean new →
+    IsJoined n engines datagrams w → AreTrue n (sessions_in (slice_set engines r new)) datagrams w.link (anew w r).current → IsHeld new (new_core (at r (suc (w.current r)))) → IsClean new →
     IsJoined n (slice_set engines r new) datagrams (anew w r)
-joined_anew n r engines datagrams w new j truth shown clean =
+joined_anew n r engines datagrams w new j truth held clean =
     record {
       links = truth;
-      shown = λ x e is. elim (set_cases engines r new x e is) [
-        | inl p ↦ subst (λ (y : ℕ). IsShown e (w.core (here (anew w r) y))) (sym p.0)
-            (subst (λ (i : ℕ). IsShown e (w.core (at r i))) (sym (with_new w.current r (suc (w.current r))))
-            (subst (λ (k : Core). IsShown e k) (sym (j.unborn (at r (suc (w.current r))) (omega arith)))
-            (subst (λ (g : EngineState). IsShown g (new_core (at r (suc (w.current r))))) (sym p.1) shown)))
-        | inr p ↦ subst (λ (i : ℕ). IsShown e (w.core (at x i))) (sym (with_old w.current r (suc (w.current r)) x (ne_eqb x r p.0))) (j.shown x e p.1)
-      ];
+      shown = λ x e is. (each x e is).shown;
+      placed = λ x e is. (each x e is).placed;
       clean = λ x e is. elim (set_cases engines r new x e is) [
         | inl p ↦ subst IsClean (sym p.1) clean
         | inr p ↦ j.clean x e p.1
@@ -167,38 +157,12 @@ joined_anew n r engines datagrams w new j truth shown clean =
           let more : w.current d.rank ≤ with_number w.current r (suc (w.current r)) d.rank = current_more w.current r d.rank in
           j.unborn d (omega (arith, later, more));
     }
-
--- a call completes no earlier one
-any_completes : (old new : EngineState) (s : Send) (own : Bool) (target : ℕ) (q : Request) → SendToAnyGives own old target s (Ok q) new → new.completion ≡ old.completion
-any_completes old new s true target q h = ap (λ (e : EngineState). e.completion) h.rest
-any_completes old new s false target q h = ap (λ (e : EngineState). e.completion) h.rest
-
-send_completes : (old new : EngineState) (s : Send) (fault : Option Refused) (target : Option ℕ) (q : Request) →
-    SendGivesAt fault old s target (Ok q) new → new.completion ≡ old.completion
-send_completes old new s (Some fault) target q h = ap (λ (e : EngineState). e.completion) h.1
-send_completes old new s None (Some target) q h = any_completes old new s (target == old.place.endpoint.rank) target q h
-send_completes old new s None None q h = ap (λ (e : EngineState). e.completion) h.1
-
-wait_completes : (old new : EngineState) (q : Request) (p : Option Progress) (reply : Reply) → WaitGivesAt old q p reply new → new.completion ≡ old.completion
-wait_completes old new q None reply h = ap (λ (e : EngineState). e.completion) h.1
-wait_completes old new q (Some (Receiving b)) reply h = ap (λ (e : EngineState). e.completion) h.1
-wait_completes old new q (Some (Finished o)) reply h = ap (λ (e : EngineState). e.completion) h.1
-
-free_completes : (old new : EngineState) (call : Call) (reply : Reply) → IsTaken reply → FreeCallGives old call reply new → new.completion ≡ old.completion
-free_completes old new (calls.Isend s) (replies.Started q) t h = send_completes old new s (send_fault old.place s) s.target q h
-free_completes old new (calls.Isend s) (replies.Refused e back) t h = absurd t
-free_completes old new (calls.Isend s) (replies.Done o) t h = absurd h
-free_completes old new (calls.Isend s) replies.Blocked t h = absurd h
-free_completes old new (calls.Irecv v) (replies.Started q) t h = ap (λ (e : EngineState). e.completion) h.rest
-free_completes old new (calls.Irecv v) (replies.Refused e back) t h = absurd t
-free_completes old new (calls.Irecv v) (replies.Done o) t h = absurd h
-free_completes old new (calls.Irecv v) replies.Blocked t h = absurd h
-free_completes old new (calls.Wait None) reply t h = ap (λ (e : EngineState). e.completion) h.1
-free_completes old new (calls.Wait (Some q)) reply t h = wait_completes old new q (progress_at old.slots q.key q.serial) reply h
-
-pub call_completes : (old new : EngineState) (call : Call) (reply : Reply) → IsTaken reply → CallGives old call reply new → new.completion ≡ old.completion
-call_completes old new call reply t h = go old.blocked h
   where
-    go : (b : Option Request) → CallGivesAt b old call reply new → new.completion ≡ old.completion
-    go (Some q) g = ap (λ (e : EngineState). e.completion) g.1
-    go None g = free_completes old new call reply t g
+    each : (x : ℕ) (e : EngineState) → slice_get (slice_set engines r new) x ≡ Some e → IsHeld e (w.core (here (anew w r) x))
+    each x e is = elim (set_cases engines r new x e is) [
+      | inl p ↦ subst (λ (y : ℕ). IsHeld e (w.core (here (anew w r) y))) (sym p.0)
+          (subst (λ (i : ℕ). IsHeld e (w.core (at r i))) (sym (with_new w.current r (suc (w.current r))))
+          (subst (λ (k : Core). IsHeld e k) (sym (j.unborn (at r (suc (w.current r))) (omega arith)))
+          (subst (λ (g : EngineState). IsHeld g (new_core (at r (suc (w.current r))))) (sym p.1) held)))
+      | inr p ↦ subst (λ (i : ℕ). IsHeld e (w.core (at x i))) (sym (with_old w.current r (suc (w.current r)) x (ne_eqb x r p.0))) (held_at n x engines datagrams w e j p.1)
+    ]

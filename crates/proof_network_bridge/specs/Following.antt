@@ -1,13 +1,16 @@
 -- A world of engines follows the pure network, event by event.
-use Rattle.std.specs.Prelude.{◌≡◌, ℕ, suc, ◌<◌, ◌≤◌, List, [], ◌∷◌, ◌++◌, Some, slice_get, slice_set, slice_index}
+use Rattle.std.specs.Prelude.{◌≡◌, ℕ, suc, ◌<◌, ◌≤◌, false, List, [], ◌∷◌, ◌++◌, Some, Ok, Err, slice_get, slice_set, slice_index, ◌==◌}
 use Rattle.incarnation.specs.declared.place.Place.{Place}
 use Rattle.rank_core.specs.declared.call.Call.{Call}
 use Rattle.rank_core.specs.declared.call.Reply.{Reply}
 use Rattle.rank_core.specs.declared.call.Reply.TheVariants as replies
 use Rattle.rank_core.specs.declared.refused.Refused.{Refused}
-use Rattle.engine.specs.Calls.{CallGives, IsTaken}
-use Rattle.rank_core.specs.Calls.{IsWithin}
-use Rattle.engine.specs.EngineState.{EngineState, opening}
+use Rattle.rank_core.specs.Calls.{IsTaken, IsWithin}
+use Rattle.sessions.specs.Peers.{IsIdlePeer, peer_at}
+use Rattle.engine.specs.Calls.{CallGives}
+use Rattle.engine.specs.Datagrams.{DatagramGives}
+use Rattle.engine.specs.EngineState.{EngineState, emptied, opening}
+use Rattle.engine.specs.Ticks.{TickGives}
 use Rattle.perfect_queues.specs.Events as machine
 use Rattle.vocabulary.specs.Endpoints.{last_incarnation}
 use Rattle.perfect_queues.specs.Quiet.{IsAtRest}
@@ -16,14 +19,41 @@ use Rattle.perfect_queues.specs.State as machine_state
 use Rattle.perfect_queues.specs.Refusals.{fault}
 use Rattle.proof_engine_view.specs.Seen.{call_meant, call_seen, told_call, told_completion}
 use Rattle.proof_engine_steps.specs.Refused.{IsFaultless, IsReason}
-use Rattle.proof_link_truth.specs.Events.{AreQuiet, RefusesDatagram, TakesDatagram, TakesTick, emptied, opening_engines}
-use Rattle.proof_network_bridge.specs.Joined.{IsFollowed}
+use Rattle.proof_network_bridge.specs.Joined.{IsFollowed, opening_engines}
+
+-- ---- what an event is to an engine
+
+-- the datagram that the bytes spell is taken in: the engine was `old`, and is `new`
+abbrev pub TakesDatagram : (old : EngineState) → (bytes : List ℕ) → (new : EngineState) → Type 0
+TakesDatagram old bytes new = DatagramGives old bytes (Ok tt) new
+
+-- the bytes are refused for this, and leave the engine so
+abbrev pub RefusesDatagram : (old : EngineState) → (bytes : List ℕ) → (why : Refused) → (new : EngineState) → Type 0
+RefusesDatagram old bytes why new = DatagramGives old bytes (Err why) new
+
+-- the engine's clock is set to this time, and what is due goes out again
+abbrev pub TakesTick : (old : EngineState) → (now : ℕ) → (new : EngineState) → Type 0
+TakesTick old now new = TickGives old now (Ok tt) new
+
+-- the tick is refused for this, and leaves the engine so
+abbrev pub RefusesTick : (old : EngineState) → (now : ℕ) → (why : Refused) → (new : EngineState) → Type 0
+RefusesTick old now why new = TickGives old now (Err why) new
+
+-- of two ranks that know each other as they are now, neither's session with the other holds a frame
+abbrev pub AreQuiet : List EngineState → Type 0
+AreQuiet engines =
+    (r x : ℕ) (e d : EngineState) → slice_get engines r ≡ Some e → slice_get engines x ≡ Some d → (x == r) ≡ false →
+    slice_index e.sessions.known x ≡ d.sessions.place.endpoint.incarnation →
+    slice_index d.sessions.known r ≡ e.sessions.place.endpoint.incarnation →
+    IsIdlePeer (peer_at e.sessions.peers x)
+
+-- ---- what it leaves
 
 -- what was done leaves a world in which the engine at r is the new one, out of which what it gave was taken
 abbrev pub LeavesFollowed :
     (n : ℕ) → List EngineState → List (ℕ × List ℕ) → (r : ℕ) → EngineState → List machine.Entry → Type 0
 LeavesFollowed n engines datagrams r mid history =
-    IsFollowed n (slice_set engines r (emptied mid)) (datagrams ++ mid.out) history
+    IsFollowed n (slice_set engines r (emptied mid)) (datagrams ++ mid.sessions.out) history
 
 -- at most 256 engines at their start follow the network, and nothing was seen
 abbrev pub OpeningFollows : Type 0
@@ -37,7 +67,8 @@ CallsFollow =
     IsFollowed n engines datagrams history → slice_get engines r ≡ Some old → IsWithin call → IsTaken reply →
     CallGives old call reply mid →
     LeavesFollowed n engines datagrams r mid
-    (history ++ (told_call old.place.endpoint call (Some reply) ++ told_completion old.place.endpoint mid.completion))
+    (history ++
+    (told_call old.sessions.place.endpoint call (Some reply) ++ told_completion old.sessions.place.endpoint mid.core.completion))
 
 -- A datagram that a rank takes in is followed, and what is seen of it is the answer to a call that was blocked
 abbrev pub DatagramsFollow : Type 0
@@ -46,7 +77,7 @@ DatagramsFollow =
     (history : List machine.Entry) (old mid : EngineState) →
     IsFollowed n engines datagrams history → slice_get engines r ≡ Some old →
     slice_get datagrams number ≡ Some (r, bytes) → TakesDatagram old bytes mid →
-    LeavesFollowed n engines datagrams r mid (history ++ told_completion old.place.endpoint mid.completion)
+    LeavesFollowed n engines datagrams r mid (history ++ told_completion old.sessions.place.endpoint mid.core.completion)
 
 -- nothing is seen of a datagram that is refused, though a reset may go out
 abbrev pub RefusalsFollow : Type 0
@@ -63,7 +94,7 @@ TicksFollow =
     (n r now : ℕ) (engines : List EngineState) (datagrams : List (ℕ × List ℕ)) (history : List machine.Entry)
     (old mid : EngineState) →
     IsFollowed n engines datagrams history → slice_get engines r ≡ Some old → TakesTick old now mid →
-    LeavesFollowed n engines datagrams r mid (history ++ told_completion old.place.endpoint mid.completion)
+    LeavesFollowed n engines datagrams r mid (history ++ told_completion old.sessions.place.endpoint mid.core.completion)
 
 -- the place of the next incarnation of a rank
 abbrev pub next_place : Place → Place
@@ -79,8 +110,8 @@ RestartsFollow =
     (n r : ℕ) (engines : List EngineState) (datagrams : List (ℕ × List ℕ)) (history : List machine.Entry)
     (old : EngineState) →
     IsFollowed n engines datagrams history → slice_get engines r ≡ Some old →
-    old.place.endpoint.incarnation < last_incarnation →
-    IsFollowed n (slice_set engines r (opening (next_place old.place))) datagrams
+    old.sessions.place.endpoint.incarnation < last_incarnation →
+    IsFollowed n (slice_set engines r (opening (next_place old.sessions.place))) datagrams
     (history ++ machine.Restarted r ∷ [])
 
 -- A history is seen of a run of the machine of perfect queues among n ranks. The run ends with each rank at the
@@ -94,21 +125,21 @@ pub record IsSeenOfMachine (n : ℕ) (engines : List EngineState) (history : Lis
   -- each rank is at the incarnation of its engine
   pub now :
       (r : ℕ) (e : EngineState) → slice_get engines r ≡ Some e →
-      (after_run machine_state.opening events).current r ≡ e.place.endpoint.incarnation
+      (after_run machine_state.opening events).current r ≡ e.sessions.place.endpoint.incarnation
   -- the endpoint there knows each rank at the incarnation at which its engine knows it
   pub knows :
       (r : ℕ) (e : EngineState) → slice_get engines r ≡ Some e → (x : ℕ) →
-      ((after_run machine_state.opening events).at e.place.endpoint).known x ≡ slice_index e.known x
+      ((after_run machine_state.opening events).at e.sessions.place.endpoint).known x ≡ slice_index e.sessions.known x
   -- a call that the engine refuses has the machine's first fault there, by its number, or one of the other reasons
   pub refuses :
       (r : ℕ) (e mid : EngineState) (call back : Call) (why : Refused) → slice_get engines r ≡ Some e →
       CallGives e call (replies.Refused why back) mid →
-      IsReason (fault n ((after_run machine_state.opening events).at e.place.endpoint) (call_meant e call)) call why
+      IsReason (fault n ((after_run machine_state.opening events).at e.sessions.place.endpoint) (call_meant e.core call)) call why
   -- the machine finds no fault with a call that the engine takes
   pub takes :
       (r : ℕ) (e mid : EngineState) (call : Call) (reply : Reply) → slice_get engines r ≡ Some e → IsTaken reply →
       CallGives e call reply mid →
-      IsFaultless (fault n ((after_run machine_state.opening events).at e.place.endpoint) (call_seen call)) e call
+      IsFaultless (fault n ((after_run machine_state.opening events).at e.sessions.place.endpoint) (call_seen call)) e.core call
   pub quiet : AreQuiet engines → IsAtRest (after_run machine_state.opening events)
 
 -- wherever engines follow the network, what was seen of them is seen of a run of the machine

@@ -1,22 +1,36 @@
 -- What joins a world of engines to the pure network.
-use Rattle.std.specs.Prelude.{◌≡◌, ℕ, ◌<◌, List, [], Some, None, slice_get}
-use Rattle.engine.specs.EngineState.{EngineState}
+use Rattle.std.specs.Prelude.{◌≡◌, ℕ, zero, suc, ◌<◌, List, [], ◌∷◌, map, Some, None, slice_get}
+use Rattle.engine.specs.EngineState.{EngineState, opening}
+use Rattle.sessions.specs.SessionsState.{SessionsState}
 use Rattle.vocabulary.specs.declared.endpoint.Endpoint.{Endpoint}
 use Rattle.perfect_queues.specs.Events.{Entry}
 use Rattle.proof_pure_network.specs.Core.{new_core}
 use Rattle.proof_pure_network.specs.Network.{Happening, Network, here, new_network, run}
 use Rattle.proof_engine_view.specs.Shown.{IsShown}
 use Rattle.proof_link_truth.specs.Truth.{AreTrue}
+use Rattle.proof_link_truth.specs.Wire.{at, place_of}
+
+-- the sessions of these engines, rank by rank
+abbrev pub sessions_in : List EngineState → List SessionsState
+sessions_in engines = map (λ (e : EngineState). e.sessions) engines
+
+-- the engines of k ranks among n, from this rank on, at their first incarnations
+abbrev pub opening_engines : (n rank : ℕ) → ℕ → List EngineState
+opening_engines n rank zero = []
+opening_engines n rank (suc k) = opening (place_of n (at rank 0)) ∷ opening_engines n (suc rank) k
 
 -- an engine out of which everything was taken
 pub record IsClean (e : EngineState) : Type 0 where
-  pub out : e.out ≡ []
-  pub completion : e.completion ≡ None
+  pub out : e.sessions.out ≡ []
+  pub completion : e.core.completion ≡ None
 
--- each engine holds what the core of its rank's current endpoint holds, and sessions and datagrams tell of the links
+-- Sessions and datagrams tell of the links; and each engine's core holds what the core of its rank's current endpoint holds,
+-- with what its sessions know
 pub record IsJoined (n : ℕ) (engines : List EngineState) (datagrams : List (ℕ × List ℕ)) (w : Network) : Type 0 where
-  pub links : AreTrue n engines datagrams w.link w.current
-  pub shown : (r : ℕ) (e : EngineState) → slice_get engines r ≡ Some e → IsShown e (w.core (here w r))
+  pub links : AreTrue n (sessions_in engines) datagrams w.link w.current
+  pub shown : (r : ℕ) (e : EngineState) → slice_get engines r ≡ Some e → IsShown e.core e.sessions.known (w.core (here w r))
+  -- both halves of an engine stand at one place
+  pub placed : (r : ℕ) (e : EngineState) → slice_get engines r ≡ Some e → e.core.place ≡ e.sessions.place
   pub clean : (r : ℕ) (e : EngineState) → slice_get engines r ≡ Some e → IsClean e
   -- endpoints that are to come have done nothing
   pub unborn : (d : Endpoint) → w.current d.rank < d.incarnation → w.core d ≡ new_core d

@@ -2,6 +2,8 @@
 use Rattle.std.proofs.Common.{◌≡◌, ℕ, ◌+◌, ◌≤◌, ◌<◌, Bool, true, false, List, [], ◌∷◌, ◌++◌, length, Option, Some, None, if◌then◌else◌, get_or, map, refl, sym, ap, ◌∙◌, subst, arith, ⊎_elim}
 use Rattle.std.proofs.lemmas.Bool.{le-ltb}
 use Rattle.std.proofs.lemmas.List.{get_or_append_left, get_or_push, length_push, length-append, length-map}
+use Rattle.perfect_queues.specs.Buffers.{data_of}
+use Rattle.vocabulary.specs.declared.envelope.Source.TheVariants.{Any, Null, Rank}
 use Rattle.perfect_queues.specs.Calls.{Call, Cancel, Irecv, Isend, Test, Wait, is_eager, message_sent, receiver}
 use Rattle.vocabulary.specs.Endpoints.{is_same}
 use Rattle.perfect_queues.specs.Messages.{Message}
@@ -41,39 +43,41 @@ call_logged V w e (Irecv p) sane x = tt
 call_logged V w e (Wait a) sane x = tt
 call_logged V w e (Test r) sane x = tt
 call_logged V w e (Cancel r) sane x = tt
-call_logged V w e (Isend c to tag basic values) sane x =
+call_logged V w e (Isend c to tag from) sane x =
     let k : ℕ = length (w.core e).jobs in
     let l : length (w.log e) ≡ length (w.core e).jobs = sane.logs e in
-    let y : k < length (with_log w.log e (values ∷ []) e) → V e k ≡ get_or (with_log w.log e (values ∷ []) e) k [] = x e k in
-    let z : k < length (w.log e ++ values ∷ []) → V e k ≡ get_or (w.log e ++ values ∷ []) k [] = rw (same_refl e) at y in
-    sym (z (omega (arith, length_push (w.log e) values)) ∙ get_or_push (w.log e) values [] k l)
+    let y : k < length (with_log w.log e ((data_of from) ∷ []) e) → V e k ≡ get_or (with_log w.log e ((data_of from) ∷ []) e) k [] = x e k in
+    let z : k < length (w.log e ++ (data_of from) ∷ []) → V e k ≡ get_or (w.log e ++ (data_of from) ∷ []) k [] = rw (same_refl e) at y in
+    sym (z (omega (arith, length_push (w.log e) (data_of from))) ∙ get_or_push (w.log e) (data_of from) [] k l)
 
 pub call_spelled : (V : Values) (e : Endpoint) (core : Core) (c : Call) → IsLogged V e core c → IsSpelled V (message_sent e (view V core) c)
 call_spelled V e core (Irecv p) x = tt
 call_spelled V e core (Wait a) x = tt
 call_spelled V e core (Test r) x = tt
 call_spelled V e core (Cancel r) x = tt
-call_spelled V e core (Isend c None tag basic values) x = tt
-call_spelled V e core (Isend c (Some to) tag basic values) x = go (is_eager e (receiver core.known to) basic values)
+call_spelled V e core (Isend c Any tag from) x = tt
+call_spelled V e core (Isend c Null tag from) x = tt
+call_spelled V e core (Isend c (Rank to) None from) x = tt
+call_spelled V e core (Isend c (Rank to) (Some tag) from) x = go (is_eager e (receiver core.known to) from.buffer.basic (data_of from))
   where
     k : ℕ
     k = length (map (request_of V) core.jobs)
 
-    said : V e k ≡ values
+    said : V e k ≡ (data_of from)
     said = ap (V e) (length-map core.jobs (request_of V)) ∙ sym x
 
     m : Bool → Message
-    m b = record { sender = e; context = c; tag = tag; basic = basic; values = values; request = if b then None else Some k }
+    m b = record { sender = e; context = c; tag = tag; basic = from.buffer.basic; values = (data_of from); request = if b then None else Some k }
 
     big : List ℕ → Option Message
-    big vs = Some (record { sender = e; context = c; tag = tag; basic = basic; values = vs; request = Some k })
+    big vs = Some (record { sender = e; context = c; tag = tag; basic = from.buffer.basic; values = vs; request = Some k })
 
     go : (b : Bool) → message V e (frame_of (m b)) ≡ Some (m b)
     go true = refl
     go false = ap big said
 
 pub logged_length : (c : Call) → length (logged c) ≡ requests_of c
-logged_length (Isend c to tag basic values) = refl
+logged_length (Isend c to tag from) = refl
 logged_length (Irecv p) = refl
 logged_length (Wait a) = refl
 logged_length (Test r) = refl

@@ -1,6 +1,7 @@
 use Rattle.std.proofs.Common.{◌≡◌, ℕ, zero, suc, ◌+◌, ◌≤◌, ◌<◌, Bool, true, false, ◌&&◌, List, [], ◌∷◌, ◌++◌, map, length, Option, Some, None, cond, if◌then◌else◌, ◌==◌, not, nat_lt, ◌||◌, slice_get, slice_set, filter, refl, sym, ap, ◌∙◌, subst, arith, ◌⊎◌, ⊎_elim, inl, inr}
 use Rattle.std.proofs.lemmas.Bool.{eq-eqb, eqb-true, ltb-false, ltb-true, le-ltb}
 use Rattle.std.proofs.lemmas.Option.{same_Some}
+use Rattle.perfect_queues.specs.Buffers.{data_of}
 use Rattle.perfect_queues.specs.Calls.{Call, Cancel, Irecv, Isend, Test, Wait, is_eager, receiver}
 use Rattle.perfect_queues.specs.Completions.{Answer, One, completion}
 use Rattle.vocabulary.specs.Endpoints.{is_former, is_same}
@@ -18,7 +19,7 @@ use Rattle.proof_pure_network.specs.Jobs.{Closed, Collecting, Job, Offering, Ove
 use Rattle.proof_pure_network.specs.Links.{Link, accept_all, handed_on, in_flight}
 use Rattle.proof_pure_network.specs.Matching.{arrived, arrived_at, found, posted, posted_at, receives}
 use Rattle.proof_pure_network.specs.Network.{with_core}
-use Rattle.proof_pure_network.specs.Transfers.{answered, collected, data_of}
+use Rattle.proof_pure_network.specs.Transfers.{answered, collected, wanted_data}
 use Rattle.proof_pure_network.proofs.Honest.{push_split, set_split}
 use Rattle.proof_pure_network.proofs.JobLemmas.{Fewer, fewer_dropped, fewer_ended, fewer_set, fewer_used}
 use Rattle.proof_pure_network.proofs.Pairs.{core_here, hand_else, hand_first, token}
@@ -66,7 +67,7 @@ answered_back core s k w (Some (Over o)) = λ i d values x. x
 answered_back core s k w (Some Closed) = λ i d values x. x
 answered_back core s k w (Some (Offering y vs)) = go (is_same y s)
   where
-    go : (t : Bool) → OffersBack core (if t then effect (with_jobs core (slice_set core.jobs k (Over Sent))) (data_of y k vs w) else effect core []).core
+    go : (t : Bool) → OffersBack core (if t then effect (with_jobs core (slice_set core.jobs k (Over Sent))) (wanted_data y k vs w) else effect core []).core
     go true = back_fewer core (with_jobs core (slice_set core.jobs k (Over Sent))) (fewer_set core.jobs k Sent)
     go false = λ i d values x. x
 
@@ -108,7 +109,7 @@ answered_ends core d k w values h = go (slice_get core.jobs k) refl h (answered_
     go (Some Closed) x h b = let n : Closed ≡ Offering d values = bad Closed x b in absurd (grind arith)
     go (Some (Offering y vs)) x h b = at (is_same y d) refl h
       where
-        at : (t : Bool) → is_same y d ≡ t → Offers (if t then effect (with_jobs core (slice_set core.jobs k (Over Sent))) (data_of y k vs w) else effect core []).core k d values → ⊥
+        at : (t : Bool) → is_same y d ≡ t → Offers (if t then effect (with_jobs core (slice_set core.jobs k (Over Sent))) (wanted_data y k vs w) else effect core []).core k d values → ⊥
         at true q h = let n : Over Sent ≡ Offering d values = same_Some (Over Sent) (Offering d values) (sym (get_set core.jobs k (Offering y vs) (Over Sent) x) ∙ h) in absurd (grind arith)
         at false q h =
             let n : Offering y vs ≡ Offering d values = bad (Offering y vs) x b in
@@ -162,30 +163,32 @@ posted_back core p = go (found p core.held)
     go (Some t) = λ k d values h. ⊎_elim (λ a. a) (λ a. absurd (no_offer p t.1 t.1.body d values a.1)) (push_split core.jobs (matched_job p t.1 t.1.body) k (Offering d values) h)
 
 pub called_offers : (e : Endpoint) (core : Core) (c : Call) (k : ℕ) (d : Endpoint) (values : List ℕ) → Offers (called e core c).core k d values → Offers core k d values ⊎ NewOffer e core (called e core c).out k d
-called_offers e core (Isend c None tag basic vs) k d values h = inl (push_back core (Over Sent) (over_offer Sent) k d values h)
-called_offers e core (Isend c (Some to) tag basic vs) k d values h = go (is_same y e) refl (is_eager e y basic vs) h
+called_offers e core (Isend c Any tag from) k d values h = inl (push_back core (Over Sent) (over_offer Sent) k d values h)
+called_offers e core (Isend c Null tag from) k d values h = inl (push_back core (Over Sent) (over_offer Sent) k d values h)
+called_offers e core (Isend c (Rank to) None from) k d values h = inl (push_back core (Over Sent) (over_offer Sent) k d values h)
+called_offers e core (Isend c (Rank to) (Some tag) from) k d values h = go (is_same y e) refl (is_eager e y from.buffer.basic (data_of from)) h
   where
     y : Endpoint
     y = receiver core.known to
 
-    go : (own : Bool) → is_same y e ≡ own → (small : Bool) → Offers (sends e core y own c tag basic vs small).core k d values → Offers core k d values ⊎ NewOffer e core (sends e core y own c tag basic vs small).out k d
-    go true q small h = inl (push_back core (Over Sent) (over_offer Sent) k d values (arrived_back (pushed_over core) (own_message e c tag basic vs) k d values h))
+    go : (own : Bool) → is_same y e ≡ own → (small : Bool) → Offers (sends e core y own c tag from.buffer.basic (data_of from) small).core k d values → Offers core k d values ⊎ NewOffer e core (sends e core y own c tag from.buffer.basic (data_of from) small).out k d
+    go true q small h = inl (push_back core (Over Sent) (over_offer Sent) k d values (arrived_back (pushed_over core) (own_message e c tag from.buffer.basic (data_of from)) k d values h))
     go false q true h = inl (push_back core (Over Sent) (over_offer Sent) k d values h)
-    go false q false h = ⊎_elim (λ a. inl a) (λ a. inr (new' a.0 (to_of a.1))) (push_split core.jobs (Offering y vs) k (Offering d values) h)
+    go false q false h = ⊎_elim (λ a. inl a) (λ a. inr (new' a.0 (to_of a.1))) (push_split core.jobs (Offering y (data_of from)) k (Offering d values) h)
       where
-        to_of : Offering y vs ≡ Offering d values → y ≡ d
+        to_of : Offering y (data_of from) ≡ Offering d values → y ≡ d
         to_of x = grind arith
 
-        one_sent : (i : ℕ) → i ≡ length core.jobs → count (is_rts i) (Rts c tag basic (length core.jobs) (length vs) ∷ []) ≡ 1
+        one_sent : (i : ℕ) → i ≡ length core.jobs → count (is_rts i) (Rts c tag from.buffer.basic (length core.jobs) (length (data_of from)) ∷ []) ≡ 1
         one_sent i x = let o : one (i == length core.jobs) ≡ 1 = ap one (eq-eqb i (length core.jobs) x) in omega arith
 
-        new' : k ≡ length core.jobs → y ≡ d → NewOffer e core ((y, Rts c tag basic (length core.jobs) (length vs)) ∷ []) k d
-        new' i x = subst (λ (z : Endpoint). NewOffer e core ((y, Rts c tag basic (length core.jobs) (length vs)) ∷ []) k z) x
-            (record { knows = refl; other = q; sends = subst (λ (t : Bool). count (is_rts k) (if t then Rts c tag basic (length core.jobs) (length vs) ∷ [] else []) ≡ 1) (sym (same_refl y)) (one_sent k i) })
+        new' : k ≡ length core.jobs → y ≡ d → NewOffer e core ((y, Rts c tag from.buffer.basic (length core.jobs) (length (data_of from))) ∷ []) k d
+        new' i x = subst (λ (z : Endpoint). NewOffer e core ((y, Rts c tag from.buffer.basic (length core.jobs) (length (data_of from))) ∷ []) k z) x
+            (record { knows = refl; other = q; sends = subst (λ (t : Bool). count (is_rts k) (if t then Rts c tag from.buffer.basic (length core.jobs) (length (data_of from)) ∷ [] else []) ≡ 1) (sym (same_refl y)) (one_sent k i) })
 called_offers e core (Irecv p) k d values h = inl (go p.source h)
   where
     go : (src : Source) → Offers (receives core p src).core k d values → Offers core k d values
-    go Null h = push_back core (Over (Received (record { source = Null; tag = None; count = 0 }) p.buffer)) (over_offer (Received (record { source = Null; tag = None; count = 0 }) p.buffer)) k d values h
+    go Null h = push_back core (Over (Received (record { source = Null; tag = None; count = 0 }) p.into.buffer.values)) (over_offer (Received (record { source = Null; tag = None; count = 0 }) p.into.buffer.values)) k d values h
     go Any h = posted_back core p k d values h
     go (Rank r) h = posted_back core p k d values h
 called_offers e core (Wait a) k d values h = inl h
@@ -203,8 +206,8 @@ offer_only true o j d values e = absurd (over_offer o d values e)
 offer_only false o j d values e = (refl, e)
 
 left_over : (r i : ℕ) (j : Job) (d : Endpoint) (values : List ℕ) → ended r i j ≡ Offering d values → (d.rank == r) ≡ false
-left_over r i (Waiting p) d values e = let n : Waiting p ≡ Offering d values = (offer_only (names p.source r) (Replaced (Some p.buffer)) (Waiting p) d values e).1 in absurd (grind arith)
-left_over r i (Collecting p u got) d values e = let n : Collecting p u got ≡ Offering d values = (offer_only (names p.source r || is_former r i u.sender) (Replaced (Some p.buffer)) (Collecting p u got) d values e).1 in absurd (grind arith)
+left_over r i (Waiting p) d values e = let n : Waiting p ≡ Offering d values = (offer_only (names p.source r) (Replaced (Some p.into.buffer.values)) (Waiting p) d values e).1 in absurd (grind arith)
+left_over r i (Collecting p u got) d values e = let n : Collecting p u got ≡ Offering d values = (offer_only (names p.source r || is_former r i u.sender) (Replaced (Some p.into.buffer.values)) (Collecting p u got) d values e).1 in absurd (grind arith)
 left_over r i (Offering x vs) d values e =
     let q = offer_only (x.rank == r) (Replaced None) (Offering x vs) d values e in
     let n : Offering x vs ≡ Offering d values = q.1 in

@@ -7,7 +7,7 @@ use Rattle.std.proofs.lemmas.List.Elements.{filter-append}
 use Rattle.std.proofs.lemmas.Option.{same_Some}
 use Rattle.vocabulary.specs.Endpoints.{is_same}
 use Rattle.perfect_queues.specs.Messages.{Message}
-use Rattle.perfect_queues.specs.Outcomes.{Outcome, outcome, unfit}
+use Rattle.perfect_queues.specs.Outcomes.{Outcome, outcome, unfit, status_by}
 use Rattle.perfect_queues.specs.Receives.{Receive, accepts, has_room}
 use Rattle.perfect_queues.specs.Requests.{Finished, Matched, Posted, Request}
 use Rattle.perfect_queues.specs.State.{Local, with_message, with_queue, with_request}
@@ -85,10 +85,10 @@ pub key_first : (earlier later : List Message) (m : Message) → filter (is_of m
 key_first earlier later m = filter-append (is_of m.sender m.context) earlier (m ∷ later) ∙ rw (is_of_own m)
 
 -- a receive that has no room ends as the count that came says
-pub drop_outcome : (V : Values) (p : Receive) (h : Held) (t n : ℕ) → n ≡ length (V h.sender t) → has_room p h.basic n ≡ false → outcome p (fill V (record h { body = Part t n })) ≡ unfit p h.basic (record { source = Rank h.sender.rank; tag = Some h.tag; count = n })
+pub drop_outcome : (V : Values) (p : Receive) (h : Held) (t n : ℕ) → n ≡ length (V h.sender t) → has_room p h.basic n ≡ false → outcome p (fill V (record h { body = Part t n })) ≡ unfit p h.basic (status_by p h.sender.rank h.tag n)
 drop_outcome V p h t n c r =
     let e : has_room p h.basic (length (V h.sender t)) ≡ false = subst (λ (x : ℕ). has_room p h.basic x ≡ false) c r in
-    rw e (ap (λ (x : ℕ). unfit p h.basic (record { source = Rank h.sender.rank; tag = Some h.tag; count = x })) (sym c))
+    rw e (ap (λ (x : ℕ). unfit p h.basic (status_by p h.sender.rank h.tag x)) (sym c))
 
 -- a match, and the finish where all of the message is there or none is wanted
 pub two_steps : (V : Values) (l : Local) (k : ℕ) (p : Receive) (m : Message) (o : Outcome) (earlier later : List Message) (to : Local) → Allowed l (Match k p earlier m later) → outcome p m ≡ o →
@@ -119,7 +119,7 @@ match_steps V l k p h (Part t n) earlier later to counted a rs bl kn q = go (has
           own = (tt, tt);
           reach = same_local to (after_steps l (Match k p earlier m later ∷ [])) rs bl kn q;
         }
-    go false e rs = two_steps V l k p m (unfit p h.basic (record { source = Rank h.sender.rank; tag = Some h.tag; count = n })) earlier later to a (drop_outcome V p h t n counted e) rs bl kn q
+    go false e rs = two_steps V l k p m (unfit p h.basic (status_by p h.sender.rank h.tag n)) earlier later to a (drop_outcome V p h t n counted e) rs bl kn q
 
 pub none_fit_map : (V : Values) (q : Receive) (hs : List Held) → AllByRecursion (λ h. fits q h ≡ false) hs → AllByRecursion (λ m. accepts q m ≡ false) (map (fill V) hs)
 none_fit_map V q [] a = tt

@@ -4,6 +4,7 @@ use Rattle.std.specs.List.{AllByRecursion}
 use Rattle.std.proofs.lemmas.Bool.{and_parts, ltb-true}
 use Rattle.std.proofs.lemmas.List.{map-append, map-set, length-map}
 use Rattle.vocabulary.specs.BasicTypes.{size_of}
+use Rattle.perfect_queues.specs.Buffers.{Handed, data_of}
 use Rattle.perfect_queues.specs.Calls.{Call, Cancel, Irecv, Isend, Test, Wait, after_answer, after_call, after_cancel, after_settling, after_test, after_use, message_sent, receive_request, receiver}
 use Rattle.perfect_queues.specs.Completions.{Answer, One, completion}
 use Rattle.vocabulary.specs.Endpoints.{is_former, is_same}
@@ -25,7 +26,7 @@ use Rattle.proof_pure_network.specs.Frames.{Cts, Data, Eager, Frame, IsNoMessage
 use Rattle.proof_pure_network.specs.Held.{Body, Held, Part, Whole, fill}
 use Rattle.proof_pure_network.specs.Jobs.{Closed, Collecting, Job, Offering, Over, Waiting, closed, collecting, dropped, ended, oldest_posted, over_at, request_of}
 use Rattle.proof_pure_network.specs.Matching.{answer, arrived, arrived_at, found, posted, posted_at, receives}
-use Rattle.proof_pure_network.specs.Transfers.{answered, collected, data_frames, data_of, pieces}
+use Rattle.proof_pure_network.specs.Transfers.{answered, collected, data_frames, wanted_data, pieces}
 use Rattle.proof_pure_network.proofs.EngineSteps.{IsOwn, Steps, arrive_steps, collect_steps, none_steps, post_steps, same_local}
 use Rattle.proof_pure_network.proofs.HonestValues.{HonestCore, IsHonest, IsHonestHeld}
 use Rattle.proof_pure_network.proofs.JobLemmas.{all_changed_map, changed_map, closed_gone, dropped_cancelled, finished_same, ready_core, request_at}
@@ -34,9 +35,11 @@ use Rattle.proof_pure_network.proofs.NoneFits.{over_isnt, push_quiet}
 pub push_view : (V : Values) (core : Core) (j : Job) → view V (with_jobs core (core.jobs ++ j ∷ [])) ≡ with_request (view V core) (request_of V j)
 push_view V core j = same_local (view V (with_jobs core (core.jobs ++ j ∷ []))) (with_request (view V core) (request_of V j)) (map-append (request_of V) core.jobs (j ∷ [])) refl refl (λ s c. refl)
 
-pub isend_steps : (V : Values) (e : Endpoint) (core : Core) (c : ℕ) (to : Option ℕ) (tag : ℕ) (basic : BasicType) (values : List ℕ) → NoneFits core → Steps (taken_in V e (view V core) (Asked (Isend c to tag basic values))) (view V (called e core (Isend c to tag basic values)).core)
-isend_steps V e core c None tag basic values quiet = none_steps (with_request (view V core) (Finished Sent)) (view V (pushed_over core)) (push_view V core (Over Sent))
-isend_steps V e core c (Some to) tag basic values quiet = go (is_same d e) refl (nat_le (length values * size_of basic) 1024) refl
+pub isend_steps : (V : Values) (e : Endpoint) (core : Core) (c : ℕ) (to : Source) (tag : Option ℕ) (from : Handed) → NoneFits core → Steps (taken_in V e (view V core) (Asked (Isend c to tag from))) (view V (called e core (Isend c to tag from)).core)
+isend_steps V e core c Any tag from quiet = none_steps (with_request (view V core) (Finished Sent)) (view V (pushed_over core)) (push_view V core (Over Sent))
+isend_steps V e core c Null tag from quiet = none_steps (with_request (view V core) (Finished Sent)) (view V (pushed_over core)) (push_view V core (Over Sent))
+isend_steps V e core c (Rank to) None from quiet = none_steps (with_request (view V core) (Finished Sent)) (view V (pushed_over core)) (push_view V core (Over Sent))
+isend_steps V e core c (Rank to) (Some tag) from quiet = go (is_same d e) refl (nat_le (length (data_of from) * size_of from.buffer.basic) 1024) refl
   where
     d : Endpoint
     d = receiver core.known to
@@ -45,19 +48,19 @@ isend_steps V e core c (Some to) tag basic values quiet = go (is_same d e) refl 
     next = pushed_over core
 
     h : Held
-    h = own_message e c tag basic values
+    h = own_message e c tag from.buffer.basic (data_of from)
 
     own : Steps (with_message (with_request (view V core) (Finished Sent)) (fill V h)) (view V (arrived next h).core)
     own = subst (λ (l : Local). Steps (with_message l (fill V h)) (view V (arrived next h).core)) (push_view V core (Over Sent)) (arrive_steps V next h (refl, tt) (push_quiet core (Over Sent) (over_isnt Sent) quiet))
 
-    go : (o : Bool) → is_same d e ≡ o → (small : Bool) → nat_le (length values * size_of basic) 1024 ≡ small → Steps (taken_in V e (view V core) (Asked (Isend c (Some to) tag basic values))) (view V (called e core (Isend c (Some to) tag basic values)).core)
+    go : (o : Bool) → is_same d e ≡ o → (small : Bool) → nat_le (length (data_of from) * size_of from.buffer.basic) 1024 ≡ small → Steps (taken_in V e (view V core) (Asked (Isend c (Rank to) (Some tag) from))) (view V (called e core (Isend c (Rank to) (Some tag) from)).core)
     go true a true b = rw (a, b) own
     go true a false b = rw (a, b) own
     go false a true b = rw (a, b) (none_steps (with_request (view V core) (Finished Sent)) (view V next) (push_view V core (Over Sent)))
-    go false a false b = rw (a, b) (none_steps (with_request (view V core) (Sending d)) (view V (with_jobs core (core.jobs ++ Offering d values ∷ []))) (push_view V core (Offering d values)))
+    go false a false b = rw (a, b) (none_steps (with_request (view V core) (Sending d)) (view V (with_jobs core (core.jobs ++ Offering d (data_of from) ∷ []))) (push_view V core (Offering d (data_of from))))
 
 pub receive_steps : (V : Values) (core : Core) (p : Receive) (src : Source) → AllByRecursion (IsHonestHeld V) core.held → NoneFits core → Steps (with_request (view V core) (receive_request src p)) (view V (receives core p src).core)
-receive_steps V core p Null honest quiet = none_steps (with_request (view V core) (receive_request Null p)) (view V (receives core p Null).core) (push_view V core (Over (Received (record { source = Null; tag = None; count = 0 }) p.buffer)))
+receive_steps V core p Null honest quiet = none_steps (with_request (view V core) (receive_request Null p)) (view V (receives core p Null).core) (push_view V core (Over (Received (record { source = Null; tag = None; count = 0 }) p.into.buffer.values)))
 receive_steps V core p Any honest quiet = post_steps V core p honest quiet
 receive_steps V core p (Rank r) honest quiet = post_steps V core p honest quiet
 
@@ -73,7 +76,7 @@ cancel_view V core None = refl
 cancel_view V core (Some k) = same_local (view V (core_cancels core (Some k))) (after_cancel (view V core) (Some k)) (changed_map V cancelled_request dropped (dropped_cancelled V) core.jobs k) refl refl (λ s c. refl)
 
 pub ask_steps : (V : Values) (e : Endpoint) (core : Core) (c : Call) → AllByRecursion (IsHonestHeld V) core.held → NoneFits core → Steps (taken_in V e (view V core) (Asked c)) (view V (called e core c).core)
-ask_steps V e core (Isend c to tag basic values) honest quiet = isend_steps V e core c to tag basic values quiet
+ask_steps V e core (Isend c to tag from) honest quiet = isend_steps V e core c to tag from quiet
 ask_steps V e core (Irecv p) honest quiet = receive_steps V core p p.source honest quiet
 ask_steps V e core (Wait a) honest quiet = none_steps (after_call e (view V core) (Wait a)) (view V (record core { blocked = Some a })) refl
 ask_steps V e core (Test r) honest quiet =
@@ -116,7 +119,7 @@ pub data_none : (d : Endpoint) (k : ℕ) (ps : List (ℕ × List ℕ)) → AllBy
 data_none d k [] = tt
 data_none d k (p ∷ ps) = (tt, data_none d k ps)
 
-pub wanted_none : (d : Endpoint) (k : ℕ) (values : List ℕ) (w : Bool) → AllByRecursion IsNoMessage (data_of d k values w)
+pub wanted_none : (d : Endpoint) (k : ℕ) (values : List ℕ) (w : Bool) → AllByRecursion IsNoMessage (wanted_data d k values w)
 wanted_none d k values true = data_none d k (pieces (length values) 127 0 values)
 wanted_none d k values false = tt
 
@@ -128,31 +131,33 @@ answered_out core s k w (Some (Over o)) = tt
 answered_out core s k w (Some Closed) = tt
 answered_out core s k w (Some (Offering d values)) = go (is_same d s)
   where
-    go : (t : Bool) → AllByRecursion IsNoMessage (if t then effect (with_jobs core (slice_set core.jobs k (Over Sent))) (data_of d k values w) else effect core []).out
+    go : (t : Bool) → AllByRecursion IsNoMessage (if t then effect (with_jobs core (slice_set core.jobs k (Over Sent))) (wanted_data d k values w) else effect core []).out
     go true = wanted_none d k values w
     go false = tt
 
-pub isend_out : (V : Values) (e : Endpoint) (core : Core) (c : ℕ) (to : Option ℕ) (tag : ℕ) (basic : BasicType) (values : List ℕ) → (called e core (Isend c to tag basic values)).out ≡ linked e (message_sent e (view V core) (Isend c to tag basic values))
-isend_out V e core c None tag basic values = refl
-isend_out V e core c (Some to) tag basic values = go (is_same d e) (nat_le (length values * size_of basic) 1024)
+pub isend_out : (V : Values) (e : Endpoint) (core : Core) (c : ℕ) (to : Source) (tag : Option ℕ) (from : Handed) → (called e core (Isend c to tag from)).out ≡ linked e (message_sent e (view V core) (Isend c to tag from))
+isend_out V e core c Any tag from = refl
+isend_out V e core c Null tag from = refl
+isend_out V e core c (Rank to) None from = refl
+isend_out V e core c (Rank to) (Some tag) from = go (is_same d e) (nat_le (length (data_of from) * size_of from.buffer.basic) 1024)
   where
     d : Endpoint
     d = receiver core.known to
 
     m : Bool → Message
-    m eager = record { sender = e; context = c; tag = tag; basic = basic; values = values; request = if eager then None else Some (length (map (request_of V) core.jobs)) }
+    m eager = record { sender = e; context = c; tag = tag; basic = from.buffer.basic; values = (data_of from); request = if eager then None else Some (length (map (request_of V) core.jobs)) }
 
     big : ℕ → List (Endpoint × Frame)
-    big k = (d, Rts c tag basic k (length values)) ∷ []
+    big k = (d, Rts c tag from.buffer.basic k (length (data_of from))) ∷ []
 
-    go : (own small : Bool) → (sends e core d own c tag basic values (small || own)).out ≡ (if own then [] else (d, frame_of (m (small || own))) ∷ [])
-    go true true = whole_out (pushed_over core) (own_message e c tag basic values) values
-    go true false = whole_out (pushed_over core) (own_message e c tag basic values) values
+    go : (own small : Bool) → (sends e core d own c tag from.buffer.basic (data_of from) (small || own)).out ≡ (if own then [] else (d, frame_of (m (small || own))) ∷ [])
+    go true true = whole_out (pushed_over core) (own_message e c tag from.buffer.basic (data_of from)) (data_of from)
+    go true false = whole_out (pushed_over core) (own_message e c tag from.buffer.basic (data_of from)) (data_of from)
     go false true = refl
     go false false = ap big (sym (length-map core.jobs (request_of V)))
 
 pub call_gives : (V : Values) (e : Endpoint) (core : Core) (c : Call) → GivenOut e (view V core) (Asked c) (called e core c).out
-call_gives V e core (Isend c to tag basic values) = isend_out V e core c to tag basic values
+call_gives V e core (Isend c to tag from) = isend_out V e core c to tag from
 call_gives V e core (Irecv p) = receives_out core p p.source
 call_gives V e core (Wait a) = refl
 call_gives V e core (Test r) = refl
@@ -192,9 +197,9 @@ answer_work V e core s k w = go (slice_get core.jobs k) refl
     go (Some (Offering d values)) x = at (is_same d s) refl
       where
         res : Bool → Effect
-        res t = if t then effect (with_jobs core (slice_set core.jobs k (Over Sent))) (data_of d k values w) else effect core []
+        res t = if t then effect (with_jobs core (slice_set core.jobs k (Over Sent))) (wanted_data d k values w) else effect core []
 
-        at : (t : Bool) → is_same d s ≡ t → Work V e (view V core) (Came s (Cts k w)) (view V (if t then effect (with_jobs core (slice_set core.jobs k (Over Sent))) (data_of d k values w) else effect core []).core) (if t then effect (with_jobs core (slice_set core.jobs k (Over Sent))) (data_of d k values w) else effect core []).out
+        at : (t : Bool) → is_same d s ≡ t → Work V e (view V core) (Came s (Cts k w)) (view V (if t then effect (with_jobs core (slice_set core.jobs k (Over Sent))) (wanted_data d k values w) else effect core []).core) (if t then effect (with_jobs core (slice_set core.jobs k (Over Sent))) (wanted_data d k values w) else effect core []).out
         at false y = still
         at true y =
             record {
@@ -254,8 +259,8 @@ test_same V true o j x e = refl
 test_same V false o j x e = e
 
 pub ended_learnt : (V : Values) (r i : ℕ) (j : Job) → request_of V (ended r i j) ≡ learnt_request r i (request_of V j)
-ended_learnt V r i (Waiting p) = test_same V (names p.source r) (Replaced (Some p.buffer)) (Waiting p) (Posted p) refl
-ended_learnt V r i (Collecting p h got) = test_same V (names p.source r || is_former r i h.sender) (Replaced (Some p.buffer)) (Collecting p h got) (Matched p (fill V h)) refl
+ended_learnt V r i (Waiting p) = test_same V (names p.source r) (Replaced (Some p.into.buffer.values)) (Waiting p) (Posted p) refl
+ended_learnt V r i (Collecting p h got) = test_same V (names p.source r || is_former r i h.sender) (Replaced (Some p.into.buffer.values)) (Collecting p h got) (Matched p (fill V h)) refl
 ended_learnt V r i (Offering d values) = test_same V (d.rank == r) (Replaced None) (Offering d values) (Sending d) refl
 ended_learnt V r i (Over o) = refl
 ended_learnt V r i Closed = refl

@@ -245,7 +245,7 @@ pub fault_blank : (V : Values) (n : ℕ) (core : Core) (c : Call) → fault n (v
 fault_blank V n core c = ap (λ (f : ℕ → Standing). fault_by n (is_held core.blocked) f c) (standing_same V core.jobs)
 
 pub asked_blank : (V : Values) (core : Core) (c : Call) → immediate_reply (view V core) c ≡ immediate_reply (view blank core) c
-asked_blank V core (Isend c to tag basic values) = ap (λ (k : ℕ). Some (Started k)) (length-map core.jobs (request_of V) ∙ sym (length-map core.jobs (request_of blank)))
+asked_blank V core (Isend c to tag from) = ap (λ (k : ℕ). Some (Started k)) (length-map core.jobs (request_of V) ∙ sym (length-map core.jobs (request_of blank)))
 asked_blank V core (Irecv p) = ap (λ (k : ℕ). Some (Started k)) (length-map core.jobs (request_of V) ∙ sym (length-map core.jobs (request_of blank)))
 asked_blank V core (Wait a) = refl
 asked_blank V core (Test r) = ap (λ (f : ℕ → Option Outcome). Some (test_reply (completion f (One r)))) (finished_same V core.jobs ∙ sym (finished_same blank core.jobs))

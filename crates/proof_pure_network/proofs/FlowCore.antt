@@ -1,6 +1,7 @@
 -- What one engine does to transfers: which receives collect, what goes out, and which sends stay open.
 use Rattle.std.proofs.Common.{◌≡◌, ℕ, ◌+◌, ◌≤◌, Bool, true, false, ◌&&◌, List, [], ◌∷◌, ◌++◌, length, Option, Some, None, if◌then◌else◌, ◌==◌, nat_lt, slice_get, slice_set, refl, sym, ap, ◌∙◌, subst, arith, ◌⊎◌, ⊎_elim, inl, inr}
 use Rattle.std.proofs.lemmas.Bool.{and_parts}
+use Rattle.perfect_queues.specs.Buffers.{data_of}
 use Rattle.perfect_queues.specs.Calls.{Call, Cancel, Irecv, Isend, Test, Wait, is_eager, receiver}
 use Rattle.perfect_queues.specs.Completions.{Answer, One, completion}
 use Rattle.vocabulary.specs.Endpoints.{is_same}
@@ -16,7 +17,7 @@ use Rattle.proof_pure_network.specs.Frames.{Cts, Data, Eager, Frame, Rts}
 use Rattle.proof_pure_network.specs.Held.{Body, Held, Part, Whole, count_of, full, is_part}
 use Rattle.proof_pure_network.specs.Jobs.{Closed, Collecting, Job, Offering, Over, Waiting, collecting, is_collecting, matched_job, matched_part, oldest_posted, over_at, with_more}
 use Rattle.proof_pure_network.specs.Matching.{answer, arrived, arrived_at, found, posted, posted_at, receives}
-use Rattle.proof_pure_network.specs.Transfers.{answered, collected, data_of}
+use Rattle.proof_pure_network.specs.Transfers.{answered, collected, wanted_data}
 use Rattle.proof_pure_network.proofs.EngineSteps.{Collects, some_collecting}
 use Rattle.proof_pure_network.proofs.Flow.{count_fewer, count_set, is_yes}
 use Rattle.proof_pure_network.proofs.Honest.{push_split, set_split}
@@ -60,7 +61,7 @@ push_over_collects : (s : Endpoint) (k : ℕ) (core : Core) (o : Outcome) → co
 push_over_collects s k core o = omega (arith, count_append (is_collecting s k) core.jobs (Over o ∷ []))
 
 receives_collects : (s : Endpoint) (k : ℕ) (core : Core) (p : Receive) (src : Source) → collects s k (receives core p src).core + parts s k (receives core p src).core ≤ collects s k core + parts s k core
-receives_collects s k core p Null = omega (arith, push_over_collects s k core (Received (record { source = Null; tag = None; count = 0 }) p.buffer))
+receives_collects s k core p Null = omega (arith, push_over_collects s k core (Received (record { source = Null; tag = None; count = 0 }) p.into.buffer.values))
 receives_collects s k core p Any = posted_collects s k core p
 receives_collects s k core p (Rank r) = posted_collects s k core p
 
@@ -73,8 +74,10 @@ sends_collects s k e core d false c tag basic values true = omega (arith, push_o
 sends_collects s k e core d false c tag basic values false = omega (arith, count_append (is_collecting s k) core.jobs (Offering d values ∷ []))
 
 pub called_collects : (s : Endpoint) (k : ℕ) (e : Endpoint) (core : Core) (c : Call) → collects s k (called e core c).core + parts s k (called e core c).core ≤ collects s k core + parts s k core
-called_collects s k e core (Isend c None tag basic values) = omega (arith, push_over_collects s k core Sent)
-called_collects s k e core (Isend c (Some to) tag basic values) = sends_collects s k e core (receiver core.known to) (is_same (receiver core.known to) e) c tag basic values (is_eager e (receiver core.known to) basic values)
+called_collects s k e core (Isend c Any tag from) = omega (arith, push_over_collects s k core Sent)
+called_collects s k e core (Isend c Null tag from) = omega (arith, push_over_collects s k core Sent)
+called_collects s k e core (Isend c (Rank to) None from) = omega (arith, push_over_collects s k core Sent)
+called_collects s k e core (Isend c (Rank to) (Some tag) from) = sends_collects s k e core (receiver core.known to) (is_same (receiver core.known to) e) c tag from.buffer.basic (data_of from) (is_eager e (receiver core.known to) from.buffer.basic (data_of from))
 called_collects s k e core (Irecv p) = receives_collects s k core p p.source
 called_collects s k e core (Wait a) = omega arith
 called_collects s k e core (Test r) = go (completion (over_at core.jobs) (One r))
@@ -118,7 +121,7 @@ answered_collects s k core a j w (Some (Over o)) = omega arith
 answered_collects s k core a j w (Some Closed) = omega arith
 answered_collects s k core a j w (Some (Offering d values)) = go (is_same d a)
   where
-    go : (t : Bool) → collects s k (if t then effect (with_jobs core (slice_set core.jobs j (Over Sent))) (data_of d j values w) else effect core []).core ≤ collects s k core
+    go : (t : Bool) → collects s k (if t then effect (with_jobs core (slice_set core.jobs j (Over Sent))) (wanted_data d j values w) else effect core []).core ≤ collects s k core
     go true = count_fewer s k core.jobs (slice_set core.jobs j (Over Sent)) (fewer_set core.jobs j Sent)
     go false = omega arith
 
@@ -130,7 +133,7 @@ answered_held core a j w (Some (Over o)) = refl
 answered_held core a j w (Some Closed) = refl
 answered_held core a j w (Some (Offering d values)) = go (is_same d a)
   where
-    go : (t : Bool) → (if t then effect (with_jobs core (slice_set core.jobs j (Over Sent))) (data_of d j values w) else effect core []).core.held ≡ core.held
+    go : (t : Bool) → (if t then effect (with_jobs core (slice_set core.jobs j (Over Sent))) (wanted_data d j values w) else effect core []).core.held ≡ core.held
     go true = refl
     go false = refl
 
@@ -194,20 +197,22 @@ pushed_since : (js : List Job) (o : Outcome) (j : ℕ) (p : Receive) (u : Held) 
 pushed_since js o j p u got x = ⊎_elim (λ a. a) (λ a. absurd (let n : Over o ≡ Collecting p u got = a.1 in grind arith)) (push_split js (Over o) j (Collecting p u got) x)
 
 pub called_since : (s : Endpoint) (k : ℕ) (e : Endpoint) (core : Core) (c : Call) (j : ℕ) (p : Receive) (u : Held) (got : List ℕ) → slice_get (called e core c).core.jobs j ≡ Some (Collecting p u got) → is_collecting s k (Collecting p u got) ≡ true → CollectsSince s k core j p u got (called e core c).out
-called_since s k e core (Isend c None tag basic values) j p u got x i = inl (pushed_since core.jobs Sent j p u got x)
-called_since s k e core (Isend c (Some to) tag basic values) j p u got x i = go (is_same y e) (is_eager e y basic values) x
+called_since s k e core (Isend c Any tag from) j p u got x i = inl (pushed_since core.jobs Sent j p u got x)
+called_since s k e core (Isend c Null tag from) j p u got x i = inl (pushed_since core.jobs Sent j p u got x)
+called_since s k e core (Isend c (Rank to) None from) j p u got x i = inl (pushed_since core.jobs Sent j p u got x)
+called_since s k e core (Isend c (Rank to) (Some tag) from) j p u got x i = go (is_same y e) (is_eager e y from.buffer.basic (data_of from)) x
   where
     y : Endpoint
     y = receiver core.known to
 
-    go : (own small : Bool) → slice_get (sends e core y own c tag basic values small).core.jobs j ≡ Some (Collecting p u got) → CollectsSince s k core j p u got (sends e core y own c tag basic values small).out
-    go true small x = ⊎_elim (λ a. inl (pushed_since core.jobs Sent j p u got a)) (λ a. inr a) (arrived_since s k (pushed_over core) (own_message e c tag basic values) j p u got x i)
+    go : (own small : Bool) → slice_get (sends e core y own c tag from.buffer.basic (data_of from) small).core.jobs j ≡ Some (Collecting p u got) → CollectsSince s k core j p u got (sends e core y own c tag from.buffer.basic (data_of from) small).out
+    go true small x = ⊎_elim (λ a. inl (pushed_since core.jobs Sent j p u got a)) (λ a. inr a) (arrived_since s k (pushed_over core) (own_message e c tag from.buffer.basic (data_of from)) j p u got x i)
     go false true x = inl (pushed_since core.jobs Sent j p u got x)
-    go false false x = ⊎_elim (λ a. inl a) (λ a. absurd (let n : Offering y values ≡ Collecting p u got = a.1 in grind arith)) (push_split core.jobs (Offering y values) j (Collecting p u got) x)
+    go false false x = ⊎_elim (λ a. inl a) (λ a. absurd (let n : Offering y (data_of from) ≡ Collecting p u got = a.1 in grind arith)) (push_split core.jobs (Offering y (data_of from)) j (Collecting p u got) x)
 called_since s k e core (Irecv q) j p u got x i = go q.source x
   where
     go : (src : Source) → slice_get (receives core q src).core.jobs j ≡ Some (Collecting p u got) → CollectsSince s k core j p u got (receives core q src).out
-    go Null x = inl (pushed_since core.jobs (Received (record { source = Null; tag = None; count = 0 }) q.buffer) j p u got x)
+    go Null x = inl (pushed_since core.jobs (Received (record { source = Null; tag = None; count = 0 }) q.into.buffer.values) j p u got x)
     go Any x = posted_since s k core q j p u got x i
     go (Rank r) x = posted_since s k core q j p u got x i
 called_since s k e core (Wait a) j p u got x i = inl x
@@ -227,7 +232,7 @@ answered_fewer core a j w (Some (Over o)) = λ i x live h. h
 answered_fewer core a j w (Some Closed) = λ i x live h. h
 answered_fewer core a j w (Some (Offering d values)) = go (is_same d a)
   where
-    go : (t : Bool) → Fewer core.jobs (if t then effect (with_jobs core (slice_set core.jobs j (Over Sent))) (data_of d j values w) else effect core []).core.jobs
+    go : (t : Bool) → Fewer core.jobs (if t then effect (with_jobs core (slice_set core.jobs j (Over Sent))) (wanted_data d j values w) else effect core []).core.jobs
     go true = fewer_set core.jobs j Sent
     go false = λ i x live h. h
 

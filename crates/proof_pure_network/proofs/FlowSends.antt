@@ -2,6 +2,7 @@
 use Rattle.std.proofs.Common.{◌≡◌, ℕ, zero, suc, ◌≤◌, ◌<◌, Bool, true, false, ◌&&◌, List, [], ◌∷◌, ◌++◌, length, map, Option, Some, None, if◌then◌else◌, ◌==◌, nat_lt, slice_get, slice_set, refl, sym, ap, ◌∙◌, subst, arith}
 use Rattle.std.proofs.lemmas.Bool.{eqb-true, eqb-false, ltb-true}
 use Rattle.std.proofs.lemmas.Option.{same_Some}
+use Rattle.perfect_queues.specs.Buffers.{data_of}
 use Rattle.perfect_queues.specs.Calls.{Call, Cancel, Irecv, Isend, Test, Wait, is_eager, receiver}
 use Rattle.perfect_queues.specs.Completions.{Answer, One, completion}
 use Rattle.vocabulary.specs.Endpoints.{is_same}
@@ -19,7 +20,7 @@ use Rattle.proof_pure_network.specs.Frames.{Cts, Data, Eager, Frame, Rts}
 use Rattle.proof_pure_network.specs.Held.{Body, Held, Part, Whole}
 use Rattle.proof_pure_network.specs.Jobs.{Closed, Collecting, Job, Offering, Over, Waiting, closed, collecting, dropped, ended, matched_job, oldest_posted, over_at, with_more}
 use Rattle.proof_pure_network.specs.Matching.{answer, arrived, arrived_at, found, posted, posted_at, receives}
-use Rattle.proof_pure_network.specs.Transfers.{answered, collected, data_of, pieces}
+use Rattle.proof_pure_network.specs.Transfers.{answered, collected, wanted_data, pieces}
 use Rattle.proof_pure_network.proofs.Due.{Offers}
 use Rattle.proof_pure_network.proofs.EngineSteps.{Collects, some_collecting}
 use Rattle.proof_pure_network.proofs.Flow.{flow, flow_of_data, flow_of_other, lengths, none_to, piece_of}
@@ -58,16 +59,18 @@ one_flow d x k f h = go (is_same d x)
     go false = refl
 
 pub called_flow : (d : Endpoint) (k : ℕ) (e : Endpoint) (core : Core) (c : Call) → flow k (frames_to d (called e core c).out) ≡ []
-called_flow d k e core (Isend c None tag basic values) = refl
-called_flow d k e core (Isend c (Some to) tag basic values) = go (is_same y e) (is_eager e y basic values)
+called_flow d k e core (Isend c Any tag from) = refl
+called_flow d k e core (Isend c Null tag from) = refl
+called_flow d k e core (Isend c (Rank to) None from) = refl
+called_flow d k e core (Isend c (Rank to) (Some tag) from) = go (is_same y e) (is_eager e y from.buffer.basic (data_of from))
   where
     y : Endpoint
     y = receiver core.known to
 
-    go : (own small : Bool) → flow k (frames_to d (sends e core y own c tag basic values small).out) ≡ []
-    go true small = arrived_flow d k (pushed_over core) (own_message e c tag basic values)
-    go false true = one_flow d y k (Eager c tag basic values) refl
-    go false false = one_flow d y k (Rts c tag basic (length core.jobs) (length values)) refl
+    go : (own small : Bool) → flow k (frames_to d (sends e core y own c tag from.buffer.basic (data_of from) small).out) ≡ []
+    go true small = arrived_flow d k (pushed_over core) (own_message e c tag from.buffer.basic (data_of from))
+    go false true = one_flow d y k (Eager c tag from.buffer.basic (data_of from)) refl
+    go false false = one_flow d y k (Rts c tag from.buffer.basic (length core.jobs) (length (data_of from))) refl
 called_flow d k e core (Irecv p) = go p.source
   where
     go : (src : Source) → flow k (frames_to d (receives core p src).out) ≡ []
@@ -91,11 +94,11 @@ came_flow d k core a (Cts j w) n = absurd n
 came_flow d k core a (Data j o values) n = refl
 
 -- the answer to another transfer, or of another endpoint, brings no data of this one
-data_of_other : (x d : Endpoint) (k j : ℕ) (values : List ℕ) (w : Bool) → (k == j) ≡ false → flow k (frames_to x (data_of d j values w)) ≡ []
+data_of_other : (x d : Endpoint) (k j : ℕ) (values : List ℕ) (w : Bool) → (k == j) ≡ false → flow k (frames_to x (wanted_data d j values w)) ≡ []
 data_of_other x d k j values true h = flow_of_other x d k j (pieces (length values) 127 0 values) h
 data_of_other x d k j values false h = refl
 
-data_to_other : (x d : Endpoint) (k j : ℕ) (values : List ℕ) (w : Bool) → is_same x d ≡ false → flow k (frames_to x (data_of d j values w)) ≡ []
+data_to_other : (x d : Endpoint) (k j : ℕ) (values : List ℕ) (w : Bool) → is_same x d ≡ false → flow k (frames_to x (wanted_data d j values w)) ≡ []
 data_to_other x d k j values true h = ap (flow k) (none_to x d j (pieces (length values) 127 0 values) h)
 data_to_other x d k j values false h = refl
 
@@ -107,14 +110,14 @@ answered_flow_other d k core a j w (Some (Over o)) h = refl
 answered_flow_other d k core a j w (Some Closed) h = refl
 answered_flow_other d k core a j w (Some (Offering y values)) h = go (is_same y a) refl
   where
-    go : (t : Bool) → is_same y a ≡ t → flow k (frames_to d (if t then effect (with_jobs core (slice_set core.jobs j (Over Sent))) (data_of y j values w) else effect core []).out) ≡ []
+    go : (t : Bool) → is_same y a ≡ t → flow k (frames_to d (if t then effect (with_jobs core (slice_set core.jobs j (Over Sent))) (wanted_data y j values w) else effect core []).out) ≡ []
     go false q = refl
     go true q = at (is_same d y) refl (k == j) refl
       where
         ya : y ≡ a
         ya = same_eq y a q
 
-        at : (t : Bool) → is_same d y ≡ t → (u : Bool) → (k == j) ≡ u → flow k (frames_to d (data_of y j values w)) ≡ []
+        at : (t : Bool) → is_same d y ≡ t → (u : Bool) → (k == j) ≡ u → flow k (frames_to d (wanted_data y j values w)) ≡ []
         at false p u r = data_to_other d y k j values w p
         at true p false r = data_of_other d y k j values w r
         at true p true r =
@@ -126,7 +129,7 @@ answered_flow_other d k core a j w (Some (Offering y values)) h = go (is_same y 
 pub answered_flow : (d : Endpoint) (k : ℕ) (core : Core) (values : List ℕ) (w : Bool) → Offers core k d values → flow k (frames_to d (answered core d k w (slice_get core.jobs k)).out) ≡ (if w then lengths (pieces (length values) 127 0 values) else [])
 answered_flow d k core values w h = rw h (rw (same_refl d) (go w))
   where
-    go : (t : Bool) → flow k (frames_to d (data_of d k values t)) ≡ (if t then lengths (pieces (length values) 127 0 values) else [])
+    go : (t : Bool) → flow k (frames_to d (wanted_data d k values t)) ≡ (if t then lengths (pieces (length values) 127 0 values) else [])
     go true = flow_of_data d k (pieces (length values) 127 0 values)
     go false = refl
 
@@ -169,20 +172,22 @@ all_changed_keeps g d values e [] js k x = x
 all_changed_keeps g d values e (i ∷ is) js k x = all_changed_keeps g d values e is (changed g js i) k (changed_keeps g d values e js i k x)
 
 pub called_keeps : (e : Endpoint) (core : Core) (c : Call) (k : ℕ) (d : Endpoint) (values : List ℕ) → Offers core k d values → Offers (called e core c).core k d values
-called_keeps e core (Isend c None tag basic vs) k d values x = get_push core.jobs k (Offering d values) (Over Sent) x
-called_keeps e core (Isend c (Some to) tag basic vs) k d values x = go (is_same y e) (is_eager e y basic vs)
+called_keeps e core (Isend c Any tag from) k d values x = get_push core.jobs k (Offering d values) (Over Sent) x
+called_keeps e core (Isend c Null tag from) k d values x = get_push core.jobs k (Offering d values) (Over Sent) x
+called_keeps e core (Isend c (Rank to) None from) k d values x = get_push core.jobs k (Offering d values) (Over Sent) x
+called_keeps e core (Isend c (Rank to) (Some tag) from) k d values x = go (is_same y e) (is_eager e y from.buffer.basic (data_of from))
   where
     y : Endpoint
     y = receiver core.known to
 
-    go : (own small : Bool) → Offers (sends e core y own c tag basic vs small).core k d values
-    go true small = arrived_keeps (pushed_over core) (own_message e c tag basic vs) k d values (get_push core.jobs k (Offering d values) (Over Sent) x)
+    go : (own small : Bool) → Offers (sends e core y own c tag from.buffer.basic (data_of from) small).core k d values
+    go true small = arrived_keeps (pushed_over core) (own_message e c tag from.buffer.basic (data_of from)) k d values (get_push core.jobs k (Offering d values) (Over Sent) x)
     go false true = get_push core.jobs k (Offering d values) (Over Sent) x
-    go false false = get_push core.jobs k (Offering d values) (Offering y vs) x
+    go false false = get_push core.jobs k (Offering d values) (Offering y (data_of from)) x
 called_keeps e core (Irecv p) k d values x = go p.source
   where
     go : (src : Source) → Offers (receives core p src).core k d values
-    go Null = get_push core.jobs k (Offering d values) (Over (Received (record { source = Null; tag = None; count = 0 }) p.buffer)) x
+    go Null = get_push core.jobs k (Offering d values) (Over (Received (record { source = Null; tag = None; count = 0 }) p.into.buffer.values)) x
     go Any = posted_keeps core p k d values x
     go (Rank r) = posted_keeps core p k d values x
 called_keeps e core (Wait a) k d values x = x
@@ -202,7 +207,7 @@ answered_keeps core a j w k d values h (Some (Over o)) e x = x
 answered_keeps core a j w k d values h (Some Closed) e x = x
 answered_keeps core a j w k d values h (Some (Offering y vs)) e x = go (is_same y a) refl
   where
-    go : (t : Bool) → is_same y a ≡ t → Offers (if t then effect (with_jobs core (slice_set core.jobs j (Over Sent))) (data_of y j vs w) else effect core []).core k d values
+    go : (t : Bool) → is_same y a ≡ t → Offers (if t then effect (with_jobs core (slice_set core.jobs j (Over Sent))) (wanted_data y j vs w) else effect core []).core k d values
     go false q = x
     go true q = at (k == j) refl
       where
@@ -274,26 +279,28 @@ settled_keeps core k d values x = go (core_ready core)
 -- AN ENVELOPE THAT GOES OUT IS OF AN OPEN SEND
 
 pub called_sends : (d : Endpoint) (k : ℕ) (e : Endpoint) (core : Core) (c : Call) → 1 ≤ envelopes d k (called e core c).out → (values : List ℕ) × Offers (called e core c).core k d values
-called_sends d k e core (Isend c None tag basic values) h = absurd (omega arith)
-called_sends d k e core (Isend c (Some to) tag basic values) h = go (is_same y e) (is_eager e y basic values) h
+called_sends d k e core (Isend c Any tag from) h = absurd (omega arith)
+called_sends d k e core (Isend c Null tag from) h = absurd (omega arith)
+called_sends d k e core (Isend c (Rank to) None from) h = absurd (omega arith)
+called_sends d k e core (Isend c (Rank to) (Some tag) from) h = go (is_same y e) (is_eager e y from.buffer.basic (data_of from)) h
   where
     y : Endpoint
     y = receiver core.known to
 
-    none_sent : (t : Bool) → 1 ≤ count (is_rts k) (if t then Eager c tag basic values ∷ [] else []) → ⊥
+    none_sent : (t : Bool) → 1 ≤ count (is_rts k) (if t then Eager c tag from.buffer.basic (data_of from) ∷ [] else []) → ⊥
     none_sent true x = absurd (omega arith)
     none_sent false x = absurd (omega arith)
 
-    one_sent : (t : Bool) → is_same d y ≡ t → (u : Bool) → (k == length core.jobs) ≡ u → 1 ≤ count (is_rts k) (if t then Rts c tag basic (length core.jobs) (length values) ∷ [] else []) → (vs : List ℕ) × (slice_get (core.jobs ++ Offering y values ∷ []) k ≡ Some (Offering d vs))
+    one_sent : (t : Bool) → is_same d y ≡ t → (u : Bool) → (k == length core.jobs) ≡ u → 1 ≤ count (is_rts k) (if t then Rts c tag from.buffer.basic (length core.jobs) (length (data_of from)) ∷ [] else []) → (vs : List ℕ) × (slice_get (core.jobs ++ Offering y (data_of from) ∷ []) k ≡ Some (Offering d vs))
     one_sent false p u q x = absurd (omega arith)
     one_sent true p false q x = absurd (let z : one (k == length core.jobs) ≡ 0 = ap one q in omega arith)
     one_sent true p true q x =
         let kl : k ≡ length core.jobs = eqb-true k (length core.jobs) q in
         let dy : d ≡ y = same_eq d y p in
-        (values, ap (slice_get (core.jobs ++ Offering y values ∷ [])) kl ∙ (get_last core.jobs (Offering y values) ∙ ap (λ (z : Endpoint). Some (Offering z values)) (sym dy)))
+        ((data_of from), ap (slice_get (core.jobs ++ Offering y (data_of from) ∷ [])) kl ∙ (get_last core.jobs (Offering y (data_of from)) ∙ ap (λ (z : Endpoint). Some (Offering z (data_of from))) (sym dy)))
 
-    go : (own small : Bool) → 1 ≤ envelopes d k (sends e core y own c tag basic values small).out → (vs : List ℕ) × Offers (sends e core y own c tag basic values small).core k d vs
-    go true small x = absurd (let z : envelopes d k (arrived (pushed_over core) (own_message e c tag basic values)).out ≡ 0 = arrived_envelopes d k (pushed_over core) (own_message e c tag basic values) in omega arith)
+    go : (own small : Bool) → 1 ≤ envelopes d k (sends e core y own c tag from.buffer.basic (data_of from) small).out → (vs : List ℕ) × Offers (sends e core y own c tag from.buffer.basic (data_of from) small).core k d vs
+    go true small x = absurd (let z : envelopes d k (arrived (pushed_over core) (own_message e c tag from.buffer.basic (data_of from))).out ≡ 0 = arrived_envelopes d k (pushed_over core) (own_message e c tag from.buffer.basic (data_of from)) in omega arith)
     go false true x = absurd (none_sent (is_same d y) x)
     go false false x = one_sent (is_same d y) refl (k == length core.jobs) refl x
 called_sends d k e core (Irecv p) h = absurd (go p.source h)

@@ -3,6 +3,7 @@ use Rattle.std.specs.List.{AllByRecursion}
 use Rattle.std.proofs.lemmas.Bool.{eqb-false, eqb-true}
 use Rattle.std.proofs.lemmas.List.{length-append, take-append-drop}
 use Rattle.std.proofs.lemmas.Option.{same_Some}
+use Rattle.perfect_queues.specs.Buffers.{data_of}
 use Rattle.perfect_queues.specs.Calls.{Call, Cancel, Irecv, Isend, Test, Wait, is_eager, receiver}
 use Rattle.perfect_queues.specs.Completions.{Answer, One, completion}
 use Rattle.vocabulary.specs.Endpoints.{is_former, is_same}
@@ -18,7 +19,7 @@ use Rattle.proof_pure_network.specs.Frames.{Cts, Data, Eager, Frame, Rts, Values
 use Rattle.proof_pure_network.specs.Held.{Body, Held, Part, Whole, body_values, count_of, full}
 use Rattle.proof_pure_network.specs.Jobs.{Closed, Collecting, Job, Offering, Over, Waiting, collecting, ended, matched_job, matched_part, oldest_posted, over_at, with_more}
 use Rattle.proof_pure_network.specs.Matching.{answer, arrived, arrived_at, found, posted, posted_at, receives}
-use Rattle.proof_pure_network.specs.Transfers.{answered, collected, data_frames, data_of, pieces}
+use Rattle.proof_pure_network.specs.Transfers.{answered, collected, data_frames, wanted_data, pieces}
 use Rattle.proof_pure_network.proofs.EngineSteps.{Collects, collecting_parts, part_values, some_collecting}
 use Rattle.proof_pure_network.proofs.HonestValues.{Begin, HonestCore, HonestJobs, IsHonest, IsHonestHeld, IsHonestJob, IsInParts, IsPiece, begin_more}
 use Rattle.proof_pure_network.proofs.JobLemmas.{All_append, All_filter, All_left, All_right, Fewer, fewer_dropped, fewer_ended, fewer_set, fewer_settled, fewer_used, settled_held}
@@ -90,24 +91,26 @@ push_over V e core o hc = record { held = hc.held; jobs = honest_push V e core.j
 
 -- what a call sends is what the values say
 abbrev pub IsLogged : Values → Endpoint → Core → Call → Type 0
-IsLogged V e core (Isend c to tag basic values) = values ≡ V e (length core.jobs)
+IsLogged V e core (Isend c to tag from) = (data_of from) ≡ V e (length core.jobs)
 IsLogged V e core (Irecv p) = Unit {0}
 IsLogged V e core (Wait a) = Unit {0}
 IsLogged V e core (Test r) = Unit {0}
 IsLogged V e core (Cancel r) = Unit {0}
 
 pub called_honest : (V : Values) (e : Endpoint) (core : Core) (c : Call) → IsLogged V e core c → HonestCore V e core → HonestCore V e (called e core c).core
-called_honest V e core (Isend c None tag basic values) is hc = push_over V e core Sent hc
-called_honest V e core (Isend c (Some to) tag basic values) is hc = go (is_same (receiver core.known to) e) (is_eager e (receiver core.known to) basic values)
+called_honest V e core (Isend c Any tag from) is hc = push_over V e core Sent hc
+called_honest V e core (Isend c Null tag from) is hc = push_over V e core Sent hc
+called_honest V e core (Isend c (Rank to) None from) is hc = push_over V e core Sent hc
+called_honest V e core (Isend c (Rank to) (Some tag) from) is hc = go (is_same (receiver core.known to) e) (is_eager e (receiver core.known to) from.buffer.basic (data_of from))
   where
-    go : (own small : Bool) → HonestCore V e (sends e core (receiver core.known to) own c tag basic values small).core
-    go true small = arrived_honest V e (pushed_over core) (own_message e c tag basic values) (refl, tt) (push_over V e core Sent hc)
+    go : (own small : Bool) → HonestCore V e (sends e core (receiver core.known to) own c tag from.buffer.basic (data_of from) small).core
+    go true small = arrived_honest V e (pushed_over core) (own_message e c tag from.buffer.basic (data_of from)) (refl, tt) (push_over V e core Sent hc)
     go false true = push_over V e core Sent hc
-    go false false = record { held = hc.held; jobs = honest_push V e core.jobs (Offering (receiver core.known to) values) is hc.jobs }
+    go false false = record { held = hc.held; jobs = honest_push V e core.jobs (Offering (receiver core.known to) (data_of from)) is hc.jobs }
 called_honest V e core (Irecv p) is hc = go p.source
   where
     go : (src : Source) → HonestCore V e (receives core p src).core
-    go Null = push_over V e core (Received (record { source = Null; tag = None; count = 0 }) p.buffer) hc
+    go Null = push_over V e core (Received (record { source = Null; tag = None; count = 0 }) p.into.buffer.values) hc
     go Any = posted_honest V e core p hc
     go (Rank r) = posted_honest V e core p hc
 called_honest V e core (Wait a) is hc = record { held = hc.held; jobs = hc.jobs }
@@ -176,7 +179,7 @@ came_honest V e core s (Cts k w) honest hc = go (slice_get core.jobs k)
     go (Some Closed) = hc
     go (Some (Offering d values)) = at (is_same d s)
       where
-        at : (t : Bool) → HonestCore V e (if t then effect (with_jobs core (slice_set core.jobs k (Over Sent))) (data_of d k values w) else effect core []).core
+        at : (t : Bool) → HonestCore V e (if t then effect (with_jobs core (slice_set core.jobs k (Over Sent))) (wanted_data d k values w) else effect core []).core
         at true = record { held = hc.held; jobs = honest_fewer V e core.jobs (slice_set core.jobs k (Over Sent)) (fewer_set core.jobs k Sent) hc.jobs }
         at false = hc
 
@@ -219,13 +222,15 @@ not_empty e d basic [] h = absurd (grind arith)
 not_empty e d basic (x ∷ xs) h = omega arith
 
 pub called_out : (V : Values) (e : Endpoint) (core : Core) (c : Call) → IsLogged V e core c → HonestOut V e (called e core c).out
-called_out V e core (Isend c None tag basic values) is = tt
-called_out V e core (Isend c (Some to) tag basic values) is = go (is_same (receiver core.known to) e) (is_eager e (receiver core.known to) basic values) refl
+called_out V e core (Isend c Any tag from) is = tt
+called_out V e core (Isend c Null tag from) is = tt
+called_out V e core (Isend c (Rank to) None from) is = tt
+called_out V e core (Isend c (Rank to) (Some tag) from) is = go (is_same (receiver core.known to) e) (is_eager e (receiver core.known to) from.buffer.basic (data_of from)) refl
   where
-    go : (own small : Bool) → is_eager e (receiver core.known to) basic values ≡ small → HonestOut V e (sends e core (receiver core.known to) own c tag basic values small).out
-    go true small q = arrived_out V e (pushed_over core) (own_message e c tag basic values)
+    go : (own small : Bool) → is_eager e (receiver core.known to) from.buffer.basic (data_of from) ≡ small → HonestOut V e (sends e core (receiver core.known to) own c tag from.buffer.basic (data_of from) small).out
+    go true small q = arrived_out V e (pushed_over core) (own_message e c tag from.buffer.basic (data_of from))
     go false true q = (tt, tt)
-    go false false q = ((ap length is, not_empty e (receiver core.known to) basic values q), tt)
+    go false false q = ((ap length is, not_empty e (receiver core.known to) from.buffer.basic (data_of from) q), tt)
 called_out V e core (Irecv p) is = go p.source
   where
     go : (src : Source) → HonestOut V e (receives core p src).out
@@ -257,7 +262,7 @@ data_out : (V : Values) (e d : Endpoint) (k : ℕ) (ps : List (ℕ × List ℕ))
 data_out V e d k [] a = tt
 data_out V e d k (p ∷ ps) a = (a.0, data_out V e d k ps a.1)
 
-of_out : (V : Values) (e d : Endpoint) (k : ℕ) (values : List ℕ) (w : Bool) → values ≡ V e k → HonestOut V e (data_of d k values w)
+of_out : (V : Values) (e d : Endpoint) (k : ℕ) (values : List ℕ) (w : Bool) → values ≡ V e k → HonestOut V e (wanted_data d k values w)
 of_out V e d k values true h = data_out V e d k (pieces (length values) 127 0 values) (pieces_are (V e k) [] (length values) 127 0 values refl h)
 of_out V e d k values false h = tt
 
@@ -275,6 +280,6 @@ came_out V e core s (Cts k w) hc = go (slice_get core.jobs k) refl
     go (Some Closed) x = tt
     go (Some (Offering d values)) x = at (is_same d s)
       where
-        at : (t : Bool) → HonestOut V e (if t then effect (with_jobs core (slice_set core.jobs k (Over Sent))) (data_of d k values w) else effect core []).out
+        at : (t : Bool) → HonestOut V e (if t then effect (with_jobs core (slice_set core.jobs k (Over Sent))) (wanted_data d k values w) else effect core []).out
         at true = of_out V e d k values w (hc.jobs k (Offering d values) x)
         at false = tt

@@ -1,5 +1,7 @@
 use Rattle.std.proofs.Common.{◌≡◌, ℕ, suc, ◌≤◌, ◌<◌, ◌≢◌, Bool, true, false, ◌&&◌, List, [], ◌∷◌, ◌++◌, length, Option, Some, None, if◌then◌else◌, ◌==◌, slice_get, refl, sym, ap, ap₂, ◌∙◌, subst, arith, append_assoc, append-nil}
 use Rattle.std.specs.List.{AllByRecursion}
+use Rattle.vocabulary.specs.declared.envelope.Source.TheVariants.{Any, Null, Rank}
+use Rattle.perfect_queues.specs.Buffers.{Handed, data_of}
 use Rattle.perfect_queues.specs.Calls.{Call, Cancel, Irecv, Isend, Reply, Test, Wait, after_call, after_settling, message_sent, message_to, ready_answer, receiver, send}
 use Rattle.perfect_queues.specs.Completions.{Answer}
 use Rattle.vocabulary.specs.Endpoints.{is_same}
@@ -7,7 +9,7 @@ use Rattle.perfect_queues.specs.Events.{At, Entry, Event, IsEvent, Restart, Rest
 use Rattle.perfect_queues.specs.Messages.{Message}
 use Rattle.perfect_queues.specs.Runs.{IsRun, after_run, seen}
 use Rattle.perfect_queues.specs.State.{Local, State, opening, put, with_local, with_message, with_number}
-use Rattle.perfect_queues.specs.Steps.{AllAllowed, AreSteps, Finish, FinishSend, IsMatched, Learn, Match, Possible, Step, after_step, after_steps, step_at, steps_at}
+use Rattle.perfect_queues.specs.Steps.{AllAllowed, AreSteps, Finish, FinishSend, IsMatched, Learn, Match, Possible, Step, after_step, after_steps, step_at, steps_at, learns}
 use Rattle.vocabulary.specs.declared.basic_type.BasicType.{BasicType}
 use Rattle.vocabulary.specs.declared.endpoint.Endpoint.{Endpoint}
 use Rattle.perfect_queues.proofs.EndpointLemmas.{same_eq, same_refl}
@@ -38,8 +40,10 @@ pub record Midway (V : Values) (s : State) (e : Endpoint) (call : Option Call) (
 
 start_current : (s : State) (e : Endpoint) (c : Option Call) → (start s e c).current ≡ s.current
 start_current s e None = refl
-start_current s e (Some (Isend c None tag basic values)) = refl
-start_current s e (Some (Isend c (Some to) tag basic values)) = refl
+start_current s e (Some (Isend c Any tag from)) = refl
+start_current s e (Some (Isend c Null tag from)) = refl
+start_current s e (Some (Isend c (Rank to) None from)) = refl
+start_current s e (Some (Isend c (Rank to) (Some tag) from)) = refl
 start_current s e (Some (Irecv p)) = refl
 start_current s e (Some (Wait a)) = refl
 start_current s e (Some (Test r)) = refl
@@ -70,15 +74,23 @@ possible s e rest (Heard a) (Learn r i) le ans h = rw (h.0, h.1) le
 possible s e rest (Came a f) (Learn r i) le ans h = absurd h
 
 -- steps among what has arrived are steps of the machine
-pub record Moved (s : State) (e : Endpoint) (l : Local) (rest : Endpoint → ℕ → List Message) : Type 0 where
+pub record Moved (s : State) (e : Endpoint) (l : Local) (rest : Endpoint → ℕ → List Message) (taught : List (ℕ × ℕ)) : Type 0 where
   pub steps : List Step
   pub taken : AreSteps s e steps
+  pub learns_are : learns steps ≡ taught
   pub here : Sim ((steps_at s e steps).at e) l rest
   pub others : (x : Endpoint) → is_same x e ≡ false → (steps_at s e steps).at x ≡ s.at x
   pub now : (steps_at s e steps).current ≡ s.current
 
-pub move : (s : State) (e : Endpoint) (rest : Endpoint → ℕ → List Message) (l : Local) (input : Input) (xs : List Step) → Sim (s.at e) l rest → AllAllowed l xs → IsFromBelow s.current input → Answers s e input → AllByRecursion (IsBy input) xs → Moved s e (after_steps l xs) rest
-move s e rest l input [] sim a le ans by = record { steps = []; taken = tt; here = sim; others = λ x h. refl; now = refl }
+-- a widened step teaches the same
+taught_more : (rest : Endpoint → ℕ → List Message) (x : Step) (ys xs : List Step) → learns ys ≡ learns xs → learns (widened rest x ∷ ys) ≡ learns (x ∷ xs)
+taught_more rest (Match k p earlier m later) ys xs h = h
+taught_more rest (Finish k p m) ys xs h = h
+taught_more rest (FinishSend k d) ys xs h = h
+taught_more rest (Learn r i) ys xs h = ap (λ (ls : List (ℕ × ℕ)). (r, i) ∷ ls) h
+
+pub move : (s : State) (e : Endpoint) (rest : Endpoint → ℕ → List Message) (l : Local) (input : Input) (xs : List Step) → Sim (s.at e) l rest → AllAllowed l xs → IsFromBelow s.current input → Answers s e input → AllByRecursion (IsBy input) xs → Moved s e (after_steps l xs) rest (learns xs)
+move s e rest l input [] sim a le ans by = record { steps = []; taken = tt; learns_are = refl; here = sim; others = λ x h. refl; now = refl }
 move s e rest l input (x ∷ xs) sim a le ans by = more (move s1 e rest (after_step l x) input xs sim1 a.1 le (answers_after s e input (after_step (s.at e) y) ans) by.1)
   where
     y : Step
@@ -90,9 +102,10 @@ move s e rest l input (x ∷ xs) sim a le ans by = more (move s1 e rest (after_s
     sim1 : Sim (s1.at e) (after_step l x) rest
     sim1 = subst (λ (b : Bool). Sim (if b then after_step (s.at e) y else s.at e) (after_step l x) rest) (sym (same_refl e)) (after_more (s.at e) l rest x sim a.0)
 
-    more : Moved s1 e (after_steps (after_step l x) xs) rest → Moved s e (after_steps (after_step l x) xs) rest
+    more : Moved s1 e (after_steps (after_step l x) xs) rest (learns xs) → Moved s e (after_steps (after_step l x) xs) rest (learns (x ∷ xs))
     more m = record {
       steps = y ∷ m.steps;
+      learns_are = taught_more (yet l.known rest) x m.steps xs m.learns_are;
       taken = (allowed_more (s.at e) l rest x sim a.0, possible s e (yet l.known rest) input x le ans by.0, m.taken);
       here = m.here;
       others = λ z h. m.others z h ∙ rw h refl;
@@ -109,17 +122,18 @@ taken_append s e [] ys = refl
 taken_append s e (x ∷ xs) ys = taken_append (step_at s e x) e xs ys
 
 -- the work on an input, once what it takes in is in its place
-pub record Worked (V : Values) (s : State) (e : Endpoint) (locals : Endpoint → Local) (links : Endpoint → Endpoint → Link) (cur : ℕ → ℕ) : Type 0 where
+pub record Worked (V : Values) (s : State) (e : Endpoint) (locals : Endpoint → Local) (links : Endpoint → Endpoint → Link) (cur : ℕ → ℕ) (taught : List (ℕ × ℕ)) : Type 0 where
   pub steps : List Step
   pub taken : AreSteps s e steps
+  pub learns_are : learns steps ≡ taught
   pub joined : Joined V (steps_at s e steps) locals links cur
 
 worked : (V : Values) (s : State) (locals : Endpoint → Local) (links : Endpoint → Endpoint → Link) (cur : ℕ → ℕ) (e : Endpoint) (input : Input) (new : Local) (out : List (Endpoint × Frame)) →
     s.current ≡ cur → IsFromBelow s.current input → Answers s e input →
     ((x : Endpoint) → Sim (s.at x) (with_local locals e (taken_in V e (locals e) input) x) (coming V (λ y. links y x))) → LinksFit V links →
-    Work V e (locals e) input new out → Worked V s e (with_local locals e new) links cur
+    (w : Work V e (locals e) input new out) → Worked V s e (with_local locals e new) links cur (learns w.steps)
 worked V s locals links cur e input new out now le ans mid fit w =
-    record { steps = m.steps; taken = m.taken; joined = record { each = each; fit = fit; now = m.now ∙ now } }
+    record { steps = m.steps; taken = m.taken; learns_are = m.learns_are; joined = record { each = each; fit = fit; now = m.now ∙ now } }
   where
     rest : Endpoint → ℕ → List Message
     rest = coming V (λ y. links y e)
@@ -127,7 +141,7 @@ worked V s locals links cur e input new out now le ans mid fit w =
     here : Sim (s.at e) (taken_in V e (locals e) input) rest
     here = subst (λ (b : Bool). Sim (s.at e) (if b then taken_in V e (locals e) input else locals e) rest) (same_refl e) (mid e)
 
-    m : Moved s e (after_steps (taken_in V e (locals e) input) w.steps) rest
+    m : Moved s e (after_steps (taken_in V e (locals e) input) w.steps) rest (learns w.steps)
     m = move s e rest (taken_in V e (locals e) input) input w.steps here w.allowed le ans w.by
 
     last : Sim ((steps_at s e m.steps).at e) new rest
@@ -163,43 +177,48 @@ mid_send V s locals links cur e g l d m from live is j here x =
     subst (λ (y : Endpoint). Sim g l (coming V (λ z. links z y)) → Sim ((send (put s y g) (Some (d, m))).at x) (with_local locals y (kept y l (Some (d, m))) x) (coming V (λ z. accept_all links y (linked y (Some (d, m))) z x))) from
     (λ h. send_more V s.current s.at locals links g l d m (subst (λ (y : Endpoint). is_stale (locals d).known y ≡ false) (sym from) live) is j.fit j.each h x) here
 
-mid_isend : (V : Values) (s : State) (locals : Endpoint → Local) (links : Endpoint → Endpoint → Link) (cur : ℕ → ℕ) (e : Endpoint) (c to tag : ℕ) (basic : BasicType) (values : List ℕ) → IsHeard locals e → IsSpelled V (message_sent e (locals e) (Isend c (Some to) tag basic values)) → Joined V s locals links cur →
-    Mid V s locals (accept_all links e (linked e (message_sent e (locals e) (Isend c (Some to) tag basic values)))) e (Isend c (Some to) tag basic values)
-mid_isend V s locals links cur e c to tag basic values heard is j x =
+mid_isend : (V : Values) (s : State) (locals : Endpoint → Local) (links : Endpoint → Endpoint → Link) (cur : ℕ → ℕ) (e : Endpoint) (c to tag : ℕ) (from : Handed) → IsHeard locals e → IsSpelled V (message_sent e (locals e) (Isend c (Rank to) (Some tag) from)) → Joined V s locals links cur →
+    Mid V s locals (accept_all links e (linked e (message_sent e (locals e) (Isend c (Rank to) (Some tag) from)))) e (Isend c (Rank to) (Some tag) from)
+mid_isend V s locals links cur e c to tag from heard is j x =
     subst (λ (sm : Option (Endpoint × Message)). Sim ((send (put s e (after_call e (s.at e) call)) sm).at x) (with_local locals e (taken_in V e (locals e) (Asked call)) x) (coming V (λ y. accept_all links e (linked e (message_sent e (locals e) call)) y x)))
     (sym (sent_same (s.at e) (locals e) (coming V (λ y. links y e)) e call (j.each e)))
     (mid_send V s locals links cur e (after_call e (s.at e) call) (after_call e (locals e) call) dm.0 dm.1 refl (heard to) is j (started_more e (s.at e) (locals e) (coming V (λ y. links y e)) call (j.each e)) x)
   where
     call : Call
-    call = Isend c (Some to) tag basic values
+    call = Isend c (Rank to) (Some tag) from
 
     dm : Endpoint × Message
-    dm = message_to e (receiver (locals e).known to) c tag basic values (length (locals e).requests)
+    dm = message_to e (receiver (locals e).known to) c tag from.buffer.basic (data_of from) (length (locals e).requests)
 
 linked_fit : (V : Values) (links : Endpoint → Endpoint → Link) (e : Endpoint) (sm : Option (Endpoint × Message)) → LinksFit V links → LinksFit V (accept_all links e (linked e sm))
 linked_fit V links e None fit = fit
 linked_fit V links e (Some (d, m)) fit = accept_fit V links e d m fit
 
-pub ask_works : (V : Values) (s : State) (locals : Endpoint → Local) (links : Endpoint → Endpoint → Link) (cur : ℕ → ℕ) (e : Endpoint) (c : Call) (new : Local) (out : List (Endpoint × Frame)) →
-    Joined V s locals links cur → IsHeard locals e → IsSpelled V (message_sent e (locals e) c) → Work V e (locals e) (Asked c) new out →
-    Midway V s e (Some c) (with_local locals e new) (accept_all links e out) cur
-ask_works V s locals links cur e c new out j heard is w = go c is w w.gives
+pub ask_worked : (V : Values) (s : State) (locals : Endpoint → Local) (links : Endpoint → Endpoint → Link) (cur : ℕ → ℕ) (e : Endpoint) (c : Call) (new : Local) (out : List (Endpoint × Frame)) →
+    Joined V s locals links cur → IsHeard locals e → IsSpelled V (message_sent e (locals e) c) → (w : Work V e (locals e) (Asked c) new out) →
+    Worked V (start s e (Some c)) e (with_local locals e new) (accept_all links e out) cur (learns w.steps)
+ask_worked V s locals links cur e c new out j heard is w = go c is w w.gives
   where
-    effect : (c : Call) → Work V e (locals e) (Asked c) new out → Mid V s locals (accept_all links e out) e c → LinksFit V (accept_all links e out) → Midway V s e (Some c) (with_local locals e new) (accept_all links e out) cur
-    effect c w mid fit = finish (worked V (start s e (Some c)) locals (accept_all links e out) cur e (Asked c) new out (start_current s e (Some c) ∙ j.now) tt (λ a k b q. absurd (grind arith)) mid fit w)
-      where
-        finish : Worked V (start s e (Some c)) e (with_local locals e new) (accept_all links e out) cur → Midway V s e (Some c) (with_local locals e new) (accept_all links e out) cur
-        finish x = record { steps = x.steps; taken = x.taken; joined = x.joined }
+    effect : (c : Call) → (w : Work V e (locals e) (Asked c) new out) → Mid V s locals (accept_all links e out) e c → LinksFit V (accept_all links e out) → Worked V (start s e (Some c)) e (with_local locals e new) (accept_all links e out) cur (learns w.steps)
+    effect c w mid fit = worked V (start s e (Some c)) locals (accept_all links e out) cur e (Asked c) new out (start_current s e (Some c) ∙ j.now) tt (λ a k b q. absurd (grind arith)) mid fit w
 
-    go : (c : Call) → IsSpelled V (message_sent e (locals e) c) → Work V e (locals e) (Asked c) new out → GivenOut e (locals e) (Asked c) out → Midway V s e (Some c) (with_local locals e new) (accept_all links e out) cur
-    go (Isend c None tag basic values) is w g =
-        effect (Isend c None tag basic values) w
-        (subst (λ (o : List (Endpoint × Frame)). Mid V s locals (accept_all links e o) e (Isend c None tag basic values)) (sym g) (mid_none V s locals links cur e (Isend c None tag basic values) j))
+    go : (c : Call) → IsSpelled V (message_sent e (locals e) c) → (w : Work V e (locals e) (Asked c) new out) → GivenOut e (locals e) (Asked c) out → Worked V (start s e (Some c)) e (with_local locals e new) (accept_all links e out) cur (learns w.steps)
+    go (Isend c Any tag from) is w g =
+        effect (Isend c Any tag from) w
+        (subst (λ (o : List (Endpoint × Frame)). Mid V s locals (accept_all links e o) e (Isend c Any tag from)) (sym g) (mid_none V s locals links cur e (Isend c Any tag from) j))
         (subst (λ (o : List (Endpoint × Frame)). LinksFit V (accept_all links e o)) (sym g) j.fit)
-    go (Isend c (Some to) tag basic values) is w g =
-        effect (Isend c (Some to) tag basic values) w
-        (subst (λ (o : List (Endpoint × Frame)). Mid V s locals (accept_all links e o) e (Isend c (Some to) tag basic values)) (sym g) (mid_isend V s locals links cur e c to tag basic values heard is j))
-        (subst (λ (o : List (Endpoint × Frame)). LinksFit V (accept_all links e o)) (sym g) (linked_fit V links e (message_sent e (locals e) (Isend c (Some to) tag basic values)) j.fit))
+    go (Isend c Null tag from) is w g =
+        effect (Isend c Null tag from) w
+        (subst (λ (o : List (Endpoint × Frame)). Mid V s locals (accept_all links e o) e (Isend c Null tag from)) (sym g) (mid_none V s locals links cur e (Isend c Null tag from) j))
+        (subst (λ (o : List (Endpoint × Frame)). LinksFit V (accept_all links e o)) (sym g) j.fit)
+    go (Isend c (Rank to) None from) is w g =
+        effect (Isend c (Rank to) None from) w
+        (subst (λ (o : List (Endpoint × Frame)). Mid V s locals (accept_all links e o) e (Isend c (Rank to) None from)) (sym g) (mid_none V s locals links cur e (Isend c (Rank to) None from) j))
+        (subst (λ (o : List (Endpoint × Frame)). LinksFit V (accept_all links e o)) (sym g) j.fit)
+    go (Isend c (Rank to) (Some tag) from) is w g =
+        effect (Isend c (Rank to) (Some tag) from) w
+        (subst (λ (o : List (Endpoint × Frame)). Mid V s locals (accept_all links e o) e (Isend c (Rank to) (Some tag) from)) (sym g) (mid_isend V s locals links cur e c to tag from heard is j))
+        (subst (λ (o : List (Endpoint × Frame)). LinksFit V (accept_all links e o)) (sym g) (linked_fit V links e (message_sent e (locals e) (Isend c (Rank to) (Some tag) from)) j.fit))
     go (Irecv p) is w g =
         effect (Irecv p) w
         (λ x. sim_rest ((start s e (Some (Irecv p))).at x) (with_local locals e (taken_in V e (locals e) (Asked (Irecv p))) x) (coming V (λ y. links y x)) (coming V (λ y. accept_all links e out y x)) (mid_none V s locals links cur e (Irecv p) j x) (silent V links e out g j.fit x))
@@ -208,9 +227,17 @@ ask_works V s locals links cur e c new out j heard is w = go c is w w.gives
     go (Test r) is w g = effect (Test r) w (subst (λ (o : List (Endpoint × Frame)). Mid V s locals (accept_all links e o) e (Test r)) (sym g) (mid_none V s locals links cur e (Test r) j)) (subst (λ (o : List (Endpoint × Frame)). LinksFit V (accept_all links e o)) (sym g) j.fit)
     go (Cancel r) is w g = effect (Cancel r) w (subst (λ (o : List (Endpoint × Frame)). Mid V s locals (accept_all links e o) e (Cancel r)) (sym g) (mid_none V s locals links cur e (Cancel r) j)) (subst (λ (o : List (Endpoint × Frame)). LinksFit V (accept_all links e o)) (sym g) j.fit)
 
+pub ask_works : (V : Values) (s : State) (locals : Endpoint → Local) (links : Endpoint → Endpoint → Link) (cur : ℕ → ℕ) (e : Endpoint) (c : Call) (new : Local) (out : List (Endpoint × Frame)) →
+    Joined V s locals links cur → IsHeard locals e → IsSpelled V (message_sent e (locals e) c) → Work V e (locals e) (Asked c) new out →
+    Midway V s e (Some c) (with_local locals e new) (accept_all links e out) cur
+ask_works V s locals links cur e c new out j heard is w = finish (ask_worked V s locals links cur e c new out j heard is w)
+  where
+    finish : Worked V (start s e (Some c)) e (with_local locals e new) (accept_all links e out) cur (learns w.steps) → Midway V s e (Some c) (with_local locals e new) (accept_all links e out) cur
+    finish x = record { steps = x.steps; taken = x.taken; joined = x.joined }
+
 -- more work in the same event
-midway_more : (V : Values) (s : State) (e : Endpoint) (call : Option Call) (locals locals' : Endpoint → Local) (links links' : Endpoint → Endpoint → Link) (cur : ℕ → ℕ) → (m : Midway V s e call locals links cur) → Worked V (steps_at (start s e call) e m.steps) e locals' links' cur → Midway V s e call locals' links' cur
-midway_more V s e call locals locals' links links' cur m w =
+midway_more : (V : Values) (s : State) (e : Endpoint) (call : Option Call) (locals locals' : Endpoint → Local) (links links' : Endpoint → Endpoint → Link) (cur : ℕ → ℕ) (taught : List (ℕ × ℕ)) → (m : Midway V s e call locals links cur) → Worked V (steps_at (start s e call) e m.steps) e locals' links' cur taught → Midway V s e call locals' links' cur
+midway_more V s e call locals locals' links links' cur taught m w =
     record {
       steps = m.steps ++ w.steps;
       taken = steps_append (start s e call) e m.steps w.steps m.taken w.taken;
@@ -221,21 +248,23 @@ midway_more V s e call locals locals' links links' cur m w =
 pub word_starts : (V : Values) (s : State) (locals : Endpoint → Local) (links : Endpoint → Endpoint → Link) (cur : ℕ → ℕ) (e : Endpoint) → Joined V s locals links cur → Midway V s e None locals links cur
 word_starts V s locals links cur e j = record { steps = []; taken = tt; joined = j }
 
-pub hear_works : (V : Values) (s : State) (call : Option Call) (locals : Endpoint → Local) (links : Endpoint → Endpoint → Link) (cur : ℕ → ℕ) (a e : Endpoint) (new : Local) (out : List (Endpoint × Frame)) →
-    Midway V s e call locals links cur → a.incarnation ≤ cur a.rank → Work V e (locals e) (Heard a) new out → Midway V s e call (with_local locals e new) links cur
-hear_works V s call locals links cur a e new out m below w =
-    midway_more V s e call locals (with_local locals e new) links links cur m
-    (worked V s1 locals links cur e (Heard a) new out m.joined.now (subst (λ (u : ℕ → ℕ). a.incarnation ≤ u a.rank) (sym m.joined.now) below) (λ x k b q. absurd (grind arith)) mid m.joined.fit w)
+pub hear_worked : (V : Values) (s1 : State) (locals : Endpoint → Local) (links : Endpoint → Endpoint → Link) (cur : ℕ → ℕ) (a e : Endpoint) (new : Local) (out : List (Endpoint × Frame)) →
+    Joined V s1 locals links cur → a.incarnation ≤ cur a.rank → (w : Work V e (locals e) (Heard a) new out) → Worked V s1 e (with_local locals e new) links cur (learns w.steps)
+hear_worked V s1 locals links cur a e new out j below w =
+    worked V s1 locals links cur e (Heard a) new out j.now (subst (λ (u : ℕ → ℕ). a.incarnation ≤ u a.rank) (sym j.now) below) (λ x k b q. absurd (grind arith)) mid j.fit w
   where
-    s1 : State
-    s1 = steps_at (start s e call) e m.steps
-
     mid : (x : Endpoint) → Sim (s1.at x) (with_local locals e (locals e) x) (coming V (λ y. links y x))
     mid x = go (is_same x e) refl
       where
         go : (t : Bool) → is_same x e ≡ t → Sim (s1.at x) (if t then locals e else locals x) (coming V (λ y. links y x))
-        go true h = subst (λ (z : Endpoint). Sim (s1.at x) (locals z) (coming V (λ y. links y x))) (same_eq x e h) (m.joined.each x)
-        go false h = m.joined.each x
+        go true h = subst (λ (z : Endpoint). Sim (s1.at x) (locals z) (coming V (λ y. links y x))) (same_eq x e h) (j.each x)
+        go false h = j.each x
+
+pub hear_works : (V : Values) (s : State) (call : Option Call) (locals : Endpoint → Local) (links : Endpoint → Endpoint → Link) (cur : ℕ → ℕ) (a e : Endpoint) (new : Local) (out : List (Endpoint × Frame)) →
+    Midway V s e call locals links cur → a.incarnation ≤ cur a.rank → Work V e (locals e) (Heard a) new out → Midway V s e call (with_local locals e new) links cur
+hear_works V s call locals links cur a e new out m below w =
+    midway_more V s e call locals (with_local locals e new) links links cur (learns w.steps) m
+    (hear_worked V (steps_at (start s e call) e m.steps) locals links cur a e new out m.joined below w)
 
 abbrev MidCame : (V : Values) (s : State) (locals : Endpoint → Local) (links' : Endpoint → Endpoint → Link) (d : Endpoint) → Option Message → Type 0
 MidCame V s locals links' d m = (x : Endpoint) → Sim (s.at x) (with_local locals d (held_on (locals d) m) x) (coming V (λ y. links' y x))
@@ -272,20 +301,23 @@ mid_came V s locals links cur a d (Cts k wanted) live next j = mid_other V s loc
 mid_came V s locals links cur a d (Data k offset values) live next j = mid_other V s locals links cur a d (Data k offset values) refl next j
 
 -- a frame that the link hands up
+pub hand_worked : (V : Values) (s1 : State) (locals : Endpoint → Local) (links : Endpoint → Endpoint → Link) (cur : ℕ → ℕ) (a e : Endpoint) (f : Frame) (new : Local) (out : List (Endpoint × Frame)) →
+    Joined V s1 locals links cur → is_stale (locals e).known a ≡ false → slice_get (links a e).accepted (links a e).handed ≡ Some f →
+    Answers s1 e (Came a f) → (w : Work V e (locals e) (Came a f) new out) → Worked V s1 e (with_local locals e new) (accept_all (handed_on links a e) e out) cur (learns w.steps)
+hand_worked V s1 locals links cur a e f new out j live next ans w =
+    worked V s1 locals (accept_all (handed_on links a e) e out) cur e (Came a f) new out j.now tt ans
+    (λ x. sim_rest (s1.at x) (with_local locals e (held_on (locals e) (message V a f)) x) (coming V (λ y. handed_on links a e y x)) (coming V (λ y. accept_all (handed_on links a e) e out y x)) (mid_came V s1 locals links cur a e f live next j x) (silent V (handed_on links a e) e out w.gives fit x))
+    (silent_fit V (handed_on links a e) e out w.gives fit) w
+  where
+    fit : LinksFit V (handed_on links a e)
+    fit = handed_fit V links a e f j.fit next
+
 pub hand_works : (V : Values) (s : State) (call : Option Call) (locals : Endpoint → Local) (links : Endpoint → Endpoint → Link) (cur : ℕ → ℕ) (a e : Endpoint) (f : Frame) (new : Local) (out : List (Endpoint × Frame)) →
     (m : Midway V s e call locals links cur) → is_stale (locals e).known a ≡ false → slice_get (links a e).accepted (links a e).handed ≡ Some f →
     Answers (steps_at (start s e call) e m.steps) e (Came a f) → Work V e (locals e) (Came a f) new out → Midway V s e call (with_local locals e new) (accept_all (handed_on links a e) e out) cur
 hand_works V s call locals links cur a e f new out m live next ans w =
-    midway_more V s e call locals (with_local locals e new) links (accept_all (handed_on links a e) e out) cur m
-    (worked V s1 locals (accept_all (handed_on links a e) e out) cur e (Came a f) new out m.joined.now tt ans
-    (λ x. sim_rest (s1.at x) (with_local locals e (held_on (locals e) (message V a f)) x) (coming V (λ y. handed_on links a e y x)) (coming V (λ y. accept_all (handed_on links a e) e out y x)) (mid_came V s1 locals links cur a e f live next m.joined x) (silent V (handed_on links a e) e out w.gives fit x))
-    (silent_fit V (handed_on links a e) e out w.gives fit) w)
-  where
-    s1 : State
-    s1 = steps_at (start s e call) e m.steps
-
-    fit : LinksFit V (handed_on links a e)
-    fit = handed_fit V links a e f m.joined.fit next
+    midway_more V s e call locals (with_local locals e new) links (accept_all (handed_on links a e) e out) cur (learns w.steps) m
+    (hand_worked V (steps_at (start s e call) e m.steps) locals links cur a e f new out m.joined live next ans w)
 
 -- the settling ends the event
 pub settle_follows : (V : Values) (n : ℕ) (s : State) (call : Option Call) (locals old : Endpoint → Local) (links links' : Endpoint → Endpoint → Link) (cur : ℕ → ℕ) (e : Endpoint) →

@@ -1,5 +1,6 @@
 use Rattle.std.proofs.Common.{◌≡◌, ℕ, ◌≤◌, nat_lt, Bool, true, false, List, [], Option, Some, None, if◌then◌else◌, ◌==◌, length, slice_get, slice_set, refl, sym, subst, arith, ◌++◌}
 use Rattle.std.proofs.lemmas.Bool.{eqb-true, eq-eqb, le-ltb}
+use Rattle.perfect_queues.specs.Buffers.{data_of}
 use Rattle.perfect_queues.specs.Calls.{Call, Cancel, Irecv, Isend, Test, Wait, is_eager, receiver}
 use Rattle.perfect_queues.specs.Completions.{Answer, One, completion}
 use Rattle.vocabulary.specs.Endpoints.{is_same}
@@ -15,7 +16,7 @@ use Rattle.proof_pure_network.specs.Frames.{Cts, Data, Eager, Frame, Rts}
 use Rattle.proof_pure_network.specs.Held.{Held, Part, Whole}
 use Rattle.proof_pure_network.specs.Jobs.{Closed, Collecting, Job, Offering, Over, Waiting, collecting, oldest_posted, over_at, with_more}
 use Rattle.proof_pure_network.specs.Matching.{arrived, arrived_at, found, posted, posted_at, receives}
-use Rattle.proof_pure_network.specs.Transfers.{answered, collected, data_of}
+use Rattle.proof_pure_network.specs.Transfers.{answered, collected, wanted_data}
 use Rattle.proof_pure_network.proofs.Simulation.{is_stale}
 
 arrived_known : (core : Core) (h : Held) → (arrived core h).core.known ≡ core.known
@@ -33,11 +34,13 @@ posted_known core p = go (found p core.held)
     go (Some t) = refl
 
 pub called_known : (e : Endpoint) (core : Core) (c : Call) → (called e core c).core.known ≡ core.known
-called_known e core (Isend c None tag basic values) = refl
-called_known e core (Isend c (Some to) tag basic values) = go (is_same (receiver core.known to) e) (is_eager e (receiver core.known to) basic values)
+called_known e core (Isend c Any tag from) = refl
+called_known e core (Isend c Null tag from) = refl
+called_known e core (Isend c (Rank to) None from) = refl
+called_known e core (Isend c (Rank to) (Some tag) from) = go (is_same (receiver core.known to) e) (is_eager e (receiver core.known to) from.buffer.basic (data_of from))
   where
-    go : (own small : Bool) → (sends e core (receiver core.known to) own c tag basic values small).core.known ≡ core.known
-    go true small = arrived_known (pushed_over core) (own_message e c tag basic values)
+    go : (own small : Bool) → (sends e core (receiver core.known to) own c tag from.buffer.basic (data_of from) small).core.known ≡ core.known
+    go true small = arrived_known (pushed_over core) (own_message e c tag from.buffer.basic (data_of from))
     go false true = refl
     go false false = refl
 called_known e core (Irecv p) = go p.source
@@ -68,7 +71,7 @@ came_known core a (Cts k w) = go (slice_get core.jobs k)
     go (Some Closed) = refl
     go (Some (Offering d values)) = at (is_same d a)
       where
-        at : (t : Bool) → (if t then effect (with_jobs core (slice_set core.jobs k (Over Sent))) (data_of d k values w) else effect core []).core.known ≡ core.known
+        at : (t : Bool) → (if t then effect (with_jobs core (slice_set core.jobs k (Over Sent))) (wanted_data d k values w) else effect core []).core.known ≡ core.known
         at true = refl
         at false = refl
 came_known core a (Data k o values) = go (collecting a k core.jobs)

@@ -1,6 +1,7 @@
 -- No receive that waits accepts a message that is held.
 use Rattle.std.proofs.Common.{◌≡◌, ℕ, Bool, true, false, List, [], ◌∷◌, ◌++◌, length, Option, Some, None, if◌then◌else◌, ◌==◌, slice_get, slice_set, nat_lt, not, refl, sym, subst, arith, ⊎_elim}
 use Rattle.std.specs.List.{AllByRecursion}
+use Rattle.perfect_queues.specs.Buffers.{data_of}
 use Rattle.perfect_queues.specs.Calls.{Call, Cancel, Irecv, Isend, Test, Wait, is_eager, receiver}
 use Rattle.perfect_queues.specs.Completions.{Answer, One, completion}
 use Rattle.vocabulary.specs.Endpoints.{is_former, is_same}
@@ -16,7 +17,7 @@ use Rattle.proof_pure_network.specs.Frames.{Cts, Data, Eager, Frame, Rts}
 use Rattle.proof_pure_network.specs.Held.{Body, Held, Part, Whole, count_of, fits, full}
 use Rattle.proof_pure_network.specs.Jobs.{Closed, Collecting, Job, Offering, Over, Waiting, collecting, matched_job, matched_part, oldest_posted, over_at, with_more}
 use Rattle.proof_pure_network.specs.Matching.{arrived, arrived_at, found, posted, posted_at, receives}
-use Rattle.proof_pure_network.specs.Transfers.{answered, collected, data_of}
+use Rattle.proof_pure_network.specs.Transfers.{answered, collected, wanted_data}
 use Rattle.proof_pure_network.proofs.JobLemmas.{All_append, All_filter, All_left, All_right, Fewer, fewer_dropped, fewer_ended, fewer_set, fewer_settled, fewer_used, push_waiting, set_waiting, settled_held}
 use Rattle.proof_pure_network.proofs.Oldest.{First, none_found, none_posted, some_found}
 
@@ -57,7 +58,7 @@ posted_quiet core p quiet = go (found p core.held) refl
             All_append (λ b. fits q b ≡ false) t.0 t.2 (All_left (λ b. fits q b ≡ false) t.0 (t.1 ∷ t.2) b) (All_right (λ b. fits q b ≡ false) t.0 (t.1 ∷ t.2) b).1
 
 pub receives_quiet : (core : Core) (p : Receive) (src : Source) → NoneFits core → NoneFits (receives core p src).core
-receives_quiet core p Null quiet = push_quiet core (Over (Received (record { source = Null; tag = None; count = 0 }) p.buffer)) (over_isnt (Received (record { source = Null; tag = None; count = 0 }) p.buffer)) quiet
+receives_quiet core p Null quiet = push_quiet core (Over (Received (record { source = Null; tag = None; count = 0 }) p.into.buffer.values)) (over_isnt (Received (record { source = Null; tag = None; count = 0 }) p.into.buffer.values)) quiet
 receives_quiet core p Any quiet = posted_quiet core p quiet
 receives_quiet core p (Rank r) quiet = posted_quiet core p quiet
 
@@ -67,8 +68,10 @@ sends_quiet e core d false c tag basic values true quiet = push_quiet core (Over
 sends_quiet e core d false c tag basic values false quiet = push_quiet core (Offering d values) (λ p x. absurd (grind arith)) quiet
 
 pub called_quiet : (e : Endpoint) (core : Core) (c : Call) → NoneFits core → NoneFits (called e core c).core
-called_quiet e core (Isend c None tag basic values) quiet = push_quiet core (Over Sent) (over_isnt Sent) quiet
-called_quiet e core (Isend c (Some to) tag basic values) quiet = sends_quiet e core (receiver core.known to) (is_same (receiver core.known to) e) c tag basic values (is_eager e (receiver core.known to) basic values) quiet
+called_quiet e core (Isend c Any tag from) quiet = push_quiet core (Over Sent) (over_isnt Sent) quiet
+called_quiet e core (Isend c Null tag from) quiet = push_quiet core (Over Sent) (over_isnt Sent) quiet
+called_quiet e core (Isend c (Rank to) None from) quiet = push_quiet core (Over Sent) (over_isnt Sent) quiet
+called_quiet e core (Isend c (Rank to) (Some tag) from) quiet = sends_quiet e core (receiver core.known to) (is_same (receiver core.known to) e) c tag from.buffer.basic (data_of from) (is_eager e (receiver core.known to) from.buffer.basic (data_of from)) quiet
 called_quiet e core (Irecv p) quiet = receives_quiet core p p.source quiet
 called_quiet e core (Wait a) quiet = quiet
 called_quiet e core (Test r) quiet = go (completion (over_at core.jobs) (One r))
@@ -87,7 +90,7 @@ answered_quiet core s k w (Some (Over o)) quiet = quiet
 answered_quiet core s k w (Some Closed) quiet = quiet
 answered_quiet core s k w (Some (Offering d values)) quiet = go (is_same d s)
   where
-    go : (t : Bool) → NoneFits (if t then effect (with_jobs core (slice_set core.jobs k (Over Sent))) (data_of d k values w) else effect core []).core
+    go : (t : Bool) → NoneFits (if t then effect (with_jobs core (slice_set core.jobs k (Over Sent))) (wanted_data d k values w) else effect core []).core
     go true = fewer_quiet core (with_jobs core (slice_set core.jobs k (Over Sent))) (fewer_set core.jobs k Sent) refl quiet
     go false = quiet
 

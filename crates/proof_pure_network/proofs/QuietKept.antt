@@ -23,7 +23,8 @@ use Rattle.proof_pure_network.proofs.EventKept.{fault_blank}
 use Rattle.proof_pure_network.proofs.Flow.{GoOn, count_at, flow, is_yes, promise, yes_count}
 use Rattle.proof_pure_network.proofs.Flowing.{Flowing}
 use Rattle.proof_pure_network.proofs.HonestValues.{IsHonestJob, IsInParts}
-use Rattle.proof_pure_network.proofs.Invariants.{Kept}
+use Rattle.proof_pure_network.proofs.Invariants.{Due, Flows, Kept, Sane, Spoken, views}
+use Rattle.proof_pure_network.proofs.Joined.{Joined}
 use Rattle.proof_pure_network.proofs.JobLemmas.{All_filter, posted_job}
 use Rattle.proof_pure_network.proofs.Links.{among, coming}
 use Rattle.proof_pure_network.proofs.Pairs.{token}
@@ -80,17 +81,22 @@ held_stands V s k (h ∷ hs) all = go (is_part_from s k h) refl (held_stands V s
         let b : AllByRecursion (λ m. m.request ≢ Some k) (fill V h ∷ filter (is_of s h.context) (map (fill V) hs)) = subst (λ (t : Bool). AllByRecursion (λ m. m.request ≢ Some k) (cond t (fill V h ∷ filter (is_of s h.context) (map (fill V) hs)) (filter (is_of s h.context) (map (fill V) hs)))) q a in
         absurd (b.0 (request h.body p.1))
 
-pub quiet_kept : (n : ℕ) (V : Values) (w : Network) (k : Kept n V w) → IsQuiet w → IsAtRest (after_run opening k.seen.events)
-quiet_kept n V w k idle e s are = record { nothing_fits = fits; receives_are_finished = received; sends_are_finished = finished }
-  where
-    st : State
-    st = after_run opening k.seen.events
+-- what holds of a network and the state that it is joined to
+pub record Resting (V : Values) (w : Network) (st : State) : Type 0 where
+  pub sane : Sane V w
+  pub spoken : Spoken w
+  pub due : Due w
+  pub flows : Flows V w
+  pub joined : Joined V st (views V w) w.link w.current
 
+pub quiet_rest : (V : Values) (w : Network) (st : State) (k : Resting V w st) → IsQuiet w → IsAtRest st
+quiet_rest V w st k idle e s are = record { nothing_fits = fits; receives_are_finished = received; sends_are_finished = finished }
+  where
     sim : Sim (st.at e) (view V (w.core e)) (coming V (λ y. w.link y e))
-    sim = k.seen.joined.each e
+    sim = k.joined.each e
 
     cur : st.current ≡ w.current
-    cur = k.seen.joined.now
+    cur = k.joined.now
 
     ee : e.incarnation ≡ w.current e.rank
     ee = are.receiver_is ∙ ap (λ (f : ℕ → ℕ). f e.rank) cur
@@ -178,7 +184,7 @@ quiet_kept n V w k idle e s are = record { nothing_fits = fits; receives_are_fin
 
     finished : SendsAreFinished st e s
     finished i h matched =
-        let of : slice_get (map (request_of V) (w.core s).jobs) i ≡ Some (Sending e) = subst (λ (rs : List Request). slice_get rs i ≡ Some (Sending e)) (k.seen.joined.each s).requests h in
+        let of : slice_get (map (request_of V) (w.core s).jobs) i ≡ Some (Sending e) = subst (λ (rs : List Request). slice_get rs i ≡ Some (Sending e)) (k.joined.each s).requests h in
         let o = job_sending V (slice_get (w.core s).jobs i) e (sym (slice_get-map (request_of V) (w.core s).jobs i) ∙ of) in
         let nm = k.due.named s i e o.0 o.1 in
         let live : is_stale (w.core e).known s ≡ false = le-ltb s.incarnation ((w.core e).known s.rank) (omega (arith, kk)) in
@@ -187,6 +193,9 @@ quiet_kept n V w k idle e s are = record { nothing_fits = fits; receives_are_fin
         let c : count (is_cts i) (in_flight (w.link e s)) ≡ 0 = ap (count (is_cts i)) (idle e s ee ss nm.0 kk) in
         let p : parts s i (w.core e) ≡ 0 = held_stands V s i (w.core e).held (λ x. subst (λ (ms : List Message). AllByRecursion (λ m. m.request ≢ Some i) ms) (queue x) (matched x)) in
         omega (arith, t, r, c, p)
+
+pub quiet_kept : (n : ℕ) (V : Values) (w : Network) (k : Kept n V w) → IsQuiet w → IsAtRest (after_run opening k.seen.events)
+quiet_kept n V w k = quiet_rest V w (after_run opening k.seen.events) (record { sane = k.sane; spoken = k.spoken; due = k.due; flows = k.flows; joined = k.seen.joined })
 
 pub is_run : (n : ℕ) (hs : List Happening) → IsRunOfMachine n (run n hs new_network)
 is_run n hs =

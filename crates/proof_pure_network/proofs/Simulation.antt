@@ -1,5 +1,7 @@
 use Rattle.std.proofs.Common.{◌≡◌, ℕ, ◌<◌, ◌≤◌, nat_lt, Bool, true, false, ◌&&◌, List, [], ◌∷◌, ◌++◌, map, Option, Some, None, if◌then◌else◌, ◌==◌, slice_get, slice_set, refl, sym, ap, ◌∙◌, arith, append_assoc, append-nil, subst, ap₂, length, option_and_then}
 use Rattle.std.proofs.lemmas.Bool.{eqb-true, ltb-false, le-ltb, and_parts}
+use Rattle.perfect_queues.specs.Buffers.{data_of}
+use Rattle.vocabulary.specs.declared.envelope.Source.TheVariants.{Any, Null, Rank}
 use Rattle.perfect_queues.specs.Calls.{Call, Cancel, Irecv, Isend, Started, Test, Wait, after_answer, after_call, after_cancel, after_settling, after_test, after_use, immediate_reply, message_sent, message_to, ready_answer, receive_request, receiver, send_request, test_reply}
 use Rattle.perfect_queues.specs.Completions.{Answer, Awaited, One, completion, outcome_at}
 use Rattle.vocabulary.specs.Endpoints.{is_former, is_same}
@@ -137,7 +139,7 @@ cancels_more g l rest None sim = sim
 cancels_more g l rest (Some k) sim = record { requests = ap (λ (rs : List Request). changed cancelled_request rs k) sim.requests; blocked = sim.blocked; known = sim.known; queue = sim.queue }
 
 pub started_more : (e : Endpoint) (g l : Local) (rest : Endpoint → ℕ → List Message) (c : Call) → Sim g l rest → Sim (after_call e g c) (after_call e l c) rest
-started_more e g l rest (Isend c to tag basic values) sim = pushed_more g l rest (send_request e g.known to basic values) (send_request e l.known to basic values) sim (ap (λ (known : ℕ → ℕ). send_request e known to basic values) sim.known)
+started_more e g l rest (Isend c to tag from) sim = pushed_more g l rest (send_request e g.known to tag from.buffer.basic (data_of from)) (send_request e l.known to tag from.buffer.basic (data_of from)) sim (ap (λ (known : ℕ → ℕ). send_request e known to tag from.buffer.basic (data_of from)) sim.known)
 started_more e g l rest (Irecv p) sim = pushed_more g l rest (receive_request p.source p) (receive_request p.source p) sim refl
 started_more e g l rest (Wait a) sim = record { requests = sim.requests; blocked = refl; known = sim.known; queue = sim.queue }
 started_more e g l rest (Test r) sim =
@@ -146,15 +148,17 @@ started_more e g l rest (Test r) sim =
 started_more e g l rest (Cancel r) sim = cancels_more g l rest r sim
 
 pub sent_same : (g l : Local) (rest : Endpoint → ℕ → List Message) (e : Endpoint) (c : Call) → Sim g l rest → message_sent e g c ≡ message_sent e l c
-sent_same g l rest e (Isend c None tag basic values) sim = refl
-sent_same g l rest e (Isend c (Some to) tag basic values) sim = ap₂ (λ (known : ℕ → ℕ) (rs : List Request). Some (message_to e (receiver known to) c tag basic values (length rs))) sim.known sim.requests
+sent_same g l rest e (Isend c Any tag from) sim = refl
+sent_same g l rest e (Isend c Null tag from) sim = refl
+sent_same g l rest e (Isend c (Rank to) None from) sim = refl
+sent_same g l rest e (Isend c (Rank to) (Some tag) from) sim = ap₂ (λ (known : ℕ → ℕ) (rs : List Request). Some (message_to e (receiver known to) c tag from.buffer.basic (data_of from) (length rs))) sim.known sim.requests
 sent_same g l rest e (Irecv p) sim = refl
 sent_same g l rest e (Wait a) sim = refl
 sent_same g l rest e (Test r) sim = refl
 sent_same g l rest e (Cancel r) sim = refl
 
 pub at_once_same : (g l : Local) (rest : Endpoint → ℕ → List Message) (c : Call) → Sim g l rest → immediate_reply g c ≡ immediate_reply l c
-at_once_same g l rest (Isend c to tag basic values) sim = ap (λ (rs : List Request). Some (Started (length rs))) sim.requests
+at_once_same g l rest (Isend c to tag from) sim = ap (λ (rs : List Request). Some (Started (length rs))) sim.requests
 at_once_same g l rest (Irecv p) sim = ap (λ (rs : List Request). Some (Started (length rs))) sim.requests
 at_once_same g l rest (Wait a) sim = refl
 at_once_same g l rest (Test r) sim = ap (λ (rs : List Request). Some (test_reply (completion (outcome_at rs) (One r)))) sim.requests

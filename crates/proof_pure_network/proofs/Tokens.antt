@@ -1,6 +1,7 @@
 use Rattle.std.proofs.Common.{◌≡◌, ℕ, zero, suc, ◌+◌, ◌≤◌, Bool, true, false, ◌&&◌, List, [], ◌∷◌, ◌++◌, length, drop, filter, Option, Some, None, cond, if◌then◌else◌, ◌==◌, not, nat_lt, slice_get, slice_set, refl, sym, ap, ◌∙◌, subst, arith, append_assoc, append-nil, ◌⊎◌, inl, inr}
 use Rattle.std.proofs.lemmas.Bool.{eqb-true}
 use Rattle.std.proofs.lemmas.List.{drop-append-le, length-append, length-set, length-map, length_push}
+use Rattle.perfect_queues.specs.Buffers.{data_of}
 use Rattle.perfect_queues.specs.Calls.{Call, Cancel, Irecv, Isend, Test, Wait, is_eager, receiver}
 use Rattle.perfect_queues.specs.Completions.{Answer, One, completion}
 use Rattle.vocabulary.specs.Endpoints.{is_former, is_same}
@@ -19,7 +20,7 @@ use Rattle.proof_pure_network.specs.Held.{Body, Held, Part, Whole, is_part}
 use Rattle.proof_pure_network.specs.Jobs.{Closed, Collecting, Job, Offering, Over, Waiting, closed, collecting, dropped, ended, matched_job, oldest_posted, over_at, with_more}
 use Rattle.proof_pure_network.specs.Links.{Link, accept, accept_all, in_flight}
 use Rattle.proof_pure_network.specs.Matching.{answer, arrived, arrived_at, found, posted, posted_at, receives}
-use Rattle.proof_pure_network.specs.Transfers.{answered, collected, data_frames, data_of, pieces}
+use Rattle.proof_pure_network.specs.Transfers.{answered, collected, data_frames, wanted_data, pieces}
 use Rattle.proof_pure_network.proofs.Oldest.{First, some_found}
 
 abbrev pub one : Bool → ℕ
@@ -175,8 +176,10 @@ sends_parts s k e core d false c tag basic values true = omega (arith, no_cts s 
 sends_parts s k e core d false c tag basic values false = omega (arith, no_cts s k d (Rts c tag basic (length core.jobs) (length values)) refl)
 
 pub called_parts : (s : Endpoint) (k : ℕ) (e : Endpoint) (core : Core) (c : Call) → parts s k (called e core c).core + answers s k (called e core c).out ≡ parts s k core
-called_parts s k e core (Isend c None tag basic values) = omega arith
-called_parts s k e core (Isend c (Some to) tag basic values) = sends_parts s k e core (receiver core.known to) (is_same (receiver core.known to) e) c tag basic values (is_eager e (receiver core.known to) basic values)
+called_parts s k e core (Isend c Any tag from) = omega arith
+called_parts s k e core (Isend c Null tag from) = omega arith
+called_parts s k e core (Isend c (Rank to) None from) = omega arith
+called_parts s k e core (Isend c (Rank to) (Some tag) from) = sends_parts s k e core (receiver core.known to) (is_same (receiver core.known to) e) c tag from.buffer.basic (data_of from) (is_eager e (receiver core.known to) from.buffer.basic (data_of from))
 called_parts s k e core (Irecv p) = receives_parts s k core p p.source
 called_parts s k e core (Wait a) = omega arith
 called_parts s k e core (Test r) = go (completion (over_at core.jobs) (One r))
@@ -199,7 +202,7 @@ data_answers s k d j (p ∷ ps) = go (is_same s d) (data_answers s k d j ps)
     go true h = omega (arith, h)
     go false h = h
 
-of_answers : (s : Endpoint) (k : ℕ) (d : Endpoint) (j : ℕ) (values : List ℕ) (w : Bool) → answers s k (data_of d j values w) ≡ 0
+of_answers : (s : Endpoint) (k : ℕ) (d : Endpoint) (j : ℕ) (values : List ℕ) (w : Bool) → answers s k (wanted_data d j values w) ≡ 0
 of_answers s k d j values true = data_answers s k d j (pieces (length values) 127 0 values)
 of_answers s k d j values false = refl
 
@@ -211,7 +214,7 @@ answered_parts s k core a j w (Some (Over o)) = omega (arith, one_false (is_same
 answered_parts s k core a j w (Some Closed) = omega (arith, one_false (is_same a s))
 answered_parts s k core a j w (Some (Offering d values)) = go (is_same d a)
   where
-    go : (t : Bool) → parts s k (if t then effect (with_jobs core (slice_set core.jobs j (Over Sent))) (data_of d j values w) else effect core []).core + answers s k (if t then effect (with_jobs core (slice_set core.jobs j (Over Sent))) (data_of d j values w) else effect core []).out ≡ parts s k core + brings s k a (Cts j w)
+    go : (t : Bool) → parts s k (if t then effect (with_jobs core (slice_set core.jobs j (Over Sent))) (wanted_data d j values w) else effect core []).core + answers s k (if t then effect (with_jobs core (slice_set core.jobs j (Over Sent))) (wanted_data d j values w) else effect core []).out ≡ parts s k core + brings s k a (Cts j w)
     go true = omega (arith, one_false (is_same a s), of_answers s k d j values w)
     go false = omega (arith, one_false (is_same a s))
 
@@ -276,24 +279,26 @@ all_changed_length g [] js = refl
 all_changed_length g (k ∷ ks) js = all_changed_length g ks (changed g js k) ∙ changed_length g js k
 
 abbrev pub requests_of : Call → ℕ
-requests_of (Isend c to tag basic values) = 1
+requests_of (Isend c to tag from) = 1
 requests_of (Irecv p) = 1
 requests_of (Wait a) = 0
 requests_of (Test r) = 0
 requests_of (Cancel r) = 0
 
 pub called_length : (e : Endpoint) (core : Core) (c : Call) → length (called e core c).core.jobs ≡ length core.jobs + requests_of c
-called_length e core (Isend c None tag basic values) = length_push core.jobs (Over Sent)
-called_length e core (Isend c (Some to) tag basic values) = go (is_same (receiver core.known to) e) (is_eager e (receiver core.known to) basic values)
+called_length e core (Isend c Any tag from) = length_push core.jobs (Over Sent)
+called_length e core (Isend c Null tag from) = length_push core.jobs (Over Sent)
+called_length e core (Isend c (Rank to) None from) = length_push core.jobs (Over Sent)
+called_length e core (Isend c (Rank to) (Some tag) from) = go (is_same (receiver core.known to) e) (is_eager e (receiver core.known to) from.buffer.basic (data_of from))
   where
-    go : (own small : Bool) → length (sends e core (receiver core.known to) own c tag basic values small).core.jobs ≡ length core.jobs + 1
-    go true small = arrived_length (pushed_over core) (own_message e c tag basic values) ∙ length_push core.jobs (Over Sent)
+    go : (own small : Bool) → length (sends e core (receiver core.known to) own c tag from.buffer.basic (data_of from) small).core.jobs ≡ length core.jobs + 1
+    go true small = arrived_length (pushed_over core) (own_message e c tag from.buffer.basic (data_of from)) ∙ length_push core.jobs (Over Sent)
     go false true = length_push core.jobs (Over Sent)
-    go false false = length_push core.jobs (Offering (receiver core.known to) values)
+    go false false = length_push core.jobs (Offering (receiver core.known to) (data_of from))
 called_length e core (Irecv p) = go p.source
   where
     go : (src : Source) → length (receives core p src).core.jobs ≡ length core.jobs + 1
-    go Null = length-append core.jobs (Over (Received (record { source = Null; tag = None; count = 0 }) p.buffer) ∷ [])
+    go Null = length-append core.jobs (Over (Received (record { source = Null; tag = None; count = 0 }) p.into.buffer.values) ∷ [])
     go Any = posted_length core p
     go (Rank r) = posted_length core p
 called_length e core (Wait a) = omega arith
@@ -318,7 +323,7 @@ came_length core a (Cts k w) = go (slice_get core.jobs k)
     go (Some Closed) = refl
     go (Some (Offering d values)) = at (is_same d a)
       where
-        at : (t : Bool) → length (if t then effect (with_jobs core (slice_set core.jobs k (Over Sent))) (data_of d k values w) else effect core []).core.jobs ≡ length core.jobs
+        at : (t : Bool) → length (if t then effect (with_jobs core (slice_set core.jobs k (Over Sent))) (wanted_data d k values w) else effect core []).core.jobs ≡ length core.jobs
         at true = length-set core.jobs k (Over Sent)
         at false = refl
 came_length core a (Data k o values) = go (collecting a k core.jobs)
@@ -376,7 +381,9 @@ posted_envelopes d k core p = go (found p core.held)
     go (Some t) = answer_envelopes d k p t.1 t.1.body
 
 pub called_envelopes : (d : Endpoint) (k : ℕ) (e : Endpoint) (core : Core) (c : Call) → IsNext (envelopes d k (called e core c).out) k (length core.jobs) (length (called e core c).core.jobs)
-called_envelopes d k e core (Isend c None tag basic values) = inl refl
+called_envelopes d k e core (Isend c Any tag from) = inl refl
+called_envelopes d k e core (Isend c Null tag from) = inl refl
+called_envelopes d k e core (Isend c (Rank to) None from) = inl refl
 called_envelopes d k e core (Irecv p) = inl (go p.source)
   where
     go : (src : Source) → envelopes d k (receives core p src).out ≡ 0
@@ -386,22 +393,22 @@ called_envelopes d k e core (Irecv p) = inl (go p.source)
 called_envelopes d k e core (Wait a) = inl refl
 called_envelopes d k e core (Test r) = inl refl
 called_envelopes d k e core (Cancel r) = inl refl
-called_envelopes d k e core (Isend c (Some to) tag basic values) = go (is_same x e) (is_eager e x basic values)
+called_envelopes d k e core (Isend c (Rank to) (Some tag) from) = go (is_same x e) (is_eager e x from.buffer.basic (data_of from))
   where
     x : Endpoint
     x = receiver core.known to
 
-    small' : (t : Bool) → count (is_rts k) (if t then Eager c tag basic values ∷ [] else []) ≡ 0
+    small' : (t : Bool) → count (is_rts k) (if t then Eager c tag from.buffer.basic (data_of from) ∷ [] else []) ≡ 0
     small' true = refl
     small' false = refl
 
-    big : (t u : Bool) → (k == length core.jobs) ≡ u → IsNext (count (is_rts k) (if t then Rts c tag basic (length core.jobs) (length values) ∷ [] else [])) k (length core.jobs) (length (core.jobs ++ Offering x values ∷ []))
+    big : (t u : Bool) → (k == length core.jobs) ≡ u → IsNext (count (is_rts k) (if t then Rts c tag from.buffer.basic (length core.jobs) (length (data_of from)) ∷ [] else [])) k (length core.jobs) (length (core.jobs ++ Offering x (data_of from) ∷ []))
     big false u h = inl refl
     big true false h = inl (rw h refl)
-    big true true h = inr (rw h refl, eqb-true k (length core.jobs) h, length_push core.jobs (Offering x values))
+    big true true h = inr (rw h refl, eqb-true k (length core.jobs) h, length_push core.jobs (Offering x (data_of from)))
 
-    go : (own small : Bool) → IsNext (envelopes d k (sends e core x own c tag basic values small).out) k (length core.jobs) (length (sends e core x own c tag basic values small).core.jobs)
-    go true small = inl (arrived_envelopes d k (pushed_over core) (own_message e c tag basic values))
+    go : (own small : Bool) → IsNext (envelopes d k (sends e core x own c tag from.buffer.basic (data_of from) small).out) k (length core.jobs) (length (sends e core x own c tag from.buffer.basic (data_of from) small).core.jobs)
+    go true small = inl (arrived_envelopes d k (pushed_over core) (own_message e c tag from.buffer.basic (data_of from)))
     go false true = inl (small' (is_same d x))
     go false false = big (is_same d x) (k == length core.jobs) refl
 
@@ -419,7 +426,7 @@ came_envelopes d k core a (Rts c tag basic j n) = arrived_envelopes d k core (re
 came_envelopes d k core a (Data j o values) = refl
 came_envelopes d k core a (Cts j w) = go (slice_get core.jobs j)
   where
-    of : (x : Endpoint) (values : List ℕ) (w : Bool) → envelopes d k (data_of x j values w) ≡ 0
+    of : (x : Endpoint) (values : List ℕ) (w : Bool) → envelopes d k (wanted_data x j values w) ≡ 0
     of x values true = data_envelopes d k x j (pieces (length values) 127 0 values)
     of x values false = refl
 
@@ -431,6 +438,6 @@ came_envelopes d k core a (Cts j w) = go (slice_get core.jobs j)
     go (Some Closed) = refl
     go (Some (Offering x values)) = at (is_same x a)
       where
-        at : (t : Bool) → envelopes d k (if t then effect (with_jobs core (slice_set core.jobs j (Over Sent))) (data_of x j values w) else effect core []).out ≡ 0
+        at : (t : Bool) → envelopes d k (if t then effect (with_jobs core (slice_set core.jobs j (Over Sent))) (wanted_data x j values w) else effect core []).out ≡ 0
         at true = of x values w
         at false = refl

@@ -1,6 +1,7 @@
 use Rattle.std.proofs.Common.{◌≡◌, ℕ, suc, ◌≤◌, ◌<◌, Bool, true, false, ◌&&◌, List, [], ◌∷◌, ◌++◌, length, Option, Some, None, if◌then◌else◌, ◌==◌, not, nat_lt, slice_get, slice_set, refl, sym, ap, subst, arith, le_trans}
 use Rattle.std.specs.List.{AllByRecursion}
 use Rattle.std.proofs.lemmas.Bool.{and_parts, eqb-true, ltb-true, ltb-false, eq-eqb}
+use Rattle.perfect_queues.specs.Buffers.{data_of}
 use Rattle.perfect_queues.specs.Calls.{Call, Cancel, Irecv, Isend, Test, Wait, is_eager, receiver}
 use Rattle.perfect_queues.specs.Completions.{Answer, One, completion}
 use Rattle.vocabulary.specs.Endpoints.{is_former, is_same}
@@ -17,7 +18,7 @@ use Rattle.proof_pure_network.specs.Held.{Body, Held, Part, Whole}
 use Rattle.proof_pure_network.specs.Jobs.{Closed, Collecting, Job, Offering, Over, Waiting, collecting, oldest_posted, over_at, with_more}
 use Rattle.proof_pure_network.specs.Links.{Link, accept, accept_all, handed_on}
 use Rattle.proof_pure_network.specs.Matching.{answer, arrived, arrived_at, found, posted, posted_at, receives}
-use Rattle.proof_pure_network.specs.Transfers.{answered, collected, data_frames, data_of, pieces}
+use Rattle.proof_pure_network.specs.Transfers.{answered, collected, data_frames, wanted_data, pieces}
 use Rattle.proof_pure_network.proofs.JobLemmas.{All_append, All_filter, All_left, All_right}
 use Rattle.proof_pure_network.proofs.Oldest.{First, some_found}
 
@@ -65,11 +66,13 @@ posted_speaks g core p old = go (found p core.held) refl
         all = subst (λ (hs : List Held). HeldKnown g hs) f.parts old
 
 pub called_speaks : (e : Endpoint) (core : Core) (c : Call) → IsKnown core.known e → HeldKnown core.known core.held → Speaks core.known (called e core c)
-called_speaks e core (Isend c None tag basic values) own old = record { held = old; told = tt }
-called_speaks e core (Isend c (Some to) tag basic values) own old = go (is_same (receiver core.known to) e) (is_eager e (receiver core.known to) basic values)
+called_speaks e core (Isend c Any tag from) own old = record { held = old; told = tt }
+called_speaks e core (Isend c Null tag from) own old = record { held = old; told = tt }
+called_speaks e core (Isend c (Rank to) None from) own old = record { held = old; told = tt }
+called_speaks e core (Isend c (Rank to) (Some tag) from) own old = go (is_same (receiver core.known to) e) (is_eager e (receiver core.known to) from.buffer.basic (data_of from))
   where
-    go : (o small : Bool) → Speaks core.known (sends e core (receiver core.known to) o c tag basic values small)
-    go true small = arrived_speaks core.known (pushed_over core) (own_message e c tag basic values) own old
+    go : (o small : Bool) → Speaks core.known (sends e core (receiver core.known to) o c tag from.buffer.basic (data_of from) small)
+    go true small = arrived_speaks core.known (pushed_over core) (own_message e c tag from.buffer.basic (data_of from)) own old
     go false true = record { held = old; told = (omega arith, tt) }
     go false false = record { held = old; told = (omega arith, tt) }
 called_speaks e core (Irecv p) own old = go p.source
@@ -91,7 +94,7 @@ data_told : (g : ℕ → ℕ) (d : Endpoint) (k : ℕ) (ps : List (ℕ × List �
 data_told g d k [] h = tt
 data_told g d k (p ∷ ps) h = (h, data_told g d k ps h)
 
-of_told : (g : ℕ → ℕ) (d : Endpoint) (k : ℕ) (values : List ℕ) (w : Bool) → IsKnown g d → Told g (data_of d k values w)
+of_told : (g : ℕ → ℕ) (d : Endpoint) (k : ℕ) (values : List ℕ) (w : Bool) → IsKnown g d → Told g (wanted_data d k values w)
 of_told g d k values true h = data_told g d k (pieces (length values) 127 0 values) h
 of_told g d k values false h = tt
 
@@ -111,7 +114,7 @@ came_speaks core a (Cts k w) h old = go (slice_get core.jobs k)
     go (Some Closed) = still
     go (Some (Offering d values)) = at (is_same d a) refl
       where
-        at : (t : Bool) → is_same d a ≡ t → Speaks core.known (if t then effect (with_jobs core (slice_set core.jobs k (Over Sent))) (data_of d k values w) else effect core [])
+        at : (t : Bool) → is_same d a ≡ t → Speaks core.known (if t then effect (with_jobs core (slice_set core.jobs k (Over Sent))) (wanted_data d k values w) else effect core [])
         at false x = still
         at true x = record { held = old; told = of_told core.known d k values w (subst (λ (z : Endpoint). IsKnown core.known z) (sym (same_eq d a x)) h) }
 came_speaks core a (Data k o values) h old = go (collecting a k core.jobs)

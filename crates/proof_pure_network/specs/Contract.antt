@@ -39,7 +39,7 @@ taken_in V e l (Came s f) = held_on l (message V s f)
 -- what goes to the links: the message of a send; of a receive, or of a frame that came, only answers and data; of all
 -- else nothing
 abbrev pub GivenOut : Endpoint → Local → Input → List (Endpoint × Frame) → Type 0
-GivenOut e l (Asked (Isend c to tag basic values)) out = out ≡ linked e (message_sent e l (Isend c to tag basic values))
+GivenOut e l (Asked (Isend c to tag from)) out = out ≡ linked e (message_sent e l (Isend c to tag from))
 GivenOut e l (Asked (Irecv p)) out = AllByRecursion IsNoMessage out
 GivenOut e l (Asked (Wait a)) out = out ≡ []
 GivenOut e l (Asked (Test r)) out = out ≡ []

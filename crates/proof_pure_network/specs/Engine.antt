@@ -1,5 +1,6 @@
 -- What one rank does with a call, a word of another endpoint, and a frame that its link hands up.
 use Rattle.std.specs.Prelude.{ℕ, Bool, true, false, not, List, [], ◌∷◌, ◌++◌, length, map, Option, Some, None, if◌then◌else◌, nat_lt, slice_get, filter, option_and_then}
+use Rattle.perfect_queues.specs.Buffers.{data_of}
 use Rattle.perfect_queues.specs.Calls.{Call, Cancel, Irecv, Isend, Test, Wait, is_eager, receiver}
 use Rattle.perfect_queues.specs.Completions.{Answer, One, completion}
 use Rattle.vocabulary.specs.Endpoints.{is_former, is_same}
@@ -7,6 +8,8 @@ use Rattle.perfect_queues.specs.Outcomes.{Sent}
 use Rattle.perfect_queues.specs.Requests.{all_changed, changed}
 use Rattle.perfect_queues.specs.State.{with_number}
 use Rattle.vocabulary.specs.declared.basic_type.BasicType.{BasicType}
+use Rattle.vocabulary.specs.declared.envelope.Source.{Source}
+use Rattle.vocabulary.specs.declared.envelope.Source.TheVariants.{Rank}
 use Rattle.vocabulary.specs.declared.endpoint.Endpoint.{Endpoint}
 use Rattle.proof_pure_network.specs.Core.{Core, Effect, effect, with_jobs}
 use Rattle.proof_pure_network.specs.Frames.{Cts, Data, Eager, Frame, Rts}
@@ -31,11 +34,12 @@ sends e core d false c tag basic values true = effect (pushed_over core) ((d, Ea
 sends e core d false c tag basic values false =
     effect (with_jobs core (core.jobs ++ Offering d values ∷ [])) ((d, Rts c tag basic (length core.jobs) (length values)) ∷ [])
 
--- a send to a rank, at the incarnation that is known; one to the null process is over at once (MPI 3.1, 3.11)
-abbrev pub sends_to : Endpoint → Core → (context : ℕ) → Option ℕ → (tag : ℕ) → BasicType → List ℕ → Effect
-sends_to e core c None tag basic values = effect (pushed_over core) []
-sends_to e core c (Some to) tag basic values =
+-- a send to a rank, at the incarnation that is known; one to the null process is over at once (MPI 3.1, 3.11), and a
+-- wildcard, which is refused, is said to do no more
+abbrev pub sends_to : Endpoint → Core → (context : ℕ) → Source → (tag : Option ℕ) → BasicType → List ℕ → Effect
+sends_to e core c (Rank to) (Some tag) basic values =
     sends e core (receiver core.known to) (is_same (receiver core.known to) e) c tag basic values (is_eager e (receiver core.known to) basic values)
+sends_to e core c _ _ basic values = effect (pushed_over core) []
 
 -- the requests with these serials are closed, since their outcomes were answered
 abbrev pub core_used : Core → List ℕ → Core
@@ -53,7 +57,7 @@ core_cancels core (Some k) = with_jobs core (changed dropped core.jobs k)
 
 -- what a rank does with a call
 abbrev pub called : Endpoint → Core → Call → Effect
-called e core (Isend c to tag basic values) = sends_to e core c to tag basic values
+called e core (Isend c to tag from) = sends_to e core c to tag from.buffer.basic (data_of from)
 called e core (Irecv p) = receives core p p.source
 called e core (Wait a) = effect (record core { blocked = Some a }) []
 called e core (Test r) = effect (core_tested core (completion (over_at core.jobs) (One r))) []

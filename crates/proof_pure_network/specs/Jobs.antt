@@ -1,11 +1,10 @@
 -- The engine's side of requests.
 use Rattle.std.specs.Prelude.{ℕ, suc, Bool, true, false, ◌&&◌, ◌||◌, List, [], ◌∷◌, length, Option, Some, None, if◌then◌else◌, ◌==◌, slice_get, option_map}
 use Rattle.vocabulary.specs.Endpoints.{is_former, is_same}
-use Rattle.perfect_queues.specs.Outcomes.{Cancelled, Outcome, Replaced, outcome, unfit}
+use Rattle.perfect_queues.specs.Outcomes.{Cancelled, Outcome, Replaced, outcome, status_by, unfit}
 use Rattle.perfect_queues.specs.Receives.{Receive, has_room, names}
 use Rattle.perfect_queues.specs.Requests.{Finished, Gone, Matched, Posted, Request, Sending}
 use Rattle.vocabulary.specs.declared.endpoint.Endpoint.{Endpoint}
-use Rattle.vocabulary.specs.declared.envelope.Source.TheVariants.{Rank}
 use Rattle.proof_pure_network.specs.Frames.{Values}
 use Rattle.proof_pure_network.specs.Held.{Body, Held, Part, Whole, count_of, fill, fits, full, is_part}
 
@@ -48,7 +47,7 @@ oldest_posted h (r ∷ rs) = or_later (takes h r) (oldest_posted h rs)
 abbrev pub matched_part : Receive → Held → (count : ℕ) → Bool → Job
 matched_part p h count true = Collecting p h []
 matched_part p h count false =
-    Over (unfit p h.basic (record { source = Rank h.sender.rank; tag = Some h.tag; count = count }))
+    Over (unfit p h.basic (status_by p h.sender.rank h.tag count))
 
 -- what a match makes of a receive: a whole message ends it, and the values of a large one are still to come
 abbrev pub matched_job : Receive → Held → Body → Job
@@ -74,7 +73,7 @@ closed Closed = Closed
 
 -- only a receive that waits is cancelled (MPI 3.1, 3.8.4)
 abbrev pub dropped : Job → Job
-dropped (Waiting p) = Over (Cancelled p.buffer)
+dropped (Waiting p) = Over (Cancelled p.into.buffer.values)
 dropped (Collecting p h got) = Collecting p h got
 dropped (Offering d values) = Offering d values
 dropped (Over o) = Over o
@@ -101,9 +100,9 @@ with_more p h got = if length got == count_of h.body then Over (outcome p (full 
 -- a higher incarnation of a rank is learnt: what names the rank ends, and so does a receive that collects what one of
 -- its former endpoints sent
 abbrev pub ended : ℕ → ℕ → Job → Job
-ended r i (Waiting p) = if names p.source r then Over (Replaced (Some p.buffer)) else Waiting p
+ended r i (Waiting p) = if names p.source r then Over (Replaced (Some p.into.buffer.values)) else Waiting p
 ended r i (Collecting p h got) =
-    if names p.source r || is_former r i h.sender then Over (Replaced (Some p.buffer)) else Collecting p h got
+    if names p.source r || is_former r i h.sender then Over (Replaced (Some p.into.buffer.values)) else Collecting p h got
 ended r i (Offering d values) = if d.rank == r then Over (Replaced None) else Offering d values
 ended r i (Over o) = Over o
 ended r i Closed = Closed

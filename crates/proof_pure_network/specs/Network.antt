@@ -1,6 +1,7 @@
 -- A pure network: the engines, and between each two endpoints what the one's side of the link accepted, and how much
 -- of it the other's side handed up.
 use Rattle.std.specs.Prelude.{◌≡◌, ℕ, zero, suc, Bool, ◌&&◌, not, List, [], ◌∷◌, ◌++◌, Option, Some, None, if◌then◌else◌, ◌==◌, slice_get, nat_lt, nat_le, is_none}
+use Rattle.perfect_queues.specs.Buffers.{data_of}
 use Rattle.perfect_queues.specs.Calls.{Call, Cancel, Irecv, Isend, Reply, Test, Wait}
 use Rattle.vocabulary.specs.Endpoints.{is_same, last_incarnation}
 use Rattle.perfect_queues.specs.Events.{Entry, Event, Restarted, call_and_reply, told}
@@ -26,7 +27,7 @@ pub record Network : Type 0 where
 
 -- what a call adds to the log: one entry for the request that it starts, which holds the values of a send
 abbrev pub logged : Call → List (List ℕ)
-logged (Isend c to tag basic values) = values ∷ []
+logged (Isend c to tag from) = (data_of from) ∷ []
 logged (Irecv p) = [] ∷ []
 logged (Wait a) = []
 logged (Test r) = []

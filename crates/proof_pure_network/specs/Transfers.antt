@@ -20,15 +20,15 @@ data_frames d k [] = []
 data_frames d k ((o, values) ∷ ps) = (d, Data k o values) ∷ data_frames d k ps
 
 -- the frames of a send's values, where its receiver wants them
-abbrev pub data_of : Endpoint → ℕ → List ℕ → Bool → List (Endpoint × Frame)
-data_of d k values true = data_frames d k (pieces (length values) 127 0 values)
-data_of d k values false = []
+abbrev pub wanted_data : Endpoint → ℕ → List ℕ → Bool → List (Endpoint × Frame)
+wanted_data d k values true = data_frames d k (pieces (length values) 127 0 values)
+wanted_data d k values false = []
 
 -- the receiver's answer: the data go out if they are wanted, and the send is over; another answer changes nothing
 abbrev pub answered : Core → Endpoint → ℕ → Bool → Option Job → Effect
 answered core s k wanted (Some (Offering d values)) =
     if is_same d s then
-    effect (with_jobs core (slice_set core.jobs k (Over Sent))) (data_of d k values wanted)
+    effect (with_jobs core (slice_set core.jobs k (Over Sent))) (wanted_data d k values wanted)
     else effect core []
 answered core s k wanted (Some (Waiting p)) = effect core []
 answered core s k wanted (Some (Collecting p h got)) = effect core []

@@ -56,6 +56,13 @@ CanAnswer h (calls.Isend s) = CanStart h × (is_to_itself h.state.place s.target
 CanAnswer h (calls.Irecv v) = CanStart h × (0 < h.receives)
 CanAnswer h (calls.Wait q) = Unit {0}
 
+-- the call was taken: its reply is no refusal
+abbrev pub IsTaken : Reply → Type 0
+IsTaken (replies.Refused e back) = ⊥
+IsTaken (replies.Started r) = Unit {0}
+IsTaken (replies.Done o) = Unit {0}
+IsTaken replies.Blocked = Unit {0}
+
 -- an operation is started under the request that is answered (MPI 3.1, 3.7.2)
 abbrev pub Starts : (Request → Type 0) → Reply → Type 0
 Starts started (replies.Started r) = started r

@@ -9,7 +9,7 @@ ghost use Rattle.rank_core.specs.CoreState.{CanStart};
 ghost use Rattle.rank_core.specs.Sending.{or_full, send_fault, is_to_itself, addressed, IsSending};
 ghost use Rattle.rank_core.specs.Receiving.{receive_fault, IsReceiving};
 ghost use Rattle.rank_core.specs.Waiting.{wait_fault, Waits};
-ghost use Rattle.rank_core.specs.Calls.{IsWithin, call_fault, free_fault, call_frame, NeedsMemory, CanAnswer, Answers};
+ghost use Rattle.rank_core.specs.Calls.{IsWithin, call_fault, free_fault, call_frame, NeedsMemory, CanAnswer, IsTaken, Answers};
 
 use crate::call::{Call, Receive, Reply, Send};
 use crate::rank::Core;
@@ -173,6 +173,7 @@ impl Core {
     fn wait(&mut self, request: Request) -> Reply
         requires { wait_fault (progress_at self.old.state.slots request.key request.serial) ≡ None }
         ensures exact { Waits self.old.state request result self.new.state }
+        ensures taken { IsTaken result }
         ensures placed { self.new.state.place ≡ self.old.state.place }
     {
         match self.requests.take(request) {
@@ -189,6 +190,7 @@ impl Core {
         requires allowed { call_fault self.old.state call ≡ None }
         requires room { CanAnswer self.old call }
         ensures exact { Answers self.old.state call result self.new.state }
+        ensures taken { IsTaken result }
         ensures placed { self.new.state.place ≡ self.old.state.place }
     {
         match call {

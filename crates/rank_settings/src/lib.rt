@@ -2,7 +2,6 @@
 #![tactic(auto)]
 
 mod asked;
-mod number;
 mod program;
 mod refused;
 mod words;

@@ -1,16 +1,15 @@
 //! Reading the words.
 
 ghost use Rattle.std.specs.Prelude.{◌≡◌, ◌≤◌, ◌↔◌, IfOk, IsTrue, codes, map};
-ghost use Rattle.clap.specs.Words.{first_of, found_of, matches_of, rows_of};
-ghost use Rattle.rank_settings.specs.Program.{rank_program};
-ghost use Rattle.rank_settings.specs.Settings.{AreGiven, ArePorts, number_in, patience_of};
+ghost use Rattle.clap.specs.Words.{first_of, found_of, kind_of, rows_of};
+ghost use Rattle.rank_settings.specs.Settings.{Answers, ArePorts, Finds, RowsAnswer, number_in, patience_of, refusal_of};
 
 use crate::asked::Settings;
-use crate::number::number_between;
 use crate::program::rank_program;
 use crate::refused::Refused;
 use clap::error::ErrorKind;
 use clap::{ArgMatches, Error};
+use numerals::number_between;
 use std::alloc::Global;
 use std::convert::AsStr;
 
@@ -19,7 +18,7 @@ const USUAL_PATIENCE: u64 = 10_000;
 
 /// The value of an option that has to be there.
 fn value_of<'a>(matches: &ArgMatches<'a>, name: &str) -> Result<&'a str, Refused>
-    ensures { IfOk result (λ text. first_of name.now (rows_of (found_of matches.now)) ≡ Some text.now) }
+    ensures { Finds (λ text. text.now) result (first_of name.now (rows_of (found_of matches.now))) }
 {
     match matches.get_str(name) {
         Some(text) => Ok(text),
@@ -29,7 +28,7 @@ fn value_of<'a>(matches: &ArgMatches<'a>, name: &str) -> Result<&'a str, Refused
 
 /// The number that the value of an option spells, between these bounds.
 fn number_of(matches: &ArgMatches, name: &str, low: u64, high: u64) -> Result<u64, Refused>
-    ensures exact { IfOk result (λ n. number_in (rows_of (found_of matches.now)) name.now low high ≡ Some n) }
+    ensures exact { Finds (λ n. n) result (number_in (rows_of (found_of matches.now)) name.now low high) }
     ensures low { IfOk result (λ n. low ≤ n) }
     ensures high { IfOk result (λ n. n ≤ high) }
 {
@@ -42,7 +41,7 @@ fn number_of(matches: &ArgMatches, name: &str, low: u64, high: u64) -> Result<u6
 
 /// The patience that the words give, or the usual one.
 fn patience_in(matches: &ArgMatches) -> Result<u64, Refused>
-    ensures { IfOk result (λ n. patience_of (first_of (codes "patience") (rows_of (found_of matches.now))) ≡ Some n) }
+    ensures { Finds (λ n. n) result (patience_of (first_of (codes "patience") (rows_of (found_of matches.now)))) }
 {
     match matches.get_str("patience") {
         Some(text) => match number_between(text.as_bytes(), 1, 3_600_000) {
@@ -65,7 +64,7 @@ fn are_ports(rank: u64, size: u64, port: u64) -> bool
 
 /// What the matches give.
 fn found_settings<'a>(matches: &ArgMatches<'a>) -> Result<Settings<'a>, Refused>
-    ensures { IfOk result (AreGiven (rows_of (found_of matches.now))) }
+    ensures { RowsAnswer (rows_of (found_of matches.now)) result }
 {
     let rank = number_of(matches, "rank", 0, 255)?;
     let size = number_of(matches, "size", 1, 256)?;
@@ -88,7 +87,9 @@ fn found_settings<'a>(matches: &ArgMatches<'a>) -> Result<Settings<'a>, Refused>
     })
 }
 
-fn refusal_of(error: &Error) -> Refused {
+fn refusal_of(error: &Error) -> Refused
+    ensures { result ≡ refusal_of (kind_of error.now) }
+{
     match error.kind() {
         ErrorKind::OutOfMemory => Refused::OutOfMemory,
         _ => Refused::Words,
@@ -100,10 +101,10 @@ fn refusal_of(error: &Error) -> Refused {
 /// `--rank r --size n --inc i --job j --port p [--patience ms] FILE`, the options in any order, each at most once; a number
 /// is decimal digits without leading zeros.
 ///
-/// Refused with 64 where the words are others, a value is out of its range, the rank isn't below the size, or the port of
-/// some rank isn't 1 to 65,535; and with 14.
+/// Refused with 64 exactly where the words are others, a value is out of its range, the rank isn't below the size, or the port
+/// of some rank isn't 1 to 65,535, unless memory was wanting before that was seen: 14.
 pub fn settings_of<'a, S: AsStr>(alloc: Global, words: &'a [S]) -> Result<Settings<'a>, Refused>
-    ensures { IfOk result (AreGiven (matches_of rank_program (map S.text words.entry.now))) }
+    ensures { Answers (map S.text words.entry.now) result }
 {
     let program = rank_program(alloc)?;
     match program.try_get_matches_from(words) {

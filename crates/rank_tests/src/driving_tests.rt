@@ -44,6 +44,7 @@ fn a_rank_ends_by_its_script(rt: HostRuntime) {
         ended, idle, printed, failures,
     ));
     assert_eq!(rt; shown, Some((Some(Ended::Runner(0, None)), true, true, 0)));
+    assert_eq!(rt; Ended::Runner(0, None).status(), 0);
 }
 
 #[test]

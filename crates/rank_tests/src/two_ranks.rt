@@ -33,7 +33,7 @@ pub fn runner_of(alloc: Global, text: &[u8], rank: u16) -> Option<ScriptRunner> 
     ScriptRunner::new(alloc, script, rank, 0).ok()
 }
 
-/// A transport of rank 0 behind which rank 1 runs, and which fails at its call of a given number.
+/// A transport of rank 0 behind which rank 1 runs, and which fails from its call of a given number on.
 #[derive(Drop)]
 pub struct Pair {
     alloc: Global,
@@ -49,13 +49,13 @@ pub struct Pair {
     lines: Vec<Bytes>,
     /// How many calls there were.
     calls: u64,
-    /// At which call it fails.
+    /// From which call on it fails.
     fails_at: u64,
     /// How often it has failed.
     failures: u64,
 }
 
-/// A pair whose rank 1 answers, or doesn't, and which fails at its call of this number.
+/// A pair whose rank 1 answers, or doesn't, and which fails from its call of this number on.
 pub fn new_pair(alloc: Global, fails_at: u64, answers: bool) -> Option<Pair>
     ensures { IfSome result (λ p. p.failures ≡ 0) }
 {
@@ -102,7 +102,7 @@ impl Pair {
         ensures { self.new.failures ≡ self.old.failures }
     {
         self.calls = self.calls.saturating_add(1);
-        self.calls == self.fails_at
+        self.calls >= self.fails_at
     }
 
     fn take_step(&mut self, step: Step)

@@ -63,3 +63,8 @@ combined Band basic a b = bit_and a b
 combined Bor basic a b = bit_or a b
 combined Bxor basic a b = bit_xor a b
 combined Affine basic a b = map_after a b
+
+-- the operations by number
+abbrev pub operation_of : ℕ → Op
+operation_of number =
+    if number == 1 then Max else (if number == 2 then Min else (if number == 3 then Sum else (if number == 4 then Prod else (if number == 5 then Land else (if number == 6 then Lor else (if number == 7 then Lxor else (if number == 8 then Band else (if number == 9 then Bor else (if number == 10 then Bxor else (Affine))))))))))

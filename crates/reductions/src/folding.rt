@@ -1,7 +1,8 @@
 //! The reduction of members' elements.
 
 ghost use Rattle.std.specs.Prelude.{◌≡◌, length, All, IfOk, IfErr};
-ghost use Rattle.reductions.specs.Folds.{combined_values, folded_values, IsLike};
+ghost use Rattle.datatypes.specs.Combinations.{combined_values, IsLike};
+ghost use Rattle.reductions.specs.Folds.{folded_values};
 
 use crate::operation::ReduceOp;
 use datatypes::{Buffer, Refusal};
@@ -16,12 +17,7 @@ pub fn accumulate<R: ReduceOp>(op: &R, all: &mut Buffer, next: &Buffer)
           values = combined_values (R.combines op.now) all.old.values next.now.values;
         } }
 {
-    for place in 0..next.len() {
-        let first = all.number(place);
-        let second = next.number(place);
-        let number = op.combine(first, second);
-        all.set_number(place, number);
-    }
+    op.combine_each(all, next);
 }
 
 /// The elements of the first member combined with those of each further one, in order.

@@ -1,10 +1,11 @@
 //! The operations of a reduction (MPI 3.1, 5.9.2).
 
-ghost use Rattle.std.specs.Prelude.{◌≡◌, ◌<◌, ◌%◌, ◌+◌, ◌*◌, ℕ, true, false, ◌↔◌, IfOk, IfErr, IsErrOf};
+ghost use Rattle.std.specs.Prelude.{◌≡◌, ◌<◌, ◌%◌, ◌+◌, ◌*◌, nat_lt, ℕ, true, false, ◌↔◌, IfOk, IfErr, IsErrOf};
 ghost use Rattle.datatypes.specs.Elements.{numbers_of};
-ghost use Rattle.reductions.specs.Operations.{order_of, greater_by, lesser_by, logical_and, logical_or, logical_xor, map_after, is_defined, combined};
+ghost use Rattle.datatypes.specs.Combinations.{combined_values, IsLike};
+ghost use Rattle.reductions.specs.Operations.{order_of, greater_by, lesser_by, logical_and, logical_or, logical_xor, map_after, is_defined, operation_of, combined};
 
-use datatypes::{Refusal, is_signed, largest_number};
+use datatypes::{Buffer, PairOp, Refusal, is_signed, largest_number};
 use vocabulary::BasicType;
 
 /// An operation of a reduction.
@@ -40,6 +41,7 @@ pub trait ReduceOp {
     ghost use Rattle.std.specs.Prelude.{◌≡◌, ◌<◌, ℕ};
     ghost use Rattle.vocabulary.specs.declared.basic_type.BasicType.{BasicType};
     ghost use Rattle.datatypes.specs.Elements.{numbers_of};
+    ghost use Rattle.datatypes.specs.Combinations.{combined_values, IsLike};
 
     ghost basic_of: { Self → BasicType };
 
@@ -55,6 +57,15 @@ pub trait ReduceOp {
         requires second { second < numbers_of (basic_of self.now) }
         ensures combined { result ≡ combines self.now first second }
         ensures within { result < numbers_of (basic_of self.now) };
+
+    /// Combines each element of `all`, which come first, with that of `next` at the same place.
+    fn combine_each(&self, all: &mut Buffer, next: &Buffer)
+        requires basic { all.old.basic ≡ basic_of self.now }
+        requires like { IsLike all.old.basic all.old.values next.now }
+        ensures { all.new ≡
+            record all.old {
+              values = combined_values (combines self.now) all.old.values next.now.values;
+            } };
 
     ghost associates: { (op : Self) (a b c : ℕ) → combines op (combines op a b) c ≡ combines op a (combines op b c) };
 }
@@ -101,6 +112,7 @@ impl Op {
 }
 
 /// The number modulo how many numbers the type has.
+#[inline(always)]
 fn reduced(basic: BasicType, number: u64) -> u64
     ensures { result ≡ number % numbers_of basic }
 {
@@ -113,23 +125,21 @@ fn reduced(basic: BasicType, number: u64) -> u64
 }
 
 /// The place of an element in the order of its type.
+#[inline(always)]
 fn order(basic: BasicType, number: u64) -> u64
     requires { number < numbers_of basic }
     ensures { result ≡ order_of basic number }
 {
     if is_signed(basic) {
         let half = largest_number(basic) / 2 + 1;
-        if number < half {
-            number + half
-        } else {
-            number - half
-        }
+        wrapped_sum(basic, number, half)
     } else {
         number
     }
 }
 
 /// The first map and then the second.
+#[inline(always)]
 fn both_maps(first: u64, second: u64) -> u64
     ensures { result ≡ map_after first second }
 {
@@ -140,6 +150,7 @@ fn both_maps(first: u64, second: u64) -> u64
 }
 
 /// The sum, modulo how many numbers the type has.
+#[inline(always)]
 fn wrapped_sum(basic: BasicType, first: u64, second: u64) -> u64
     ensures { result ≡ (first + second) % numbers_of basic }
 {
@@ -147,19 +158,38 @@ fn wrapped_sum(basic: BasicType, first: u64, second: u64) -> u64
 }
 
 /// The product, modulo how many numbers the type has.
+#[inline(always)]
 fn wrapped_product(basic: BasicType, first: u64, second: u64) -> u64
     ensures { result ≡ (first * second) % numbers_of basic }
 {
     reduced(basic, first.wrapping_mul(second))
 }
 
+/// Whether an element comes before another one in the order of their type. Elements of at most four
+/// bytes are compared as such, since more of them are then compared at once.
+#[inline(always)]
+fn is_before(basic: BasicType, first: u64, second: u64) -> bool
+    requires first { first < numbers_of basic }
+    requires second { second < numbers_of basic }
+    ensures { result ≡ nat_lt (order_of basic first) (order_of basic second) }
+{
+    let first = order(basic, first);
+    let second = order(basic, second);
+    if largest_number(basic) <= 0xffff_ffff {
+        (first as u32) < (second as u32)
+    } else {
+        first < second
+    }
+}
+
 /// The greater of two elements of the type.
+#[inline(always)]
 fn greater(basic: BasicType, first: u64, second: u64) -> u64
     requires first { first < numbers_of basic }
     requires second { second < numbers_of basic }
     ensures { result ≡ greater_by (order_of basic) first second }
 {
-    if order(basic, first) < order(basic, second) {
+    if is_before(basic, first, second) {
         second
     } else {
         first
@@ -167,12 +197,13 @@ fn greater(basic: BasicType, first: u64, second: u64) -> u64
 }
 
 /// The lesser of two elements of the type.
+#[inline(always)]
 fn lesser(basic: BasicType, first: u64, second: u64) -> u64
     requires first { first < numbers_of basic }
     requires second { second < numbers_of basic }
     ensures { result ≡ lesser_by (order_of basic) first second }
 {
-    if order(basic, second) < order(basic, first) {
+    if is_before(basic, second, first) {
         second
     } else {
         first
@@ -180,6 +211,7 @@ fn lesser(basic: BasicType, first: u64, second: u64) -> u64
 }
 
 /// 1 where both are true, else 0.
+#[inline(always)]
 fn both_true(first: u64, second: u64) -> u64
     ensures { result ≡ logical_and first second }
 {
@@ -193,6 +225,7 @@ fn both_true(first: u64, second: u64) -> u64
 }
 
 /// 1 where one is true, else 0.
+#[inline(always)]
 fn one_true(first: u64, second: u64) -> u64
     ensures { result ≡ logical_or first second }
 {
@@ -204,6 +237,7 @@ fn one_true(first: u64, second: u64) -> u64
 }
 
 /// 1 where just one is true, else 0.
+#[inline(always)]
 fn just_one_true(first: u64, second: u64) -> u64
     ensures { result ≡ logical_xor first second }
 {
@@ -217,6 +251,7 @@ fn just_one_true(first: u64, second: u64) -> u64
 }
 
 /// What the operation makes of two elements of the type.
+#[inline(always)]
 #[tactic(auto, unfolding(crate::specs::Operations::combined))]
 fn combine_numbers(operation: Op, basic: BasicType, first: u64, second: u64) -> u64
     requires first { first < numbers_of basic }
@@ -238,6 +273,83 @@ fn combine_numbers(operation: Op, basic: BasicType, first: u64, second: u64) -> 
     }
 }
 
+/// The operation with this number.
+#[inline(always)]
+fn operation_at(number: u8) -> Op
+    ensures { result ≡ operation_of number }
+{
+    match number {
+        1 => Op::Max,
+        2 => Op::Min,
+        3 => Op::Sum,
+        4 => Op::Prod,
+        5 => Op::Land,
+        6 => Op::Lor,
+        7 => Op::Lxor,
+        8 => Op::Band,
+        9 => Op::Bor,
+        10 => Op::Bxor,
+        _ => Op::Affine,
+    }
+}
+
+/// Combines each element of `all` with that of `next` by the operation with this number. It is
+/// compiled for each operation and type: a loop without a look-up inside.
+fn combine_by<const NUMBER: u8>(basic: BasicType, all: &mut Buffer, next: &Buffer)
+    requires defined { is_defined (operation_of NUMBER) basic ≡ true }
+    requires basic { all.old.basic ≡ basic }
+    requires like { IsLike all.old.basic all.old.values next.now }
+    ensures { all.new ≡
+        record all.old {
+          values =
+              combined_values (combined (operation_of NUMBER) basic) all.old.values next.now.values;
+        } }
+{
+    let operation = operation_at(NUMBER);
+    match basic {
+        BasicType::Int8 => combine_typed(operation, BasicType::Int8, all, next),
+        BasicType::Int16 => combine_typed(operation, BasicType::Int16, all, next),
+        BasicType::Int32 => combine_typed(operation, BasicType::Int32, all, next),
+        BasicType::Int64 => combine_typed(operation, BasicType::Int64, all, next),
+        BasicType::Uint8 => combine_typed(operation, BasicType::Uint8, all, next),
+        BasicType::Uint16 => combine_typed(operation, BasicType::Uint16, all, next),
+        BasicType::Uint32 => combine_typed(operation, BasicType::Uint32, all, next),
+        BasicType::Uint64 => combine_typed(operation, BasicType::Uint64, all, next),
+        BasicType::Byte => combine_typed(operation, BasicType::Byte, all, next),
+    }
+}
+
+#[inline(always)]
+fn combine_typed(operation: Op, basic: BasicType, all: &mut Buffer, next: &Buffer)
+    requires defined { is_defined operation basic ≡ true }
+    requires basic { all.old.basic ≡ basic }
+    requires like { IsLike all.old.basic all.old.values next.now }
+    ensures { all.new ≡
+        record all.old {
+          values = combined_values (combined operation basic) all.old.values next.now.values;
+        } }
+{
+    all.combine_with(&Reduction { operation, basic }, next);
+}
+
+impl PairOp for Reduction {
+    ghost use Rattle.reductions.specs.Operations.{combined};
+
+    ghost type_of = { λ r. r.basic };
+
+    ghost makes = { λ r a b. combined r.operation r.basic a b };
+
+    #[inline(always)]
+    fn element_type(&self) -> BasicType {
+        self.basic
+    }
+
+    #[inline(always)]
+    fn apply(&self, first: u64, second: u64) -> u64 {
+        combine_numbers(self.operation, self.basic, first, second)
+    }
+}
+
 impl ReduceOp for Reduction {
     ghost use Rattle.reductions.specs.Operations.{combined};
     ghost use Rattle.reductions.specs.OperationLaws.{combined-associates};
@@ -252,6 +364,23 @@ impl ReduceOp for Reduction {
 
     fn combine(&self, first: u64, second: u64) -> u64 {
         combine_numbers(self.operation, self.basic, first, second)
+    }
+
+    fn combine_each(&self, all: &mut Buffer, next: &Buffer) {
+        let basic = self.basic;
+        match self.operation {
+            Op::Max => combine_by::<1>(basic, all, next),
+            Op::Min => combine_by::<2>(basic, all, next),
+            Op::Sum => combine_by::<3>(basic, all, next),
+            Op::Prod => combine_by::<4>(basic, all, next),
+            Op::Land => combine_by::<5>(basic, all, next),
+            Op::Lor => combine_by::<6>(basic, all, next),
+            Op::Lxor => combine_by::<7>(basic, all, next),
+            Op::Band => combine_by::<8>(basic, all, next),
+            Op::Bor => combine_by::<9>(basic, all, next),
+            Op::Bxor => combine_by::<10>(basic, all, next),
+            Op::Affine => combine_by::<11>(basic, all, next),
+        }
     }
 
     ghost associates = { λ r a b c. combined-associates r.operation r.basic a b c };

@@ -13,6 +13,7 @@ use Rattle.proof_link_truth.proofs.Senders.{next_is}
 use Rattle.proof_link_truth.specs.Sessions.{SenderTells}
 use Rattle.proof_link_truth.specs.Wire.{at}
 use Rattle.proof_network_bridge.proofs.Closed.{following_is_run}
+use Rattle.proof_network_bridge.proofs.Halves.{sessions_there}
 use Rattle.world.specs.Headline.{IsRunOfPerfectQueues, IsSound, SessionsAreInOrder, SessionsAreTrue, history_seen}
 use Rattle.world.specs.WorldState.{WorldState}
 use Rattle.world.specs.declared.event.Entry.{Entry}
@@ -40,15 +41,15 @@ sessions_are_in_order engines datagrams history s r x e d there other apart know
     let here : Endpoint = at r (w.current r) in
     let away : Endpoint = at x (w.current x) in
     let link : Link = w.link here away in
-    let sends = (j.links.tells r e there).peers x (slice_get_within engines x d other) apart in
-    let gets = (j.links.tells x d other).peers r (slice_get_within engines r e there) (false_sym x r apart) in
-    let away_is : slice_index e.known x ≡ w.current x = knows ∙ ap (λ (p : Place). p.endpoint.incarnation) (j.links.tells x d other).place in
-    let here_is : slice_index d.known r ≡ w.current r = known ∙ ap (λ (p : Place). p.endpoint.incarnation) (j.links.tells r e there).place in
-    let sender : SenderTells n here away (peer_at e.peers x).sender link =
-    subst (λ (k : ℕ). SenderTells n here (at x k) (peer_at e.peers x).sender (w.link here (at x k))) away_is sends.sender in
-    let receiver : (peer_at d.peers r).receiver ≡ link.handed = gets.receiver ∙ ap (λ (k : ℕ). (w.link (at r k) away).handed) here_is in
+    let sends = (j.links.tells r e.sessions (sessions_there engines r e there)).peers x (slice_get_within engines x d other) apart in
+    let gets = (j.links.tells x d.sessions (sessions_there engines x d other)).peers r (slice_get_within engines r e there) (false_sym x r apart) in
+    let away_is : slice_index e.sessions.known x ≡ w.current x = knows ∙ ap (λ (p : Place). p.endpoint.incarnation) (j.links.tells x d.sessions (sessions_there engines x d other)).place in
+    let here_is : slice_index d.sessions.known r ≡ w.current r = known ∙ ap (λ (p : Place). p.endpoint.incarnation) (j.links.tells r e.sessions (sessions_there engines r e there)).place in
+    let sender : SenderTells n here away (peer_at e.sessions.peers x).sender link =
+    subst (λ (k : ℕ). SenderTells n here (at x k) (peer_at e.sessions.peers x).sender (w.link here (at x k))) away_is sends.sender in
+    let receiver : (peer_at d.sessions.peers r).receiver ≡ link.handed = gets.receiver ∙ ap (λ (k : ℕ). (w.link (at r k) away).handed) here_is in
     let reach : link.handed ≤ length link.accepted = (j.links.sound here away).reach in
-    let next_is_length = next_is n here away (peer_at e.peers x).sender link sender reach in
+    let next_is_length = next_is n here away (peer_at e.sessions.peers x).sender link sender reach in
     record {
       acknowledged = omega (arith, sender.below, receiver);
       accepted = omega (arith, reach, receiver, next_is_length);

@@ -1,7 +1,7 @@
 -- The engines of a world at its start.
 use Rattle.std.proofs.Common.{◌≡◌, ℕ, zero, suc, ◌+◌, List, [], ◌∷◌, ◌++◌, ap, ◌∙◌, arith}
 use Rattle.engine.specs.EngineState.{EngineState, opening}
-use Rattle.proof_link_truth.specs.Events.{opening_engines}
+use Rattle.proof_network_bridge.specs.Joined.{opening_engines}
 use Rattle.proof_link_truth.specs.Wire.{at, place_of}
 
 one_more : (n a k : ℕ) → opening_engines n a (suc k) ≡ opening_engines n a k ++ opening (place_of n (at (a + k) 0)) ∷ []

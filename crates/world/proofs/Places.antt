@@ -6,6 +6,7 @@ use Rattle.perfect_queues.specs.Events as machine
 use Rattle.engine.specs.EngineState.{EngineState}
 use Rattle.rank_core.specs.declared.refused.Refused.TheVariants as lowers
 use Rattle.incarnation.specs.declared.place.Place.{Place}
+use Rattle.proof_network_bridge.proofs.Halves.{sessions_there}
 use Rattle.proof_network_bridge.specs.Joined.{IsFollowed}
 use Rattle.world.specs.Headline.{IsSound}
 use Rattle.world.specs.Steps.{restart_fault}
@@ -14,10 +15,10 @@ use Rattle.world.specs.declared.event.Entry.{Entry}
 
 -- no rank is beyond the last incarnation
 at_most_last : (n : ℕ) (engines : List EngineState) (d : List (ℕ × List ℕ)) (h : List machine.Entry) (r : ℕ) (e : EngineState) →
-    IsFollowed n engines d h → slice_get engines r ≡ Some e → e.place.endpoint.incarnation ≤ 65535
+    IsFollowed n engines d h → slice_get engines r ≡ Some e → e.sessions.place.endpoint.incarnation ≤ 65535
 at_most_last n engines d h r e f there =
     let last = f.joined.links.last r in
-    let is = ap (λ (p : Place). p.endpoint.incarnation) (f.joined.links.tells r e there).place in
+    let is = ap (λ (p : Place). p.endpoint.incarnation) (f.joined.links.tells r e.sessions (sessions_there engines r e there)).place in
     omega (arith, last, is)
 
 not_last : (i : ℕ) → i ≤ 65535 → (if i == 65535 then Some lowers.Limit else None) ≡ None → i < 65535
@@ -29,11 +30,11 @@ not_last i most none = go (i == 65535) refl none
 
 -- a rank that is not refused a restart has an incarnation left
 pub below_last : (n : ℕ) (engines : List EngineState) (d : List (ℕ × List ℕ)) (h : List machine.Entry) (r : ℕ) (e : EngineState) →
-    IsFollowed n engines d h → slice_get engines r ≡ Some e → restart_fault e.place ≡ None → e.place.endpoint.incarnation < 65535
-below_last n engines d h r e f there none = not_last e.place.endpoint.incarnation (at_most_last n engines d h r e f there) none
+    IsFollowed n engines d h → slice_get engines r ≡ Some e → restart_fault e.sessions.place ≡ None → e.sessions.place.endpoint.incarnation < 65535
+below_last n engines d h r e f there none = not_last e.sessions.place.endpoint.incarnation (at_most_last n engines d h r e f there) none
 
 -- each engine of a world stands at its own rank
 pub sound_placed : (engines : List EngineState) (d : List (ℕ × List ℕ)) (h : List Entry) → IsSound engines d h → ArePlaced engines
 sound_placed engines d h s r e there =
-    let place = (s.followed.joined.links.tells r e there).place in
+    let place = (s.followed.joined.links.tells r e.sessions (sessions_there engines r e there)).place in
     record { size = ap (λ (p : Place). p.size) place; rank = ap (λ (p : Place). p.endpoint.rank) place; job = ap (λ (p : Place). p.job) place }

@@ -7,7 +7,7 @@ use Rattle.engine.specs.EngineState.{EngineState}
 use Rattle.sessions.specs.Peers.{IsIdlePeer, peer_at}
 use Rattle.incarnation.specs.declared.place.Place.{Place}
 use Rattle.incarnation.specs.Judging.{is_other}
-use Rattle.proof_link_truth.specs.Events.{AreQuiet}
+use Rattle.proof_network_bridge.specs.Following.{AreQuiet}
 use Rattle.world.specs.Quiet.{AreQuietTowards, IsQuietTowards}
 use Rattle.world.specs.WorldState.{ArePlaced}
 
@@ -26,21 +26,21 @@ apart_from p x other = go (x == p.endpoint.rank) refl other
     go false is other' = is
 
 -- two different ranks take each other for others
-other_than : (engines : List EngineState) (r x : ℕ) (e d : EngineState) → ArePlaced engines → slice_get engines r ≡ Some e → slice_get engines x ≡ Some d → x ≢ r → is_other e.place d.place.endpoint.rank ≡ true
+other_than : (engines : List EngineState) (r x : ℕ) (e d : EngineState) → ArePlaced engines → slice_get engines r ≡ Some e → slice_get engines x ≡ Some d → x ≢ r → is_other e.sessions.place d.sessions.place.endpoint.rank ≡ true
 other_than engines r x e d placed there other apart =
     let here = placed r e there in
     let away = placed x d other in
-    other_from e.place d.place.endpoint.rank
-    (ne_eqb d.place.endpoint.rank e.place.endpoint.rank (λ same. apart (sym away.rank ∙ same ∙ here.rank)))
+    other_from e.sessions.place d.sessions.place.endpoint.rank
+    (ne_eqb d.sessions.place.endpoint.rank e.sessions.place.endpoint.rank (λ same. apart (sym away.rank ∙ same ∙ here.rank)))
     (omega (arith, away.rank, here.size, slice_get_within engines x d other))
 
 quiet_from : (engines : List EngineState) → ArePlaced engines → AreQuietTowards engines → AreQuiet engines
 quiet_from engines placed all r x e d there other apart knows known =
     let towards : IsQuietTowards e d = all_at (IsQuietTowards e) engines x d (all_at (λ (g : EngineState). All (IsQuietTowards g) engines) engines r e all there) other in
     let differ : x ≢ r = eqb-false x r apart in
-    subst (λ (y : ℕ). IsIdlePeer (peer_at e.peers y)) (placed x d other).rank
+    subst (λ (y : ℕ). IsIdlePeer (peer_at e.sessions.peers y)) (placed x d other).rank
     (towards (other_than engines r x e d placed there other differ) (other_than engines x r d e placed other there (λ same. differ (sym same)))
-    (ap (slice_index e.known) (placed x d other).rank ∙ knows) (ap (slice_index d.known) (placed r e there).rank ∙ known))
+    (ap (slice_index e.sessions.known) (placed x d other).rank ∙ knows) (ap (slice_index d.sessions.known) (placed r e there).rank ∙ known))
 
 towards_from : (engines : List EngineState) → ArePlaced engines → AreQuiet engines → AreQuietTowards engines
 towards_from engines placed quiet r g in_r x g' in_x is_other_one is_other_two knows known =
@@ -50,11 +50,11 @@ towards_from engines placed quiet r g in_r x g' in_x is_other_one is_other_two k
     let other : slice_get engines x ≡ Some d = slice_get-get_or engines x g' in_x in
     let here = placed r e there in
     let away = placed x d other in
-    let apart = apart_from e.place d.place.endpoint.rank is_other_one in
-    subst (λ (y : ℕ). IsIdlePeer (peer_at e.peers y)) (sym away.rank)
+    let apart = apart_from e.sessions.place d.sessions.place.endpoint.rank is_other_one in
+    subst (λ (y : ℕ). IsIdlePeer (peer_at e.sessions.peers y)) (sym away.rank)
     (quiet r x e d there other
-    (ne_eqb x r (λ same. eqb-false d.place.endpoint.rank e.place.endpoint.rank apart (away.rank ∙ same ∙ sym here.rank)))
-    (ap (slice_index e.known) (sym away.rank) ∙ knows) (ap (slice_index d.known) (sym here.rank) ∙ known))
+    (ne_eqb x r (λ same. eqb-false d.sessions.place.endpoint.rank e.sessions.place.endpoint.rank apart (away.rank ∙ same ∙ sym here.rank)))
+    (ap (slice_index e.sessions.known) (sym away.rank) ∙ knows) (ap (slice_index d.sessions.known) (sym here.rank) ∙ known))
 
 -- to ask each engine of each other one is to ask what the quiet clause says
 pub quiet_iff : (answer : Bool) (engines : List EngineState) → ArePlaced engines → (IsTrue answer ↔ AreQuietTowards engines) → (IsTrue answer ↔ AreQuiet engines)

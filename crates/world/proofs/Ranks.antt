@@ -50,12 +50,12 @@ ready_there engines rank e world placed there =
     }
 
 -- how many ranks the engine of one knows of
-pub size_there : (engines : List EngineState) (rank : ℕ) (e : EngineState) → ArePlaced engines → slice_get engines rank ≡ Some e → e.place.size ≡ length engines
+pub size_there : (engines : List EngineState) (rank : ℕ) (e : EngineState) → ArePlaced engines → slice_get engines rank ≡ Some e → e.sessions.place.size ≡ length engines
 size_there engines rank e placed there = (placed rank e there).size
 
 -- the engines are a world once one of them went on
 pub world_after : (engines : List EngineState) (rank : ℕ) (e next : EngineState) → IsWorld engines → ArePlaced engines → slice_get engines rank ≡ Some e → IsReady next →
-    next.place.size ≡ e.place.size → IsWorld (slice_set engines rank next)
+    next.sessions.place.size ≡ e.sessions.place.size → IsWorld (slice_set engines rank next)
 world_after engines rank e next world placed there ready size =
     let size_is : length (slice_set engines rank next) ≡ length engines = length-set engines rank next in
     let stands : StandsIn (length engines) next = record { size = size ∙ size_there engines rank e placed there; clean = ready.clean } in (

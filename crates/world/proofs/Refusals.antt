@@ -1,33 +1,26 @@
 -- What a refused event leaves: a reset may have gone out, and nothing else changed.
-use Rattle.std.proofs.Common.{◌≡◌, ℕ, List, [], ◌++◌, inl, inr, length, Option, Some, None, Result, refl, sym, ap, subst, ◌∙◌, append-nil, ◌+◌, ◌*◌, ◌≤◌, Bool, true, false, arith}
+use Rattle.std.proofs.Common.{◌≡◌, ℕ, List, [], ◌++◌, inl, inr, length, Option, Some, None, Result, refl, sym, ap, ap₂, subst, ◌∙◌, append-nil, ◌+◌, ◌*◌, ◌≤◌, Bool, true, false, arith}
 use Rattle.std.specs.Prelude.{Ok, Err, option_map, slice_get, slice_set}
 use Rattle.std.proofs.lemmas.Bool.{both_ways}
 use Rattle.std.proofs.lemmas.Option.{same_Some}
-use Rattle.std.specs.Ordering.{nat_cmp}
-use Rattle.std.specs.declared.cmp.Ordering.{Ordering}
-use Rattle.std.specs.declared.cmp.Ordering.TheVariants.{Less, Equal, Greater}
-use Rattle.datagram.specs.declared.datagram.Header.{Header}
-use Rattle.datagram.specs.declared.refused.Refused as reading
-use Rattle.datagram.specs.Reading.{datagram_of}
-use Rattle.datagram.specs.Spelling.{AckBody, BodyText, DatagramText, EagerBody, EagerText, ResetBody}
-use Rattle.incarnation.specs.declared.judgement.Judgement.{Judgement}
-use Rattle.incarnation.specs.declared.judgement.Judgement.TheVariants.{Current, Learn}
-use Rattle.incarnation.specs.declared.refused.Refused as judging
-use Rattle.incarnation.specs.declared.refused.Refused.TheVariants as judgings
-use Rattle.incarnation.specs.Judging.{judgement}
 use Rattle.perfect_queues.specs.Events as machine
 use Rattle.vocabulary.specs.declared.endpoint.Endpoint.{Endpoint}
-use Rattle.engine.specs.Datagrams.{BodyGives, EagerGivesAt, FirstWordGives, JudgedGives, ResetGives, StaleGives, TextGives}
-use Rattle.engine.specs.EngineState.{EngineState, knowledge}
-use Rattle.sessions.specs.Peers.{peer_at}
+use Rattle.engine.specs.Datagrams.{HearingGives}
+use Rattle.engine.specs.EngineState.{EngineState, emptied, without_completion, without_out}
+use Rattle.rank_core.specs.CoreState.{CoreState}
+use Rattle.sessions.specs.declared.heard.Unheard.{Unheard}
+use Rattle.sessions.specs.declared.refused.Refused as lower
+use Rattle.sessions.specs.Events.{TurnedAway}
+use Rattle.sessions.specs.Heard.{HeardText, heard_of}
+use Rattle.sessions.specs.SessionsState.{SessionsState}
 use Rattle.rank_core.specs.declared.refused.Refused.{Refused}
-use Rattle.proof_link_truth.specs.Events.{RefusesDatagram, emptied}
+use Rattle.proof_network_bridge.specs.Following.{RefusesDatagram}
 use Rattle.proof_network_bridge.specs.Joined.{IsClean, IsFollowed}
 use Rattle.proof_network_bridge.proofs.Closed.{refusals_follow}
 use Rattle.requests.specs.declared.outcome.Outcome.{Outcome}
 use Rattle.world.specs.Faults.{event_fault, target_of}
 use Rattle.world.specs.Headline.{IsSound, history_seen}
-use Rattle.world.specs.Steps.{DatagramRuns, DeliveryRuns, EventRuns, IsRefusedBy, IsWhy, RanAt, Refusal, first_of}
+use Rattle.world.specs.Steps.{DatagramRuns, DeliveryRuns, EventRuns, IsRefusedBy, IsWhy, RanAt, Refusal, first_of, with_out}
 use Rattle.world.specs.WorldState.{HasRoom, WorldState}
 use Rattle.world.specs.declared.event.Entry.{Entry}
 use Rattle.world.specs.declared.event.Event.{Event}
@@ -41,68 +34,50 @@ use Rattle.world.proofs.Strays.{alike_at_engine}
 
 -- nothing but what it emits changed
 abbrev OnlyOut : (old new : EngineState) → Type 0
-OnlyOut old new = new ≡ record old { out = new.out }
+OnlyOut old new = new ≡ record old { sessions = record old.sessions { out = new.sessions.out } }
 
 same_out : (old new : EngineState) → new ≡ old → OnlyOut old new
 same_out old new is = subst (λ (e : EngineState). OnlyOut old e) (sym is) refl
 
-frame_keeps : (o : Ordering) (old new : EngineState) (h : Header) (t : EagerText) (why : Refused) → EagerGivesAt {X = Unit {0}} o old h t (Err why) new → OnlyOut old new
-frame_keeps Less old new h t why g = same_out old new g.0
-frame_keeps Equal old new h t why g = same_out old new g.0
-frame_keeps Greater old new h t why g = same_out old new g.0
+-- so it is where only the sessions changed, in what they emit
+out_alone : (old new : EngineState) (out : List (ℕ × List ℕ)) → new.core ≡ old.core → new.sessions ≡ record old.sessions { out = out } → OnlyOut old new
+out_alone old new out core sessions =
+    subst (λ (e : EngineState). OnlyOut old e) (sym (ap₂ (λ (c : CoreState) (s : SessionsState). record { core = c; sessions = s }) core sessions)) refl
 
-body_keeps : (old new : EngineState) (h : Header) (b : BodyText) (why : Refused) → BodyGives {X = Unit {0}} old h b (Err why) new → OnlyOut old new
-body_keeps old new h AckBody why g = same_out old new g.0
-body_keeps old new h ResetBody why g = absurd g
-body_keeps old new h (EagerBody t) why g = frame_keeps (nat_cmp h.sequence (peer_at old.peers h.source.rank).receiver) old new h t why g
+turned_keeps : (old new : EngineState) (reset : Option Endpoint) (refused e : lower.Refused) → new.core ≡ old.core → TurnedAway reset refused old.sessions e new.sessions → OnlyOut old new
+turned_keeps old new None refused e core away = out_alone old new old.sessions.out core away.1
+turned_keeps old new (Some source) refused e core (inl away) = out_alone old new _ core away.1
+turned_keeps old new (Some source) refused e core (inr away) = out_alone old new old.sessions.out core away.1
 
-first_word_keeps : (old new : EngineState) (h : Header) (b : BodyText) (why : Refused) → FirstWordGives {X = Unit {0}} old h b (Err why) new → OnlyOut old new
-first_word_keeps old new h AckBody why g = same_out old new g.0
-first_word_keeps old new h ResetBody why g = same_out old new g.0
-first_word_keeps old new h (EagerBody t) why g = same_out old new g.0
+hearing_keeps : (heard : Result HeardText Unheard) (old new : EngineState) (why : Refused) → HearingGives heard old (Err why) new → OnlyOut old new
+hearing_keeps (Ok h) old new why g = same_out old new g.2
+hearing_keeps (Err u) old new why g = turned_keeps old new u.reset u.refused g.0 g.2 g.3
 
-reset_keeps : (old new : EngineState) (source : Endpoint) (why : Refused) → ResetGives {X = Unit {0}} old source (Err why) new → OnlyOut old new
-reset_keeps old new source why (inl g) = subst (λ (e : EngineState). OnlyOut old e) (sym g.1) refl
-reset_keeps old new source why (inr g) = same_out old new g.1
+datagram_keeps : (old new : EngineState) (bytes : List ℕ) (why : Refused) → RefusesDatagram old bytes why new → OnlyOut old new
+datagram_keeps old new bytes why g = hearing_keeps (heard_of old.sessions bytes) old new why g
 
-stale_keeps : (old new : EngineState) (h : Header) (b : BodyText) (why : Refused) → StaleGives {X = Unit {0}} old h b (Err why) new → OnlyOut old new
-stale_keeps old new h AckBody why g = reset_keeps old new h.source why g
-stale_keeps old new h ResetBody why g = same_out old new g.1
-stale_keeps old new h (EagerBody t) why g = reset_keeps old new h.source why g
-
-judged_keeps : (j : Result Judgement judging.Refused) (old new : EngineState) (d : DatagramText) (why : Refused) → JudgedGives {X = Unit {0}} j old d (Err why) new → OnlyOut old new
-judged_keeps (Ok Current) old new d why g = body_keeps old new d.header d.body why g
-judged_keeps (Ok (Learn incarnation)) old new d why g = first_word_keeps old new d.header d.body why g
-judged_keeps (Err judgings.StaleTarget) old new d why g = stale_keeps old new d.header d.body why g
-judged_keeps (Err judgings.Limit) old new d why g = same_out old new g.1
-judged_keeps (Err judgings.OutOfMemory) old new d why g = same_out old new g.1
-judged_keeps (Err judgings.ForeignJob) old new d why g = same_out old new g.1
-judged_keeps (Err judgings.NotForMe) old new d why g = same_out old new g.1
-judged_keeps (Err judgings.StaleSource) old new d why g = same_out old new g.1
-
-text_keeps : (t : Result DatagramText reading.Refused) (old new : EngineState) (why : Refused) → TextGives {X = Unit {0}} old t (Err why) new → OnlyOut old new
-text_keeps (Err e) old new why g = same_out old new g.1
-text_keeps (Ok d) old new why g = judged_keeps (judgement (knowledge old) d.header) old new d why g
+-- the engine with this to hand out
+abbrev holding : EngineState → List (ℕ × List ℕ) → EngineState
+holding e out = record e { sessions = record e.sessions { out = out } }
 
 -- out of an engine that had nothing to hand out, a refusal hands out just what it emitted for it
-pub refused_gives : (old mid : EngineState) (bytes : List ℕ) (why : Refused) (out : List (ℕ × List ℕ)) → old.out ≡ [] → out ≡ mid.out →
-    RefusesDatagram old bytes why mid → RefusesDatagram old bytes why (record old { out = old.out ++ out })
+pub refused_gives : (old mid : EngineState) (bytes : List ℕ) (why : Refused) (out : List (ℕ × List ℕ)) → old.sessions.out ≡ [] → out ≡ mid.sessions.out →
+    RefusesDatagram old bytes why mid → RefusesDatagram old bytes why (with_out old out)
 refused_gives old mid bytes why out none all g =
-    let kept : mid ≡ record old { out = mid.out } = text_keeps (datagram_of bytes) old mid why g in
-    let added : old.out ++ out ≡ mid.out = ap (λ (x : List (ℕ × List ℕ)). x ++ out) none ∙ all in
-    subst (λ (e : EngineState). RefusesDatagram old bytes why e) (kept ∙ ap (λ (x : List (ℕ × List ℕ)). record old { out = x }) (sym added)) g
+    let kept : mid ≡ holding old mid.sessions.out = datagram_keeps old mid bytes why g in
+    let added : old.sessions.out ++ out ≡ mid.sessions.out = ap (λ (x : List (ℕ × List ℕ)). x ++ out) none ∙ all in
+    subst (λ (e : EngineState). RefusesDatagram old bytes why e) (kept ∙ ap (holding old) (sym added)) g
 
 -- once what it emitted is taken out, the engine is as it was
-pub refused_is_old : (old mid : EngineState) (bytes : List ℕ) (why : Refused) → old.out ≡ [] → RefusesDatagram old bytes why mid → record mid { out = [] } ≡ old
+pub refused_is_old : (old mid : EngineState) (bytes : List ℕ) (why : Refused) → old.sessions.out ≡ [] → RefusesDatagram old bytes why mid → without_out mid ≡ old
 refused_is_old old mid bytes why none g =
-    let kept : mid ≡ record old { out = mid.out } = text_keeps (datagram_of bytes) old mid why g in
-    ap (λ (e : EngineState). record e { out = [] }) kept ∙ ap (λ (out : List (ℕ × List ℕ)). record old { out = out }) (sym none)
+    ap without_out (datagram_keeps old mid bytes why g) ∙ ap (holding old) (sym none)
 
 -- and so it is once its answers are taken out too
 emptied_is_old : (old mid : EngineState) (bytes : List ℕ) (why : Refused) → IsClean old → RefusesDatagram old bytes why mid → emptied mid ≡ old
 emptied_is_old old mid bytes why clean g =
-    ap (λ (e : EngineState). record e { completion = None }) (refused_is_old old mid bytes why clean.out g)
-    ∙ ap (λ (c : Option Outcome). record old { completion = c }) (sym clean.completion)
+    ap without_completion (refused_is_old old mid bytes why clean.out g)
+    ∙ ap (λ (c : Option Outcome). record old { core = record old.core { completion = c } }) (sym clean.completion)
 
 -- ---- what it leaves of a world
 
@@ -115,13 +90,13 @@ datagram_followed : (old : List EngineState) (d : List (ℕ × List ℕ)) (h : L
     IsFollowed (length old) old d h → slice_get old rank ≡ Some e → old ≡ slice_set old rank next → slice_get d number ≡ Some (rank, bytes) → DatagramRuns e bytes (Err refusal) next →
     IsFollowed (length old) old (d ++ refusal.out) h
 datagram_followed old d h number rank bytes e next refusal f there others emitted ran =
-    let mid : EngineState = record e { out = e.out ++ refusal.out } in
+    let mid : EngineState = with_out e refusal.out in
     let clean : IsClean e = f.joined.clean rank e there in
     let engines_are : slice_set old rank (emptied mid) ≡ old =
     ap (slice_set old rank) (emptied_is_old e mid bytes refusal.refused clean ran.1 ∙ sym ran.0) ∙ sym others in
-    let out_is : refusal.out ≡ mid.out = ap (λ (x : List (ℕ × List ℕ)). x ++ refusal.out) (sym clean.out) in
+    let out_is : refusal.out ≡ mid.sessions.out = ap (λ (x : List (ℕ × List ℕ)). x ++ refusal.out) (sym clean.out) in
     subst (λ (x : List (ℕ × List ℕ)). IsFollowed (length old) old (d ++ x) h) (sym out_is)
-    (subst (λ (x : List EngineState). IsFollowed (length old) x (d ++ mid.out) h) engines_are
+    (subst (λ (x : List EngineState). IsFollowed (length old) x (d ++ mid.sessions.out) h) engines_are
     (refusals_follow (length old) rank number bytes old d h e mid refusal.refused f there emitted ran.1))
 
 -- the datagram under a number

@@ -5,15 +5,14 @@ use Rattle.std.proofs.lemmas.Grind.{flat_map-append}
 use Rattle.std.proofs.lemmas.List.{length-set}
 use Rattle.std.proofs.lemmas.Option.{same_Some}
 use Rattle.vocabulary.specs.declared.endpoint.Endpoint.{Endpoint}
-use Rattle.engine.specs.EngineState.{EngineState, opening}
+use Rattle.engine.specs.EngineState.{EngineState, emptied, opening}
 use Rattle.rank_core.specs.declared.call.Call.{Call}
 use Rattle.rank_core.specs.declared.call.Reply.{Reply}
 use Rattle.requests.specs.declared.outcome.Outcome.{Outcome}
 use Rattle.perfect_queues.specs.Events as machine
 use Rattle.proof_engine_view.specs.Seen.{told_call, told_completion}
-use Rattle.proof_link_truth.specs.Events.{emptied, opening_engines}
 use Rattle.proof_network_bridge.specs.Following.{LeavesFollowed, next_place}
-use Rattle.proof_network_bridge.specs.Joined.{IsFollowed}
+use Rattle.proof_network_bridge.specs.Joined.{IsFollowed, opening_engines}
 use Rattle.proof_network_bridge.proofs.Closed.{calls_follow, datagrams_follow, opening_follows, restarts_follow, ticks_follow}
 use Rattle.world.specs.WorldState.{IsWorld, StandsIn}
 use Rattle.world.specs.Headline.{IsSound, entry_seen, history_seen}
@@ -58,7 +57,7 @@ seen_more h e = flat_map-append entry_seen h (e ∷ []) ∙ ap (λ (x : List mac
 
 -- the parts of what followed, put together
 followed : (old new : List EngineState) (d : List (ℕ × List ℕ)) (h : List Entry) (rank : ℕ) (event : Event) (gave : Gave) (mid next : EngineState) (seen : List machine.Entry) →
-    LeavesFollowed (length old) old d rank mid (history_seen h ++ seen) → next ≡ emptied mid → new ≡ slice_set old rank next → gave.out ≡ mid.out → seen ≡ entry_seen (entry_of event gave) →
+    LeavesFollowed (length old) old d rank mid (history_seen h ++ seen) → next ≡ emptied mid → new ≡ slice_set old rank next → gave.out ≡ mid.sessions.out → seen ≡ entry_seen (entry_of event gave) →
     IsFollowed (length new) new (d ++ gave.out) (history_seen (h ++ entry_of event gave ∷ []))
 followed old new d h rank event gave mid next seen f state others out is =
     let engines_are : new ≡ slice_set old rank (emptied mid) = others ∙ ap (slice_set old rank) state in
@@ -67,8 +66,8 @@ followed old new d h rank event gave mid next seen f state others out is =
     seen_more h (entry_of event gave) ∙ ap (λ (x : List machine.Entry). history_seen h ++ x) (sym is) in
     subst (λ (x : List machine.Entry). IsFollowed (length new) new (d ++ gave.out) x) (sym history_is)
     (subst (λ (x : List (ℕ × List ℕ)). IsFollowed (length new) new (d ++ x) (history_seen h ++ seen)) (sym out)
-    (subst (λ (x : List EngineState). IsFollowed (length new) x (d ++ mid.out) (history_seen h ++ seen)) (sym engines_are)
-    (subst (λ (m : ℕ). IsFollowed m (slice_set old rank (emptied mid)) (d ++ mid.out) (history_seen h ++ seen)) (sym size_is) f)))
+    (subst (λ (x : List EngineState). IsFollowed (length new) x (d ++ mid.sessions.out) (history_seen h ++ seen)) (sym engines_are)
+    (subst (λ (m : ℕ). IsFollowed m (slice_set old rank (emptied mid)) (d ++ mid.sessions.out) (history_seen h ++ seen)) (sym size_is) f)))
 
 -- what an event that the engine of a rank took leaves, by what the history says of it
 abbrev Leaves : (new : List EngineState) (d : List (ℕ × List ℕ)) (h : List Entry) → Event → Gave → Type 0
@@ -81,10 +80,10 @@ record IsEngineOf (old new : List EngineState) (d : List (ℕ × List ℕ)) (h :
   pub others : new ≡ slice_set old rank next
 
 -- what is seen of an answer, at the endpoint that the engine was
-completion_at : (e : EngineState) (mid : EngineState) (gave : Gave) → gave.endpoint ≡ e.place.endpoint → gave.completion ≡ mid.completion →
-    told_completion e.place.endpoint mid.completion ≡ told_completion gave.endpoint gave.completion
+completion_at : (e : EngineState) (mid : EngineState) (gave : Gave) → gave.endpoint ≡ e.sessions.place.endpoint → gave.completion ≡ mid.core.completion →
+    told_completion e.sessions.place.endpoint mid.core.completion ≡ told_completion gave.endpoint gave.completion
 completion_at e mid gave endpoint completion =
-    ap (λ (o : Option Outcome). told_completion e.place.endpoint o) (sym completion) ∙ ap (λ (x : Endpoint). told_completion x gave.completion) (sym endpoint)
+    ap (λ (o : Option Outcome). told_completion e.sessions.place.endpoint o) (sym completion) ∙ ap (λ (x : Endpoint). told_completion x gave.completion) (sym endpoint)
 
 -- ---- a call
 
@@ -97,11 +96,11 @@ call_followed old new d h rank r call e next gave at ran = go gave.reply refl
     go (Some reply) is =
         let a = subst (λ (o : Option Reply). TakesCall e call o ran.mid) is ran.event in
         followed old new d h rank (events.Call r call) gave ran.mid next
-        (told_call e.place.endpoint call (Some reply) ++ told_completion e.place.endpoint ran.mid.completion)
+        (told_call e.sessions.place.endpoint call (Some reply) ++ told_completion e.sessions.place.endpoint ran.mid.core.completion)
         (calls_follow (length old) rank old d (history_seen h) e ran.mid call reply at.before at.there a.1 a.0 a.2)
         ran.state at.others ran.out
-        (ap (λ (o : Option Reply). told_call e.place.endpoint call o ++ told_completion e.place.endpoint ran.mid.completion) (sym is)
-        ∙ ap (λ (es : List machine.Entry). told_call e.place.endpoint call gave.reply ++ es) (completion_at e ran.mid gave ran.endpoint ran.completion)
+        (ap (λ (o : Option Reply). told_call e.sessions.place.endpoint call o ++ told_completion e.sessions.place.endpoint ran.mid.core.completion) (sym is)
+        ∙ ap (λ (es : List machine.Entry). told_call e.sessions.place.endpoint call gave.reply ++ es) (completion_at e ran.mid gave ran.endpoint ran.completion)
         ∙ ap (λ (x : Endpoint). told_call x call gave.reply ++ told_completion gave.endpoint gave.completion) (sym ran.endpoint))
 
 -- ---- a datagram
@@ -115,7 +114,7 @@ datagram_followed old new d h number rank bytes e next gave at emitted ran = go 
     go (Some reply) is = absurd (subst (λ (o : Option Reply). TakesBytes e bytes o ran.mid) is ran.event)
     go None is =
         followed old new d h rank (events.Deliver number) gave ran.mid next
-        (told_completion e.place.endpoint ran.mid.completion)
+        (told_completion e.sessions.place.endpoint ran.mid.core.completion)
         (datagrams_follow (length old) rank number bytes old d (history_seen h) e ran.mid at.before at.there emitted
         (subst (λ (o : Option Reply). TakesBytes e bytes o ran.mid) is ran.event))
         ran.state at.others ran.out (completion_at e ran.mid gave ran.endpoint ran.completion)
@@ -143,7 +142,7 @@ tick_followed old new d h rank r now e next gave at ran = go gave.reply refl
     go (Some reply) is = absurd (subst (λ (o : Option Reply). TakesTime e now o ran.mid) is ran.event)
     go None is =
         followed old new d h rank (events.Tick r now) gave ran.mid next
-        (told_completion e.place.endpoint ran.mid.completion)
+        (told_completion e.sessions.place.endpoint ran.mid.core.completion)
         (ticks_follow (length old) rank now old d (history_seen h) e ran.mid at.before at.there
         (subst (λ (o : Option Reply). TakesTime e now o ran.mid) is ran.event))
         ran.state at.others ran.out (completion_at e ran.mid gave ran.endpoint ran.completion)
@@ -153,10 +152,10 @@ tick_followed old new d h rank r now e next gave at ran = go gave.reply refl
 restart_followed : (old new : List EngineState) (d : List (ℕ × List ℕ)) (h : List Entry) (rank : ℕ) (e next : EngineState) (gave : Gave) →
     IsEngineOf old new d h rank e next → RestartRuns e (Ok gave) next → Leaves new d h (events.Restart rank) gave
 restart_followed old new d h rank e next gave at ran =
-    let after : EngineState = opening (next_place e.place) in
+    let after : EngineState = opening (next_place e.sessions.place) in
     let engines_are : new ≡ slice_set old rank after = at.others ∙ ap (slice_set old rank) ran.1 in
     let size_is : length new ≡ length old = ap length engines_are ∙ length-set old rank after in
-    let none : Gave = nothing_of e.place.endpoint in
+    let none : Gave = nothing_of e.sessions.place.endpoint in
     let done : IsFollowed (length old) (slice_set old rank after) d (history_seen h ++ machine.Restarted rank ∷ []) =
     restarts_follow (length old) rank old d (history_seen h) e at.before at.there (below_last (length old) old d (history_seen h) rank e at.before at.there ran.0)
     in

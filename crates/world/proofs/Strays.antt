@@ -1,5 +1,5 @@
 -- Why an engine of a world would refuse the bytes that the world refuses as stray ones.
-use Rattle.std.proofs.Common.{◌≡◌, ℕ, ◌<◌, Bool, true, false, List, length, Some, None, Result, refl, sym, ap, subst, ◌∙◌, arith}
+use Rattle.std.proofs.Common.{◌≡◌, ℕ, ◌<◌, Bool, true, false, List, length, Some, None, Result, refl, sym, ap, ap₂, subst, ◌∙◌, arith}
 use Rattle.std.specs.Prelude.{Ok, Err, ◌==◌, ◌&&◌, nat_le, slice_get, if◌then◌else◌}
 use Rattle.std.proofs.lemmas.Option.{same_Some, slice_get_within}
 use Rattle.std.proofs.lemmas.Bool.{le-leb, leb-true, lt-leb}
@@ -15,8 +15,15 @@ use Rattle.incarnation.specs.declared.refused.Refused as judging
 use Rattle.incarnation.specs.declared.refused.Refused.TheVariants as judgings
 use Rattle.incarnation.specs.Judging.{judgement}
 use Rattle.incarnation.specs.Knowing.{Knowledge}
-use Rattle.engine.specs.Datagrams.{JudgedGives, TextGives}
-use Rattle.engine.specs.EngineState.{EngineState, knowledge}
+use Rattle.sessions.specs.Heard.{heard_by, heard_in, heard_of, plainly}
+use Rattle.sessions.specs.Refusals as sessions_refusals
+use Rattle.sessions.specs.SessionsState.{SessionsState, knowledge}
+use Rattle.sessions.specs.declared.refused.Refused as sessions
+use Rattle.sessions.specs.declared.refused.Refused.TheVariants as sessions_refused
+use Rattle.rank_core.specs.CoreState.{CoreState}
+use Rattle.engine.specs.Refusals.{of_sessions}
+use Rattle.engine.specs.Datagrams.{HearingGives}
+use Rattle.engine.specs.EngineState.{EngineState}
 use Rattle.rank_core.specs.Refusals.{of_datagram}
 use Rattle.rank_core.specs.declared.refused.Refused as lower
 use Rattle.rank_core.specs.declared.refused.Refused.TheVariants as lowers
@@ -50,24 +57,42 @@ second_fails : (a b : Bool) → (a && b) ≡ false → a ≡ true → b ≡ fals
 second_fails true b fails holds = fails
 second_fails false b fails holds = absurd cc
 
+-- what is refused with no reset leaves an engine as it was
+refused_plainly : (e new : EngineState) (why : sessions.Refused) (is : Refused) (result : Result (Unit {0}) lower.Refused) → is ≡ Engine (of_sessions why) →
+    HearingGives (plainly why) e result new → (new ≡ e) × ((x : lower.Refused) × (result ≡ Err x) × (is ≡ Engine x))
+refused_plainly e new why is result same gives = (
+  ap₂ (λ (c : CoreState) (s : SessionsState). record { core = c; sessions = s }) gives.2 gives.3.1,
+  (of_sessions gives.0, gives.1, same ∙ ap (λ (x : sessions.Refused). Engine (of_sessions x)) (sym gives.3.0)),
+)
+
+-- bytes that are no datagram are refused alike
+same_unread : (e : reading.Refused) → of_datagram e ≡ of_sessions (sessions_refusals.of_datagram e)
+same_unread readings.OutOfMemory = refl
+same_unread readings.Short = refl
+same_unread readings.Magic = refl
+same_unread readings.Version = refl
+same_unread readings.Kind = refl
+same_unread readings.Length = refl
+same_unread readings.BadFrame = refl
+
 -- bytes that don't carry the world's job number are refused by an engine of that job, as the world refuses them
-pub stray_refused : (e : EngineState) (bytes : List ℕ) → e.place.job ≡ 1 → carries_job bytes ≡ false → EngineRefuses e bytes (stray_fault bytes)
+pub stray_refused : (e : EngineState) (bytes : List ℕ) → e.sessions.place.job ≡ 1 → carries_job bytes ≡ false → EngineRefuses e bytes (stray_fault bytes)
+unfolding heard_of
 stray_refused e bytes job other result new gives =
     subst (λ (why : Refused). (new ≡ e) × ((x : lower.Refused) × (result ≡ Err x) × (why ≡ Engine x))) (sym fault_is) (go (datagram_of bytes) refl gives)
   where
     fault_is : stray_fault bytes ≡ fault_of_text (datagram_of bytes)
     fault_is = ap (λ (b : Bool). if b then CarriesJob else fault_of_text (datagram_of bytes)) other
 
-    go : (t : Result DatagramText reading.Refused) → datagram_of bytes ≡ t → TextGives {X = Unit {0}} e t result new →
+    go : (t : Result DatagramText reading.Refused) → datagram_of bytes ≡ t → HearingGives (heard_in e.sessions t) e result new →
         (new ≡ e) × ((x : lower.Refused) × (result ≡ Err x) × (fault_of_text t ≡ Engine x))
-    go (Err x) is g = (g.1, (of_datagram x, g.0, refl))
+    go (Err x) is g = refused_plainly e new (sessions_refusals.of_datagram x) (Engine (of_datagram x)) result (ap Engine (same_unread x)) g
     go (Ok d) is g =
         let read = header_read bytes d is in
         let unlike : (number_at 16 8 bytes == 1) ≡ false = second_fails _ _ other read.0 in
-        let apart : (d.header.job == e.place.job) ≡ false = ap (λ (j : ℕ). d.header.job == j) job ∙ (ap (λ (j : ℕ). j == 1) read.1 ∙ unlike) in
-        let given : JudgedGives {X = Unit {0}} (Err judgings.ForeignJob) e d result new =
-        subst (λ (j : Result Judgement judging.Refused). JudgedGives {X = Unit {0}} j e d result new) (foreign (knowledge e) d.header apart) g in
-        (given.1, (lowers.ForeignJob, given.0, refl))
+        let apart : (d.header.job == e.sessions.place.job) ≡ false = ap (λ (j : ℕ). d.header.job == j) job ∙ (ap (λ (j : ℕ). j == 1) read.1 ∙ unlike) in
+        refused_plainly e new sessions_refused.ForeignJob (Engine lowers.ForeignJob) result refl
+        (subst (λ (j : Result Judgement judging.Refused). HearingGives (heard_by j e.sessions d) e result new) (foreign (knowledge e.sessions) d.header apart) g)
 
 -- the fault of stray bytes at a rank that is there
 stray_fault_there : (size : ℕ) (d : List (ℕ × List ℕ)) (rank : ℕ) (bytes : List ℕ) → rank < size → event_fault size d (events.Stray rank bytes) ≡ Some (stray_fault bytes)

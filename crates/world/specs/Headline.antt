@@ -3,7 +3,7 @@
 -- Its words, and where they stand: the machine's `IsRun`, `after_run`, `seen` (perfect_queues, Runs), `fault` (Refusals) and
 -- `IsAtRest` (Quiet); what is seen of a call, its reply and a completion, `call_seen`, `call_meant`, `told_call` and
 -- `told_completion` (proof_engine_view, Seen); why a call is refused or has no fault, `IsReason` and `IsFaultless`
--- (proof_engine_steps, Refused); when a world is quiet, `AreQuiet` (proof_link_truth, Events); the links and what sessions and
+-- (proof_engine_steps, Refused); when a world is quiet, `AreQuiet` (proof_network_bridge, Following); the links and what sessions and
 -- datagrams tell of them, `Links` (Sessions) and `AreTrue` (Truth, with Told and Witness). That a world is sound, `IsSound`
 -- below, is what its proofs carry from event to event
 use Rattle.std.specs.Prelude.{◌≡◌, ℕ, ◌≤◌, false, List, [], ◌∷◌, ◌++◌, length, Option, Some, flat_map, ◌==◌, slice_get, slice_index}
@@ -11,7 +11,8 @@ use Rattle.vocabulary.specs.declared.endpoint.Endpoint.{Endpoint}
 use Rattle.engine.specs.EngineState.{EngineState}
 use Rattle.sessions.specs.Peers.{peer_at}
 use Rattle.reliable_link.specs.SenderState.{SenderState, next_number}
-use Rattle.engine.specs.Calls.{CallGives, IsTaken}
+use Rattle.engine.specs.Calls.{CallGives}
+use Rattle.rank_core.specs.Calls.{IsTaken}
 use Rattle.rank_core.specs.declared.call.Call.{Call}
 use Rattle.rank_core.specs.declared.call.Reply.{Reply}
 use Rattle.rank_core.specs.declared.call.Reply.TheVariants as replies
@@ -23,10 +24,10 @@ use Rattle.perfect_queues.specs.Runs.{IsRun, after_run, seen}
 use Rattle.perfect_queues.specs.State.{opening}
 use Rattle.proof_engine_steps.specs.Refused.{IsFaultless, IsReason}
 use Rattle.proof_engine_view.specs.Seen.{call_meant, call_seen, told_call, told_completion}
-use Rattle.proof_link_truth.specs.Events.{AreQuiet}
 use Rattle.proof_link_truth.specs.Sessions.{Links}
 use Rattle.proof_link_truth.specs.Truth.{AreTrue}
-use Rattle.proof_network_bridge.specs.Joined.{IsFollowed}
+use Rattle.proof_network_bridge.specs.Following.{AreQuiet}
+use Rattle.proof_network_bridge.specs.Joined.{IsFollowed, sessions_in}
 use Rattle.world.specs.WorldState.{WorldState, IsWorld}
 use Rattle.world.specs.declared.event.Entry.{Entry}
 use Rattle.world.specs.declared.event.Event.{Event}
@@ -58,22 +59,22 @@ pub record IsRunOfPerfectQueues (w : WorldState) : Type 0 where
   pub tells : seen opening run_events ≡ history_seen w.history
   pub now :
       (r : ℕ) (e : EngineState) → slice_get w.engines r ≡ Some e →
-      (after_run opening run_events).current r ≡ e.place.endpoint.incarnation
+      (after_run opening run_events).current r ≡ e.sessions.place.endpoint.incarnation
   pub knows :
       (r : ℕ) (e : EngineState) → slice_get w.engines r ≡ Some e → (x : ℕ) →
-      ((after_run opening run_events).at e.place.endpoint).known x ≡ slice_index e.known x
+      ((after_run opening run_events).at e.sessions.place.endpoint).known x ≡ slice_index e.sessions.known x
   -- a call that the engine refuses has the machine's first fault, by its number; or the machine finds none, and the number is
   -- 13 or 14; or the engine is narrower for now, whatever the machine finds (`IsReason`). A request of another engine is there
   -- one that was never given (`call_meant`)
   pub refuses :
       (r : ℕ) (e mid : EngineState) (call back : Call) (why : Refused) → slice_get w.engines r ≡ Some e →
       CallGives e call (replies.Refused why back) mid →
-      IsReason (fault (length w.engines) ((after_run opening run_events).at e.place.endpoint) (call_meant e call)) call why
+      IsReason (fault (length w.engines) ((after_run opening run_events).at e.sessions.place.endpoint) (call_meant e.core call)) call why
   -- a call that the engine takes names no request of another engine, and the machine finds no fault with it
   pub takes :
       (r : ℕ) (e mid : EngineState) (call : Call) (reply : Reply) → slice_get w.engines r ≡ Some e → IsTaken reply →
       CallGives e call reply mid →
-      IsFaultless (fault (length w.engines) ((after_run opening run_events).at e.place.endpoint) (call_seen call)) e call
+      IsFaultless (fault (length w.engines) ((after_run opening run_events).at e.sessions.place.endpoint) (call_seen call)) e.core call
   pub quiet : AreQuiet w.engines → IsAtRest (after_run opening run_events)
 
 -- THE LAW OF A SESSION, for all sessions that ever were. For each two endpoints there are the frames that the one's side
@@ -84,7 +85,7 @@ pub record IsRunOfPerfectQueues (w : WorldState) : Type 0 where
 pub record SessionsAreTrue (w : WorldState) : Type 0 where
   pub links : Links
   pub current : ℕ → ℕ
-  pub truth : AreTrue (length w.engines) w.engines w.datagrams links current
+  pub truth : AreTrue (length w.engines) (sessions_in w.engines) w.datagrams links current
 
 -- the same in numbers, of one direction: every frame below the lowest unacknowledged number was handed up, and no more than
 -- were accepted
@@ -96,8 +97,9 @@ pub record IsInOrder (sender : SenderState) (next : ℕ) : Type 0 where
 abbrev pub SessionsAreInOrder : List EngineState → Type 0
 SessionsAreInOrder engines =
     (r x : ℕ) (e d : EngineState) → slice_get engines r ≡ Some e → slice_get engines x ≡ Some d → (x == r) ≡ false →
-    slice_index e.known x ≡ d.place.endpoint.incarnation → slice_index d.known r ≡ e.place.endpoint.incarnation →
-    IsInOrder (peer_at e.peers x).sender (peer_at d.peers r).receiver
+    slice_index e.sessions.known x ≡ d.sessions.place.endpoint.incarnation →
+    slice_index d.sessions.known r ≡ e.sessions.place.endpoint.incarnation →
+    IsInOrder (peer_at e.sessions.peers x).sender (peer_at d.sessions.peers r).receiver
 
 -- what is true of every world: its engines know how many they are, and it follows the pure network
 pub record IsSound (engines : List EngineState) (datagrams : List (ℕ × List ℕ)) (history : List Entry) : Type 0 where

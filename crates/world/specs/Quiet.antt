@@ -7,10 +7,10 @@ use Rattle.incarnation.specs.Judging.{is_other}
 -- e's session with d holds no frame, if they are different ranks of one job that know each other as they are now
 abbrev pub IsQuietTowards : EngineState → EngineState → Type 0
 IsQuietTowards e d =
-    is_other e.place d.place.endpoint.rank ≡ true → is_other d.place e.place.endpoint.rank ≡ true →
-    slice_index e.known d.place.endpoint.rank ≡ d.place.endpoint.incarnation →
-    slice_index d.known e.place.endpoint.rank ≡ e.place.endpoint.incarnation →
-    IsIdlePeer (peer_at e.peers d.place.endpoint.rank)
+    is_other e.sessions.place d.sessions.place.endpoint.rank ≡ true → is_other d.sessions.place e.sessions.place.endpoint.rank ≡ true →
+    slice_index e.sessions.known d.sessions.place.endpoint.rank ≡ d.sessions.place.endpoint.incarnation →
+    slice_index d.sessions.known e.sessions.place.endpoint.rank ≡ e.sessions.place.endpoint.incarnation →
+    IsIdlePeer (peer_at e.sessions.peers d.sessions.place.endpoint.rank)
 
 -- each is quiet towards each
 abbrev pub AreQuietTowards : List EngineState → Type 0

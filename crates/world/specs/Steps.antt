@@ -3,9 +3,9 @@ use Rattle.std.specs.Prelude.{◌≡◌, ℕ, ◌⊎◌, false, List, [], ◌∷
 use Rattle.vocabulary.specs.declared.endpoint.Endpoint.{Endpoint}
 use Rattle.vocabulary.specs.Endpoints.{last_incarnation}
 use Rattle.incarnation.specs.declared.place.Place.{Place}
-use Rattle.engine.specs.EngineState.{EngineState, opening}
-use Rattle.engine.specs.Calls.{CallGives, IsTaken}
-use Rattle.rank_core.specs.Calls.{IsWithin}
+use Rattle.engine.specs.EngineState.{EngineState, emptied, opening}
+use Rattle.engine.specs.Calls.{CallGives}
+use Rattle.rank_core.specs.Calls.{IsTaken, IsWithin}
 use Rattle.rank_core.specs.Refusals.{IsRefusal}
 use Rattle.rank_core.specs.declared.refused.Refused as lower
 use Rattle.rank_core.specs.declared.refused.Refused.TheVariants as lowers
@@ -21,8 +21,7 @@ use Rattle.world.specs.declared.event.FailedRun.{FailedRun}
 use Rattle.world.specs.declared.event.Stepped.{Stepped}
 use Rattle.world.specs.declared.refused.Refused.{Refused}
 use Rattle.world.specs.declared.refused.Refused.TheVariants as refusals
-use Rattle.proof_link_truth.specs.Events.{RefusesDatagram, RefusesTick, TakesDatagram, TakesTick, emptied}
-use Rattle.proof_network_bridge.specs.Following.{next_place}
+use Rattle.proof_network_bridge.specs.Following.{RefusesDatagram, RefusesTick, TakesDatagram, TakesTick, next_place}
 use Rattle.world.specs.Faults.{event_fault, target_of}
 use Rattle.world.specs.Headline.{IsRunOfPerfectQueues}
 use Rattle.world.specs.Strays.{EngineRefuses, carries_job}
@@ -52,9 +51,9 @@ pub record Ran (old : EngineState) (Takes : Option Reply → EngineState → Typ
   pub mid : EngineState
   pub event : Takes gave.reply mid
   pub state : new ≡ emptied mid
-  pub endpoint : gave.endpoint ≡ old.place.endpoint
-  pub out : gave.out ≡ mid.out
-  pub completion : gave.completion ≡ mid.completion
+  pub endpoint : gave.endpoint ≡ old.sessions.place.endpoint
+  pub out : gave.out ≡ mid.sessions.out
+  pub completion : gave.completion ≡ mid.core.completion
 
 -- a call that is taken has a reply
 abbrev pub TakesCall : EngineState → Call → Option Reply → EngineState → Type 0
@@ -77,11 +76,15 @@ CallRuns old call (Ok gave) new = Ran old (TakesCall old call) gave new
 CallRuns old call (Err e) new =
     (new ≡ old) × (e.out ≡ []) × ((back : Call) × CallGives old call (replies.Refused e.refused back) old)
 
+-- the engine once this was emitted, and nothing else changed
+abbrev pub with_out : EngineState → List (ℕ × List ℕ) → EngineState
+with_out e out = record e { sessions = record e.sessions { out = e.sessions.out ++ out } }
+
 -- a datagram is taken in; or it is refused, and just what the engine emitted for it goes out: nothing, or one reset
 abbrev pub DatagramRuns : EngineState → List ℕ → Result Gave Refusal → EngineState → Type 0
 DatagramRuns old bytes (Ok gave) new = Ran old (TakesBytes old bytes) gave new
 DatagramRuns old bytes (Err e) new =
-    (new ≡ old) × RefusesDatagram old bytes e.refused (record old { out = old.out ++ e.out })
+    (new ≡ old) × RefusesDatagram old bytes e.refused (with_out old e.out)
 
 -- a tick is taken, or refused with nothing changed
 abbrev pub TickRuns : EngineState → ℕ → Result Gave Refusal → EngineState → Type 0
@@ -99,8 +102,8 @@ nothing_of e = record { endpoint = e; out = []; reply = None; completion = None 
 -- the engine gives way to a new one at the next incarnation; or there is none, or memory for it was wanting
 abbrev pub RestartRuns : EngineState → Result Gave Refusal → EngineState → Type 0
 RestartRuns old (Ok gave) new =
-    (restart_fault old.place ≡ None) × (new ≡ opening (next_place old.place)) × (gave ≡ nothing_of old.place.endpoint)
-RestartRuns old (Err e) new = (new ≡ old) × (e.out ≡ []) × IsRefusal (restart_fault old.place) e.refused
+    (restart_fault old.sessions.place ≡ None) × (new ≡ opening (next_place old.sessions.place)) × (gave ≡ nothing_of old.sessions.place.endpoint)
+RestartRuns old (Err e) new = (new ≡ old) × (e.out ≡ []) × IsRefusal (restart_fault old.sessions.place) e.refused
 
 -- a datagram that was emitted comes to the engine; nothing does where there is none
 abbrev pub DeliveryRuns : Option (ℕ × List ℕ) → EngineState → Result Gave Refusal → EngineState → Type 0

@@ -1,8 +1,7 @@
 -- A world: its engines, every datagram that they emitted, and what happened.
 use Rattle.std.specs.Prelude.{◌≡◌, ℕ, ◌*◌, ◌+◌, ◌<◌, ◌≤◌, Bool, ◌||◌, ◌==◌, nat_lt, List, [], length, All, Some, slice_get}
 use Rattle.engine.specs.EngineState.{EngineState}
-use Rattle.proof_link_truth.specs.Events.{opening_engines}
-use Rattle.proof_network_bridge.specs.Joined.{IsClean}
+use Rattle.proof_network_bridge.specs.Joined.{IsClean, opening_engines}
 use Rattle.world.specs.declared.event.Entry.{Entry}
 
 -- a world
@@ -30,20 +29,20 @@ opening_world n = record { engines = opening_engines n 0 n; datagrams = []; hist
 
 -- the engine is one of n, and everything was taken out of it
 pub record StandsIn (n : ℕ) (e : EngineState) : Type 0 where
-  pub size : e.place.size ≡ n
+  pub size : e.sessions.place.size ≡ n
   pub clean : IsClean e
 
 -- the engine is one of at most 256 ranks, and everything was taken out of it
 pub record IsReady (e : EngineState) : Type 0 where
-  pub there : e.place.endpoint.rank < e.place.size
-  pub few : e.place.size ≤ 256
+  pub there : e.sessions.place.endpoint.rank < e.sessions.place.size
+  pub few : e.sessions.place.size ≤ 256
   pub clean : IsClean e
 
 -- the engine's place is that of rank r among n, in the world's job
 pub record IsPlaced (n r : ℕ) (e : EngineState) : Type 0 where
-  pub size : e.place.size ≡ n
-  pub rank : e.place.endpoint.rank ≡ r
-  pub job : e.place.job ≡ 1
+  pub size : e.sessions.place.size ≡ n
+  pub rank : e.sessions.place.endpoint.rank ≡ r
+  pub job : e.sessions.place.job ≡ 1
 
 -- each engine stands at its own rank
 abbrev pub ArePlaced : List EngineState → Type 0

@@ -1,7 +1,7 @@
 //! What one event does to one engine.
 
 ghost use Rattle.std.specs.Prelude.{◌≡◌, ◌≤◌, ◌+◌, ◌*◌, [], length, is_some, IfOk, IfErr, IsTrue};
-ghost use Rattle.proof_link_truth.specs.Events.{emptied};
+ghost use Rattle.engine.specs.EngineState.{emptied};
 ghost use Rattle.world.specs.Faults.{target_of};
 ghost use Rattle.world.specs.WorldState.{IsReady};
 ghost use Rattle.world.specs.Steps.{CallRuns, DatagramRuns, TickRuns, RestartRuns, EventRuns, emitted};
@@ -50,10 +50,10 @@ fn plain(alloc: Global, refused: engine::Refused) -> Rejected
 
 /// Takes out of an engine what it gave.
 fn take_given(engine: &mut Engine, reply: Option<Reply>) -> Given
-    ensures endpoint { result.endpoint ≡ engine.old.place.endpoint }
-    ensures out { result.out.items ≡ engine.old.out }
+    ensures endpoint { result.endpoint ≡ engine.old.sessions.place.endpoint }
+    ensures out { result.out.items ≡ engine.old.sessions.out }
     ensures reply { result.reply ≡ reply }
-    ensures completion { result.completion ≡ engine.old.completion }
+    ensures completion { result.completion ≡ engine.old.core.completion }
     ensures state { engine.new ≡ emptied engine.old }
 {
     let endpoint = engine.place().endpoint;
@@ -71,9 +71,9 @@ fn take_given(engine: &mut Engine, reply: Option<Reply>) -> Given
 fn call(alloc: Global, engine: &mut Engine, call: Call) -> Result<Given, Rejected>
     requires { IsReady engine.old }
     ensures exact { CallRuns engine.old call (gave_of result) engine.new }
-    ensures few { length (emitted (gave_of result)) ≤ 64 * engine.old.place.size }
+    ensures few { length (emitted (gave_of result)) ≤ 64 * engine.old.sessions.place.size }
     ensures ready { IsReady engine.new }
-    ensures size { engine.new.place.size ≡ engine.old.place.size }
+    ensures size { engine.new.sessions.place.size ≡ engine.old.sessions.place.size }
 {
     match engine.call(call) {
         Reply::Refused(refused, _call) => Err(plain(alloc, refused)),
@@ -87,9 +87,9 @@ fn call(alloc: Global, engine: &mut Engine, call: Call) -> Result<Given, Rejecte
 fn deliver(engine: &mut Engine, bytes: &[u8]) -> Result<Given, Rejected>
     requires { IsReady engine.old }
     ensures exact { DatagramRuns engine.old bytes.now (gave_of result) engine.new }
-    ensures few { length (emitted (gave_of result)) ≤ 64 * engine.old.place.size }
+    ensures few { length (emitted (gave_of result)) ≤ 64 * engine.old.sessions.place.size }
     ensures ready { IsReady engine.new }
-    ensures size { engine.new.place.size ≡ engine.old.place.size }
+    ensures size { engine.new.sessions.place.size ≡ engine.old.sessions.place.size }
 {
     match engine.on_datagram(bytes) {
         Ok(()) => Ok(take_given(engine, None)),
@@ -104,9 +104,9 @@ fn deliver(engine: &mut Engine, bytes: &[u8]) -> Result<Given, Rejected>
 fn tick(alloc: Global, engine: &mut Engine, now: u64) -> Result<Given, Rejected>
     requires { IsReady engine.old }
     ensures exact { TickRuns engine.old now (gave_of result) engine.new }
-    ensures few { length (emitted (gave_of result)) ≤ 64 * engine.old.place.size }
+    ensures few { length (emitted (gave_of result)) ≤ 64 * engine.old.sessions.place.size }
     ensures ready { IsReady engine.new }
-    ensures size { engine.new.place.size ≡ engine.old.place.size }
+    ensures size { engine.new.sessions.place.size ≡ engine.old.sessions.place.size }
 {
     match engine.tick(now) {
         Ok(()) => Ok(take_given(engine, None)),
@@ -118,9 +118,9 @@ fn tick(alloc: Global, engine: &mut Engine, now: u64) -> Result<Given, Rejected>
 fn restart(alloc: Global, engine: &mut Engine) -> Result<Given, Rejected>
     requires { IsReady engine.old }
     ensures exact { RestartRuns engine.old (gave_of result) engine.new }
-    ensures few { length (emitted (gave_of result)) ≤ 64 * engine.old.place.size }
+    ensures few { length (emitted (gave_of result)) ≤ 64 * engine.old.sessions.place.size }
     ensures ready { IsReady engine.new }
-    ensures size { engine.new.place.size ≡ engine.old.place.size }
+    ensures size { engine.new.sessions.place.size ≡ engine.old.sessions.place.size }
 {
     let former = engine.place();
     let Ok(incarnation) = next_incarnation(former.endpoint.incarnation) else {
@@ -158,9 +158,9 @@ pub fn happen(
     requires ready { IsReady engine.old }
     requires target { IsTrue (is_some (target_of datagrams.now event)) }
     ensures exact { EventRuns datagrams.now event engine.old (gave_of result) engine.new }
-    ensures few { length (emitted (gave_of result)) ≤ 64 * engine.old.place.size }
+    ensures few { length (emitted (gave_of result)) ≤ 64 * engine.old.sessions.place.size }
     ensures ready { IsReady engine.new }
-    ensures size { engine.new.place.size ≡ engine.old.place.size }
+    ensures size { engine.new.sessions.place.size ≡ engine.old.sessions.place.size }
 {
     match event {
         Event::Call(_, asked) => call(alloc, engine, asked),

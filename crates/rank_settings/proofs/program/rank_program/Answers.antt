@@ -1,7 +1,6 @@
-use Rattle.std.proofs.Common.{rules, ◌≡◌, ◌∙◌, ap, ap₂, codes, true, false, refl}
+use Rattle.std.proofs.Common.{rules, ◌≡◌, ◌∙◌, ap, ap₂, codes, true}
 use Rattle.std.proofs.lemmas.Result.{IfOk-weaker}
-use Rattle.clap.specs.Words.{App, Rule, app_of, new_app, new_rule, rule_of, with_rule}
-use Rattle.rank_settings.specs.Program.{option_rule}
+use Rattle.clap.specs.Words.{App, Rule, new_rule, rule_of, with_rule}
 use Rattle.rank_settings.proofs.program.rank_program.Goals as goal
 
 next : (a b c : App) (r : Rule) → b ≡ with_rule a r → a ≡ c → b ≡ with_rule c r

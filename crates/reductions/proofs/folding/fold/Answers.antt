@@ -2,9 +2,10 @@ use Rattle.std.proofs.Common.{◌≡◌, ◌<◌, ◌+◌, ℕ, List, length, ge
 use Rattle.std.proofs.lemmas.List.Sums.{fold_more}
 use Rattle.std.proofs.lemmas.List.Elements.{All-get_or}
 use Rattle.datatypes.specs.Contents.{Contents}
-use Rattle.reductions.specs.Folds.{combined_values, folded_values, IsLike}
+use Rattle.datatypes.specs.Combinations.{combined_values, IsLike}
+use Rattle.reductions.specs.Folds.{folded_values}
 use Rattle.datatypes.proofs.BufferSteps.{contents_of}
-use Rattle.reductions.proofs.FoldLaws.{length-combined_values}
+use Rattle.datatypes.proofs.CombinationLaws.{length-combined_values}
 use Rattle.reductions.proofs.folding.fold.Goals as goal
 
 pub loop-next-preserved : goal.loop-next-preserved

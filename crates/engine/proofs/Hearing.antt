@@ -1,0 +1,200 @@
+-- What is heard in a datagram: at which incarnation its source is known then, and what a refusal leaves.
+use Rattle.std.proofs.Common.{◌≡◌, ◌⊎◌, ◌<◌, ◌++◌, ℕ, List, length, max, Option, Some, None, Result, Ok, Err, Bool, true, false, refl, sym, ap, subst, ◌∙◌, arith, append-nil, inl, inr}
+use Rattle.std.proofs.lemmas.Grind.{common_steps}
+use Rattle.std.proofs.lemmas.List.{get_or-set_same}
+use Rattle.std.specs.Prelude.{OnOk, slice_index}
+use Rattle.vocabulary.specs.declared.endpoint.Endpoint.{Endpoint}
+use Rattle.datagram.specs.declared.datagram.Header.{Header}
+use Rattle.datagram.specs.declared.refused.Refused as reading
+use Rattle.datagram.specs.Spelling.{BodyText, EagerBody, AckBody, ResetBody, DatagramText}
+use Rattle.datagram.specs.Reading.{datagram_of}
+use Rattle.incarnation.specs.declared.judgement.Judgement.{Judgement}
+use Rattle.incarnation.specs.declared.judgement.Judgement.TheVariants.{Current, Learn}
+use Rattle.incarnation.specs.declared.refused.Refused as judging
+use Rattle.incarnation.specs.declared.refused.Refused.TheVariants as judgings
+use Rattle.incarnation.specs.Judging.{judgement}
+use Rattle.rank_core.specs.CoreState.{CoreState}
+use Rattle.rank_core.specs.declared.refused.Refused.{Refused}
+use Rattle.rank_core.specs.declared.refused.Refused.TheVariants as refusals
+use Rattle.sessions.specs.declared.refused.Refused as lower
+use Rattle.sessions.specs.declared.refused.Refused.TheVariants as lowers
+use Rattle.sessions.specs.declared.heard.Unheard.{Unheard}
+use Rattle.sessions.specs.Peers.{peer_at}
+use Rattle.sessions.specs.SessionsState.{SessionsState, knowledge}
+use Rattle.sessions.specs.Heard.{WordText, Acknowledges, Repeats, Hands, Nothing, HeardText, heard_by, heard_in, heard_of, said, session_met, stale, word_of}
+use Rattle.sessions.specs.Events.{TurnedAway, taught_known}
+use Rattle.engine.specs.EngineState.{EngineState}
+use Rattle.engine.specs.Refusals.{of_sessions}
+use Rattle.engine.specs.Datagrams.{DatagramGives, HeardGives, HearingGives, RefusedDatagramLeaves, SourceIsKnown, TurnedAwayGives, says_nothing}
+use Rattle.engine.proofs.Calling.{both, joined}
+
+-- ---- what says nothing new
+
+nothing_at : (e : EngineState) (source : Endpoint) (lesson : Bool) (word : WordText) → says_nothing lesson word ≡ true →
+    HeardGives e (record { source = source; lesson = lesson; word = word }) (Ok tt) e
+nothing_at e source true word is = absurd cc
+nothing_at e source false (Acknowledges n) is = absurd cc
+nothing_at e source false Repeats is = absurd cc
+nothing_at e source false (Hands b) is = absurd cc
+nothing_at e source false Nothing is =
+    (refl, ap (λ (out : List (ℕ × List ℕ)). record e { sessions = record e.sessions { out = out } }) (sym (append-nil e.sessions.out)))
+
+-- it is taken in, and nothing changes
+pub nothing_heard : (e : EngineState) (h : HeardText) → says_nothing h.lesson h.word ≡ true → HeardGives e h (Ok tt) e
+nothing_heard e h is = nothing_at e h.source h.lesson h.word is
+
+-- ---- at which incarnation the source is known then
+
+-- the source is where it is known
+is_current : (s : SessionsState) (h : Header) → judgement (knowledge s) h ≡ Ok Current → slice_index s.known h.source.rank ≡ h.source.incarnation
+unfolding judgement
+is_current s h current = grind (arith, common_steps, current)
+
+-- the source is above where it is known
+record IsLater (s : SessionsState) (h : Header) : Type 0 where
+  there : h.source.rank < s.place.size
+  above : slice_index s.known h.source.rank < h.source.incarnation
+
+is_later : (s : SessionsState) (h : Header) (i : ℕ) → judgement (knowledge s) h ≡ Ok (Learn i) → IsLater s h
+unfolding judgement
+is_later s h i learn = record { there = grind (arith, common_steps, learn); above = grind (arith, common_steps, learn) }
+
+-- once the lesson is learnt, the source is known at its incarnation
+abbrev Knows : Result HeardText Unheard → SessionsState → Endpoint → Type 0
+Knows (Ok h) s source = slice_index (taught_known h.lesson s.known h.source) source.rank ≡ source.incarnation
+Knows (Err u) s source = Unit {0}
+
+said_knows : (w : Result WordText lower.Refused) (s : SessionsState) (source : Endpoint) (lesson : Bool) →
+    slice_index (taught_known lesson s.known source) source.rank ≡ source.incarnation → Knows (said source lesson w) s source
+said_knows (Ok w) s source lesson is = is
+said_knows (Err e) s source lesson is = tt
+
+-- what is above was learnt
+learnt : (known : List ℕ) (source : Endpoint) → source.rank < length known → slice_index known source.rank < source.incarnation →
+    slice_index (taught_known true known source) source.rank ≡ source.incarnation
+learnt known source there above =
+    get_or-set_same known source.rank (max (slice_index known source.rank) source.incarnation) 0 there ∙ omega (arith, above)
+
+stale_knows : (body : BodyText) (s : SessionsState) (source : Endpoint) → Knows (stale source body) s source
+stale_knows AckBody s source = tt
+stale_knows (EagerBody t) s source = tt
+stale_knows ResetBody s source = tt
+
+judged_knows : (j : Result Judgement judging.Refused) (s : SessionsState) (d : DatagramText) → length s.known ≡ s.place.size →
+    judgement (knowledge s) d.header ≡ j → Knows (heard_by j s d) s d.header.source
+judged_knows (Ok Current) s d each is =
+    said_knows (word_of (session_met false (peer_at s.peers d.header.source.rank)) d.header.sequence d.body) s d.header.source false (is_current s d.header is)
+judged_knows (Ok (Learn i)) s d each is =
+    let later : IsLater s d.header = is_later s d.header i is in
+    said_knows (word_of (session_met true (peer_at s.peers d.header.source.rank)) d.header.sequence d.body) s d.header.source true
+    (learnt s.known d.header.source (omega (arith, each, later.there)) later.above)
+judged_knows (Err judgings.StaleTarget) s d each is = stale_knows d.body s d.header.source
+judged_knows (Err judgings.Limit) s d each is = tt
+judged_knows (Err judgings.OutOfMemory) s d each is = tt
+judged_knows (Err judgings.ForeignJob) s d each is = tt
+judged_knows (Err judgings.NotForMe) s d each is = tt
+judged_knows (Err judgings.StaleSource) s d each is = tt
+
+-- the source of what was taken in is known at the incarnation in its header
+pub heard_is_known : (old new : EngineState) (bytes : List ℕ) (h : HeardText) (result : Result (Unit {0}) Refused) →
+    length old.sessions.known ≡ old.sessions.place.size → heard_of old.sessions bytes ≡ Ok h → HeardGives old h result new →
+    OnOk result (SourceIsKnown new bytes)
+unfolding heard_of
+heard_is_known old new bytes h (Err e) each heard gives = tt
+heard_is_known old new bytes h (Ok x) each heard gives = λ d is.
+    let by : heard_by (judgement (knowledge old.sessions) d.header) old.sessions d ≡ Ok h = sym (ap (heard_in old.sessions) is) ∙ heard in
+    ap (λ (e : EngineState). slice_index e.sessions.known d.header.source.rank) gives.1
+    ∙ subst (λ (r : Result HeardText Unheard). Knows r old.sessions d.header.source) by
+    (judged_knows (judgement (knowledge old.sessions) d.header) old.sessions d each refl)
+
+-- ---- what a refusal leaves
+
+-- it changes nothing
+left_as_it_was : (r : Refused) (old new : EngineState) → new ≡ old → RefusedDatagramLeaves (Err r) old new
+left_as_it_was refusals.Count old new is = is
+left_as_it_was refusals.Tag old new is = is
+left_as_it_was refusals.Rank old new is = is
+left_as_it_was refusals.Request old new is = is
+left_as_it_was refusals.Limit old new is = is
+left_as_it_was refusals.OutOfMemory old new is = is
+left_as_it_was refusals.Short old new is = is
+left_as_it_was refusals.Magic old new is = is
+left_as_it_was refusals.Version old new is = is
+left_as_it_was refusals.Kind old new is = is
+left_as_it_was refusals.Length old new is = is
+left_as_it_was refusals.ForeignJob old new is = is
+left_as_it_was refusals.NotForMe old new is = is
+left_as_it_was refusals.StaleSource old new is = is
+left_as_it_was refusals.StaleTarget old new is = is ∙ ap (λ (e : EngineState). record old { sessions = record old.sessions { out = e.sessions.out } }) (sym is)
+left_as_it_was refusals.BadFrame old new is = is
+left_as_it_was refusals.OutOfWindow old new is = is
+left_as_it_was refusals.ClockBack old new is = is
+
+-- a reset goes out with 29 alone
+abbrev ResetTells : Option Endpoint → lower.Refused → Type 0
+ResetTells None e = Unit {0}
+ResetTells (Some source) e = e ≡ lowers.StaleTarget
+
+abbrev ResetsTell : Result HeardText Unheard → Type 0
+ResetsTell (Ok h) = Unit {0}
+ResetsTell (Err u) = ResetTells u.reset u.refused
+
+said_tells : (w : Result WordText lower.Refused) (source : Endpoint) (lesson : Bool) → ResetsTell (said source lesson w)
+said_tells (Ok w) source lesson = tt
+said_tells (Err e) source lesson = tt
+
+stale_tells : (body : BodyText) (source : Endpoint) → ResetsTell (stale source body)
+stale_tells AckBody source = refl
+stale_tells (EagerBody t) source = refl
+stale_tells ResetBody source = tt
+
+judged_tells : (j : Result Judgement judging.Refused) (s : SessionsState) (d : DatagramText) → ResetsTell (heard_by j s d)
+judged_tells (Ok Current) s d = said_tells (word_of (session_met false (peer_at s.peers d.header.source.rank)) d.header.sequence d.body) d.header.source false
+judged_tells (Ok (Learn i)) s d = said_tells (word_of (session_met true (peer_at s.peers d.header.source.rank)) d.header.sequence d.body) d.header.source true
+judged_tells (Err judgings.StaleTarget) s d = stale_tells d.body d.header.source
+judged_tells (Err judgings.Limit) s d = tt
+judged_tells (Err judgings.OutOfMemory) s d = tt
+judged_tells (Err judgings.ForeignJob) s d = tt
+judged_tells (Err judgings.NotForMe) s d = tt
+judged_tells (Err judgings.StaleSource) s d = tt
+
+read_tells : (text : Result DatagramText reading.Refused) (s : SessionsState) → ResetsTell (heard_in s text)
+read_tells (Err e) s = tt
+read_tells (Ok d) s = judged_tells (judgement (knowledge s) d.header) s d
+
+bytes_tell : (bytes : List ℕ) (s : SessionsState) → ResetsTell (heard_of s bytes)
+unfolding heard_of
+bytes_tell bytes s = read_tells (datagram_of bytes) s
+
+-- with a reset only what goes out changed
+with_reset_leaves : (old new : EngineState) (out : List (ℕ × List ℕ)) → new.core ≡ old.core → new.sessions ≡ record old.sessions { out = out } →
+    RefusedDatagramLeaves (Err refusals.StaleTarget) old new
+with_reset_leaves old new out core sessions =
+    both core (sessions ∙ ap (λ (s : SessionsState). record old.sessions { out = s.out }) (sym sessions))
+
+turned_away_leaves : (old new : EngineState) (reset : Option Endpoint) (refused e : lower.Refused) → ResetTells reset refused →
+    new.core ≡ old.core → TurnedAway reset refused old.sessions e new.sessions → RefusedDatagramLeaves (Err (of_sessions e)) old new
+turned_away_leaves old new None refused e tells core away = left_as_it_was (of_sessions e) old new (both core away.1)
+turned_away_leaves old new (Some source) refused e tells core (inl away) =
+    subst (λ (r : lower.Refused). RefusedDatagramLeaves (Err (of_sessions r)) old new) (sym (away.0 ∙ tells)) (with_reset_leaves old new _ core away.1)
+turned_away_leaves old new (Some source) refused e tells core (inr away) = left_as_it_was (of_sessions e) old new (both core away.1)
+
+hearing_leaves : (heard : Result HeardText Unheard) (old new : EngineState) (result : Result (Unit {0}) Refused) → ResetsTell heard →
+    HearingGives heard old result new → RefusedDatagramLeaves result old new
+hearing_leaves (Ok h) old new (Ok x) tells gives = tt
+hearing_leaves (Ok h) old new (Err e) tells gives = left_as_it_was e old new gives.2
+hearing_leaves (Err u) old new result tells gives =
+    subst (λ (r : Result (Unit {0}) Refused). RefusedDatagramLeaves r old new) (sym gives.1)
+    (turned_away_leaves old new u.reset u.refused gives.0 tells gives.2 gives.3)
+
+-- what a datagram gives says what its refusal leaves
+pub refusal_leaves : (old new : EngineState) (bytes : List ℕ) (result : Result (Unit {0}) Refused) → DatagramGives old bytes result new →
+    RefusedDatagramLeaves result old new
+refusal_leaves old new bytes result gives = hearing_leaves (heard_of old.sessions bytes) old new result (bytes_tell bytes old.sessions) gives
+
+-- ---- turning away
+
+-- the core stays as it is
+pub turned_away : (c : CoreState) (s t : SessionsState) (u : Unheard) (e : lower.Refused) → TurnedAway u.reset u.refused s e t →
+    HearingGives (Err u) (joined c s) (Err (of_sessions e)) (joined c t)
+turned_away c s t u e away = (e, refl, refl, away)

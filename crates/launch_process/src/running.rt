@@ -1,0 +1,122 @@
+//! What a launcher's words ask for: a launch, or the keeping of one rank.
+
+use crate::keeper::keep;
+use crate::launching::launch;
+use keeping::{Word, kept_rank};
+use launch::planning::plan;
+use launch::{Outcome, Plan, Refused, config_name, spelled_out};
+use std::alloc::AllocError;
+use std::os::fd::AsRawFd;
+use std::process::{OpenProcess, Processes};
+use std::rt::{Env, Files};
+use std::{env, fs, io};
+
+/// The words behind the program's own name.
+fn words_of(rt: &(impl Env + AllocGlobal)) -> io::Result<Vec<Word>> {
+    let mut all = env::args(rt)?;
+    let _program = all.next();
+    let mut words = Vec::new(rt.alloc());
+    for word in all {
+        words
+            .push(Word::from_vec(word.into_bytes()))
+            .map_err(AllocError::from)?;
+    }
+    Ok(words)
+}
+
+/// What the configuration file holds that the words name; `None` where they name none, or where it
+/// can't be read.
+fn config_of(rt: &(impl Files + AllocGlobal), words: &[Word]) -> Result<Option<Vec<u8>>, Refused> {
+    let Some(name) = config_name(words) else {
+        return Ok(None);
+    };
+    let Ok(name) = str::from_utf8(name) else {
+        return Ok(None);
+    };
+    match fs::read(rt, name) {
+        Ok(bytes) => Ok(Some(bytes)),
+        Err(error) if error.kind() == io::ErrorKind::OutOfMemory => Err(Refused::OutOfMemory),
+        Err(_) => Ok(None),
+    }
+}
+
+/// Tells a refusal on the standard error.
+fn tell(rt: &impl Eprint, outcome: Outcome) {
+    if let Outcome::Refused(refused) = outcome {
+        let number = refused.number();
+        let _ = eprintln!(rt; "mpiexec: refused {number}");
+    }
+}
+
+/// Plans what the words ask for, and launches it.
+fn run_launch<R: Env + Files + Print + AllocGlobal + Processes>(rt: &R, words: &[Word]) -> Outcome {
+    let alloc = rt.alloc();
+    let config = match config_of(rt, words) {
+        Ok(config) => config,
+        Err(refused) => return Outcome::Refused(refused),
+    };
+    let config = config.as_deref();
+    let plan = match plan(alloc, words, config) {
+        Ok(plan) => plan,
+        Err(refused) => return Outcome::Refused(refused),
+    };
+    let Ok(words) = spelled_out(alloc, words, config) else {
+        return Outcome::Failed;
+    };
+    match launch(rt, plan.size(), words.as_slice()) {
+        Ok(status) => Outcome::Ended(status),
+        Err(_) => Outcome::Failed,
+    }
+}
+
+/// Plans the launch anew, and keeps the rank.
+fn run_keeper<R: Print + AllocGlobal + Processes<Started: OpenProcess<Stdout: AsRawFd>>>(
+    rt: &R,
+    rank: u16,
+    words: &[Word],
+) -> Outcome {
+    let Ok(plan) = plan(rt.alloc(), words, None) else {
+        return Outcome::Failed;
+    };
+    match keep(rt, &plan, rank) {
+        Ok(()) => Outcome::Ended(0),
+        Err(_) => Outcome::Failed,
+    }
+}
+
+/// Does what these words ask for, a launch or the keeping of one rank, tells a refusal on the standard error, and answers
+/// the status.
+pub fn run_words<
+    R: Env
+        + Files
+        + Print
+        + Eprint
+        + AllocGlobal
+        + Processes<Started: OpenProcess<Stdout: AsRawFd>>,
+>(rt: &R, words: &[Word]) -> u8 {
+    let outcome = match kept_rank(words) {
+        Some(kept) => run_keeper(rt, kept.rank, kept.words),
+        None => run_launch(rt, words),
+    };
+    tell(rt, outcome);
+    outcome.status()
+}
+
+/// Does what the words of this process ask for, and answers the status.
+pub fn run<
+    R: Env
+        + Files
+        + Print
+        + Eprint
+        + AllocGlobal
+        + Processes<Started: OpenProcess<Stdout: AsRawFd>>,
+>(rt: &R) -> u8 {
+    match words_of(rt) {
+        Ok(words) => run_words(rt, &words),
+        Err(_) => {
+            let outcome = Outcome::Refused(Refused::OutOfMemory);
+            tell(rt, outcome);
+            outcome.status()
+        }
+    }
+}

@@ -1,0 +1,4 @@
+pub mod PlaceLaws
+pub mod FirstPlaces
+pub mod WritingLaws
+pub mod Apart

@@ -1,0 +1,3 @@
+pub mod Layouts
+pub mod Buffers
+pub mod Laws

@@ -1,0 +1,4 @@
+pub mod Refusals
+pub mod Codes
+pub mod Spelling
+pub mod Reading

@@ -1,0 +1,96 @@
+//! The kinds of collectives and the phases of their messages, by their codes.
+
+ghost use Rattle.std.specs.Prelude.{◌≡◌};
+ghost use Rattle.payload.specs.Codes.{kind_code, kind_at, phase_code, phase_at};
+
+/// Which collective a record is of.
+#[derive(Clone, Copy, Debug, PartialEq, Eq)]
+pub enum Kind {
+    /// MPI_Barrier.
+    Barrier,
+    /// MPI_Bcast.
+    Bcast,
+    /// MPI_Gather.
+    Gather,
+    /// MPI_Scatter.
+    Scatter,
+    /// MPI_Reduce.
+    Reduce,
+    /// MPI_Allreduce.
+    Allreduce,
+    /// MPI_Comm_dup.
+    Dup,
+    /// MPI_Comm_split.
+    Split,
+}
+
+impl Kind {
+    /// The code that stands for this kind.
+    pub fn code(self) -> u8
+        ensures { result ≡ kind_code self }
+    {
+        match self {
+            Kind::Barrier => 1,
+            Kind::Bcast => 2,
+            Kind::Gather => 3,
+            Kind::Scatter => 4,
+            Kind::Reduce => 5,
+            Kind::Allreduce => 6,
+            Kind::Dup => 7,
+            Kind::Split => 8,
+        }
+    }
+
+    /// The kind that has this code, where there is one.
+    pub fn from_code(code: u8) -> Option<Kind>
+        ensures { result ≡ kind_at code }
+    {
+        match code {
+            1 => Some(Kind::Barrier),
+            2 => Some(Kind::Bcast),
+            3 => Some(Kind::Gather),
+            4 => Some(Kind::Scatter),
+            5 => Some(Kind::Reduce),
+            6 => Some(Kind::Allreduce),
+            7 => Some(Kind::Dup),
+            8 => Some(Kind::Split),
+            _ => None,
+        }
+    }
+}
+
+/// Which step of a collective a message is.
+#[derive(Clone, Copy, Debug, PartialEq, Eq)]
+pub enum Phase {
+    /// Towards the root.
+    TowardsRoot,
+    /// From the root.
+    FromRoot,
+    /// Two records differ.
+    RecordsDiffer,
+}
+
+impl Phase {
+    /// The code that stands for this phase.
+    pub fn code(self) -> u8
+        ensures { result ≡ phase_code self }
+    {
+        match self {
+            Phase::TowardsRoot => 0,
+            Phase::FromRoot => 1,
+            Phase::RecordsDiffer => 2,
+        }
+    }
+
+    /// The phase that has this code, where there is one.
+    pub fn from_code(code: u8) -> Option<Phase>
+        ensures { result ≡ phase_at code }
+    {
+        match code {
+            0 => Some(Phase::TowardsRoot),
+            1 => Some(Phase::FromRoot),
+            2 => Some(Phase::RecordsDiffer),
+            _ => None,
+        }
+    }
+}

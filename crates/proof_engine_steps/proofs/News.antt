@@ -1,0 +1,118 @@
+-- What is heard makes of a rank what it makes of its core in the network.
+use Rattle.std.proofs.Common.{◌≡◌, ℕ, Bool, true, false, List, [], Option, Some, None, refl, sym, ap, ◌∙◌, subst, arith}
+use Rattle.vocabulary.specs.declared.endpoint.Endpoint.{Endpoint}
+use Rattle.perfect_queues.specs.Events.{told}
+use Rattle.datagram.specs.declared.kinds.Plane.{Plane}
+use Rattle.datagram.specs.declared.kinds.Plane.TheVariants.{PointToPoint, Collective}
+use Rattle.datagram.specs.Spelling.{EagerText, BodyText, EagerBody, AckBody, ResetBody}
+use Rattle.match_queues.specs.declared.envelope.Message.{Message}
+use Rattle.requests.specs.declared.table.Request.{Request}
+use Rattle.rank_core.specs.CoreState.{CoreState}
+use Rattle.rank_core.specs.Hearing.{NewsText, after_hearing, after_news, arrived_any, frame_fault, message_from, message_of, taught}
+use Rattle.rank_core.specs.Sending as rank
+use Rattle.rank_core.specs.Waiting.{woken}
+use Rattle.proof_pure_network.specs.Core.{Core, Effect, effect}
+use Rattle.proof_pure_network.specs.Engine as network
+use Rattle.proof_pure_network.specs.Engine.{core_ready, core_settled}
+use Rattle.proof_pure_network.specs.Matching.{arrived}
+use Rattle.proof_engine_view.specs.Frames.{frame_heard, known_after, message_seen}
+use Rattle.proof_engine_view.specs.Rows.{held_of}
+use Rattle.proof_engine_view.specs.Seen.{told_completion}
+use Rattle.proof_engine_view.specs.Shown.{IsShown}
+use Rattle.proof_engine_matching.specs.Matches.{ArrivalsMatch, OutcomesAgree}
+use Rattle.proof_engine_steps.specs.Steps.{IsFromOther, NewsAreShown, heard_by_core}
+use Rattle.proof_engine_steps.proofs.Arriving.{IsHeldAfter, arrived_keeps, message_holds, still_awaited}
+use Rattle.proof_engine_steps.proofs.Meeting.{HoldBoth, met_holds}
+use Rattle.proof_engine_steps.proofs.Waking.{IsAwaited, IsSettled, settles, woken_place, woken_still}
+
+-- ---- the frame and the message
+
+-- what the network's core makes of a word, by the message that came with it
+abbrev with_message : Core → Endpoint → Option Message → Effect
+with_message core s None = effect (network.met core s) []
+with_message core s (Some m) = arrived (network.met core s) (held_of m)
+
+-- an eager message, by its plane
+eager_same : (core : Core) (s : Endpoint) (t : EagerText) (plane : Plane) → t.plane ≡ plane → frame_fault (Some (EagerBody t)) ≡ None →
+    heard_by_core core s (frame_heard (Some (EagerBody t))) ≡ with_message core s (message_from s (Some (EagerBody t)))
+unfolding message_of
+eager_same core s t Collective is fine = absurd (grind (arith, is, fine))
+eager_same core s t PointToPoint is fine =
+    ap (λ (p : Plane). heard_by_core core s (message_seen p t)) is
+
+-- a frame that is taken is that message
+frame_same : (core : Core) (s : Endpoint) (frame : Option BodyText) → frame_fault frame ≡ None →
+    heard_by_core core s (frame_heard frame) ≡ with_message core s (message_from s frame)
+frame_same core s None fine = refl
+frame_same core s (Some AckBody) fine = refl
+frame_same core s (Some ResetBody) fine = refl
+frame_same core s (Some (EagerBody t)) fine = eager_same core s t t.plane refl fine
+
+-- ---- before a blocked call is answered
+
+-- both hold the same once they learnt, and the message came, if one did
+any_holds : ArrivalsMatch → OutcomesAgree → (old : CoreState) (known : List ℕ) (core : Core) (news : NewsText) (m : Option Message) →
+    IsShown old known core → old.completion ≡ None → IsFromOther old known news →
+    HoldBoth (arrived_any (taught news.lesson old news.source) m) (known_after news.lesson known news.source) (with_message core news.source m).core
+any_holds match agree old known core news None shown free other = met_holds old known core news shown free other
+any_holds match agree old known core news (Some m) shown free other =
+    let b : HoldBoth (taught news.lesson old news.source) (known_after news.lesson known news.source) (network.met core news.source) =
+    met_holds old known core news shown free other in
+    let a : IsHeldAfter b.rows (rank.arrived (taught news.lesson old news.source) m) (known_after news.lesson known news.source) (network.met core news.source) (arrived (network.met core news.source) (held_of m)) =
+    message_holds match agree (taught news.lesson old news.source) (known_after news.lesson known news.source) (network.met core news.source) b.rows m b.holding in
+    let keeps = arrived_keeps (taught news.lesson old news.source) m in
+    record {
+      rows = a.left;
+      holding = a.holding;
+      awaited = still_awaited b.rows a.left (rank.arrived (taught news.lesson old news.source) m).blocked (network.met core news.source).blocked (arrived (network.met core news.source) (held_of m)).core.blocked
+          (subst (λ (x : Option Request). IsAwaited b.rows x (network.met core news.source).blocked) (sym keeps.blocked) b.awaited) a.blocked a.waits;
+      free = keeps.completion ∙ b.free;
+    }
+
+-- nothing is sent for it
+any_sends : ArrivalsMatch → OutcomesAgree → (old : CoreState) (known : List ℕ) (core : Core) (news : NewsText) (m : Option Message) →
+    IsShown old known core → old.completion ≡ None → IsFromOther old known news → (with_message core news.source m).out ≡ []
+any_sends match agree old known core news None shown free other = refl
+any_sends match agree old known core news (Some m) shown free other =
+    let b : HoldBoth (taught news.lesson old news.source) (known_after news.lesson known news.source) (network.met core news.source) =
+    met_holds old known core news shown free other in
+    (message_holds match agree (taught news.lesson old news.source) (known_after news.lesson known news.source) (network.met core news.source) b.rows m b.holding).sends
+
+-- ---- and then it is answered
+
+-- where nothing came, nothing is to be answered
+after_is : (old : CoreState) (known : List ℕ) (core : Core) (s : Endpoint) (lesson : Bool) (m : Option Message) → IsShown old known core →
+    after_hearing lesson m old s ≡ woken (arrived_any (taught lesson old s) m)
+after_is old known core s true m shown = refl
+after_is old known core s false (Some m) shown = refl
+after_is old known core s false None shown = sym (woken_still old known core shown)
+
+-- the rank stays at its place
+taught_place : (lesson : Bool) (c : CoreState) (s : Endpoint) → (taught lesson c s).place ≡ c.place
+taught_place true c s = refl
+taught_place false c s = refl
+
+any_place : (c : CoreState) (m : Option Message) → (arrived_any c m).place ≡ c.place
+any_place c None = refl
+any_place c (Some m) = (arrived_keeps c m).place
+
+-- whatever is heard, both hold the same
+pub news_are_shown : ArrivalsMatch → OutcomesAgree → NewsAreShown
+news_are_shown match agree old known core news shown free other fine =
+    let s : Endpoint = news.source in
+    let m : Option Message = message_from s news.frame in
+    let mid : CoreState = arrived_any (taught news.lesson old s) m in
+    let learnt : List ℕ = known_after news.lesson known s in
+    let after : Core = (with_message core s m).core in
+    let b : HoldBoth mid learnt after = any_holds match agree old known core news m shown free other in
+    let t : IsSettled mid learnt after = settles mid learnt after b.rows b.holding b.awaited b.free in
+    let new_is : after_news old news ≡ woken mid = after_is old known core s news.lesson m shown in
+    let same : heard_by_core core s (frame_heard news.frame) ≡ with_message core s m = frame_same core s news.frame fine in
+    record {
+      place = ap (λ (c : CoreState). c.place) new_is ∙ (woken_place mid ∙ (any_place (taught news.lesson old s) m ∙ taught_place news.lesson old s));
+      shown = subst (λ (e : Effect). IsShown (after_news old news) learnt (core_settled e.core)) (sym same)
+          (subst (λ (c : CoreState). IsShown c learnt (core_settled after)) (sym new_is) t.shown);
+      sends = ap (λ (e : Effect). e.out) same ∙ any_sends match agree old known core news m shown free other;
+      tells = ap (λ (e : Effect). told old.place.endpoint None (core_ready e.core)) same ∙ (t.tells old.place.endpoint ∙
+          ap (λ (c : CoreState). told_completion old.place.endpoint c.completion) (sym new_is));
+    }

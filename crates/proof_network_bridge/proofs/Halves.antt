@@ -1,0 +1,113 @@
+-- What is true of the engines of a world, by their two halves.
+use Rattle.std.proofs.Common.{◌≡◌, ℕ, zero, suc, Bool, true, false, List, [], ◌∷◌, ◌++◌, Option, Some, None, if◌then◌else◌, refl, sym, ap, subst, ◌∙◌, arith, inl, inr}
+use Rattle.std.specs.Prelude.{option_map, slice_get, slice_set}
+use Rattle.std.proofs.lemmas.List.{map-set}
+use Rattle.std.proofs.lemmas.Option.{same_Some, slice_get-map}
+use Rattle.rank_core.specs.declared.call.Call.{Call}
+use Rattle.rank_core.specs.declared.call.Reply.{Reply}
+use Rattle.rank_core.specs.declared.call.Reply.TheVariants as replies
+use Rattle.rank_core.specs.declared.refused.Refused.{Refused}
+use Rattle.rank_core.specs.declared.refused.Refused.TheVariants.{Limit}
+use Rattle.rank_core.specs.Calls.{IsTaken}
+use Rattle.rank_core.specs.Sending.{FrameFor}
+use Rattle.sessions.specs.declared.refused.Refused as lower
+use Rattle.sessions.specs.declared.refused.Refused.TheVariants as lowers
+use Rattle.sessions.specs.Events.{TurnedAway, after_event, is_worn_out, sends_limit}
+use Rattle.sessions.specs.Peers.{peer_at}
+use Rattle.sessions.specs.SessionsState.{SessionsState}
+use Rattle.engine.specs.Calls.{CallGives, IsAnswered, after_frame, frame_limit, sendings_of}
+use Rattle.engine.specs.EngineState.{EngineState, emptied}
+use Rattle.engine.specs.Refusals.{fault_of_sessions, first_fault}
+use Rattle.vocabulary.specs.declared.endpoint.Endpoint.{Endpoint}
+use Rattle.proof_link_truth.specs.Events.{LeavesTrue}
+use Rattle.proof_link_truth.specs.Sessions.{Links}
+use Rattle.proof_link_truth.specs.Truth.{AreTrue}
+use Rattle.proof_network_bridge.specs.Joined.{sessions_in}
+
+-- ---- the sessions of engines
+
+-- those of the engine at a rank stand there
+pub sessions_there : (engines : List EngineState) (r : ℕ) (e : EngineState) → slice_get engines r ≡ Some e → slice_get (sessions_in engines) r ≡ Some e.sessions
+sessions_there engines r e there =
+    slice_get-map (λ (x : EngineState). x.sessions) engines r ∙ ap (λ (o : Option EngineState). option_map (λ (x : EngineState). x.sessions) o) there
+
+-- an engine with these sessions
+pub record IsOf (engines : List EngineState) (r : ℕ) (s : SessionsState) : Type 0 where
+  pub engine : EngineState
+  pub there : slice_get engines r ≡ Some engine
+  pub sessions_are : engine.sessions ≡ s
+
+-- sessions that stand at a rank are those of an engine there
+pub engine_there : (engines : List EngineState) (r : ℕ) (s : SessionsState) → slice_get (sessions_in engines) r ≡ Some s → IsOf engines r s
+engine_there [] r s is = absurd (grind arith)
+engine_there (e ∷ es) zero s is = record { engine = e; there = refl; sessions_are = same_Some e.sessions s is }
+engine_there (e ∷ es) (suc r) s is =
+    let o : IsOf es r s = engine_there es r s is in
+    record { engine = o.engine; there = o.there; sessions_are = o.sessions_are }
+
+-- the sessions once one engine is another
+pub sessions_set : (engines : List EngineState) (r : ℕ) (e : EngineState) → sessions_in (slice_set engines r e) ≡ slice_set (sessions_in engines) r e.sessions
+sessions_set engines r e = map-set (λ (x : EngineState). x.sessions) engines r e
+
+-- what is true once the sessions of an engine did something is true of the engines
+pub leaves_engines : (n r : ℕ) (engines : List EngineState) (datagrams : List (ℕ × List ℕ)) (mid : EngineState) (links : Links) (current : ℕ → ℕ)
+    → LeavesTrue n (sessions_in engines) datagrams r mid.sessions links current
+    → AreTrue n (sessions_in (slice_set engines r (emptied mid))) (datagrams ++ mid.sessions.out) links current
+leaves_engines n r engines datagrams mid links current truth =
+    subst (λ (ss : List SessionsState). AreTrue n ss (datagrams ++ mid.sessions.out) links current) (sym (sessions_set engines r (emptied mid))) truth
+
+-- ---- calls
+
+-- a call that was taken was answered
+pub answered : (old new : EngineState) (call : Call) (reply : Reply) → IsTaken reply → CallGives old call reply new → IsAnswered old call reply new
+answered old new call (replies.Refused why back) taken gives = absurd taken
+answered old new call (replies.Started q) taken gives = gives
+answered old new call (replies.Done o) taken gives = gives
+answered old new call replies.Blocked taken gives = gives
+
+-- where neither of two is, the first is not
+pub neither_fault : (a b : Option Refused) → first_fault a b ≡ None → (a ≡ None) × (b ≡ None)
+neither_fault None b h = (refl, h)
+neither_fault (Some e) b h = absurd cc
+
+-- where the engine meets none, the sessions meet none
+no_limit : (o : Option lower.Refused) → fault_of_sessions o ≡ None → o ≡ None
+no_limit None h = refl
+no_limit (Some e) h = absurd cc
+
+-- the frame of a call meets no limit
+pub frame_free : (s : SessionsState) (f : Option FrameFor) → frame_limit s f ≡ None → sends_limit s (sendings_of f) ≡ None
+frame_free s None h = refl
+frame_free s (Some f) h = no_limit (sends_limit s (sendings_of (Some f))) h
+
+-- the only limit that it can meet is that of numbers
+pub frame_full : (s : SessionsState) (f : Option FrameFor) (why : Refused) → frame_limit s f ≡ Some why → why ≡ Limit
+frame_full s None why h = absurd cc
+frame_full s (Some f) why h = go (is_worn_out (peer_at s.peers f.rank).sender) h
+  where
+    go : (t : Bool) → fault_of_sessions (if t then Some lowers.Limit else None) ≡ Some why → why ≡ Limit
+    go true is = sym (same_Some Limit why is)
+    go false is = absurd cc
+
+-- to send it is an event in which nothing was heard
+pub frame_event : (s : SessionsState) (f : Option FrameFor) → after_frame s f ≡ after_event s None (sendings_of f)
+frame_event s None = refl
+frame_event s (Some f) = refl
+
+-- ---- what stays
+
+-- what sessions know, and where they stand
+pub record Keeps (old new : SessionsState) : Type 0 where
+  pub place : new.place ≡ old.place
+  pub known : new.known ≡ old.known
+
+-- stays where they send the frame of a call
+pub frame_keeps : (s : SessionsState) (f : Option FrameFor) → Keeps s (after_frame s f)
+frame_keeps s None = record { place = refl; known = refl }
+frame_keeps s (Some f) = record { place = refl; known = refl }
+
+-- and where they turn something away
+pub away_keeps : (old new : SessionsState) (to : Option Endpoint) (e why : lower.Refused) → TurnedAway to e old why new → Keeps old new
+away_keeps old new None e why gives = record { place = ap (λ (s : SessionsState). s.place) gives.1; known = ap (λ (s : SessionsState). s.known) gives.1 }
+away_keeps old new (Some x) e why (inl gives) = record { place = ap (λ (s : SessionsState). s.place) gives.1; known = ap (λ (s : SessionsState). s.known) gives.1 }
+away_keeps old new (Some x) e why (inr gives) = record { place = ap (λ (s : SessionsState). s.place) gives.1; known = ap (λ (s : SessionsState). s.known) gives.1 }

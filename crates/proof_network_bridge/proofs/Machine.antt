@@ -1,0 +1,118 @@
+-- Whoever follows the pure network is seen as a run of the machine of perfect queues.
+use Rattle.std.proofs.Common.{◌≡◌, ℕ, List, Option, Some, None, refl, sym, ap, subst, ◌∙◌, inl, inr}
+use Rattle.std.specs.Prelude.{slice_get, slice_index}
+use Rattle.perfect_queues.specs.Calls as machine_calls
+use Rattle.perfect_queues.specs.Refusals.{fault}
+use Rattle.vocabulary.specs.declared.endpoint.Endpoint.{Endpoint}
+use Rattle.incarnation.specs.declared.place.Place.{Place}
+use Rattle.rank_core.specs.declared.call.Call.{Call}
+use Rattle.rank_core.specs.declared.call.Reply.{Reply}
+use Rattle.rank_core.specs.declared.call.Reply.TheVariants as replies
+use Rattle.rank_core.specs.declared.refused.Refused.{Refused}
+use Rattle.rank_core.specs.Calls.{IsTaken, call_fault, call_frame}
+use Rattle.sessions.specs.Peers.{IsIdlePeer, peer_at}
+use Rattle.sessions.specs.SessionsState.{SessionsState}
+use Rattle.engine.specs.Calls.{CallGives, IsAnswered, WhyRefused, frame_limit}
+use Rattle.engine.specs.EngineState.{EngineState}
+use Rattle.engine.specs.Refusals.{first_fault}
+use Rattle.proof_pure_network.specs.Core.{Core, view}
+use Rattle.proof_pure_network.specs.Held.{blank}
+use Rattle.proof_pure_network.specs.Network.{Network, new_network, run}
+use Rattle.proof_pure_network.proofs.QuietKept.{is_run}
+use Rattle.proof_engine_view.specs.Seen.{call_meant, call_seen}
+use Rattle.proof_engine_view.specs.Shown.{IsShown}
+use Rattle.proof_engine_steps.specs.Refused.{AllowedCallsAreFaultless, FaultsHaveReasons, HasReason, IsFaultless, IsReason, RoomIsAReason}
+use Rattle.proof_link_truth.specs.Events as below
+use Rattle.proof_link_truth.specs.Events.{IdleIsStill, Knows}
+use Rattle.proof_link_truth.specs.Wire.{at}
+use Rattle.proof_network_bridge.specs.Following.{AreQuiet, FollowingIsRun}
+use Rattle.proof_network_bridge.specs.Joined.{IsJoined, sessions_in}
+use Rattle.proof_network_bridge.proofs.Halves.{IsOf, answered, engine_there, frame_full, neither_fault}
+use Rattle.proof_network_bridge.proofs.Worlds.{place_is}
+
+-- ---- the quiet clause
+
+-- engines that are quiet have sessions that are
+quiet_below : (engines : List EngineState) → AreQuiet engines → below.AreQuiet (sessions_in engines)
+quiet_below engines quiet r x s t there other apart knows known =
+    let e : IsOf engines r s = engine_there engines r s there in
+    let d : IsOf engines x t = engine_there engines x t other in
+    subst (λ (o : SessionsState). IsIdlePeer (peer_at o.peers x)) e.sessions_are
+    (quiet r x e.engine d.engine e.there d.there apart
+    (ap (λ (o : SessionsState). slice_index o.known x) e.sessions_are ∙ knows ∙ ap (λ (o : SessionsState). o.place.endpoint.incarnation) (sym d.sessions_are))
+    (ap (λ (o : SessionsState). slice_index o.known r) d.sessions_are ∙ known ∙ ap (λ (o : SessionsState). o.place.endpoint.incarnation) (sym e.sessions_are)))
+
+-- what a core knows its rank's sessions know too
+knows_too : (n : ℕ) (engines : List EngineState) (datagrams : List (ℕ × List ℕ)) (w : Network) (s d : Endpoint) → IsJoined n engines datagrams w →
+    s.incarnation ≡ w.current s.rank → (w.core s).known d.rank ≡ d.incarnation → Knows (sessions_in engines) s.rank d
+knows_too n engines datagrams w s d j current knows t there =
+    let o : IsOf engines s.rank t = engine_there engines s.rank t there in
+    let shown : IsShown o.engine.core o.engine.sessions.known (w.core s) =
+    subst (λ (i : ℕ). IsShown o.engine.core o.engine.sessions.known (w.core (at s.rank i))) (sym current) (j.shown s.rank o.engine o.there) in
+    ap (λ (x : SessionsState). slice_index x.known d.rank) (sym o.sessions_are) ∙ sym (shown.known_alike d.rank) ∙ knows
+
+-- ---- the faults of calls
+
+-- the core of an engine's endpoint holds what the engine's core holds
+shown_there : (n r : ℕ) (engines : List EngineState) (datagrams : List (ℕ × List ℕ)) (w : Network) (e : EngineState) → IsJoined n engines datagrams w →
+    slice_get engines r ≡ Some e → IsShown e.core e.sessions.known (w.core e.sessions.place.endpoint)
+shown_there n r engines datagrams w e j there =
+    subst (λ (p : Place). IsShown e.core e.sessions.known (w.core p.endpoint)) (sym (place_is n r engines datagrams w e j there).1) (j.shown r e there)
+
+-- the fault of a call is the same by the engine's size and by the world's
+fault_there : (n r : ℕ) (engines : List EngineState) (datagrams : List (ℕ × List ℕ)) (w : Network) (e : EngineState) (core : Core) (c : machine_calls.Call) → IsJoined n engines datagrams w →
+    slice_get engines r ≡ Some e → fault e.core.place.size (view blank core) c ≡ fault n (view blank core) c
+fault_there n r engines datagrams w e core c j there =
+    ap (λ (p : Place). fault p.size (view blank core) c) (j.placed r e there ∙ (place_is n r engines datagrams w e j there).1)
+
+-- a refusal by the first of two faults, or for want of memory
+refused_by : FaultsHaveReasons → RoomIsAReason → (e : EngineState) (core : Core) (call : Call) (why : Refused) → IsShown e.core e.sessions.known core →
+    (found limit : Option Refused) → call_fault e.core call ≡ found → frame_limit e.sessions (call_frame e.core call) ≡ limit → WhyRefused (first_fault found limit) call why →
+    HasReason e.core core call why
+refused_by faults room e core call why shown (Some x) limit is at_limit reason = faults e.core e.sessions.known core call why shown (is ∙ ap Some (sym reason))
+refused_by faults room e core call why shown None (Some x) is at_limit reason =
+    room e.core e.sessions.known core call why shown is (inl (reason ∙ frame_full e.sessions (call_frame e.core call) x at_limit))
+refused_by faults room e core call why shown None None is at_limit reason = room e.core e.sessions.known core call why shown is (inr reason.0)
+
+-- what an engine refuses, it refuses for a reason that the machine has too
+refuses_too : FaultsHaveReasons → RoomIsAReason → (n r : ℕ) (engines : List EngineState) (datagrams : List (ℕ × List ℕ)) (w : Network) (e mid : EngineState) (call back : Call) (why : Refused)
+    (found : Option ℕ) → IsJoined n engines datagrams w → slice_get engines r ≡ Some e → CallGives e call (replies.Refused why back) mid →
+    found ≡ fault n (view blank (w.core e.sessions.place.endpoint)) (call_meant e.core call) → IsReason found call why
+refuses_too faults room n r engines datagrams w e mid call back why found j there gives is =
+    let core : Core = w.core e.sessions.place.endpoint in
+    subst (λ (o : Option ℕ). IsReason o call why) (fault_there n r engines datagrams w e core (call_meant e.core call) j there ∙ sym is)
+    (refused_by faults room e core call why (shown_there n r engines datagrams w e j there) (call_fault e.core call) (frame_limit e.sessions (call_frame e.core call)) refl refl gives.reason)
+
+-- what an engine takes, the machine finds no fault with
+takes_too : AllowedCallsAreFaultless → (n r : ℕ) (engines : List EngineState) (datagrams : List (ℕ × List ℕ)) (w : Network) (e mid : EngineState) (call : Call) (reply : Reply)
+    (found : Option ℕ) → IsJoined n engines datagrams w → slice_get engines r ≡ Some e → IsTaken reply → CallGives e call reply mid →
+    found ≡ fault n (view blank (w.core e.sessions.place.endpoint)) (call_seen call) → IsFaultless found e.core call
+takes_too faultless n r engines datagrams w e mid call reply found j there taken gives is =
+    let core : Core = w.core e.sessions.place.endpoint in
+    let answer : IsAnswered e call reply mid = answered e mid call reply taken gives in
+    let free = neither_fault (call_fault e.core call) (frame_limit e.sessions (call_frame e.core call)) answer.allowed in
+    subst (λ (o : Option ℕ). IsFaultless o e.core call) (fault_there n r engines datagrams w e core (call_seen call) j there ∙ sym is)
+    (faultless e.core e.sessions.known core call (shown_there n r engines datagrams w e j there) free.0)
+
+-- ---- the run
+
+pub following_is_run : IdleIsStill → FaultsHaveReasons → RoomIsAReason → AllowedCallsAreFaultless → FollowingIsRun
+following_is_run idle faults room faultless n engines datagrams history f =
+    let w : Network = run n f.happenings new_network in
+    let m = is_run n f.happenings in
+    record {
+      events = m.events;
+      run = m.run;
+      tells = m.tells ∙ f.seen;
+      now = λ r e there. m.current r ∙ sym (ap (λ (p : Place). p.endpoint.incarnation) (place_is n r engines datagrams w e f.joined there).1);
+      knows = λ r e there x.
+          m.knows e.sessions.place.endpoint x ∙ ap (λ (p : Place). (w.core p.endpoint).known x) (place_is n r engines datagrams w e f.joined there).1
+          ∙ (f.joined.shown r e there).known_alike x;
+      refuses = λ r e mid call back why there gives.
+          refuses_too faults room n r engines datagrams w e mid call back why _ f.joined there gives (m.faults e.sessions.place.endpoint (call_meant e.core call));
+      takes = λ r e mid call reply there taken gives.
+          takes_too faultless n r engines datagrams w e mid call reply _ f.joined there taken gives (m.faults e.sessions.place.endpoint (call_seen call));
+      quiet = λ still. m.quiet (λ s d s_is d_is d_knows s_knows.
+          idle n (sessions_in engines) datagrams w.link w.current f.joined.links (quiet_below engines still) s d s_is d_is
+          (knows_too n engines datagrams w s d f.joined s_is s_knows) (knows_too n engines datagrams w d s f.joined d_is d_knows));
+    }

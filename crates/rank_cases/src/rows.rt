@@ -1,0 +1,177 @@
+//! The rows.
+
+use crate::ports::{free_ports, socket_at};
+use crate::process::{show, start};
+use std::io::Write;
+use std::net::Net;
+use std::process::{Child, Processes};
+use std::rt::{Env, Files};
+use std::{env, io};
+
+/// Where the rows look for free ports.
+const PORTS: u16 = 47_000;
+
+/// Starts a rank of a job at a port, with more words behind.
+fn start_rank<R: AllocGlobal + Processes>(
+    rt: &R,
+    itself: &str,
+    (rank, size): (&str, &str),
+    port: u16,
+    more: &[&str],
+) -> io::Result<Child<R::Started>> {
+    let port = format!(in rt.alloc(); "{port}")?;
+    let words = [
+        "rank",
+        "--rank",
+        rank,
+        "--size",
+        size,
+        "--inc",
+        "0",
+        "--job",
+        "1",
+        "--port",
+        port.as_str(),
+    ];
+    start(rt, itself, &words, more)
+}
+
+/// Two ranks of a script, each started by itself.
+fn run_pair<R: Net + Print + AllocGlobal + Processes>(
+    rt: &R,
+    itself: &str,
+    title: &str,
+    file: &str,
+) -> io::Result<()> {
+    let mut out = io::writer(rt);
+    writeln!(out, "== {title}")?;
+    let port = free_ports(rt, PORTS)?;
+    let first = start_rank(rt, itself, ("0", "2"), port, &[file])?;
+    let second = start_rank(rt, itself, ("1", "2"), port.saturating_add(1), &[file])?;
+    show(rt.alloc(), &mut out, "rank 0", first)?;
+    show(rt.alloc(), &mut out, "rank 1", second)
+}
+
+/// Rank 0 of two alone.
+fn run_alone<R: Net + Print + AllocGlobal + Processes>(
+    rt: &R,
+    itself: &str,
+    title: &str,
+    more: &[&str],
+) -> io::Result<()> {
+    let mut out = io::writer(rt);
+    writeln!(out, "== {title}")?;
+    let port = free_ports(rt, PORTS)?;
+    let rank = start_rank(rt, itself, ("0", "2"), port, more)?;
+    show(rt.alloc(), &mut out, "rank 0", rank)
+}
+
+/// A rank whose port is taken.
+fn run_at_a_taken_port<R: Net + Print + AllocGlobal + Processes>(
+    rt: &R,
+    itself: &str,
+) -> io::Result<()> {
+    let mut out = io::writer(rt);
+    writeln!(out, "== a port that is taken")?;
+    let port = free_ports(rt, PORTS)?;
+    let _taken = socket_at(rt, port)?;
+    let rank = start_rank(rt, itself, ("0", "2"), port, &["pingpong.txt"])?;
+    show(rt.alloc(), &mut out, "rank 0", rank)
+}
+
+/// This program with just these words.
+fn run_words<R: Print + AllocGlobal + Processes>(
+    rt: &R,
+    itself: &str,
+    title: &str,
+    words: &[&str],
+) -> io::Result<()> {
+    let mut out = io::writer(rt);
+    writeln!(out, "== {title}")?;
+    let process = start(rt, itself, words, &[])?;
+    show(rt.alloc(), &mut out, "process", process)
+}
+
+/// The launcher, with ports that nobody has.
+fn run_launch<R: Net + Print + AllocGlobal + Processes>(
+    rt: &R,
+    itself: &str,
+    title: &str,
+    words: &[&str],
+) -> io::Result<()> {
+    let mut out = io::writer(rt);
+    writeln!(out, "== {title}")?;
+    let port = format!(in rt.alloc(); "{}", free_ports(rt, PORTS)?)?;
+    let launcher = start(rt, itself, &["launch", "-baseport", port.as_str()], words)?;
+    show(rt.alloc(), &mut out, "launcher", launcher)
+}
+
+/// Ranks that are started by themselves.
+fn run_ranks<R: Net + Print + AllocGlobal + Processes>(rt: &R, itself: &str) -> io::Result<()> {
+    run_pair(rt, itself, "two ranks play ping-pong", "pingpong.txt")?;
+    run_alone(
+        rt,
+        itself,
+        "a rank that nobody answers",
+        &["--patience", "500", "pingpong.txt"],
+    )?;
+    run_alone(rt, itself, "a script with a faulty line", &["faulty.txt"])?;
+    run_alone(
+        rt,
+        itself,
+        "a script that is faulty when it is reached",
+        &["unset.txt"],
+    )?;
+    run_alone(rt, itself, "a file that isn't there", &["nothere.txt"])?;
+    run_words(rt, itself, "no words", &["rank"])?;
+    run_at_a_taken_port(rt, itself)
+}
+
+/// Ranks under the launcher.
+fn run_launches<R: Net + Print + AllocGlobal + Processes>(rt: &R, itself: &str) -> io::Result<()> {
+    run_launch(
+        rt,
+        itself,
+        "two ranks under the launcher, at one time",
+        &["-patience", "5000", "-n", "2", itself, "pingpong.txt"],
+    )?;
+    run_launch(
+        rt,
+        itself,
+        "a rank that fails is started anew",
+        &["-restart", "1", "-n", "1", itself, "up.txt"],
+    )?;
+    run_launch(
+        rt,
+        itself,
+        "a rank that fails and isn't started anew",
+        &["-n", "1", itself, "up.txt"],
+    )?;
+    run_launch(
+        rt,
+        itself,
+        "who waits for a rank that is started anew is told",
+        &["-restart", "1", "-n", "2", itself, "anew.txt"],
+    )?;
+    run_launch(
+        rt,
+        itself,
+        "a program that isn't there",
+        &["-n", "1", "./nothere"],
+    )?;
+    run_words(
+        rt,
+        itself,
+        "the words that programs get",
+        &[
+            "launch", "-job", "5", "-n", "1", "echo", "hi", ":", "-n", "1", "echo", "ho",
+        ],
+    )
+}
+
+/// Runs all rows.
+pub fn run_rows<R: Net + Env + Files + Print + AllocGlobal + Processes>(rt: &R) -> io::Result<()> {
+    let itself = env::current_exe(rt)?;
+    run_ranks(rt, itself.as_str())?;
+    run_launches(rt, itself.as_str())
+}
