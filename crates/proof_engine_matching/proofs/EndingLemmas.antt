@@ -1,7 +1,6 @@
 -- A receive into a whole buffer ends alike, and breaks no rule on layouts.
-use Rattle.std.proofs.Common.{◌≡◌, ℕ, ◌≤◌, Bool, true, false, ◌&&◌, ◌||◌, ◌==◌, Option, None, nat_le, List, [], ◌∷◌, ◌++◌, length, drop, refl, ap, ap₂, ◌∙◌, arith, if◌then◌else◌}
-use Rattle.std.proofs.lemmas.Bool.{leb-true, le-ltb}
-use Rattle.vocabulary.specs.BasicTypes.{code_of}
+use Rattle.std.proofs.Common.{◌≡◌, ℕ, Bool, true, false, ◌&&◌, ◌||◌, Option, None, nat_le, List, ◌++◌, length, drop, refl, ap, ◌∙◌, if◌then◌else◌}
+use Rattle.std.proofs.lemmas.Bool.{leb-true}
 use Rattle.layouts.specs.Buffers.{Contents, is_same_type, put_at}
 use Rattle.perfect_queues.specs.Buffers.{places_in, whole}
 use Rattle.perfect_queues.specs.Laws.{IsTakenWhole}

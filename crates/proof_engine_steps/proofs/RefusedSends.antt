@@ -1,6 +1,6 @@
 -- A send that meets a rule or a limit has a reason, and one that meets none has no fault.
 use Rattle.std.proofs.Common.{◌≡◌, ℕ, ◌*◌, ◌≤◌, Bool, true, false, ◌||◌, List, length, Option, Some, None, if◌then◌else◌, nat_le, nat_lt, refl, ap, ◌∙◌, arith}
-use Rattle.std.proofs.lemmas.Bool.{le-leb, le-ltb, ltb-false, ltb-true}
+use Rattle.std.proofs.lemmas.Bool.{le-leb, ltb-false, ltb-true}
 use Rattle.vocabulary.specs.BasicTypes.{size_of}
 use Rattle.vocabulary.specs.Limits.{highest_tag}
 use Rattle.layouts.specs.Buffers.{Contents}
@@ -10,7 +10,6 @@ use Rattle.perfect_queues.specs.Buffers.{data_of, differs_in_type, is_too_short,
 use Rattle.perfect_queues.proofs.BufferLaws.{whole_are_taken}
 use Rattle.perfect_queues.specs.Calls as machine
 use Rattle.perfect_queues.specs.Refusals as rules
-use Rattle.vocabulary.specs.declared.basic_type.BasicType.{BasicType}
 use Rattle.proof_pure_network.specs.Core.{Core, view}
 use Rattle.proof_pure_network.specs.Held.{blank}
 use Rattle.requests.specs.Table.{is_full}

@@ -1,5 +1,5 @@
 -- What packing and unpacking refuse and give is what the machine says.
-use Rattle.std.proofs.Common.{◌≡◌, ℕ, Bool, true, false, not, ◌||◌, length, nat_le, nat_lt, Option, Some, None, if◌then◌else◌, refl, sym, ◌∙◌}
+use Rattle.std.proofs.Common.{◌≡◌, Bool, true, false, not, ◌||◌, length, nat_le, nat_lt, Some, None, if◌then◌else◌, refl, sym, ◌∙◌}
 use Rattle.std.proofs.lemmas.Bool.{eqb-true, eq-eqb, and_parts}
 use Rattle.vocabulary.specs.BasicTypes.{code_of}
 use Rattle.datatypes.specs.declared.refusal.Refusal.TheVariants.{WrongType, TooShort}
@@ -7,8 +7,6 @@ use Rattle.datatypes.specs.Transfers.{send_fault, receive_fault, unpack_fault}
 use Rattle.layouts.specs.Buffers.{is_same_type, room_for}
 use Rattle.layouts.specs.Layouts.{has_repeats}
 use Rattle.perfect_queues.specs.Buffers.{places_in}
-use Rattle.perfect_queues.specs.Calls.{Irecv}
-use Rattle.perfect_queues.specs.Refusals.{is_type_wrong, is_count_wrong}
 use Rattle.proof_layouts.specs.Agreement.{ReceiveFaultsAgree, ReceivesAgree, SendFaultsAgree, refusal_by}
 
 by_send : (same short : Bool) →

@@ -13,7 +13,6 @@ use Rattle.perfect_queues.specs.Requests.{Finished, Matched, Posted, Request}
 use Rattle.perfect_queues.specs.State.{Local, with_message, with_queue, with_request}
 use Rattle.perfect_queues.specs.Steps.{AllAllowed, Allowed, Finish, FinishSend, Learn, Match, Step, after_steps}
 use Rattle.vocabulary.specs.declared.endpoint.Endpoint.{Endpoint}
-use Rattle.vocabulary.specs.declared.envelope.Source.TheVariants.{Rank}
 use Rattle.perfect_queues.proofs.EndpointLemmas.{same_eq, same_refl}
 use Rattle.proof_pure_network.specs.Core.{Core, NoneFits, is_of, view, with_jobs}
 use Rattle.proof_pure_network.specs.Frames.{Values}

@@ -14,7 +14,6 @@ use Rattle.perfect_queues.specs.Receives.{Receive, names}
 use Rattle.perfect_queues.specs.Requests.{Finished, Matched, Posted, Request, Sending, cancelled_request, learnt_request, used_up}
 use Rattle.perfect_queues.specs.State.{Local, with_message, with_request}
 use Rattle.perfect_queues.specs.Steps.{Finish, FinishSend, Learn, Match, Step, after_step, after_steps}
-use Rattle.vocabulary.specs.declared.basic_type.BasicType.{BasicType}
 use Rattle.vocabulary.specs.declared.endpoint.Endpoint.{Endpoint}
 use Rattle.vocabulary.specs.declared.envelope.Source.{Source}
 use Rattle.vocabulary.specs.declared.envelope.Source.TheVariants.{Any, Null, Rank}

@@ -10,7 +10,6 @@ use Rattle.perfect_queues.specs.Messages.{Message}
 use Rattle.perfect_queues.specs.Runs.{IsRun, after_run, seen}
 use Rattle.perfect_queues.specs.State.{Local, State, opening, put, with_local, with_message, with_number}
 use Rattle.perfect_queues.specs.Steps.{AllAllowed, AreSteps, Finish, FinishSend, IsMatched, Learn, Match, Possible, Step, after_step, after_steps, step_at, steps_at, learns}
-use Rattle.vocabulary.specs.declared.basic_type.BasicType.{BasicType}
 use Rattle.vocabulary.specs.declared.endpoint.Endpoint.{Endpoint}
 use Rattle.perfect_queues.proofs.EndpointLemmas.{same_eq, same_refl}
 use Rattle.proof_pure_network.specs.Contract.{Asked, Came, GivenOut, Heard, Input, IsBy, Work, held_on, kept, linked, taken_in}

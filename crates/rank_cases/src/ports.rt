@@ -3,15 +3,23 @@
 use std::io;
 use std::io::ErrorKind;
 use std::net::{Ipv4Addr, Net, SocketAddr, UdpSocket};
+use std::time::{Clock, UNIX_EPOCH};
 
 /// A socket that has this port.
 pub fn socket_at<R: Net>(rt: &R, port: u16) -> io::Result<UdpSocket> {
     UdpSocket::bind(rt, SocketAddr::from((Ipv4Addr::LOCALHOST, port)))
 }
 
-/// The first of two ports side by side that nobody has now, from this one on.
-pub fn free_ports<R: Net>(rt: &R, from: u16) -> io::Result<u16> {
-    for port in from..60_000 {
+/// A port from which to look for free ones: by the time, so that two who look at one moment hardly look at the same.
+fn first_port<R: Clock>(rt: &R) -> io::Result<u16> {
+    let time = UNIX_EPOCH.elapsed(rt)?;
+    let pair = (time.subsec_micros() % 10_000) as u16;
+    Ok(20_000 + 2 * pair)
+}
+
+/// The first of two ports side by side that nobody has now.
+pub fn free_ports<R: Net + Clock>(rt: &R) -> io::Result<u16> {
+    for port in first_port(rt)?..60_000 {
         if socket_at(rt, port).is_ok() && socket_at(rt, port + 1).is_ok() {
             return Ok(port);
         }

@@ -6,10 +6,8 @@ use std::io::Write;
 use std::net::Net;
 use std::process::{Child, Processes};
 use std::rt::{Env, Files};
+use std::time::Clock;
 use std::{env, io};
-
-/// Where the rows look for free ports.
-const PORTS: u16 = 47_000;
 
 /// Starts a rank of a job at a port, with more words behind.
 fn start_rank<R: AllocGlobal + Processes>(
@@ -37,7 +35,7 @@ fn start_rank<R: AllocGlobal + Processes>(
 }
 
 /// Two ranks of a script, each started by itself.
-fn run_pair<R: Net + Print + AllocGlobal + Processes>(
+fn run_pair<R: Net + Clock + Print + AllocGlobal + Processes>(
     rt: &R,
     itself: &str,
     title: &str,
@@ -45,7 +43,7 @@ fn run_pair<R: Net + Print + AllocGlobal + Processes>(
 ) -> io::Result<()> {
     let mut out = io::writer(rt);
     writeln!(out, "== {title}")?;
-    let port = free_ports(rt, PORTS)?;
+    let port = free_ports(rt)?;
     let first = start_rank(rt, itself, ("0", "2"), port, &[file])?;
     let second = start_rank(rt, itself, ("1", "2"), port.saturating_add(1), &[file])?;
     show(rt.alloc(), &mut out, "rank 0", first)?;
@@ -53,7 +51,7 @@ fn run_pair<R: Net + Print + AllocGlobal + Processes>(
 }
 
 /// Rank 0 of two alone.
-fn run_alone<R: Net + Print + AllocGlobal + Processes>(
+fn run_alone<R: Net + Clock + Print + AllocGlobal + Processes>(
     rt: &R,
     itself: &str,
     title: &str,
@@ -61,19 +59,19 @@ fn run_alone<R: Net + Print + AllocGlobal + Processes>(
 ) -> io::Result<()> {
     let mut out = io::writer(rt);
     writeln!(out, "== {title}")?;
-    let port = free_ports(rt, PORTS)?;
+    let port = free_ports(rt)?;
     let rank = start_rank(rt, itself, ("0", "2"), port, more)?;
     show(rt.alloc(), &mut out, "rank 0", rank)
 }
 
 /// A rank whose port is taken.
-fn run_at_a_taken_port<R: Net + Print + AllocGlobal + Processes>(
+fn run_at_a_taken_port<R: Net + Clock + Print + AllocGlobal + Processes>(
     rt: &R,
     itself: &str,
 ) -> io::Result<()> {
     let mut out = io::writer(rt);
     writeln!(out, "== a port that is taken")?;
-    let port = free_ports(rt, PORTS)?;
+    let port = free_ports(rt)?;
     let _taken = socket_at(rt, port)?;
     let rank = start_rank(rt, itself, ("0", "2"), port, &["pingpong.txt"])?;
     show(rt.alloc(), &mut out, "rank 0", rank)
@@ -93,7 +91,7 @@ fn run_words<R: Print + AllocGlobal + Processes>(
 }
 
 /// The launcher, with ports that nobody has.
-fn run_launch<R: Net + Print + AllocGlobal + Processes>(
+fn run_launch<R: Net + Clock + Print + AllocGlobal + Processes>(
     rt: &R,
     itself: &str,
     title: &str,
@@ -101,13 +99,16 @@ fn run_launch<R: Net + Print + AllocGlobal + Processes>(
 ) -> io::Result<()> {
     let mut out = io::writer(rt);
     writeln!(out, "== {title}")?;
-    let port = format!(in rt.alloc(); "{}", free_ports(rt, PORTS)?)?;
+    let port = format!(in rt.alloc(); "{}", free_ports(rt)?)?;
     let launcher = start(rt, itself, &["launch", "-baseport", port.as_str()], words)?;
     show(rt.alloc(), &mut out, "launcher", launcher)
 }
 
 /// Ranks that are started by themselves.
-fn run_ranks<R: Net + Print + AllocGlobal + Processes>(rt: &R, itself: &str) -> io::Result<()> {
+fn run_ranks<R: Net + Clock + Print + AllocGlobal + Processes>(
+    rt: &R,
+    itself: &str,
+) -> io::Result<()> {
     run_pair(rt, itself, "two ranks play ping-pong", "pingpong.txt")?;
     run_alone(
         rt,
@@ -128,7 +129,10 @@ fn run_ranks<R: Net + Print + AllocGlobal + Processes>(rt: &R, itself: &str) -> 
 }
 
 /// Ranks under the launcher.
-fn run_launches<R: Net + Print + AllocGlobal + Processes>(rt: &R, itself: &str) -> io::Result<()> {
+fn run_launches<R: Net + Clock + Print + AllocGlobal + Processes>(
+    rt: &R,
+    itself: &str,
+) -> io::Result<()> {
     run_launch(
         rt,
         itself,
@@ -170,7 +174,9 @@ fn run_launches<R: Net + Print + AllocGlobal + Processes>(rt: &R, itself: &str) 
 }
 
 /// Runs all rows.
-pub fn run_rows<R: Net + Env + Files + Print + AllocGlobal + Processes>(rt: &R) -> io::Result<()> {
+pub fn run_rows<R: Net + Clock + Env + Files + Print + AllocGlobal + Processes>(
+    rt: &R,
+) -> io::Result<()> {
     let itself = env::current_exe(rt)?;
     run_ranks(rt, itself.as_str())?;
     run_launches(rt, itself.as_str())
