@@ -12,7 +12,16 @@ ODD_LINES = [
     "stray 0", "stray 0 a", "stray 0 abc", "stray 0 AB", "stray 0 4D", "stray 0 ab cd", "stray 0 0g", "stray 0 00", "stray 00 00",
     "0", "0 frob", "00 wait null", "-1 wait null", "a wait null", "0 wait", "0 wait null null", "0 wait any", "0 wait world",
     "0 wait Q", "0 wait 1q", "0 wait q_1", "0 wait int8", "0 wait self", "0 WAIT null", "0  wait   null", " 0 wait null ",
-    "0 test q", "0 test null", "0 cancel q", "0 waitany", "0 waitany q", "0 waitall", "0 waitall q r", "0 type l contiguous 2 int8",
+    "0 test", "0 test null", "0 test null null", "0 test any", "0 cancel", "0 cancel null", "0 cancel 1", "0 waitany", "0 waitany null",
+    "0 waitany null null", "0 waitany Q", "0 waitall", "0 waitall null", "0 waitall world", "0 waitall null 1q",
+    "0 type l contiguous 2 int8", "0 type l contiguous 0 int8", "0 type l contiguous int8", "0 type l contiguous 1 2 int8",
+    "0 type l contiguous -1 int8", "0 type l contiguous 01 int8", "0 type l contiguous 1048576 int8", "0 type l contiguous 1048577 int8",
+    "0 type l contiguous 99999999999999999999 int8", "0 type l contiguous 2 Int8", "0 type int8 contiguous 2 int8",
+    "0 type world contiguous 2 int8", "0 type l vector 2 1 3 int32", "0 type l vector 2 1 int32", "0 type l vector 2 1 3 4 int32",
+    "0 type l vector 2 1 -3 int32", "0 type l vector 2 1 99999999999999999999 int32", "0 type l indexed int32", "0 type l indexed 1:2 int32",
+    "0 type l indexed 2:1 1:5 int32", "0 type l indexed 1 int32", "0 type l indexed 1: int32", "0 type l indexed :1 int32",
+    "0 type l indexed 1:2:3 int32", "0 type l indexed 1:-2 int32", "0 type l indexed 01:2 int32", "0 type l indexed 1 :2 int32",
+    "0 type l struct 1 int8", "0 type l", "0 type", "0 type l contiguous 2 world", "0 type l contiguous 2 null", "0 type l indexed 1:2",
     "0 barrier world", "0 dup d world", "0 split d world 0 0", "0 who world", "0 members world", "0 compare world self",
     "0 send world 0 0 b", "0 recv world 0 0 b", "0 print b", "0 status", "0 count l", "0 say hi", "0 fail", "on 0", "on all",
     "0 on all", "0 issend q world 0 0 b", "0 deliver 0", "0 bcast world 0 b",
@@ -29,9 +38,11 @@ ODD_LINES = [
     "0 isend q world 0 0", "0 isend q world 0 0 b b", "0 isend q world any 0 b", "0 isend q world 00 0 b",
     "0 isend q world 0 00 b", "0 isend q world 0 -1 b", "0 isend q world null any 0", "0 isend world world 0 0 b",
     "0 isend null world 0 0 b", "0 isend q null 0 0 b", "0 isend q int8 0 0 b", "0 isend q World 0 0 b", "0 isend q world 0 null b",
-    "0 isend q world 0 0 int8", "0 isend q world 0 0 b as l 1", "0 isend q world self 0 b",
+    "0 isend q world 0 0 int8", "0 isend q world 0 0 b as int32 1", "0 isend q world 0 0 b as l", "0 isend q world 0 0 b as l -1",
+    "0 isend q world 0 0 b as l 01", "0 isend q world 0 0 b as l 1 1", "0 isend q world 0 0 b at l 1", "0 isend q world 0 0 b l 1",
+    "0 isend q world self 0 b", "0 irecv q world 0 0 b as null 1", "0 irecv q world 0 0 b as byte 1",
     "0 irecv q world 0 0", "0 irecv q world x 0 b", "0 irecv q world 0 x b", "0 irecv q world 0 0 byte", "0 irecv null world 0 0 b",
-    "0 irecv q world -1 0 b", "0 irecv q world any null b", "0 irecv q world any any b as l 1",
+    "0 irecv q world -1 0 b", "0 irecv q world any null b",
     "0 wait null #", "0 wait # null", "0 # x", "deliver 0 # x",
 ]
 
@@ -49,6 +60,8 @@ FIRST_LINES = [
 UNSET = [
     "0 isend q world 0 0 nothere", "0 irecv q world 0 0 nothere", "0 wait nothere", "0 isend q world 99 0 nothere",
     "0 isend q self 0 0 okay", "0 irecv q other 0 0 okay", "0 isend q any 0 0 okay", "0 irecv q self any any okay",
+    "0 test nothere", "0 cancel nothere", "0 waitany null nothere", "0 waitall nothere null", "0 type l contiguous 2 nothere",
+    "0 isend q world 0 0 okay as nothere 1", "0 irecv q world 0 0 okay as nothere 1", "0 isend q world 99 0 okay as nothere 1",
     "0 isend q world 0 4294967303 nothere", "999 wait q", "999 isend q world 0 0 okay", "0 irecv q world null 0 nothere",
 ]
 

@@ -15,6 +15,7 @@ from rules import NotSet
 MIXED = {
     "send": 22, "receive": 18, "wait": 12, "deliver_new": 26, "deliver_any": 8, "deliver_late": 3, "lose": 3,
     "tick": 5, "restart": 1, "stray": 1, "refused_call": 3, "refused_event": 2, "set_buffer": 2, "rename": 0.3, "unblock": 6,
+    "test": 5, "cancel": 2, "wait_for_several": 5, "set_layout": 2,
 }
 THEMES = {
     "mixed": (30, {}),
@@ -26,6 +27,8 @@ THEMES = {
     "window": (7, {"deliver_new": 40, "deliver_any": 12, "tick": 3}),
     "queues": (4, {"receive": 40, "send": 40}),
     "crowd": (4, {"restart": 2}),
+    "several": (10, {"wait_for_several": 30, "receive": 34, "send": 28, "cancel": 6, "test": 12}),
+    "layouts": (10, {"set_layout": 14, "receive": 26, "send": 26}),
 }
 TAGS = [0, 1, 2, 7]
 
@@ -68,7 +71,7 @@ class Maker:
         """A line of a kind that the theme likes."""
         weights = {**MIXED, **THEMES[self.theme][1]}
         kind = self.random.choices(list(weights), list(weights.values()))[0]
-        if kind in ("send", "receive", "wait") and self.random.random() < 0.5 * len(self.blocked_ranks()) / self.size:
+        if kind in ("send", "receive", "wait", "test", "cancel", "wait_for_several") and self.random.random() < 0.5 * len(self.blocked_ranks()) / self.size:
             kind = "unblock"
         getattr(self, kind)()
 
@@ -133,6 +136,50 @@ class Maker:
             return self.random.choice(free)
         return self.a_buffer(rank)
 
+    def a_layout(self, rank):
+        """Sets a layout, and gives its name."""
+        layouts = self.world.names_of(rank).layouts
+        old = self.random.choice(list(layouts)) if layouts and self.random.random() < 0.3 else self.a_type()
+        name = self.a_name("l")
+        few = [0, 1, 1, 2, 2, 3]
+        form = self.random.choice(["contiguous", "vector", "indexed"])
+        if form == "contiguous":
+            words = [str(self.random.choice(few))]
+        elif form == "vector":
+            words = [str(self.random.choice(few)) for _ in range(2)] + [str(self.random.choice([0, 1, 2, 3, 5]))]
+        else:
+            words = [f"{self.random.choice(few)}:{self.random.choice([0, 1, 2, 4, 7])}" for _ in range(self.random.choice([0, 1, 2, 2, 3]))]
+        self.add(" ".join([str(rank), "type", name, form] + words + [old]))
+        return name
+
+    def set_layout(self):
+        """A layout; now and then one that is at a limit or above it."""
+        rank = self.a_rank()
+        if self.random.random() < 0.8:
+            self.a_layout(rank)
+            return
+        big = self.random.choice([2**20, 2**20 + 1, 2**31 - 1, 2**31, 2**32 + 1, 2**64 + 3])
+        words = self.random.choice([f"contiguous {big}", f"vector 2 1 {big}", f"vector {big} 0 1", f"vector 0 {big} 1", f"indexed 1:{big}",
+                                    f"indexed {big}:0", f"indexed 1:1 1:{big}", f"indexed 0:{big}", f"vector 1 1 {big}"])
+        self.add(f"{rank} type {self.a_name('l')} {words} {self.a_type()}")
+
+    def through(self, rank, buffer):
+        """An ending `as L N`, or none; mostly one that the buffer has room for."""
+        names = self.world.names_of(rank)
+        if buffer not in names.buffers or self.random.random() > (0.7 if self.theme == "layouts" else 0.15):
+            return ""
+        kind, values = names.buffers[buffer]
+        fit = [(name, copies) for name, layout in names.layouts.items() for copies in (0, 1, 2, 3)
+               if layout.type == kind and layout.room(copies) <= len(values) and layout.count(copies) < 2000]
+        if fit and self.random.random() < 0.85:
+            name, copies = self.random.choice(fit)
+        elif names.layouts and self.random.random() < 0.6:
+            name, copies = self.random.choice(list(names.layouts)), self.random.choice([0, 1, 1, 2, 5, 2**20, 2**40, 2**70])
+        else:
+            name = self.a_layout(rank)
+            copies = self.random.choice([0, 1, 1, 2])
+        return f" as {name} {copies}"
+
     # Calls.
 
     def set_buffer(self):
@@ -146,7 +193,11 @@ class Maker:
             buffer = self.a_buffer(rank, kind, 1024 // TYPES[kind][0])
         else:
             buffer = self.a_set_buffer(rank)
-        self.add(f"{rank} isend {self.a_name('q')} world {target} {self.a_tag()} {buffer}")
+        if self.random.random() < 0.03:
+            target = NULL
+        if not self.is_over:
+            ending = self.through(rank, buffer)
+            self.add(f"{rank} isend {self.a_name('q')} world {target} {self.a_tag()} {buffer}{ending}")
 
     def another(self, rank):
         if self.theme in ("window", "queues") and self.random.random() < 0.9:
@@ -166,9 +217,13 @@ class Maker:
             source = ANY if self.random.random() < 0.4 else message.source
             tag = ANY if self.random.random() < 0.4 else message.tag
             kind = self.a_type() if self.random.random() < 0.1 else message.type
-            longer = self.random.choices([-1, 0, 1, 2], [2, 8, 2, 1])[0]
+            longer = self.random.choices([-1, 0, 1, 2, 9], [2, 8, 2, 1, 1])[0]
             buffer = self.a_buffer(rank, kind, max(0, len(message.values) + longer))
-        self.add(f"{rank} irecv {self.a_name('r')} world {source} {tag} {buffer}")
+        if self.random.random() < 0.03:
+            source = NULL
+        if not self.is_over:
+            ending = self.through(rank, buffer)
+            self.add(f"{rank} irecv {self.a_name('r')} world {source} {tag} {buffer}{ending}")
 
     def a_message_for(self, rank):
         messages = [self.world.datagrams[number].message for number in self.new[-30:]
@@ -176,9 +231,8 @@ class Maker:
         messages += self.world.ranks[rank].unexpected[:5]
         return self.random.choice(messages) if messages else None
 
-    def wait(self, rank=None):
-        """A wait: for a finished request more often than for one that blocks the rank."""
-        rank = self.a_rank() if rank is None else rank
+    def a_request(self, rank):
+        """The name of a request: a finished one more often than one that blocks the rank."""
         requests = self.world.names_of(rank).requests
         finished = [name for name, request in requests.items() if request is not None and request.outcome is not None]
         receives = [name for name in finished if requests[name].values is not None]
@@ -187,7 +241,35 @@ class Maker:
         pools = [(receives, 40), (finished, 20), (waiting, 14), (ended, 4), ([NULL], 2)]
         pools = [(pool, weight) for pool, weight in pools if pool]
         pool = self.random.choices([pool for pool, _ in pools], [weight for _, weight in pools])[0]
-        self.add(f"{rank} wait {self.random.choice(pool)}")
+        return self.random.choice(pool)
+
+    def wait(self, rank=None):
+        rank = self.a_rank() if rank is None else rank
+        self.add(f"{rank} wait {self.a_request(rank)}")
+
+    def test(self):
+        rank = self.a_rank()
+        self.add(f"{rank} test {self.a_request(rank)}")
+
+    def cancel(self):
+        """A cancel: of a receive that waits, mostly."""
+        rank = self.a_rank()
+        waiting = [name for name, request in self.world.names_of(rank).requests.items()
+                   if request is not None and request.outcome is None]
+        name = self.random.choice(waiting) if waiting and self.random.random() < 0.7 else self.a_request(rank)
+        self.add(f"{rank} cancel {name}")
+
+    def wait_for_several(self):
+        """A wait for any or all of a list, in which now and then one stands twice."""
+        rank = self.a_rank()
+        names = [name for name, request in self.world.names_of(rank).requests.items() if request is not None]
+        self.random.shuffle(names)
+        names = names[:self.random.choice([0, 1, 2, 2, 3, 4, 8])]
+        if self.random.random() < 0.25:
+            names.insert(self.random.randrange(len(names) + 1), self.a_request(rank))
+        if self.random.random() < 0.15:
+            names.insert(self.random.randrange(len(names) + 1), NULL)
+        self.add(" ".join([str(rank), self.random.choice(["waitany", "waitall"])] + names))
 
     def unblock(self):
         """Somebody sends what a blocked rank waits for, or what comes near it, and the network brings all of it."""
@@ -195,7 +277,9 @@ class Maker:
         if not blocked:
             return
         rank = self.random.choice(blocked)
-        receive = self.world.ranks[rank].blocked
+        receive = self.awaited_receive(rank)
+        if receive is None:
+            return
         source = self.another(rank) if receive.source == ANY and self.size > 1 else receive.source
         if source in (rank, ANY) or self.world.ranks[source].blocked is not None:
             self.restart_one_of(blocked)
@@ -203,10 +287,15 @@ class Maker:
         tag = self.a_tag() if receive.tag == ANY or self.random.random() < 0.1 else receive.tag
         kind = self.a_type() if self.random.random() < 0.15 else receive.type
         shorter = self.random.choices([-1, 0, 1], [1, 6, 2])[0]
-        buffer = self.a_buffer(source, kind, min(1024 // TYPES[kind][0], max(0, len(receive.values) - shorter)))
+        buffer = self.a_buffer(source, kind, min(1024 // TYPES[kind][0], max(0, len(receive.places) - shorter)))
         if not self.is_over:
             self.add(f"{source} isend {self.a_name('q')} world {rank} {tag} {buffer}")
             self.bring(source, rank)
+
+    def awaited_receive(self, rank):
+        """A receive that a blocked rank waits for, one of several."""
+        waiting = [request for request in self.world.ranks[rank].blocked.requests if request is not None and request.outcome is None]
+        return self.random.choice(waiting) if waiting else None
 
     def bring(self, source, rank):
         """Delivers what is on its way between two ranks, the oldest first."""
@@ -248,7 +337,7 @@ class Maker:
         if kind in ("tag", "several"):
             tag = self.random.choice([2**31, 2**31 + 7, 2**32 + 7, 2**64 + 1, 10**30])
         if kind in ("rank", "several"):
-            target = self.random.choice([self.size, self.size + 1, 256, 257, 2**16, 2**32, 2**64, 10**25, NULL])
+            target = self.random.choice([self.size, self.size + 1, 256, 257, 2**16, 2**32, 2**64, 10**25])
         if kind == "absent":
             rank = self.random.choice([self.size, self.size + 3, 256, 2**32])
         sends = self.random.random() < 0.55

@@ -53,13 +53,28 @@ class SetBuffer:
 
 
 @dataclass
+class SetLayout:
+    """`form` is `contiguous`, `vector` or `indexed`; `blocks` are the pairs of the last one, length and displacement."""
+
+    rank: int
+    name: str
+    form: str
+    numbers: list
+    blocks: list
+    old: str
+
+
+@dataclass
 class Isend:
+    """`through` is the layout's name and the number of copies, or None."""
+
     rank: int
     request: str
     communicator: str
     target: object
     tag: object
     buffer: str
+    through: object = None
 
 
 @dataclass
@@ -70,12 +85,37 @@ class Irecv:
     source: object
     tag: object
     buffer: str
+    through: object = None
 
 
 @dataclass
 class Wait:
     rank: int
     request: str
+
+
+@dataclass
+class Test:
+    rank: int
+    request: str
+
+
+@dataclass
+class Cancel:
+    rank: int
+    request: str
+
+
+@dataclass
+class Waitany:
+    rank: int
+    requests: list
+
+
+@dataclass
+class Waitall:
+    rank: int
+    requests: list
 
 
 @dataclass
@@ -125,7 +165,7 @@ def number_or(word, *others):
 
 
 def name(word):
-    """A name of a buffer or of a request."""
+    """A name of a buffer, of a layout or of a request."""
     if NAME.fullmatch(word) is None or word in RESERVED:
         raise Faulty
     return word
@@ -154,6 +194,43 @@ def values(type_name, words):
     return found
 
 
+def request(word):
+    """The name of a request, or `null`."""
+    return word if word == NULL else name(word)
+
+
+def a_layout(rank, words):
+    """A layout: its name, how it is made, and the layout or the type that it is made of."""
+    if len(words) < 3:
+        raise Faulty
+    named, form, old = name(words[0]), words[1], words[-1]
+    old = old if old in TYPES else name(old)
+    between = words[2:-1]
+    if form == "indexed":
+        blocks = [tuple(number(part) for part in two_parts(word)) for word in between]
+        return SetLayout(rank, named, form, [], blocks, old)
+    if len(between) != {"contiguous": 1, "vector": 3}.get(form):
+        raise Faulty
+    return SetLayout(rank, named, form, [number(word) for word in between], [], old)
+
+
+def two_parts(word):
+    """The two parts of a block, which stand before and behind a colon."""
+    parts = word.split(":")
+    if len(parts) != 2:
+        raise Faulty
+    return parts
+
+
+def transfer(words):
+    """The words of a send or a receive without its ending, and what the ending `as L N` says, if it is there."""
+    if len(words) == 5:
+        return words, None
+    if len(words) == 8 and words[5] == "as":
+        return words[:5], (name(words[6]), number(words[7]))
+    raise Faulty
+
+
 def statement(rank, words):
     """What a rank is told to do."""
     kind, rest = words[0], words[1:]
@@ -161,16 +238,20 @@ def statement(rank, words):
         if rest[1] not in TYPES:
             raise Faulty
         return SetBuffer(rank, name(rest[0]), rest[1], values(rest[1], rest[2:]))
-    if kind == "isend" and len(rest) == 5:
-        request, communicator, target, tag, buffer = rest
-        return Isend(rank, name(request), a_communicator(communicator), number_or(target, NULL), number_or(tag, ANY),
-                     name(buffer))
-    if kind == "irecv" and len(rest) == 5:
-        request, communicator, source, tag, buffer = rest
-        return Irecv(rank, name(request), a_communicator(communicator), number_or(source, ANY, NULL),
-                     number_or(tag, ANY), name(buffer))
-    if kind == "wait" and len(rest) == 1:
-        return Wait(rank, rest[0] if rest[0] == NULL else name(rest[0]))
+    if kind == "type":
+        return a_layout(rank, rest)
+    if kind == "isend":
+        (named, communicator, target, tag, buffer), through = transfer(rest)
+        return Isend(rank, name(named), a_communicator(communicator), number_or(target, NULL), number_or(tag, ANY),
+                     name(buffer), through)
+    if kind == "irecv":
+        (named, communicator, source, tag, buffer), through = transfer(rest)
+        return Irecv(rank, name(named), a_communicator(communicator), number_or(source, ANY, NULL),
+                     number_or(tag, ANY), name(buffer), through)
+    if kind in ("wait", "test", "cancel") and len(rest) == 1:
+        return {"wait": Wait, "test": Test, "cancel": Cancel}[kind](rank, request(rest[0]))
+    if kind in ("waitany", "waitall"):
+        return {"waitany": Waitany, "waitall": Waitall}[kind](rank, [request(word) for word in rest])
     raise Faulty
 
 

@@ -21,6 +21,8 @@ HIGHEST_TAG = 2**31 - 1
 WINDOW = 64
 RESEND_AFTER = 20
 MOST_REQUESTS = 65536
+MOST_ENTRIES = 2**20
+HIGHEST_PLACE = 2**31 - 1
 LAST_INCARNATION = 65535
 
 
@@ -81,8 +83,44 @@ class Request:
     buffer_name: object = None
     type: object = None
     values: object = None
+    places: object = None  # where in the buffer a receive puts its data, in order
     source: object = None
     tag: object = None
+
+    def is_receive(self):
+        return self.values is not None
+
+
+@dataclass
+class Layout:
+    """Offsets in elements of one basic type, in order (MPI 3.1, 4.1.2)."""
+
+    type: str
+    offsets: list
+
+    def extent(self):
+        return max(self.offsets) + 1 - min(self.offsets) if self.offsets else 0
+
+    def count(self, copies):
+        return copies * len(self.offsets)
+
+    def room(self, copies):
+        """How many elements a buffer needs to have all places."""
+        return (copies - 1) * self.extent() + max(self.offsets) + 1 if copies and self.offsets else 0
+
+    def places(self, copies):
+        return [copy * self.extent() + offset for copy in range(copies if self.offsets else 0) for offset in self.offsets]
+
+    def repeats(self):
+        return len(set(self.offsets)) < len(self.offsets)
+
+
+@dataclass
+class Waiting:
+    """What a blocked call waits for: `one`, `any` or `all` of these requests; None is the null request."""
+
+    kind: str
+    requests: list
 
 
 @dataclass
@@ -98,7 +136,7 @@ class Rank:
     unexpected: list = field(default_factory=list)  # messages that wait, the oldest first
     requests: dict = field(default_factory=dict)
     serials: int = 0
-    blocked: object = None  # the request that is waited for
+    blocked: object = None  # what the blocked call waits for
 
     def incarnation_of(self, rank):
         return self.incarnation if rank == self.number else self.known.get(rank, 0)
@@ -112,6 +150,7 @@ class Names:
     """What one rank's statements named. A request that was answered is None, which is the null request."""
 
     buffers: dict = field(default_factory=dict)
+    layouts: dict = field(default_factory=dict)
     requests: dict = field(default_factory=dict)
     lent: set = field(default_factory=set)
 
@@ -138,11 +177,13 @@ def finish(receive, message):
     status = f"source {message.source} tag {message.tag} count {len(message.values)}"
     if receive.type != message.type:
         receive.outcome = f"error 2 {status}"
-    elif len(message.values) > len(receive.values):
+    elif len(message.values) > len(receive.places):
         receive.outcome = f"error 10 {status}"
     else:
         receive.outcome = status
-        receive.values = message.values + receive.values[len(message.values):]
+        receive.values = list(receive.values)
+        for place, value in zip(receive.places, message.values):
+            receive.values[place] = value
 
 
 def text_of(request):
@@ -150,6 +191,33 @@ def text_of(request):
     if request.values is None:
         return request.outcome
     return " ".join([request.outcome, "data"] + [str(value) for value in request.values])
+
+
+def blocks_of(event, extent):
+    """Where the copies of the old layout begin, by the constructor; or None where there are too many to be told."""
+    if event.form == "contiguous":
+        blocks = [(event.numbers[0], 0)]
+    elif event.form == "vector":
+        count, length, stride = event.numbers
+        if count * length > MOST_ENTRIES:
+            return None
+        blocks = [(length, place * stride) for place in range(count if length else 0)]
+    else:
+        blocks = event.blocks
+    if sum(length for length, _ in blocks) > MOST_ENTRIES:
+        return None
+    return [(displacement + copy) * extent for length, displacement in blocks for copy in range(length)]
+
+
+def layout_made(event, old):
+    """The layout that a line makes of an old one; None where it is above a limit."""
+    starts = blocks_of(event, old.extent()) if old.offsets else []
+    if starts is None or len(starts) * len(old.offsets) > MOST_ENTRIES:
+        return None
+    made = Layout(old.type, [start + offset for start in starts for offset in old.offsets])
+    if made.offsets and (max(made.offsets) > HIGHEST_PLACE or made.extent() > HIGHEST_PLACE):
+        return None
+    return made
 
 
 def is_frame(body):
@@ -243,16 +311,40 @@ class World:
         names.buffers[event.name] = (event.type, event.values)
         return None, [], None
 
+    def layout(self, rank, name):
+        """A layout that is set."""
+        layouts = self.names_of(rank).layouts
+        if name not in layouts:
+            raise NotSet
+        return layouts[name]
+
+    def on_setlayout(self, event):
+        old = Layout(event.old, [0]) if event.old in TYPES else self.layout(event.rank, event.old)
+        made = layout_made(event, old)
+        if made is None:
+            return "refused 13", [], None
+        self.names_of(event.rank).layouts[event.name] = made
+        return None, [], None
+
+    def region(self, event, kind, values):
+        """The layout and the number of copies that a send or a receive goes through: its own, or all of the buffer."""
+        if event.through is None:
+            return Layout(kind, [0]), len(values)
+        return self.layout(event.rank, event.through[0]), event.through[1]
+
     def on_isend(self, event):
         kind, values = self.buffer(event)
+        layout, copies = self.region(event, kind, values)
         if event.communicator != "world":
             raise NotSet
         rank = self.caller(event.rank)
-        self.check(self.fault_of_send(event, kind, values))
+        self.check(self.fault_of_send(event, kind, values, layout, copies))
         request = self.start(rank)
         request.outcome = "sent"
         self.names_of(event.rank).requests[event.request] = request
-        message = Message(rank.number, rank.incarnation, event.tag, kind, values)
+        if event.target == NULL:
+            return f"request {request.serial}", [], None
+        message = Message(rank.number, rank.incarnation, event.tag, kind, [values[place] for place in layout.places(copies)])
         emitted = []
         if event.target == rank.number:
             self.arrive(rank, message)
@@ -264,45 +356,106 @@ class World:
 
     def on_irecv(self, event):
         kind, values = self.buffer(event)
+        layout, copies = self.region(event, kind, values)
         if event.communicator != "world":
             raise NotSet
         rank = self.caller(event.rank)
-        self.check(self.fault_of_receive(event))
+        self.check(self.fault_of_receive(event, kind, values, layout, copies))
         request = self.start(rank)
         request.buffer_name, request.type, request.values = event.buffer, kind, values
+        request.places = layout.places(copies)
         request.source, request.tag = event.source, event.tag
         names = self.names_of(event.rank)
         names.requests[event.request] = request
         names.lent.add(event.buffer)
-        self.post(rank, request)
+        if event.source == NULL:
+            request.outcome = "source null tag any count 0"
+        else:
+            self.post(rank, request)
         return f"request {request.serial}", [], None
 
-    def on_wait(self, event):
-        names = self.names_of(event.rank)
-        if event.request != NULL and event.request not in names.requests:
+    def named(self, rank, name):
+        """The request of a name that is set; None is the null request."""
+        names = self.names_of(rank)
+        if name != NULL and name not in names.requests:
             raise NotSet
-        request = None if event.request == NULL else names.requests[event.request]
-        rank = self.caller(event.rank)
-        if request is None:
-            return "source any tag any count 0", [], None
-        if request.outcome is None:
-            rank.blocked = request
-            return "blocked", [], None
-        return self.hand_out(rank, request), [], None
+        return None if name == NULL else names.requests[name]
 
-    def fault_of_send(self, event, kind, values):
-        if len(values) * TYPES[kind][0] > MOST_EAGER_BYTES:
+    def on_wait(self, event):
+        request = self.named(event.rank, event.request)
+        return self.complete(self.caller(event.rank), Waiting("one", [request]))
+
+    def on_test(self, event):
+        request = self.named(event.rank, event.request)
+        rank = self.caller(event.rank)
+        answer = self.answer_to(rank, Waiting("one", [request]))
+        return "pending" if answer is None else answer, [], None
+
+    def on_waitany(self, event):
+        return self.wait_for_several(event, "any")
+
+    def on_waitall(self, event):
+        return self.wait_for_several(event, "all")
+
+    def wait_for_several(self, event, kind):
+        requests = [self.named(event.rank, name) for name in event.requests]
+        rank = self.caller(event.rank)
+        active = [request.serial for request in requests if request is not None]
+        if len(set(active)) < len(active):
+            raise RefusedEvent(6)
+        return self.complete(rank, Waiting(kind, requests))
+
+    def complete(self, rank, waiting):
+        answer = self.answer_to(rank, waiting)
+        if answer is None:
+            rank.blocked = waiting
+            return "blocked", [], None
+        return answer, [], None
+
+    def answer_to(self, rank, waiting):
+        """The answer of a completing call, where it is ready: the outcomes are handed out then (MPI 3.1, 3.7.3 and 3.7.5)."""
+        requests = waiting.requests
+        finished = [place for place, request in enumerate(requests) if request is not None and request.outcome is not None]
+        active = [request for request in requests if request is not None]
+        if waiting.kind == "any":
+            if not active:
+                return "index undefined"
+            return f"index {finished[0]} {self.hand_out(rank, requests[finished[0]])}" if finished else None
+        if len(finished) < len(active):
+            return None
+        texts = ["source any tag any count 0" if request is None else self.hand_out(rank, request) for request in requests]
+        return "; ".join(texts) if texts else "done"
+
+    def on_cancel(self, event):
+        """Only a receive is cancelled, and it only ends where it waits (MPI 3.1, 3.8.4)."""
+        request = self.named(event.rank, event.request)
+        rank = self.caller(event.rank)
+        if request is None or not request.is_receive():
+            raise RefusedEvent(6)
+        if request.outcome is None:
+            request.outcome = "cancelled"
+            rank.posted = [receive for receive in rank.posted if receive is not request]
+        return "done", [], None
+
+    def fault_of_send(self, event, kind, values, layout, copies):
+        if layout.type != kind:
+            return 2
+        if layout.count(copies) * TYPES[kind][0] > MOST_EAGER_BYTES or layout.room(copies) > len(values):
             return 1
         if event.tag == ANY or event.tag > HIGHEST_TAG:
             return 3
-        if event.target == NULL or event.target >= len(self.ranks):
+        if event.target != NULL and event.target >= len(self.ranks):
             return 5
         return 13 if self.is_full(event.rank) else None
 
-    def fault_of_receive(self, event):
+    def fault_of_receive(self, event, kind, values, layout, copies):
+        if layout.type != kind or layout.repeats():
+            return 2
+        if layout.room(copies) > len(values):
+            return 1
         if event.tag != ANY and event.tag > HIGHEST_TAG:
             return 3
-        if event.source == NULL or (event.source != ANY and event.source >= len(self.ranks)):
+        if event.source not in (ANY, NULL) and event.source >= len(self.ranks):
             return 5
         return 13 if self.is_full(event.rank) else None
 
@@ -419,9 +572,10 @@ class World:
         """The other rank was started anew: what was under way between the two is over."""
         rank.known[other] = incarnation
         rank.sessions[other] = Session()
-        for receive in [receive for receive in rank.posted if receive.source == other]:
-            receive.outcome = "error 11"
-            rank.posted.remove(receive)
+        for receive in rank.posted:
+            if receive.source == other:
+                receive.outcome = "error 11"
+        rank.posted = [receive for receive in rank.posted if receive.outcome is None]
         rank.unexpected = [message for message in rank.unexpected
                            if message.source != other or message.incarnation == incarnation]
 
@@ -439,12 +593,14 @@ class World:
         return []
 
     def wake(self, rank):
-        """Answers the blocked call of a rank once its request is finished."""
-        request = rank.blocked
-        if request is None or request.outcome is None:
+        """Answers the blocked call of a rank once its answer is ready."""
+        if rank.blocked is None:
+            return None
+        answer = self.answer_to(rank, rank.blocked)
+        if answer is None:
             return None
         rank.blocked = None
-        return f"{rank.number} {self.hand_out(rank, request)}"
+        return f"{rank.number} {answer}"
 
     @staticmethod
     def to(rank, other, kind, sequence, message=None):

@@ -131,9 +131,66 @@ fn elements_are_sent(rt: HostRuntime) {
     assert_eq!(rt; sent(rt.alloc(), &layout), Some(true));
 }
 
+/// The elements 0 to 71.
+fn counted(alloc: Global) -> Result<Buffer, AllocError> {
+    let mut buffer = Buffer::new(alloc, BasicType::Int32);
+    for number in 0..72 {
+        buffer.push_number(number)?;
+    }
+    Ok(buffer)
+}
+
+/// Elements of what two copies of two blocks of 16 send of 0 to 71, where the second block begins at
+/// 20: the first, those on both sides of the gap in a block and between copies, and the last.
+fn sent_blocks(alloc: Global) -> Option<[Option<u64>; 6]> {
+    let layout = int32(alloc)?.vector(alloc, 2, 16, 20).ok()?;
+    let packed = counted(alloc).ok()?.pack(alloc, &layout, 2).ok()?;
+    Some([
+        packed.get(0),
+        packed.get(15),
+        packed.get(16),
+        packed.get(32),
+        packed.get(63),
+        packed.get(64),
+    ])
+}
+
+#[test]
+fn long_blocks_are_sent(rt: HostRuntime) {
+    let elements = [Some(0), Some(15), Some(20), Some(36), Some(71), None];
+    assert_eq!(rt; sent_blocks(rt.alloc()), Some(elements));
+}
+
 /// Whether a message comes to the places of a layout in a buffer.
 fn is_received(message: &Buffer, layout: &Layout, buffer: &mut Buffer) -> bool {
     message.len() as u64 <= layout.place_count(1) && buffer.unpack(message, layout, 1).is_ok()
+}
+
+/// Elements of a buffer of 112 zeros that received 72 elements through such blocks: those on both
+/// sides of the gaps of the first copy, and the last of the message, which ends in the third copy.
+fn received_blocks(alloc: Global) -> Option<[Option<u64>; 6]> {
+    let layout = int32(alloc)?.vector(alloc, 2, 16, 20).ok()?;
+    let message = counted(alloc).ok()?;
+    let mut buffer = Buffer::new(alloc, BasicType::Int32);
+    buffer.push_copies(0, 112).ok()?;
+    if message.len() as u64 > layout.place_count(3) {
+        return None;
+    }
+    buffer.unpack(&message, &layout, 3).ok()?;
+    Some([
+        buffer.get(15),
+        buffer.get(16),
+        buffer.get(20),
+        buffer.get(36),
+        buffer.get(79),
+        buffer.get(80),
+    ])
+}
+
+#[test]
+fn long_blocks_are_received(rt: HostRuntime) {
+    let elements = [Some(15), Some(0), Some(16), Some(32), Some(71), Some(0)];
+    assert_eq!(rt; received_blocks(rt.alloc()), Some(elements));
 }
 
 /// Whether 7 and 8 come to places 1 and 2 of six.

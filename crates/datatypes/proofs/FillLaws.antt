@@ -6,11 +6,11 @@ use Rattle.std.proofs.lemmas.List.{length-append, length-take, length-drop, leng
 use Rattle.std.proofs.lemmas.Slice.{drop-append-drop}
 use Rattle.datatypes.specs.Contents.{values_of, AreWhole}
 use Rattle.datatypes.specs.ContentLaws.{no_rest, length-values_of}
-use Rattle.datatypes.specs.Layouts.{moved, places, extent_of}
+use Rattle.derived_types.specs.Layouts.{moved, places, extent_of}
 use Rattle.datatypes.specs.Transfers.{elements_at, room_for, AreNear}
-use Rattle.datatypes.proofs.LayoutLaws.{copies_at-none, length-moved, get_or-le-highest_of}
+use Rattle.derived_types.proofs.LayoutLaws.{copies_at-none, length-moved, length-copies_at, get_or-le-highest_of}
 use Rattle.datatypes.proofs.PieceLaws.{room_for-places}
-use Rattle.datatypes.proofs.PlaceLaws.{length-copies_at, places_suc}
+use Rattle.datatypes.proofs.PlaceLaws.{places_suc}
 
 -- one element more, over the next one of the rest
 pub over_more : (front old : List ℕ) (n v : ℕ) → length front ≡ n → n < length old → set (front ++ drop n old) n v ≡ (front ++ v ∷ []) ++ drop (n + 1) old

@@ -1,9 +1,7 @@
 pub mod BufferSteps
-pub mod LayoutLaws
-pub mod SpanLaws
-pub mod TransferLaws
 pub mod PieceLaws
 pub mod PlaceLaws
 pub mod RunLaws
 pub mod FillLaws
 pub mod CombinationLaws
+pub mod BlockLaws

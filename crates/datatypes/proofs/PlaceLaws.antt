@@ -5,17 +5,17 @@ use Rattle.byteorder.specs.Numbers.{length-bytes_high_first}
 use Rattle.std.proofs.Math.Nat.{div-eq_of_lt, mod-eq_of_lt, add-mul-div_right, mul-add-mod_self_right, suc-mul, zero-mul}
 use Rattle.std.proofs.Math.Seq.{take-add, take-append-add}
 use Rattle.std.proofs.lemmas.Bool.{cases_lt, ltb-false, eq-eqb}
-use Rattle.std.proofs.lemmas.List.{length-append, length-take, length-drop, get_or-drop, get_or-take, map_push, take-map, get_or-map, get_or_append_left, get_or-append_right, append_assoc, set_split, take_more, take_all, ext_get_or}
-use Rattle.std.proofs.lemmas.List.FromFn.{length-map-range_with_len, get_or-map-range_with_len, map-range_with_len_more}
+use Rattle.std.proofs.lemmas.List.{length-take, length-drop, get_or-drop, get_or-take, map_push, take-map, get_or-map, get_or_append_left, get_or-append_right, append_assoc, set_split, take_more, take_all, ext_get_or}
+use Rattle.std.proofs.lemmas.List.FromFn.{length-map-range_with_len, get_or-map-range_with_len}
 use Rattle.datatypes.specs.Contents.{Contents, values_of, AreWhole}
 use Rattle.datatypes.specs.ContentLaws.{IsBytes-take, no_rest, values_of-append, values_of-take, values_of-drop}
 use Rattle.datatypes.proofs.BufferSteps.{AreWhole-append, AreWhole-drop, AreWhole-single, single_is, element_fits}
 use Rattle.vocabulary.specs.BasicTypes.{code_of}
-use Rattle.datatypes.specs.declared.refusal.Refusal.TheVariants.{WrongType, TooShort}
-use Rattle.datatypes.specs.Layouts.{Shape, extent_of, moved, places, copies_at, has_repeats}
+use Rattle.derived_types.specs.declared.refusal.Refusal.TheVariants.{WrongType, TooShort}
+use Rattle.derived_types.specs.Layouts.{Shape, extent_of, moved, places, copies_at, has_repeats}
 use Rattle.datatypes.specs.Pieces.{piece_at}
 use Rattle.datatypes.specs.Transfers.{room_for, put_at, is_same_type, send_fault, receive_fault, unpack_fault, place_of, first_places, AreNear}
-use Rattle.datatypes.proofs.LayoutLaws.{copies_at-none, copies_at-suc, copies_at-more, length-moved}
+use Rattle.derived_types.proofs.LayoutLaws.{copies_at-suc, copies_at-more, length-moved, length-copies_at}
 use Rattle.datatypes.proofs.PieceLaws.{AreWhole-piece, near_from_room}
 
 -- ---- refusals
@@ -44,15 +44,6 @@ receive_room buffer layout copies e =
     (receive_cases (is_same_type buffer.basic layout.basic) (has_repeats layout.offsets) (ltb (length buffer.values) (room_for (places copies layout.offsets))) e)
 
 -- ---- places by number
-
-pub length-copies_at : (first count : ℕ) (xs : List ℕ) → length (copies_at first count xs) ≡ count * length xs
-length-copies_at first zero xs = ap length (copies_at-none first xs) ∙ sym (zero-mul (length xs))
-length-copies_at first (suc count) xs =
-    ap length (copies_at-suc first count xs)
-    ∙ length-append (moved (first * extent_of xs) xs) (copies_at (first + 1) count xs)
-    ∙ ap (λ (n : ℕ). n + length (copies_at (first + 1) count xs)) (length-moved (first * extent_of xs) xs)
-    ∙ ap (λ (n : ℕ). length xs + n) (length-copies_at (first + 1) count xs)
-    ∙ omega (arith, suc-mul count (length xs))
 
 later : (k l : ℕ) → 0 < l → l ≤ k → (k / l ≡ (k - l) / l + 1) × (k % l ≡ (k - l) % l)
 later k l p le =
@@ -139,7 +130,7 @@ put_at-take values (p ∷ at) (m ∷ ms) = put_at-take (set values p m) at ms
 abbrev pub with_piece : ℕ → List ℕ → ℕ → List ℕ → List ℕ
 with_piece size bytes place piece = take (place * size) bytes ++ piece ++ drop (place * size + size) bytes
 
-AreWhole-take : (size : ℕ) (bytes : List ℕ) (k : ℕ) → 0 < size → AreWhole size bytes → k * size ≤ length bytes → AreWhole size (take (k * size) bytes)
+pub AreWhole-take : (size : ℕ) (bytes : List ℕ) (k : ℕ) → 0 < size → AreWhole size bytes → k * size ≤ length bytes → AreWhole size (take (k * size) bytes)
 AreWhole-take size bytes k h w le = record {
   no_rest = no_rest size k (take (k * size) bytes) h (omega (arith, length-take (k * size) bytes));
   are_bytes = IsBytes-take (k * size) bytes w.are_bytes;

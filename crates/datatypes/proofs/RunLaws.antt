@@ -10,13 +10,13 @@ use Rattle.std.proofs.lemmas.Grind.{take-set_at}
 use Rattle.std.proofs.lemmas.List.FromFn.{length-range_with_len, get_or-range_with_len}
 use Rattle.datatypes.specs.Contents.{values_of, AreWhole}
 use Rattle.datatypes.specs.ContentLaws.{IsBytes-take, no_rest, whole, length-values_of, values_of-append, values_of-take, values_of-drop, values_of-nil}
-use Rattle.datatypes.specs.Layouts.{highest_of, lowest_of, extent_of, moved, places, copies_at}
+use Rattle.derived_types.specs.Layouts.{highest_of, lowest_of, extent_of, moved, places, copies_at}
 use Rattle.datatypes.specs.Pieces.{pieces_of}
 use Rattle.datatypes.specs.Transfers.{room_for, elements_at, put_at, first_places, AreNear}
 use Rattle.datatypes.proofs.BufferSteps.{AreWhole-append, AreWhole-drop}
-use Rattle.datatypes.proofs.LayoutLaws.{copies_at-none, copies_at-nil, copies_at-suc, extent_of-is}
+use Rattle.derived_types.proofs.LayoutLaws.{copies_at-none, copies_at-nil, copies_at-suc, length-copies_at, extent_of-is}
 use Rattle.datatypes.proofs.PieceLaws.{near_copy, near_from_room, pieces_are}
-use Rattle.datatypes.proofs.PlaceLaws.{first_places-is, length-copies_at}
+use Rattle.datatypes.proofs.PlaceLaws.{first_places-is}
 
 -- the offsets follow one another
 abbrev pub AreRun : List ℕ → Type 0
@@ -33,7 +33,7 @@ range-append a (suc m) n =
     ap (range_with_len a) s
     ∙ ap (λ (t : List ℕ). a ∷ t) (range-append (a + 1) m n ∙ ap (λ (k : ℕ). range_with_len (a + 1) m ++ range_with_len k n) e)
 
-moved_run : (by a n : ℕ) → moved by (range_with_len a n) ≡ range_with_len (by + a) n
+pub moved_run : (by a n : ℕ) → moved by (range_with_len a n) ≡ range_with_len (by + a) n
 moved_run by a zero = refl
 moved_run by a (suc n) =
     let e : by + (a + 1) ≡ by + a + 1 = omega arith in
@@ -77,7 +77,7 @@ places_run copies xs p run =
     ∙ copies_run 0 copies (get_or xs 0 0) (length xs) p
     ∙ ap (λ (k : ℕ). range_with_len k (copies * length xs)) e
 
-pieces_range : (size : ℕ) (bytes : List ℕ) (a n : ℕ) → pieces_of size bytes (range_with_len a n) ≡ take (n * size) (drop (a * size) bytes)
+pub pieces_range : (size : ℕ) (bytes : List ℕ) (a n : ℕ) → pieces_of size bytes (range_with_len a n) ≡ take (n * size) (drop (a * size) bytes)
 pieces_range size bytes a zero = rw (zero-mul size) refl
 pieces_range size bytes a (suc n) =
     let rest = drop (a * size) bytes in

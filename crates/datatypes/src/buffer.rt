@@ -1,7 +1,7 @@
 //! Elements of one basic type.
 
 ghost use Rattle.std.specs.Prelude.{◌≡◌, ◌%◌, ◌*◌, ◌^◌, ◌<◌, ◌≤◌, ◌↔◌, ◌++◌, ◌∷◌, [], length, drop, replicate, slice_get, slice_index, slice_set, None, IsTrue, IfOk, OnOk, OnErr};
-ghost use Rattle.datatypes.specs.Layouts.{places};
+ghost use Rattle.derived_types.specs.Layouts.{places};
 ghost use Rattle.datatypes.specs.Transfers.{send_fault, receive_fault, unpack_fault, elements_at, put_at, first_places, AreNear, PackGives, UnpackGives};
 ghost use Rattle.vocabulary.specs.BasicTypes.{size_of};
 ghost use Rattle.datatypes.specs.Combinations.{combined_values, IsLike};
@@ -10,9 +10,8 @@ ghost use Rattle.datatypes.specs.Contents.{values_of, bytes_of, AreWithin};
 use crate::bytes::{append_copies, append_number, number_at, put_number, put_over};
 use crate::combining::{PairOp, combine_bytes};
 use crate::gathering::gathered;
-use crate::layout::Layout;
 use crate::placing::put_places;
-use crate::refusal::Refusal;
+use derived_types::{Layout, Refusal};
 use std::alloc::{AllocError, Global};
 use std::marker::Model;
 use vocabulary::BasicType;
@@ -89,6 +88,7 @@ impl Buffer {
     {
         self.bytes.as_slice()
     }
+
     /// The element at a place, as the unsigned number that its bytes are.
     pub fn get(&self, place: usize) -> Option<u64>
         ensures { result ≡ slice_get self.now.values place }
@@ -133,6 +133,7 @@ impl Buffer {
         let size = usize::from(self.basic.size());
         append_number(&mut self.bytes, number, size)
     }
+
     /// Appends an element so many times, given as the unsigned number that its bytes are.
     pub fn push_copies(&mut self, number: u64, count: usize) -> Result<(), AllocError>
         requires { number < 256 ^ size_of self.old.basic }
@@ -144,6 +145,7 @@ impl Buffer {
         let size = usize::from(self.basic.size());
         append_copies(&mut self.bytes, number, size, count)
     }
+
     /// Why so many copies of the layout can't be sent from this buffer, where they can't: the basic
     /// types differ, or the buffer is too short.
     #[tactic(auto, unfolding(crate::specs::Transfers::send_fault))]
@@ -213,6 +215,7 @@ impl Buffer {
             bytes,
         })
     }
+
     /// Puts the message at the first places of so many copies of the layout, in order; each other
     /// element stays as it was (MPI 3.1, 3.2.4 and 4.1.11). A message that is longer than the places
     /// is the caller's to end.
@@ -261,6 +264,7 @@ impl Buffer {
             count,
         );
     }
+
     /// The element at a place, as the unsigned number that its bytes are.
     pub fn number(&self, place: usize) -> u64
         requires { place < length self.now.values }

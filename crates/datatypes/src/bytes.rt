@@ -99,6 +99,23 @@ pub fn copy_within(bytes: &mut [u8], at: usize, piece: &[u8])
     bytes[at..at + piece.len()].copy_from_slice(piece);
 }
 
+/// Puts the number in `size` bytes over the first ones. Numbers of four bytes are written as such, so
+/// that a loop keeps as many of them at once as it can.
+#[inline(always)]
+fn write_number(bytes: &mut [u8], number: u64, size: usize)
+    requires low { 1 ≤ size }
+    requires high { size ≤ 8 }
+    requires room { size ≤ length bytes.old }
+    requires fits { number < 256 ^ size }
+    ensures { bytes.new ≡ big_bytes size number ++ drop size bytes.old }
+{
+    if size == 4 {
+        BigEndian::write_u32(bytes, number as u32);
+    } else {
+        BigEndian::write_uint(bytes, number, size);
+    }
+}
+
 /// Puts the number in `size` bytes at a place of a slice, where each place has `size` bytes.
 #[inline(always)]
 pub fn put_number_at(bytes: &mut [u8], number: u64, size: usize, place: usize)
@@ -112,7 +129,7 @@ pub fn put_number_at(bytes: &mut [u8], number: u64, size: usize, place: usize)
     ensures values { values_of size bytes.new ≡ slice_set (values_of size bytes.old) place number }
 {
     let mut room = [0; 8];
-    BigEndian::write_uint(&mut room, number, size);
+    write_number(&mut room, number, size);
     copy_within(bytes, place * size, piece(&room, size, 0));
 }
 

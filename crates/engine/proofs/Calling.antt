@@ -8,7 +8,7 @@ use Rattle.rank_core.specs.Calls.{Answers, IsTaken, NeedsMemory, call_fault, cal
 use Rattle.rank_core.specs.CoreState.{CoreState}
 use Rattle.rank_core.specs.Refusals.{IsRefusal}
 use Rattle.sessions.specs.SessionsState.{SessionsState}
-use Rattle.engine.specs.Calls.{CallGives, FrameGives, IsAnswered, IsRefused, WhyRefused, fault_of, frame_limit}
+use Rattle.engine.specs.Calls.{CallGives, FrameGives, IsAnswered, WhyRefused, frame_limit}
 use Rattle.engine.specs.EngineState.{EngineState}
 use Rattle.engine.specs.Refusals.{first_fault}
 
@@ -35,9 +35,9 @@ by_limit (Some fault) call why need is = is
 by_limit None call why need is = (is, need)
 
 -- the limit of its frame, or want of memory, refuses a call that the core would take
-pub refused_on_the_way : (c d : CoreState) (s t : SessionsState) (call : Call) (why : Refused) → call_fault c call ≡ None → NeedsMemory call → d ≡ c →
-    FrameGives s (call_frame c call) (Err why) t → CallGives (joined c s) call (replies.Refused why call) (joined d t)
-refused_on_the_way c d s t call why none need kept gives =
+pub refused_on_the_way : (A : Type 0) (c d : CoreState) (s t : SessionsState) (call : Call) (why : Refused) → call_fault c call ≡ None → NeedsMemory call → d ≡ c →
+    FrameGives {A = A} s (call_frame c call) (Err why) t → CallGives (joined c s) call (replies.Refused why call) (joined d t)
+refused_on_the_way A c d s t call why none need kept gives =
     record {
       handed = refl;
       unchanged = both kept gives.0;
@@ -49,13 +49,15 @@ refused_on_the_way c d s t call why none need kept gives =
 taken_gives : (old new : EngineState) (call : Call) (reply : Reply) → IsTaken reply → IsAnswered old call reply new → CallGives old call reply new
 taken_gives old new call (replies.Started r) taken is = is
 taken_gives old new call (replies.Done o) taken is = is
+taken_gives old new call replies.Pending taken is = is
+taken_gives old new call replies.Accepted taken is = is
 taken_gives old new call replies.Blocked taken is = is
 taken_gives old new call (replies.Refused why back) taken is = absurd taken
 
 -- the core answers a call, and its frame is on its way
-pub answered : (c mid d : CoreState) (s t : SessionsState) (call : Call) (reply : Reply) → call_fault c call ≡ None → mid ≡ c → IsTaken reply →
-    FrameGives s (call_frame c call) (Ok tt) t → Answers mid call reply d → CallGives (joined c s) call reply (joined d t)
-answered c mid d s t call reply none kept taken sent answers =
+pub answered : {A : Type 0} (ready : A) (c mid d : CoreState) (s t : SessionsState) (call : Call) (reply : Reply) → call_fault c call ≡ None → mid ≡ c → IsTaken reply →
+    FrameGives s (call_frame c call) (Ok ready) t → Answers mid call reply d → CallGives (joined c s) call reply (joined d t)
+answered ready c mid d s t call reply none kept taken sent answers =
     taken_gives (joined c s) (joined d t) call reply taken (record {
       allowed = ap (λ (f : Option Refused). first_fault f (frame_limit s (call_frame c call))) none ∙ sent.0;
       core = subst (λ (x : CoreState). Answers x call reply d) kept answers;

@@ -1,5 +1,5 @@
 -- What is heard in a datagram: at which incarnation its source is known then, and what a refusal leaves.
-use Rattle.std.proofs.Common.{◌≡◌, ◌⊎◌, ◌<◌, ◌++◌, ℕ, List, length, max, Option, Some, None, Result, Ok, Err, Bool, true, false, refl, sym, ap, subst, ◌∙◌, arith, append-nil, inl, inr}
+use Rattle.std.proofs.Common.{◌≡◌, ◌<◌, ℕ, List, length, max, Option, Some, None, Result, Ok, Err, Bool, true, false, refl, sym, ap, subst, ◌∙◌, arith, append-nil, inl, inr}
 use Rattle.std.proofs.lemmas.Grind.{common_steps}
 use Rattle.std.proofs.lemmas.List.{get_or-set_same}
 use Rattle.std.specs.Prelude.{OnOk, slice_index}
@@ -25,7 +25,7 @@ use Rattle.sessions.specs.Heard.{WordText, Acknowledges, Repeats, Hands, Nothing
 use Rattle.sessions.specs.Events.{TurnedAway, taught_known}
 use Rattle.engine.specs.EngineState.{EngineState}
 use Rattle.engine.specs.Refusals.{of_sessions}
-use Rattle.engine.specs.Datagrams.{DatagramGives, HeardGives, HearingGives, RefusedDatagramLeaves, SourceIsKnown, TurnedAwayGives, says_nothing}
+use Rattle.engine.specs.Datagrams.{DatagramGives, HeardGives, HearingGives, RefusedDatagramLeaves, SourceIsKnown, says_nothing}
 use Rattle.engine.proofs.Calling.{both, joined}
 
 -- ---- what says nothing new
@@ -112,6 +112,7 @@ heard_is_known old new bytes h (Ok x) each heard gives = λ d is.
 -- it changes nothing
 left_as_it_was : (r : Refused) (old new : EngineState) → new ≡ old → RefusedDatagramLeaves (Err r) old new
 left_as_it_was refusals.Count old new is = is
+left_as_it_was refusals.WrongType old new is = is
 left_as_it_was refusals.Tag old new is = is
 left_as_it_was refusals.Rank old new is = is
 left_as_it_was refusals.Request old new is = is

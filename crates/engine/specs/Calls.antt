@@ -31,7 +31,7 @@ frame_limit s None = None
 frame_limit s (Some f) = fault_of_sessions (event_limit s None (sendings_of (Some f)))
 
 -- the frame is on its way; or the limit, or want of memory, refused it
-abbrev pub FrameGives : SessionsState → Option FrameFor → Result (Unit {0}) Refused → SessionsState → Type 0
+abbrev pub FrameGives : {A : Type 0} → SessionsState → Option FrameFor → Result A Refused → SessionsState → Type 0
 FrameGives s f (Ok x) t = (frame_limit s f ≡ None) × (t ≡ after_frame s f)
 FrameGives s f (Err e) t = (t ≡ s) × IsRefusal (frame_limit s f) e
 
@@ -63,6 +63,8 @@ abbrev pub CallGives : EngineState → Call → Reply → EngineState → Type 0
 CallGives old call (replies.Refused why back) new = IsRefused old call why back new
 CallGives old call (replies.Started r) new = IsAnswered old call (replies.Started r) new
 CallGives old call (replies.Done o) new = IsAnswered old call (replies.Done o) new
+CallGives old call replies.Pending new = IsAnswered old call replies.Pending new
+CallGives old call replies.Accepted new = IsAnswered old call replies.Accepted new
 CallGives old call replies.Blocked new = IsAnswered old call replies.Blocked new
 
 -- a refused call leaves the engine as it was
@@ -70,4 +72,6 @@ abbrev pub RefusedLeaves : Reply → EngineState → EngineState → Type 0
 RefusedLeaves (replies.Refused e back) old new = new ≡ old
 RefusedLeaves (replies.Started r) old new = Unit {0}
 RefusedLeaves (replies.Done o) old new = Unit {0}
+RefusedLeaves replies.Pending old new = Unit {0}
+RefusedLeaves replies.Accepted old new = Unit {0}
 RefusedLeaves replies.Blocked old new = Unit {0}

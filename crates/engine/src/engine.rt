@@ -12,7 +12,7 @@ use crate::refusals::of_sessions;
 use datagram::Bytes;
 use incarnation::Place;
 use rank_core::{Core, Refused};
-use requests::Outcome;
+use requests::Answer;
 use sessions::{Session, Sessions};
 use std::alloc::Global;
 use std::marker::Model;
@@ -91,7 +91,7 @@ impl Engine {
 
     /// Hands out the answer of a blocked call, once, after the event in which it was ready. An answer that isn't taken is
     /// lost when the next one comes.
-    pub fn take_completion(&mut self) -> Option<Outcome>
+    pub fn take_completion(&mut self) -> Option<Answer>
         ensures completion { result ≡ self.old.core.completion }
         ensures rest { self.new ≡ without_completion self.old }
     {

@@ -14,10 +14,10 @@ mod datagrams;
 mod engine;
 mod refusals;
 
-pub use datatypes::Buffer;
+pub use datatypes::{Buffer, Layout};
 pub use engine::Engine;
 pub use incarnation::Place;
 pub use rank_core::{Call, Handed, Receive, Refused, Reply, Send};
-pub use requests::{Outcome, Request};
+pub use requests::{Answer, Outcome, Outcomes, Places, Region, Request, RequestList};
 pub use sessions::{MOST_RANKS, Peer, Session};
 pub use vocabulary::{Source, Status};

@@ -3,7 +3,7 @@
 
 use datatypes::Buffer;
 use engine::{Call, Engine, Place, Receive, Refused, Reply, Send, Session};
-use requests::{Outcome, Request};
+use requests::{Answer, Outcome, Region, Request, RequestList};
 use std::alloc::Global;
 use vocabulary::{BasicType, Endpoint, Source};
 
@@ -43,9 +43,9 @@ fn started(reply: Reply) -> Option<Request> {
 
 fn start_send(alloc: Global, engine: &mut Engine) -> Option<Request> {
     let call = Call::Isend(Send {
-        target: Some(1),
-        tag: 3,
-        elements: copies(alloc, 7, 1)?,
+        target: Source::Rank(1),
+        tag: Some(3),
+        from: Region::whole(copies(alloc, 7, 1)?),
     });
     started(engine.call(call.try_clone(alloc).ok()?))
 }
@@ -54,7 +54,7 @@ fn start_receive(alloc: Global, engine: &mut Engine, source: Source) -> Option<R
     let call = Call::Irecv(Receive {
         source,
         tag: None,
-        buffer: copies(alloc, 0, 2)?,
+        into: Region::whole(copies(alloc, 0, 2)?),
     });
     started(engine.call(call))
 }
@@ -62,9 +62,9 @@ fn start_receive(alloc: Global, engine: &mut Engine, source: Source) -> Option<R
 /// A send of rank 0 to itself, of no elements.
 fn send_to_itself(alloc: Global) -> Call {
     Call::Isend(Send {
-        target: Some(0),
-        tag: 3,
-        elements: Buffer::new(alloc, BasicType::Uint8),
+        target: Source::Rank(0),
+        tag: Some(3),
+        from: Region::whole(Buffer::new(alloc, BasicType::Uint8)),
     })
 }
 
@@ -100,23 +100,23 @@ fn deliver_twice(from: &mut Engine, to: &mut Engine) -> Option<()> {
     Some(())
 }
 
-fn received_count(outcome: Option<Outcome>) -> Option<u64> {
-    match outcome {
-        Some(Outcome::Received(status, _buffer)) => Some(status.count),
+fn received_count(answer: Option<Answer>) -> Option<u64> {
+    match answer {
+        Some(Answer::One(Outcome::Received(status, _buffer))) => Some(status.count),
         _ => None,
     }
 }
 
-fn is_replaced(outcome: Option<Outcome>) -> bool {
-    match outcome {
-        Some(Outcome::Replaced(Some(_buffer))) => true,
+fn is_replaced(answer: Option<Answer>) -> bool {
+    match answer {
+        Some(Answer::One(Outcome::Replaced(Some(_buffer)))) => true,
         _ => false,
     }
 }
 
 fn done_count(reply: Reply) -> Option<u64> {
     match reply {
-        Reply::Done(outcome) => received_count(Some(outcome)),
+        Reply::Done(answer) => received_count(Some(answer)),
         _ => None,
     }
 }
@@ -263,7 +263,7 @@ fn number_of_refusal(reply: Reply) -> Option<u8> {
 
 fn is_sent(reply: Reply) -> bool {
     match reply {
-        Reply::Done(Outcome::Sent) => true,
+        Reply::Done(Answer::One(Outcome::Sent)) => true,
         _ => false,
     }
 }
@@ -286,6 +286,119 @@ fn limit(alloc: Global) -> Option<(u64, Option<u8>, bool, u64)> {
 #[test]
 fn a_rank_has_65536_requests_at_one_time(rt: HostRuntime) {
     assert_eq!(rt; limit(rt.alloc()), Some((65_535, Some(13), true, 65_536)));
+}
+
+fn list_of(alloc: Global, first: Request, second: Request) -> Option<RequestList> {
+    let requests = vec![in alloc; Some(first), None, Some(second)].ok()?;
+    RequestList::new(alloc, requests).ok()
+}
+
+/// The place that a wait for any answers, if a send has ended there.
+fn place_of_sent(reply: Reply) -> Option<usize> {
+    match reply {
+        Reply::Done(Answer::Index(place, Outcome::Sent)) => Some(place),
+        _ => None,
+    }
+}
+
+/// How many outcomes a wait for all answers.
+fn outcome_count(answer: Option<Answer>) -> Option<usize> {
+    match answer {
+        Some(Answer::All(outcomes)) => Some(outcomes.as_slice().len()),
+        _ => None,
+    }
+}
+
+fn is_pending(engine: &mut Engine, request: Request) -> bool {
+    match engine.call(Call::Test(Some(request))) {
+        Reply::Pending => true,
+        _ => false,
+    }
+}
+
+fn is_accepted(reply: Reply) -> bool {
+    match reply {
+        Reply::Accepted => true,
+        _ => false,
+    }
+}
+
+fn is_cancelled(answer: Option<Answer>) -> bool {
+    match answer {
+        Some(Answer::One(Outcome::Cancelled(_buffer))) => true,
+        _ => false,
+    }
+}
+
+fn done(reply: Reply) -> Option<Answer> {
+    match reply {
+        Reply::Done(answer) => Some(answer),
+        _ => None,
+    }
+}
+
+/// Whether a receive is unfinished at first, a cancel of it is taken, and it is cancelled then.
+fn cancel(alloc: Global) -> Option<(bool, bool, bool)> {
+    let mut engine = rank_of_two(alloc, 0, 0).ok()?;
+    let receive = start_receive(alloc, &mut engine, Source::Any)?;
+    let pending = is_pending(&mut engine, receive);
+    let accepted = is_accepted(engine.call(Call::Cancel(Some(receive))));
+    let answer = done(engine.call(Call::Test(Some(receive))));
+    Some((pending, accepted, is_cancelled(answer)))
+}
+
+#[test]
+fn a_receive_is_tested_and_cancelled(rt: HostRuntime) {
+    assert_eq!(rt; cancel(rt.alloc()), Some((true, true, true)));
+}
+
+/// Where a send is the only one of a list that is finished, and how many outcomes a wait for two receives has once both
+/// messages came.
+fn wait_for_several(
+    alloc: Global,
+    sender: &mut Engine,
+    receiver: &mut Engine,
+) -> Option<(Option<usize>, Option<usize>)> {
+    let first = start_receive(alloc, receiver, Source::Any)?;
+    let second = start_receive(alloc, receiver, Source::Rank(0))?;
+    let sent = started(receiver.call(send_to_nobody(alloc)))?;
+    let place = place_of_sent(receiver.call(Call::Waitany(list_of(alloc, first, sent)?)));
+    if !is_blocked_by(receiver, Call::Waitall(list_of(alloc, second, first)?)) {
+        return None;
+    }
+    let _first = start_send(alloc, sender)?;
+    deliver(sender, receiver)?;
+    let _second = start_send(alloc, sender)?;
+    deliver(sender, receiver)?;
+    Some((place, outcome_count(receiver.take_completion())))
+}
+
+fn send_to_nobody(alloc: Global) -> Call {
+    Call::Isend(Send {
+        target: Source::Null,
+        tag: Some(3),
+        from: Region::whole(Buffer::new(alloc, BasicType::Uint8)),
+    })
+}
+
+fn is_blocked_by(engine: &mut Engine, call: Call) -> bool {
+    match engine.call(call) {
+        Reply::Blocked => true,
+        _ => false,
+    }
+}
+
+fn several(alloc: Global) -> Option<(Option<usize>, Option<usize>)> {
+    let mut ranks = two_ranks(alloc, 0, 0)?;
+    match ranks.as_mut_slice() {
+        [sender, receiver] => wait_for_several(alloc, sender, receiver),
+        _ => None,
+    }
+}
+
+#[test]
+fn several_requests_are_waited_for(rt: HostRuntime) {
+    assert_eq!(rt; several(rt.alloc()), Some((Some(2), Some(3))));
 }
 
 #[test]

@@ -12,5 +12,6 @@ mod verb;
 pub use file::{EventFile, Line, Lines, Statement};
 pub use parsing::parse;
 pub use statements::{
-    Action, BufferLine, Communicator, Name, ParseError, Receiving, Requested, Sending, Tag, Target,
+    Action, Blocks, BufferLine, Communicator, LayoutForm, LayoutLine, Name, OldLayout, ParseError,
+    Receiving, Requested, RequestedList, Sending, Stripes, Through,
 };

@@ -17,6 +17,9 @@ const SHORT_WAITS: u64 = 16;
 /// The time between two later looks, in milliseconds.
 const LONG_WAIT: i32 = 20;
 
+/// How many bytes of output are read at a time.
+const ROOM: usize = 16_384;
+
 /// What is ready to be read.
 #[derive(Clone, Copy, Debug)]
 struct Ready {
@@ -45,7 +48,7 @@ fn wait_for(fd: RawFd, time: i32) -> Ready {
 /// Adds what the program writes to the output, until it closes its output. An error where the
 /// launcher is gone, or memory runs out.
 pub fn collect<P: Read + AsRawFd>(pipe: &mut P, output: &mut Vec<u8>) -> io::Result<()> {
-    let mut room = [0u8; 65_536];
+    let mut room = [0u8; ROOM];
     for _ in 0..u64::MAX {
         let ready = wait_for(pipe.as_raw_fd(), -1);
         if ready.launcher {

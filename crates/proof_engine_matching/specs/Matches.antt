@@ -1,5 +1,5 @@
 -- What is taken from an engine's queues, and what from a core's jobs.
-use Rattle.std.specs.Prelude.{◌≡◌, ℕ, ◌⊎◌, false, List, [], ◌∷◌, ◌++◌, map, Some, None, slice_get, slice_set}
+use Rattle.std.specs.Prelude.{◌≡◌, ℕ, ◌⊎◌, List, [], ◌∷◌, ◌++◌, map, Some, None, slice_get, slice_set}
 use Rattle.match_queues.specs.declared.envelope.Message.{Message}
 use Rattle.match_queues.specs.declared.queues.Arrival.TheVariants.{Kept, Matched}
 use Rattle.match_queues.specs.Arrivals.{arrival_of}
@@ -7,14 +7,12 @@ use Rattle.match_queues.specs.State.{State, after_arrival, after_post, message_a
 use Rattle.requests.specs.Outcomes.{outcome_of}
 use Rattle.rank_core.specs.declared.call.Receive as engine_receive
 use Rattle.rank_core.specs.Receiving.{posted_by, status_of}
-use Rattle.perfect_queues.specs.Calls.{Irecv}
 use Rattle.perfect_queues.specs.Outcomes.{Outcome, outcome}
 use Rattle.perfect_queues.specs.Receives.{Receive}
-use Rattle.perfect_queues.specs.Refusals.{is_count_wrong, is_type_wrong}
 use Rattle.proof_pure_network.specs.Held.{Held, full}
 use Rattle.proof_pure_network.specs.Jobs.{Over, Waiting, oldest_posted}
 use Rattle.proof_pure_network.specs.Matching.{found}
-use Rattle.proof_engine_view.specs.Rows.{IsWhole, Row, contents_of, held_of, jobs_of, posted_rows}
+use Rattle.proof_engine_view.specs.Rows.{IsOnWorld, Row, held_of, jobs_of, posted_rows}
 use Rattle.proof_engine_view.specs.Seen.{outcome_seen, receive_seen}
 
 -- the message waits behind the others
@@ -57,14 +55,8 @@ PostsMatch =
     (old : State) (v : engine_receive.Receive) (key : ℕ) →
     FindsNone old v key ⊎ ((m : Message) × (earlier : List Held) × (later : List Held) × Finds old v key m earlier later)
 
--- a receive ends alike
+-- a receive on world ends alike
 abbrev pub OutcomesAgree : Type 0
 OutcomesAgree =
-    (p : Receive) (m : Message) → IsWhole p →
-    outcome p (full (held_of m) m.elements.values) ≡ outcome_seen (outcome_of (contents_of p) (status_of m) m.elements)
-
--- a receive into a whole buffer names no place twice, and none beyond its end
-abbrev pub ReceivesFit : Type 0
-ReceivesFit =
-    (v : engine_receive.Receive) →
-    (is_type_wrong (Irecv (receive_seen v)) ≡ false) × (is_count_wrong (Irecv (receive_seen v)) ≡ false)
+    (p : Receive) (m : Message) → IsOnWorld p →
+    outcome p (full (held_of m) m.elements.values) ≡ outcome_seen (outcome_of p.into (status_of m) m.elements)

@@ -1,13 +1,11 @@
 //! The law of matching.
 
-ghost use Rattle.proof_engine_matching.specs.Matches.{ArrivalsMatch, PostsMatch, OutcomesAgree, ReceivesFit};
+ghost use Rattle.proof_engine_matching.specs.Matches.{ArrivalsMatch, PostsMatch, OutcomesAgree};
 
 /// States that a message that arrives takes the same receive from an engine's queues as from a core's jobs, that a receive
-/// that is posted takes the same message, that both end a receive alike, and that a receive into a whole buffer breaks no
-/// rule on layouts. It does nothing when it is called.
+/// that is posted takes the same message, and that both end a receive alike. It does nothing when it is called.
 pub fn queues_match_alike()
     ensures arrivals { ArrivalsMatch }
     ensures posts { PostsMatch }
     ensures outcomes { OutcomesAgree }
-    ensures receives { ReceivesFit }
 {}

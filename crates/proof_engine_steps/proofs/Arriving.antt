@@ -1,11 +1,8 @@
 -- A message that comes: to the queues, the slots and the rows of a rank, and to its core.
 use Rattle.std.proofs.Common.{◌≡◌, ℕ, List, [], ◌∷◌, ◌++◌, map, length, Option, Some, None, slice_get, slice_set, refl, sym, ap, ◌∙◌, subst, ◌⊎◌, inl, inr}
-use Rattle.std.proofs.lemmas.Bool.{cases_eq}
 use Rattle.std.proofs.lemmas.List.{length-set, map-append}
-use Rattle.std.proofs.lemmas.Option.{same_Some}
 use Rattle.datatypes.specs.Contents.{Contents}
-use Rattle.perfect_queues.proofs.ListLemmas.{get_set_other}
-use Rattle.perfect_queues.specs.Completions.{Awaited}
+use Rattle.perfect_queues.specs.Buffers.{Handed}
 use Rattle.perfect_queues.specs.Outcomes as machine
 use Rattle.perfect_queues.specs.Receives.{Receive}
 use Rattle.vocabulary.specs.declared.envelope.Status.{Status}
@@ -18,21 +15,20 @@ use Rattle.requests.specs.Table.{after_finish, after_message, entry_after, progr
 use Rattle.requests.specs.declared.table.Entry.{Entry}
 use Rattle.requests.specs.declared.table.Progress.{Progress}
 use Rattle.requests.specs.declared.table.Progress.TheVariants.{Receiving, Finished}
-use Rattle.requests.specs.declared.table.Request.{Request}
 use Rattle.rank_core.specs.CoreState.{CoreState}
 use Rattle.rank_core.specs.Receiving.{slots_on_arrival, status_of}
 use Rattle.rank_core.specs.Sending as rank
-use Rattle.proof_pure_network.proofs.JobLemmas.{get_set_same}
 use Rattle.proof_pure_network.specs.Core.{Core, Effect}
 use Rattle.proof_pure_network.specs.Held.{Held, full}
 use Rattle.proof_pure_network.specs.Jobs.{Job, Over, Waiting, oldest_posted}
 use Rattle.proof_pure_network.specs.Matching.{arrived, arrived_at}
-use Rattle.proof_engine_view.specs.Rows.{Fits, Holds, IsTable, IsWhole, Row, contents_of, held_of, jobs_of, posted_rows}
+use Rattle.proof_engine_view.specs.Rows.{Fits, Holds, IsOnWorld, IsTable, Row, held_of, jobs_of, posted_rows}
 use Rattle.proof_engine_view.specs.Seen.{outcome_seen}
 use Rattle.proof_engine_matching.specs.Matches.{ArrivalsMatch, IsKept, IsMatchedTo, OutcomesAgree}
+use Rattle.proof_engine_steps.proofs.Named.{NamedStay, named_same, named_set}
 use Rattle.proof_engine_steps.proofs.RowLemmas.{set_jobs}
 use Rattle.proof_engine_steps.proofs.Tables.{Says, changed_table, held_at, says_some, set_is_set}
-use Rattle.proof_engine_steps.proofs.Waking.{Holding, IsAwaited, IsOpen, known_still}
+use Rattle.proof_engine_steps.proofs.Waking.{Holding, known_still}
 
 -- what a message leaves of the rows
 pub record Arrives (rows : List Row) (slots : List (Option Entry)) (queues : State) (core : Core) (after : Effect) : Type 0 where
@@ -45,7 +41,7 @@ pub record Arrives (rows : List Row) (slots : List (Option Entry)) (queues : Sta
   pub blocked : after.core.blocked ≡ core.blocked
   pub known : after.core.known ≡ core.known
   pub sends : after.out ≡ []
-  pub waits : (k key : ℕ) → IsOpen rows k key → IsOpen left k key
+  pub waits : NamedStay rows left
 
 -- it waits behind the others
 arrives_kept : (rows : List Row) (slots : List (Option Entry)) (queues : State) (core : Core) (m : Message) →
@@ -62,18 +58,18 @@ arrives_kept rows slots queues core m js table po he =
       blocked = refl;
       known = refl;
       sends = refl;
-      waits = λ k key h. h;
+      waits = named_same rows;
     }
 
--- a receive that waits is into a whole buffer
-whole_of : (g : Progress) (p : Receive) → Fits g (Waiting p) → IsWhole p
-whole_of (Receiving b) p f = f.1
-whole_of (Finished o) p f = absurd f
+-- a receive that waits is on world
+on_world : (g : Progress) (p : Receive) → Fits g (Waiting p) → IsOnWorld p
+on_world (Receiving r) p f = f.1
+on_world (Finished o) p f = absurd f
 
 -- what the message makes of the entry is what it makes of the job
-finished_fits : (g : Progress) (p : Receive) (status : Status) (c : Contents) (x : machine.Outcome) → Fits g (Waiting p) → x ≡ outcome_seen (outcome_of (contents_of p) status c) →
+finished_fits : (g : Progress) (p : Receive) (status : Status) (c : Contents) (x : machine.Outcome) → Fits g (Waiting p) → x ≡ outcome_seen (outcome_of p.into status c) →
     Fits (progress_after g status c) (Over x)
-finished_fits (Receiving b) p status c x f h = h ∙ ap (λ (y : Contents). outcome_seen (outcome_of y status c)) (sym f.0)
+finished_fits (Receiving r) p status c x f h = h ∙ ap (λ (y : Handed). outcome_seen (outcome_of y status c)) f.0
 finished_fits (Finished o) p status c x f h = absurd f
 
 -- an entry with the serial, that fits the job, says the same
@@ -93,13 +89,13 @@ arrives_matched agree rows slots queues core m k key p js table he row po =
       table = subst (λ (t : List (Option Entry)). IsTable t (slice_set rows k over)) (sym finish)
           (changed_table slots (slice_set slots key (Some after)) rows k key (Waiting p) (Over x) (Some after) table row (λ e. cc)
           (set_is_set slots key mine.entry (Some after) mine.there)
-          (says_entry after k (Over x) mine.serial_is (finished_fits mine.entry.progress p (status_of m) m.elements x mine.fits (agree p m (whole_of mine.entry.progress p mine.fits)))));
+          (says_entry after k (Over x) mine.serial_is (finished_fits mine.entry.progress p (status_of m) m.elements x mine.fits (agree p m (on_world mine.entry.progress p mine.fits)))));
       posted = po x;
       held = he;
       blocked = refl;
       known = refl;
       sends = refl;
-      waits = λ j other h. stays j other (cases_eq j k) h;
+      waits = named_set rows k key (Waiting p) (Over x) row (λ e. cc);
     }
   where
     x : machine.Outcome
@@ -116,27 +112,6 @@ arrives_matched agree rows slots queues core m k key p js table he row po =
 
     finish : after_finish slots key (status_of m) m.elements ≡ slice_set slots key (Some after)
     finish = ap (λ (s : Option Entry). entry_after s slots key (status_of m) m.elements) mine.there
-
-    waits : (j other : ℕ) (q : Receive) → (j ≡ k) ⊎ (j ≡ k → ⊥) → slice_get rows j ≡ Some (record { key = other; job = Waiting q }) → IsOpen (slice_set rows k over) j other
-    waits j other q (inl e) h =
-        let same : record { key = key; job = Waiting p } ≡ record { key = other; job = Waiting q } = same_Some (record { key = key; job = Waiting p }) (record { key = other; job = Waiting q }) (sym row ∙ (sym (ap (slice_get rows) e) ∙ h)) in
-        inr (
-          x,
-          subst (λ (i : ℕ). slice_get (slice_set rows k over) i ≡ Some (record { key = other; job = Over x })) (sym e)
-              (subst (λ (y : ℕ). slice_get (slice_set rows k over) k ≡ Some (record { key = y; job = Over x })) (ap (λ (r : Row). r.key) same) (get_set_same rows k (record { key = key; job = Waiting p }) over row)),
-        )
-    waits j other q (inr n) h = inl (q, get_set_other rows k j over (λ e. n (sym e)) ∙ h)
-
-    ends : (j other : ℕ) (y : machine.Outcome) → (j ≡ k) ⊎ (j ≡ k → ⊥) → slice_get rows j ≡ Some (record { key = other; job = Over y }) → IsOpen (slice_set rows k over) j other
-    ends j other y (inl e) h =
-        let same : Waiting p ≡ Over y =
-        ap (λ (r : Row). r.job) (same_Some (record { key = key; job = Waiting p }) (record { key = other; job = Over y }) (sym row ∙ (sym (ap (slice_get rows) e) ∙ h))) in
-        absurd cc
-    ends j other y (inr n) h = inr (y, get_set_other rows k j over (λ e. n (sym e)) ∙ h)
-
-    stays : (j other : ℕ) → (j ≡ k) ⊎ (j ≡ k → ⊥) → IsOpen rows j other → IsOpen (slice_set rows k over) j other
-    stays j other c (inl t) = waits j other t.0 c t.1
-    stays j other c (inr t) = ends j other t.0 c t.1
 
 -- a message comes, from a link or from the rank itself
 pub message_arrives : ArrivalsMatch → OutcomesAgree → (rows : List Row) (slots : List (Option Entry)) (queues : State) (core : Core) (m : Message) →
@@ -165,7 +140,7 @@ pub record IsHeldAfter (rows : List Row) (new : CoreState) (known : List ℕ) (c
   pub holding : Holding new known after.core left
   pub blocked : after.core.blocked ≡ core.blocked
   pub sends : after.out ≡ []
-  pub waits : (k key : ℕ) → IsOpen rows k key → IsOpen left k key
+  pub waits : NamedStay rows left
 
 -- a rank takes a message into its queues and its slots, and its core takes it too
 pub message_holds : ArrivalsMatch → OutcomesAgree → (old : CoreState) (known : List ℕ) (core : Core) (rows : List Row) (m : Message) → Holding old known core rows →
@@ -198,8 +173,3 @@ pub record Keeps (old new : CoreState) : Type 0 where
 pub arrived_keeps : (c : CoreState) (m : Message) → Keeps c (rank.arrived c m)
 unfolding rank.arrived
 arrived_keeps c m = record { place = refl; blocked = refl; completion = refl }
-
--- the blocked call still waits for its request, or this is over
-pub still_awaited : (rows left : List Row) (b : Option Request) (x y : Option Awaited) → IsAwaited rows b x → y ≡ x → ((k key : ℕ) → IsOpen rows k key → IsOpen left k key) → IsAwaited left b y
-still_awaited rows left None x y h e w = e ∙ h
-still_awaited rows left (Some q) x y h e w = (e ∙ h.0, w q.serial q.key h.1)

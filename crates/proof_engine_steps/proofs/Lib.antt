@@ -1,7 +1,11 @@
 pub mod Tables
 pub mod RowLemmas
+pub mod Named
 pub mod Settling
 pub mod Knowing
+pub mod Agreeing
+pub mod Found
+pub mod Using
 pub mod Ending
 pub mod Replacing
 pub mod Waking
@@ -9,11 +13,15 @@ pub mod Starting
 pub mod Meeting
 pub mod Arriving
 pub mod News
+pub mod Meant
 pub mod Waits
+pub mod Regions
+pub mod Cancels
 pub mod Sends
 pub mod OwnSends
 pub mod Posts
 pub mod Foreign
+pub mod Standings
 pub mod Reasons
 pub mod RefusedSends
 pub mod RefusedReceives

@@ -1,54 +1,61 @@
 -- A word of an endpoint teaches a rank what it teaches its core in the network.
-use Rattle.std.proofs.Common.{◌≡◌, ℕ, ◌<◌, Bool, true, false, List, map, filter, not, Option, Some, None, if◌then◌else◌, nat_lt, slice_get, slice_index, sym, ap, ◌∙◌, subst, inl, inr}
+use Rattle.std.proofs.Common.{◌≡◌, ℕ, ◌<◌, Bool, true, false, List, map, filter, not, Some, None, if◌then◌else◌, nat_lt, slice_index, refl, sym, ap, ◌∙◌, subst, ◌||◌, ◌==◌}
 use Rattle.std.proofs.lemmas.Bool.{ltb-true}
 use Rattle.std.proofs.lemmas.List.{length-map}
-use Rattle.perfect_queues.specs.Completions.{Awaited}
 use Rattle.vocabulary.specs.Endpoints.{is_former}
 use Rattle.perfect_queues.specs.Outcomes as machine
-use Rattle.perfect_queues.specs.Receives.{Receive, names}
+use Rattle.perfect_queues.specs.Receives.{names}
 use Rattle.vocabulary.specs.declared.endpoint.Endpoint.{Endpoint}
 use Rattle.match_queues.specs.declared.envelope.Receive as queued
 use Rattle.match_queues.specs.State.{keys_naming}
 use Rattle.requests.specs.Table.{after_replaces}
-use Rattle.requests.specs.declared.table.Request.{Request}
 use Rattle.rank_core.specs.CoreState.{CoreState}
 use Rattle.rank_core.specs.Hearing.{NewsText, replaced, taught}
 use Rattle.proof_pure_network.specs.Core.{Core}
 use Rattle.proof_pure_network.specs.Engine as network
 use Rattle.proof_pure_network.specs.Held.{Held}
-use Rattle.proof_pure_network.specs.Jobs.{Job, Over, Waiting, ended}
+use Rattle.proof_pure_network.specs.Jobs.{Job, Closed, Collecting, Offering, Over, Waiting, ended}
 use Rattle.proof_engine_view.specs.Frames.{known_after}
 use Rattle.proof_engine_view.specs.Rows.{IsTable, Row}
 use Rattle.proof_engine_view.specs.Shown.{IsBlocked, IsShown}
 use Rattle.proof_engine_steps.specs.Steps.{IsFromOther}
-use Rattle.proof_engine_steps.proofs.Ending.{ended_at, ended_jobs, ended_row, held_left, posted_left}
+use Rattle.proof_engine_steps.proofs.Ending.{ended_jobs, ended_row, held_left, posted_left}
 use Rattle.proof_engine_steps.proofs.Knowing.{learnt_known}
+use Rattle.proof_engine_steps.proofs.Named.{NamedStay, blocked_stays, named_map}
 use Rattle.proof_engine_steps.proofs.Replacing.{replaced_table}
 use Rattle.proof_engine_steps.proofs.Starting.{holding_of}
-use Rattle.proof_engine_steps.proofs.Waking.{Holding, IsAwaited, IsOpen, awaited_of}
+use Rattle.proof_engine_steps.proofs.Waking.{Holding}
 
 -- what a rank and its core hold once both learnt, before a blocked call is answered
 pub record HoldBoth (e : CoreState) (known : List ℕ) (core : Core) : Type 0 where
   pub rows : List Row
   pub holding : Holding e known core rows
-  pub awaited : IsAwaited rows e.blocked core.blocked
+  pub awaited : IsBlocked rows e.blocked core.blocked
   pub free : e.completion ≡ None
 
--- a receive that waited still waits or has ended
-ended_open : (r i : ℕ) (rows : List Row) (k key : ℕ) (p : Receive) →
-    slice_get rows k ≡ Some (record { key = key; job = Waiting p }) → IsOpen (map (ended_row r i) rows) k key
-ended_open r i rows k key p h = go (names p.source r) (ended_at r i rows k (record { key = key; job = Waiting p }) h)
+-- a job that a lesson closes was closed
+ended_closed : (r i : ℕ) (j : Job) → ended r i j ≡ Closed → j ≡ Closed
+ended_closed r i (Waiting p) h = go (names p.source r) h
   where
-    go : (b : Bool) →
-        slice_get (map (ended_row r i) rows) k ≡ Some (record { key = key; job = if b then Over (machine.Replaced (Some p.into.buffer.values)) else Waiting p }) → IsOpen (map (ended_row r i) rows) k key
-    go true e = inr (machine.Replaced (Some p.into.buffer.values), e)
-    go false e = inl (p, e)
+    go : (b : Bool) → (if b then Over (machine.Replaced (Some p.into.buffer.values)) else Waiting p) ≡ Closed → Waiting p ≡ Closed
+    go true e = absurd cc
+    go false e = e
+ended_closed r i (Collecting p g got) h = go (names p.source r || is_former r i g.sender) h
+  where
+    go : (b : Bool) → (if b then Over (machine.Replaced (Some p.into.buffer.values)) else Collecting p g got) ≡ Closed → Collecting p g got ≡ Closed
+    go true e = absurd cc
+    go false e = e
+ended_closed r i (Offering d values) h = go (d.rank == r) h
+  where
+    go : (b : Bool) → (if b then Over (machine.Replaced None) else Offering d values) ≡ Closed → Offering d values ≡ Closed
+    go true e = absurd cc
+    go false e = e
+ended_closed r i (Over x) h = h
+ended_closed r i Closed h = h
 
--- what the blocked call waits for still waits or has ended
-ended_awaited : (r i : ℕ) (rows : List Row) (b : Option Request) (x : Option Awaited) → IsBlocked rows b x →
-    IsAwaited (map (ended_row r i) rows) b x
-ended_awaited r i rows None x h = h
-ended_awaited r i rows (Some q) x h = (h.0, ended_open r i rows q.serial q.key h.1.0 h.1.1)
+-- what is named stays named
+ended_named : (r i : ℕ) (rows : List Row) → NamedStay rows (map (ended_row r i) rows)
+ended_named r i rows = named_map (ended_row r i) (λ row. refl) (λ row h. ended_closed r i row.job h) rows
 
 -- both learn a later incarnation of another rank
 learned_holds : (e : CoreState) (known : List ℕ) (core : Core) (rows : List Row) (s : Endpoint) → Holding e known core rows → s.rank < e.place.size →
@@ -88,8 +95,8 @@ met_holds e known core news shown free other =
         record {
           rows = map (ended_row s.rank s.incarnation) shown.rows;
           holding = learned_holds e known core shown.rows s (holding_of e known core shown) other.there other.apart (ltb-true (slice_index known s.rank) s.incarnation later);
-          awaited = ended_awaited s.rank s.incarnation shown.rows e.blocked core.blocked shown.blocked;
+          awaited = blocked_stays shown.rows (map (ended_row s.rank s.incarnation) shown.rows) e.blocked core.blocked core.blocked shown.blocked refl (ended_named s.rank s.incarnation shown.rows);
           free = free;
         }
     go false later =
-        record { rows = shown.rows; holding = holding_of e known core shown; awaited = awaited_of shown.rows e.blocked core.blocked shown.blocked; free = free }
+        record { rows = shown.rows; holding = holding_of e known core shown; awaited = shown.blocked; free = free }

@@ -6,7 +6,7 @@ use Rattle.datagram.specs.declared.kinds.Plane.{Plane}
 use Rattle.datagram.specs.declared.kinds.Plane.TheVariants.{PointToPoint, Collective}
 use Rattle.datagram.specs.Spelling.{EagerText, BodyText, EagerBody, AckBody, ResetBody}
 use Rattle.match_queues.specs.declared.envelope.Message.{Message}
-use Rattle.requests.specs.declared.table.Request.{Request}
+use Rattle.requests.specs.declared.awaited.Awaited.{Awaited}
 use Rattle.rank_core.specs.CoreState.{CoreState}
 use Rattle.rank_core.specs.Hearing.{NewsText, after_hearing, after_news, arrived_any, frame_fault, message_from, message_of, taught}
 use Rattle.rank_core.specs.Sending as rank
@@ -18,12 +18,13 @@ use Rattle.proof_pure_network.specs.Matching.{arrived}
 use Rattle.proof_engine_view.specs.Frames.{frame_heard, known_after, message_seen}
 use Rattle.proof_engine_view.specs.Rows.{held_of}
 use Rattle.proof_engine_view.specs.Seen.{told_completion}
-use Rattle.proof_engine_view.specs.Shown.{IsShown}
+use Rattle.proof_engine_view.specs.Shown.{IsBlocked, IsShown}
 use Rattle.proof_engine_matching.specs.Matches.{ArrivalsMatch, OutcomesAgree}
 use Rattle.proof_engine_steps.specs.Steps.{IsFromOther, NewsAreShown, heard_by_core}
-use Rattle.proof_engine_steps.proofs.Arriving.{IsHeldAfter, arrived_keeps, message_holds, still_awaited}
+use Rattle.proof_engine_steps.proofs.Arriving.{IsHeldAfter, arrived_keeps, message_holds}
 use Rattle.proof_engine_steps.proofs.Meeting.{HoldBoth, met_holds}
-use Rattle.proof_engine_steps.proofs.Waking.{IsAwaited, IsSettled, settles, woken_place, woken_still}
+use Rattle.proof_engine_steps.proofs.Named.{blocked_stays}
+use Rattle.proof_engine_steps.proofs.Waking.{IsSettled, settles, woken_place, woken_still}
 
 -- ---- the frame and the message
 
@@ -64,8 +65,8 @@ any_holds match agree old known core news (Some m) shown free other =
     record {
       rows = a.left;
       holding = a.holding;
-      awaited = still_awaited b.rows a.left (rank.arrived (taught news.lesson old news.source) m).blocked (network.met core news.source).blocked (arrived (network.met core news.source) (held_of m)).core.blocked
-          (subst (λ (x : Option Request). IsAwaited b.rows x (network.met core news.source).blocked) (sym keeps.blocked) b.awaited) a.blocked a.waits;
+      awaited = blocked_stays b.rows a.left (rank.arrived (taught news.lesson old news.source) m).blocked (network.met core news.source).blocked (arrived (network.met core news.source) (held_of m)).core.blocked
+          (subst (λ (x : Option Awaited). IsBlocked b.rows x (network.met core news.source).blocked) (sym keeps.blocked) b.awaited) a.blocked a.waits;
       free = keeps.completion ∙ b.free;
     }
 

@@ -14,6 +14,7 @@ opening_is_shown p inside =
       posted = refl;
       held = refl;
       blocked = refl;
+      pending = refl;
       width = k.width;
       known_alike = k.same;
       itself = k.itself;

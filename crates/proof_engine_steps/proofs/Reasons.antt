@@ -10,6 +10,16 @@ use Rattle.proof_engine_steps.specs.Refused.{HasReason, IsOutOfRoom}
 
 -- THE MACHINE'S RULES
 
+-- the rule on types is the first that is broken
+pub type_fault : (a b c d e f : Bool) → a ≡ false → b ≡ false → c ≡ true →
+    first_fault ((a, 6) ∷ (b, 4) ∷ (c, 2) ∷ (d, 1) ∷ (e, 3) ∷ (f, 5) ∷ (false, 7) ∷ (false, 9) ∷ (false, 11) ∷ []) ≡ Some 2
+type_fault a b c d e f ha hb hc = rw (ha, hb, hc)
+
+-- the rule on counts is the first that is broken
+pub count_fault : (a b c d e f : Bool) → a ≡ false → b ≡ false → c ≡ false → d ≡ true →
+    first_fault ((a, 6) ∷ (b, 4) ∷ (c, 2) ∷ (d, 1) ∷ (e, 3) ∷ (f, 5) ∷ (false, 7) ∷ (false, 9) ∷ (false, 11) ∷ []) ≡ Some 1
+count_fault a b c d e f ha hb hc hd = rw (ha, hb, hc, hd)
+
 -- the rule on tags is the first that is broken
 pub tag_fault : (a b c d e f : Bool) → a ≡ false → b ≡ false → c ≡ false → d ≡ false → e ≡ true →
     first_fault ((a, 6) ∷ (b, 4) ∷ (c, 2) ∷ (d, 1) ∷ (e, 3) ∷ (f, 5) ∷ (false, 7) ∷ (false, 9) ∷ (false, 11) ∷ []) ≡ Some 3

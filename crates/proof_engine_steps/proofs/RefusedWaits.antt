@@ -1,113 +1,184 @@
--- A wait that a rank refuses has a reason, and one that it takes has no fault.
-use Rattle.std.proofs.Common.{◌≡◌, ℕ, Bool, true, false, List, map, Option, Some, None, slice_get, option_map, ap, refl, ◌∙◌, subst, arith}
-use Rattle.std.proofs.lemmas.Option.{slice_get-map, slice_get_past}
+-- A wait, a test or a cancel that a rank refuses has a reason, and one that it takes has no fault.
+use Rattle.std.proofs.Common.{◌≡◌, ℕ, Bool, true, false, not, ◌||◌, List, Option, Some, None, if◌then◌else◌, refl, sym, ap, ◌∙◌, subst}
+use Rattle.std.specs.List.{AllByRecursion}
 use Rattle.perfect_queues.specs.Calls as machine
-use Rattle.perfect_queues.specs.Completions.{One}
+use Rattle.perfect_queues.specs.Completions as completions
 use Rattle.perfect_queues.specs.Refusals as rules
-use Rattle.perfect_queues.specs.Requests as requests
 use Rattle.proof_pure_network.specs.Core.{Core, view}
 use Rattle.proof_pure_network.specs.Held.{blank}
-use Rattle.proof_pure_network.specs.Jobs.{Job, Waiting, Collecting, Offering, Over, Closed, request_of}
-use Rattle.requests.specs.Table.{progress_at, slot_at}
+use Rattle.requests.specs.Completions.{awaited_requests}
+use Rattle.requests.specs.Lists as lists
+use Rattle.requests.specs.Table as table
+use Rattle.requests.specs.Table.{progress_at}
+use Rattle.requests.specs.declared.awaited.Awaited.{Awaited}
+use Rattle.requests.specs.declared.awaited.Awaited.TheVariants as awaiteds
 use Rattle.requests.specs.declared.table.Progress.{Progress}
 use Rattle.requests.specs.declared.table.Request.{Request}
+use Rattle.rank_core.specs.declared.call.Call.{Call}
 use Rattle.rank_core.specs.declared.call.Call.TheVariants as calls
 use Rattle.rank_core.specs.declared.refused.Refused.{Refused}
 use Rattle.rank_core.specs.declared.refused.Refused.TheVariants as refusals
 use Rattle.rank_core.specs.CoreState.{CoreState}
-use Rattle.rank_core.specs.Waiting.{wait_fault}
-use Rattle.proof_engine_view.specs.Rows.{Row, Stands}
-use Rattle.proof_engine_view.specs.Seen.{call_seen, is_foreign, serial_meant}
+use Rattle.rank_core.specs.Waiting.{cancel_fault, wait_fault}
+use Rattle.proof_engine_view.specs.Seen.{awaited_by, awaited_seen, call_seen, own_serial, request_by, serial_meant}
 use Rattle.proof_engine_view.specs.Shown.{IsShown}
-use Rattle.proof_engine_steps.specs.Refused.{HasReason, IsFaultless, MachinesFault, fault_seen}
-use Rattle.proof_engine_steps.proofs.Foreign.{foreign_of, held_own, meant_foreign, meant_own}
+use Rattle.proof_engine_steps.specs.Refused.{HasReason, IsFaultless, IsReason, MachinesFault}
+use Rattle.proof_engine_steps.proofs.Standings.{IsPresent, all_present, awaited_meant, awaited_own, meant_present, neither, receive_seen, request_own, standing_at, wrong_same}
 use Rattle.proof_engine_steps.proofs.Starting.{core_free, fault_free}
-use Rattle.proof_engine_steps.proofs.Waits.{wait_faultless}
 
--- THE MACHINE'S FAULT
+-- ---- one rule
 
--- a wait on a missing request breaks the first rule
-missing_fault : (n k : ℕ) (s : rules.Standing) → rules.is_missing s ≡ true → rules.fault_by n false (λ j. s) (machine.Wait (One (Some k))) ≡ Some 6
-missing_fault n k rules.Missing h = refl
-missing_fault n k rules.Receiving h = absurd (grind arith)
-missing_fault n k rules.Sends h = absurd (grind arith)
+-- the fault by whether the rule on requests is broken
+abbrev six_if : Bool → Option ℕ
+six_if b = if b then Some 6 else None
 
--- the request that the machine sees under a serial
-row_seen : (old : CoreState) (known : List ℕ) (core : Core) (k : ℕ) (o : Option Row) → (shown : IsShown old known core) → slice_get shown.rows k ≡ o →
-    slice_get (map (request_of blank) core.jobs) k ≡ option_map (request_of blank) (option_map (λ (r : Row). r.job) o)
-row_seen old known core k o shown h =
-    slice_get-map (request_of blank) core.jobs k ∙
-    ap (λ (x : Option Job). option_map (request_of blank) x)
-    (ap (λ (js : List Job). slice_get js k) shown.jobs ∙
-    (slice_get-map (λ (r : Row). r.job) shown.rows k ∙ ap (λ (x : Option Row). option_map (λ (r : Row). r.job) x) h))
+-- both find it broken
+rule_broken : (b : Bool) (found : Option ℕ) (call : Call) (why : Refused) → found ≡ six_if b → (if b then Some refusals.Request else None) ≡ Some why → IsReason found call why
+rule_broken true found call why h f = let is : refusals.Request ≡ why = cc in subst (λ (x : Refused). IsReason found call x) is (MachinesFault h)
+rule_broken false found call why h f = absurd cc
 
--- where the serial that a wait means is missing, the machine finds the first fault
-missing_seen : (old : CoreState) (known : List ℕ) (core : Core) (q : Request) (k : ℕ) (o : Option Row) → (shown : IsShown old known core) → old.blocked ≡ None →
-    serial_meant old q ≡ k → slice_get shown.rows k ≡ o →
-    rules.is_missing (rules.standing (option_map (request_of blank) (option_map (λ (r : Row). r.job) o))) ≡ true → fault_seen old core (calls.Wait (Some q)) ≡ Some 6
-missing_seen old known core q k o shown free is h m =
-    ap (λ (j : ℕ). rules.fault old.place.size (view blank core) (machine.Wait (One (Some j)))) is ∙
-    (fault_free old.place.size core (machine.Wait (One (Some k))) (core_free old known core shown free) ∙
-    missing_fault old.place.size k (rules.standing (slice_get (map (request_of blank) core.jobs) k))
-    (ap (λ (x : Option requests.Request). rules.is_missing (rules.standing x)) (row_seen old known core k o shown h) ∙ m))
+-- both find it kept
+rule_kept : (b : Bool) → (if b then Some refusals.Request else None) ≡ None → b ≡ false
+rule_kept true f = absurd cc
+rule_kept false f = refl
 
--- THE WAIT
+-- ---- waits
 
--- a wait on what another engine gave: the next serial is missing
-foreign_reason : (old : CoreState) (known : List ℕ) (core : Core) (q : Request) → IsShown old known core → old.blocked ≡ None → is_foreign old.slots q ≡ true →
-    HasReason old core (calls.Wait (Some q)) refusals.Request
-foreign_reason old known core q shown free foreign =
-    MachinesFault (missing_seen old known core q old.serial None shown free (meant_foreign old q foreign) (slice_get_past shown.rows old.serial (omega (arith, shown.count))) refl)
+-- the fault that the machine finds with a wait is by the rank's own tests
+wait_found : (old : CoreState) (known : List ℕ) (core : Core) (a : Awaited) → IsShown old known core → old.blocked ≡ None →
+    rules.fault old.place.size (view blank core) (machine.Wait (awaited_by (serial_meant old) a)) ≡ six_if (lists.is_one_absent old.slots (awaited_requests a) || lists.is_twice (awaited_requests a))
+wait_found old known core a shown free =
+    fault_free old.place.size core (machine.Wait (awaited_by (serial_meant old) a)) (core_free old known core shown free) ∙
+    (ap (λ (ks : List ℕ). six_if (rules.is_one_missing (standing_at core) ks || rules.is_twice ks)) (awaited_meant (serial_meant old) a) ∙
+    ap six_if (wrong_same old known core shown (awaited_requests a)))
 
--- a wait on what the table doesn't hold, and no other engine gave: the machine misses it too
-absent_reason : (old : CoreState) (known : List ℕ) (core : Core) (q : Request) → IsShown old known core → old.blocked ≡ None → progress_at old.slots q.key q.serial ≡ None →
-    is_foreign old.slots q ≡ false → HasReason old core (calls.Wait (Some q)) refusals.Request
-absent_reason old known core q shown free h own = go (slice_get shown.rows q.serial) refl
+-- a wait that breaks a rule
+pub wait_reason : (old : CoreState) (known : List ℕ) (core : Core) (a : Awaited) (call : Call) (why : Refused) → IsShown old known core → old.blocked ≡ None → wait_fault old a ≡ Some why →
+    IsReason (rules.fault old.place.size (view blank core) (machine.Wait (awaited_by (serial_meant old) a))) call why
+wait_reason old known core a call why shown free fault =
+    rule_broken (lists.is_one_absent old.slots (awaited_requests a) || lists.is_twice (awaited_requests a))
+    (rules.fault old.place.size (view blank core) (machine.Wait (awaited_by (serial_meant old) a))) call why (wait_found old known core a shown free) fault
+
+-- where a wait breaks none, all that it names is there
+pub wait_present : (old : CoreState) (a : Awaited) → wait_fault old a ≡ None → AllByRecursion (IsPresent old) (awaited_requests a)
+wait_present old a fine =
+    all_present old (awaited_requests a)
+    (neither (lists.is_one_absent old.slots (awaited_requests a)) (lists.is_twice (awaited_requests a))
+    (rule_kept (lists.is_one_absent old.slots (awaited_requests a) || lists.is_twice (awaited_requests a)) fine)).0
+
+-- the machine finds no fault with what it means
+wait_none : (old : CoreState) (known : List ℕ) (core : Core) (a : Awaited) → IsShown old known core → old.blocked ≡ None → wait_fault old a ≡ None →
+    rules.fault old.place.size (view blank core) (machine.Wait (awaited_by (serial_meant old) a)) ≡ None
+wait_none old known core a shown free fine =
+    wait_found old known core a shown free ∙ ap six_if (rule_kept (lists.is_one_absent old.slots (awaited_requests a) || lists.is_twice (awaited_requests a)) fine)
+
+-- nor with what is seen of it
+pub wait_faultless : (old : CoreState) (known : List ℕ) (core : Core) (a : Awaited) → IsShown old known core → old.blocked ≡ None → wait_fault old a ≡ None →
+    rules.fault old.place.size (view blank core) (machine.Wait (awaited_seen a)) ≡ None
+wait_faultless old known core a shown free fine =
+    ap (λ (x : completions.Awaited). rules.fault old.place.size (view blank core) (machine.Wait x)) (sym (awaited_own old a (wait_present old a fine))) ∙ wait_none old known core a shown free fine
+
+-- ---- tests
+
+-- nothing is added to a test
+or_nothing : (a : Bool) → ((a || false) || false) ≡ (a || false)
+or_nothing true = refl
+or_nothing false = refl
+
+-- the fault of a test is that of a wait
+test_is_wait : (n : ℕ) (core : Core) (r : Option ℕ) → core.blocked ≡ None → rules.fault n (view blank core) (machine.Test r) ≡ rules.fault n (view blank core) (machine.Wait (completions.One r))
+test_is_wait n core r free = fault_free n core (machine.Test r) free ∙ (go r ∙ sym (fault_free n core (machine.Wait (completions.One r)) free))
   where
-    missing : (o : Option Row) → slice_get shown.rows q.serial ≡ o →
-        rules.is_missing (rules.standing (option_map (request_of blank) (option_map (λ (r : Row). r.job) o))) ≡ true → HasReason old core (calls.Wait (Some q)) refusals.Request
-    missing o e m = MachinesFault (missing_seen old known core q q.serial o shown free (meant_own old q own) e m)
+    go : (r : Option ℕ) → rules.fault_by n false (standing_at core) (machine.Test r) ≡ rules.fault_by n false (standing_at core) (machine.Wait (completions.One r))
+    go None = refl
+    go (Some k) = sym (ap six_if (or_nothing (rules.is_missing (standing_at core k))))
 
-    by_job : (key : ℕ) (j : Job) → slice_get shown.rows q.serial ≡ Some (record { key = key; job = j }) → Stands (slot_at old.slots key) q.serial j →
-        HasReason old core (calls.Wait (Some q)) refusals.Request
-    by_job key (Waiting p) e s = absurd (foreign_of old.slots q key (Waiting p) h own s)
-    by_job key (Over o) e s = absurd (foreign_of old.slots q key (Over o) h own s)
-    by_job key Closed e s = missing (Some (record { key = key; job = Closed })) e refl
-    by_job key (Collecting p m got) e s = absurd s
-    by_job key (Offering d values) e s = absurd s
+pub test_reason : (old : CoreState) (known : List ℕ) (core : Core) (q : Option Request) (why : Refused) → IsShown old known core → old.blocked ≡ None → wait_fault old (awaiteds.One q) ≡ Some why →
+    HasReason old core (calls.Test q) why
+test_reason old known core q why shown free fault =
+    subst (λ (x : Option ℕ). IsReason x (calls.Test q) why) (sym (test_is_wait old.place.size core (request_by (serial_meant old) q) (core_free old known core shown free)))
+    (wait_reason old known core (awaiteds.One q) (calls.Test q) why shown free fault)
 
-    go : (o : Option Row) → slice_get shown.rows q.serial ≡ o → HasReason old core (calls.Wait (Some q)) refusals.Request
-    go None e = missing None e refl
-    go (Some r) e = by_job r.key r.job e (shown.table.stands q.serial r e)
+pub test_faultless : (old : CoreState) (known : List ℕ) (core : Core) (q : Option Request) → IsShown old known core → old.blocked ≡ None → wait_fault old (awaiteds.One q) ≡ None →
+    rules.fault old.place.size (view blank core) (machine.Test (request_by own_serial q)) ≡ None
+test_faultless old known core q shown free fine =
+    test_is_wait old.place.size core (request_by own_serial q) (core_free old known core shown free) ∙ wait_faultless old known core (awaiteds.One q) shown free fine
 
--- a wait on what the table doesn't hold
-untabled_reason : (old : CoreState) (known : List ℕ) (core : Core) (q : Request) → IsShown old known core → old.blocked ≡ None → progress_at old.slots q.key q.serial ≡ None →
-    HasReason old core (calls.Wait (Some q)) refusals.Request
-untabled_reason old known core q shown free h = go (is_foreign old.slots q) refl
+-- ---- cancels
+
+-- a cancel's test, the other way round
+turned : (b : Bool) → (if b then None else Some refusals.Request) ≡ (if not b then Some refusals.Request else None)
+turned true = refl
+turned false = refl
+
+-- the fault that the machine finds with a cancel is by the rank's own test
+cancel_found : (old : CoreState) (known : List ℕ) (core : Core) (q : Request) → IsShown old known core → old.blocked ≡ None →
+    rules.fault old.place.size (view blank core) (machine.Cancel (Some (serial_meant old q))) ≡ six_if (not (table.is_receive (progress_at old.slots q.key q.serial)))
+cancel_found old known core q shown free =
+    fault_free old.place.size core (machine.Cancel (Some (serial_meant old q))) (core_free old known core shown free) ∙
+    ap (λ (b : Bool). six_if (not b)) (receive_seen old known core q shown)
+
+pub cancel_reason : (old : CoreState) (known : List ℕ) (core : Core) (q : Option Request) (why : Refused) → IsShown old known core → old.blocked ≡ None → cancel_fault old q ≡ Some why →
+    HasReason old core (calls.Cancel q) why
+cancel_reason old known core None why shown free fault =
+    rule_broken true (rules.fault old.place.size (view blank core) (machine.Cancel None)) (calls.Cancel None) why
+    (fault_free old.place.size core (machine.Cancel None) (core_free old known core shown free)) fault
+cancel_reason old known core (Some q) why shown free fault =
+    rule_broken (not (table.is_receive (progress_at old.slots q.key q.serial))) (rules.fault old.place.size (view blank core) (machine.Cancel (Some (serial_meant old q)))) (calls.Cancel (Some q)) why
+    (cancel_found old known core q shown free) (sym (turned (table.is_receive (progress_at old.slots q.key q.serial))) ∙ fault)
+
+-- a receive that is there
+receive_there : (old : CoreState) (q : Request) → (b : Bool) → table.is_receive (progress_at old.slots q.key q.serial) ≡ b → (if b then None else Some refusals.Request) ≡ None → IsPresent old q
+receive_there old q false e f = absurd cc
+receive_there old q true e f = go (progress_at old.slots q.key q.serial) refl e
   where
-    go : (b : Bool) → is_foreign old.slots q ≡ b → HasReason old core (calls.Wait (Some q)) refusals.Request
-    go true foreign = foreign_reason old known core q shown free foreign
-    go false own = absent_reason old known core q shown free h own
+    go : (o : Option Progress) → progress_at old.slots q.key q.serial ≡ o → table.is_receive o ≡ true → IsPresent old q
+    go None h t = absurd cc
+    go (Some g) h t = (g, h)
 
--- a wait that breaks a rule: its request isn't there
-pub wait_reason : (old : CoreState) (known : List ℕ) (core : Core) (q : Request) (why : Refused) → IsShown old known core → old.blocked ≡ None →
-    wait_fault (progress_at old.slots q.key q.serial) ≡ Some why → HasReason old core (calls.Wait (Some q)) why
-wait_reason old known core q why shown free fault = go (progress_at old.slots q.key q.serial) refl fault
-  where
-    go : (g : Option Progress) → progress_at old.slots q.key q.serial ≡ g → wait_fault g ≡ Some why → HasReason old core (calls.Wait (Some q)) why
-    go None e h =
-        let is : refusals.Request ≡ why = cc in
-        subst (λ (x : Refused). HasReason old core (calls.Wait (Some q)) x) is (untabled_reason old known core q shown free e)
-    go (Some g) e h = absurd cc
+-- what a cancel that breaks no rule names
+pub cancel_present : (old : CoreState) (q : Request) → cancel_fault old (Some q) ≡ None → IsPresent old q
+cancel_present old q fine = receive_there old q (table.is_receive (progress_at old.slots q.key q.serial)) refl fine
 
--- a wait that breaks none names a request of the rank's own, and the machine finds no fault with it
-pub wait_without_fault : (old : CoreState) (known : List ℕ) (core : Core) (q : Request) → IsShown old known core → old.blocked ≡ None →
-    wait_fault (progress_at old.slots q.key q.serial) ≡ None →
-    IsFaultless (rules.fault old.place.size (view blank core) (call_seen (calls.Wait (Some q)))) old (calls.Wait (Some q))
-wait_without_fault old known core q shown free fine = go (progress_at old.slots q.key q.serial) refl fine
-  where
-    go : (g : Option Progress) → progress_at old.slots q.key q.serial ≡ g → wait_fault g ≡ None →
-        IsFaultless (rules.fault old.place.size (view blank core) (call_seen (calls.Wait (Some q)))) old (calls.Wait (Some q))
-    go None e h = absurd cc
-    go (Some g) e h =
-        record { own = ap (λ (k : ℕ). machine.Wait (One (Some k))) (held_own old q g e); none = wait_faultless old known core q g shown free e }
+-- the machine finds no fault with what it means
+cancel_none : (old : CoreState) (known : List ℕ) (core : Core) (q : Request) → IsShown old known core → old.blocked ≡ None → cancel_fault old (Some q) ≡ None →
+    rules.fault old.place.size (view blank core) (machine.Cancel (Some (serial_meant old q))) ≡ None
+cancel_none old known core q shown free fine =
+    cancel_found old known core q shown free ∙
+    ap six_if (rule_kept (not (table.is_receive (progress_at old.slots q.key q.serial))) (sym (turned (table.is_receive (progress_at old.slots q.key q.serial))) ∙ fine))
+
+-- nor with what is seen of it
+pub cancel_faultless : (old : CoreState) (known : List ℕ) (core : Core) (q : Request) → IsShown old known core → old.blocked ≡ None → cancel_fault old (Some q) ≡ None →
+    rules.fault old.place.size (view blank core) (machine.Cancel (Some q.serial)) ≡ None
+cancel_faultless old known core q shown free fine =
+    ap (λ (k : ℕ). rules.fault old.place.size (view blank core) (machine.Cancel (Some k))) (sym (meant_present old q (cancel_present old q fine))) ∙ cancel_none old known core q shown free fine
+
+-- ---- calls that break no rule
+
+-- a wait, whatever its form
+waits_without_fault : (old : CoreState) (known : List ℕ) (core : Core) (a : Awaited) → IsShown old known core → old.blocked ≡ None → wait_fault old a ≡ None →
+    (machine.Wait (awaited_by (serial_meant old) a) ≡ machine.Wait (awaited_seen a)) × (rules.fault old.place.size (view blank core) (machine.Wait (awaited_seen a)) ≡ None)
+waits_without_fault old known core a shown free fine = (ap machine.Wait (awaited_own old a (wait_present old a fine)), wait_faultless old known core a shown free fine)
+
+pub wait_without_fault : (old : CoreState) (known : List ℕ) (core : Core) (q : Option Request) → IsShown old known core → old.blocked ≡ None → wait_fault old (awaiteds.One q) ≡ None →
+    IsFaultless (rules.fault old.place.size (view blank core) (call_seen (calls.Wait q))) old (calls.Wait q)
+wait_without_fault old known core q shown free fine = let w = waits_without_fault old known core (awaiteds.One q) shown free fine in record { own = w.0; none = w.1 }
+
+pub waitany_without_fault : (old : CoreState) (known : List ℕ) (core : Core) (qs : List (Option Request)) → IsShown old known core → old.blocked ≡ None → wait_fault old (awaiteds.AnyOf qs) ≡ None →
+    IsFaultless (rules.fault old.place.size (view blank core) (call_seen (calls.Waitany qs))) old (calls.Waitany qs)
+waitany_without_fault old known core qs shown free fine = let w = waits_without_fault old known core (awaiteds.AnyOf qs) shown free fine in record { own = w.0; none = w.1 }
+
+pub waitall_without_fault : (old : CoreState) (known : List ℕ) (core : Core) (qs : List (Option Request)) → IsShown old known core → old.blocked ≡ None → wait_fault old (awaiteds.AllOf qs) ≡ None →
+    IsFaultless (rules.fault old.place.size (view blank core) (call_seen (calls.Waitall qs))) old (calls.Waitall qs)
+waitall_without_fault old known core qs shown free fine = let w = waits_without_fault old known core (awaiteds.AllOf qs) shown free fine in record { own = w.0; none = w.1 }
+
+pub test_without_fault : (old : CoreState) (known : List ℕ) (core : Core) (q : Option Request) → IsShown old known core → old.blocked ≡ None → wait_fault old (awaiteds.One q) ≡ None →
+    IsFaultless (rules.fault old.place.size (view blank core) (call_seen (calls.Test q))) old (calls.Test q)
+test_without_fault old known core q shown free fine =
+    record { own = ap machine.Test (request_own old q (wait_present old (awaiteds.One q) fine)); none = test_faultless old known core q shown free fine }
+
+pub cancel_without_fault : (old : CoreState) (known : List ℕ) (core : Core) (q : Option Request) → IsShown old known core → old.blocked ≡ None → cancel_fault old q ≡ None →
+    IsFaultless (rules.fault old.place.size (view blank core) (call_seen (calls.Cancel q))) old (calls.Cancel q)
+cancel_without_fault old known core None shown free fine = absurd cc
+cancel_without_fault old known core (Some q) shown free fine =
+    record { own = ap (λ (k : ℕ). machine.Cancel (Some k)) (meant_present old q (cancel_present old q fine)); none = cancel_faultless old known core q shown free fine }

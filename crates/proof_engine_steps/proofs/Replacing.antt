@@ -2,6 +2,8 @@
 use Rattle.std.proofs.Common.{◌≡◌, ◌≢◌, ℕ, Bool, true, false, List, [], ◌∷◌, map, Option, Some, None, if◌then◌else◌, slice_get, option_map, refl, sym, ap, ◌∙◌, subst, ◌⊎◌, inl, inr}
 use Rattle.std.proofs.lemmas.Bool.{cases_eq}
 use Rattle.std.proofs.lemmas.Option.{none-some, same_Some, slice_get-map}
+use Rattle.datatypes.specs.Contents.{Contents}
+use Rattle.perfect_queues.specs.Buffers.{Handed}
 use Rattle.perfect_queues.specs.Outcomes as machine
 use Rattle.perfect_queues.specs.Receives.{Receive, names}
 use Rattle.match_queues.specs.State.{keys_naming}
@@ -12,6 +14,7 @@ use Rattle.requests.specs.declared.table.Progress.TheVariants.{Receiving, Finish
 use Rattle.proof_pure_network.specs.Jobs.{Job, Waiting, Collecting, Offering, Over, Closed, ended}
 use Rattle.proof_engine_view.specs.Rows.{Fits, Holds, IsRow, IsTable, Row, Stands, posted_rows}
 use Rattle.proof_engine_steps.proofs.Ending.{IsAmong, IsNaming, cases_among, ended_at, ended_row, named_at, naming_among}
+use Rattle.proof_engine_steps.proofs.Regions.{handed_buffer}
 use Rattle.proof_engine_steps.proofs.Tables.{held_at, set_is_set}
 
 -- ONE KEY
@@ -80,7 +83,7 @@ fits_replaced : (g : Progress) (r i : ℕ) (job : Job) → Fits g job →
     ((p : Receive) → job ≡ Waiting p → names p.source r ≡ true) → Fits (replaced_progress g) (ended r i job)
 fits_replaced (Receiving b) r i (Waiting p) f named =
     subst (λ (x : Bool). Fits (replaced_progress (Receiving b)) (if x then Over (machine.Replaced (Some p.into.buffer.values)) else Waiting p)) (sym (named p refl))
-    (ap (λ c. machine.Replaced (Some c.values)) (sym f.0))
+    (ap (λ (h : Handed). machine.Replaced (Some h.buffer.values)) f.0 ∙ ap (λ (c : Contents). machine.Replaced (Some c.values)) (handed_buffer b))
 fits_replaced (Receiving b) r i (Collecting p h got) f named = absurd f
 fits_replaced (Receiving b) r i (Offering d values) f named = absurd f
 fits_replaced (Receiving b) r i (Over x) f named = absurd f

@@ -1,22 +1,21 @@
 -- How a core answers its blocked call, and what an engine does then.
-use Rattle.std.proofs.Common.{◌≡◌, ℕ, Bool, List, [], ◌∷◌, Option, Some, None, if◌then◌else◌, slice_get, slice_set, option_and_then, option_map, refl, ap, ◌∙◌}
+use Rattle.std.proofs.Common.{◌≡◌, ℕ, Bool, List, Option, Some, None, if◌then◌else◌, slice_get, option_and_then, refl, ap, ◌∙◌}
 use Rattle.std.proofs.lemmas.Bool.{eq-eqb}
-use Rattle.datatypes.specs.Contents.{Contents}
-use Rattle.perfect_queues.specs.Completions.{Awaited, ForOne, One, completion}
+use Rattle.perfect_queues.specs.Completions.{Awaited, completion}
 use Rattle.perfect_queues.specs.Outcomes as machine
 use Rattle.perfect_queues.specs.Receives.{Receive}
 use Rattle.proof_pure_network.specs.Core.{Core}
 use Rattle.proof_pure_network.specs.Engine.{core_ready, core_settled, core_settled_by}
-use Rattle.proof_pure_network.specs.Jobs.{Job, Waiting, Over, Closed, job_outcome, over_at}
+use Rattle.proof_pure_network.specs.Jobs.{Job, Waiting, Over, over_at}
 use Rattle.requests.specs.declared.outcome.Outcome.{Outcome}
+use Rattle.requests.specs.declared.region.Region.{Region}
 use Rattle.requests.specs.declared.table.Entry as slots
 use Rattle.requests.specs.declared.table.Progress.{Progress}
 use Rattle.requests.specs.declared.table.Progress.TheVariants.{Receiving, Finished}
 use Rattle.requests.specs.Table.{progress_at, progress_of, slot_at}
-use Rattle.proof_engine_view.specs.Rows.{Fits, Holds, IsTable, Row, jobs_of}
+use Rattle.proof_engine_view.specs.Rows.{Fits, Holds, IsTable, Row}
 use Rattle.proof_engine_view.specs.Seen.{outcome_seen}
-use Rattle.proof_engine_steps.proofs.RowLemmas.{job_at, over_row}
-use Rattle.proof_engine_steps.proofs.Tables.{changed_table, held_at, says_none, set_is_set}
+use Rattle.proof_engine_steps.proofs.Tables.{held_at}
 
 -- THE CORE
 
@@ -28,24 +27,6 @@ ready_free core h = ap (λ (b : Option Awaited). option_and_then (completion (ov
 pub settled_free : (core : Core) → core.blocked ≡ None → core_settled core ≡ core
 settled_free core h = ap (core_settled_by core) (ready_free core h)
 
--- the answer of a wait on one request
-pub ready_one : (core : Core) (k : ℕ) → core.blocked ≡ Some (One (Some k)) → core_ready core ≡ option_map (λ o. (ForOne o, k ∷ [])) (over_at core.jobs k)
-ready_one core k h = ap (λ (b : Option Awaited). option_and_then (completion (over_at core.jobs)) b) h
-
--- the request that a call waits for still waits
-pub ready_waiting : (core : Core) (rows : List Row) (k key : ℕ) (p : Receive) → core.blocked ≡ Some (One (Some k)) → core.jobs ≡ jobs_of rows →
-    slice_get rows k ≡ Some (record { key = key; job = Waiting p }) → core_ready core ≡ None
-ready_waiting core rows k key p b j h =
-    let e : over_at core.jobs k ≡ None = ap (λ (js : List Job). over_at js k) j ∙ ap job_outcome (job_at rows k key (Waiting p) h) in
-    ready_one core k b ∙ ap (λ (o : Option machine.Outcome). option_map (λ x. (ForOne x, k ∷ [])) o) e
-
--- the request that a call waits for is over
-pub ready_over : (core : Core) (rows : List Row) (k key : ℕ) (x : machine.Outcome) → core.blocked ≡ Some (One (Some k)) → core.jobs ≡ jobs_of rows →
-    slice_get rows k ≡ Some (record { key = key; job = Over x }) → core_ready core ≡ Some (ForOne x, k ∷ [])
-ready_over core rows k key x b j h =
-    let e : over_at core.jobs k ≡ Some x = ap (λ (js : List Job). over_at js k) j ∙ over_row rows k key x h in
-    ready_one core k b ∙ ap (λ (o : Option machine.Outcome). option_map (λ y. (ForOne y, k ∷ [])) o) e
-
 -- THE ENGINE
 
 -- how far the request of a row is
@@ -55,12 +36,12 @@ progress_row table key k job h =
 
 -- a receive that waits is one that is received
 pub record IsReceiving (g : Progress) : Type 0 where
-  pub buffer : Contents
-  pub is : g ≡ Receiving buffer
+  pub region : Region
+  pub is : g ≡ Receiving region
 
 -- its progress is that it is received
 pub fits_waiting : (g : Progress) (p : Receive) → Fits g (Waiting p) → IsReceiving g
-fits_waiting (Receiving b) p f = record { buffer = b; is = refl }
+fits_waiting (Receiving b) p f = record { region = b; is = refl }
 fits_waiting (Finished o) p f = absurd f
 
 -- it has ended so
@@ -76,11 +57,11 @@ fits_over (Finished o) x f = record { outcome = o; is = refl; seen = f }
 
 -- what the table says of a receive that waits
 pub progress_waiting : (table : List (Option slots.Entry)) (rows : List Row) (k key : ℕ) (p : Receive) → IsTable table rows → slice_get rows k ≡ Some (record { key = key; job = Waiting p }) →
-    (b : Contents) × (progress_at table key k ≡ Some (Receiving b))
+    (b : Region) × (progress_at table key k ≡ Some (Receiving b))
 progress_waiting table rows k key p t h =
     let m : Holds (slot_at table key) k (Waiting p) = held_at table rows k key (Waiting p) t h (λ e. cc) in
     let r : IsReceiving m.entry.progress = fits_waiting m.entry.progress p m.fits in
-    (r.buffer, progress_row table key k (Waiting p) m ∙ ap Some r.is)
+    (r.region, progress_row table key k (Waiting p) m ∙ ap Some r.is)
 
 -- what the table says of a request that is over
 pub progress_over : (table : List (Option slots.Entry)) (rows : List Row) (k key : ℕ) (x : machine.Outcome) → IsTable table rows → slice_get rows k ≡ Some (record { key = key; job = Over x }) →
@@ -89,10 +70,3 @@ progress_over table rows k key x t h =
     let m : Holds (slot_at table key) k (Over x) = held_at table rows k key (Over x) t h (λ e. cc) in
     let r : IsFinished m.entry.progress x = fits_over m.entry.progress x m.fits in
     (r.outcome, progress_row table key k (Over x) m ∙ ap Some r.is, r.seen)
-
--- the request of a row is taken out
-pub taken_table : (table : List (Option slots.Entry)) (rows : List Row) (k key : ℕ) (x : machine.Outcome) → IsTable table rows → slice_get rows k ≡ Some (record { key = key; job = Over x }) →
-    IsTable (slice_set table key None) (slice_set rows k (record { key = key; job = Closed }))
-taken_table table rows k key x t h =
-    let m : Holds (slot_at table key) k (Over x) = held_at table rows k key (Over x) t h (λ e. cc) in
-    changed_table table (slice_set table key None) rows k key (Over x) Closed None t h (λ e. cc) (set_is_set table key m.entry None m.there) (says_none k)

@@ -11,6 +11,7 @@ use Rattle.proof_pure_network.specs.Held.{blank}
 use Rattle.proof_pure_network.specs.Jobs.{Job, request_of}
 use Rattle.requests.specs.Table.{IsSet, slot_at}
 use Rattle.requests.specs.declared.table.Progress.{Progress}
+use Rattle.requests.specs.declared.awaited.Awaited as rank
 use Rattle.requests.specs.declared.table.Request.{Request}
 use Rattle.rank_core.specs.declared.call.Call.{Call}
 use Rattle.rank_core.specs.declared.call.Reply.TheVariants as replies
@@ -23,29 +24,18 @@ use Rattle.proof_engine_view.specs.Seen.{call_seen}
 use Rattle.proof_engine_view.specs.Shown.{IsBlocked, IsShown}
 use Rattle.proof_engine_steps.specs.Steps.{IsCalled}
 use Rattle.proof_engine_steps.proofs.RowLemmas.{posted_push, push_jobs}
-use Rattle.proof_engine_steps.proofs.Settling.{settled_free}
+use Rattle.proof_engine_steps.proofs.Settling.{ready_free, settled_free}
 use Rattle.proof_engine_steps.proofs.Tables.{Says, says_some, started_table}
 use Rattle.proof_engine_steps.proofs.Waking.{Holding, known_still, shown_with}
-
--- what is shown is held
-pub holding_of : (e : CoreState) (known : List ℕ) (core : Core) → (s : IsShown e known core) → Holding e known core s.rows
-holding_of e known core s =
-    record {
-      jobs = s.jobs;
-      count = s.count;
-      table = s.table;
-      posted = s.posted;
-      held = s.held;
-      knowing = record { width = s.width; same = s.known_alike; itself = s.itself };
-    }
+pub use Rattle.proof_engine_steps.proofs.Waking.{holding_of}
 
 -- where the rank's call is not blocked, the core's isn't
 pub core_free : (e : CoreState) (known : List ℕ) (core : Core) → IsShown e known core → e.blocked ≡ None → core.blocked ≡ None
-core_free e known core s h = subst (λ (b : Option Request). IsBlocked s.rows b core.blocked) h s.blocked
+core_free e known core s h = subst (λ (b : Option rank.Awaited). IsBlocked s.rows b core.blocked) h s.blocked
 
 -- what is held is shown, where no call is blocked
 pub shown_free : (e : CoreState) (known : List ℕ) (core : Core) (rows : List Row) → Holding e known core rows → e.blocked ≡ None → core.blocked ≡ None → IsShown e known core
-shown_free e known core rows h a b = shown_with e known core rows h (subst (λ (x : Option Request). IsBlocked rows x core.blocked) (sym a) b)
+shown_free e known core rows h a b = shown_with e known core rows h (subst (λ (x : Option rank.Awaited). IsBlocked rows x core.blocked) (sym a) b) (ready_free core b)
 
 -- the fault of a call while no other is blocked
 pub fault_free : (n : ℕ) (core : Core) (c : machine.Call) → core.blocked ≡ None → fault n (view blank core) c ≡ fault_by n false (λ k. standing (slice_get (map (request_of blank) core.jobs) k)) c

@@ -1,32 +1,31 @@
 -- A rank answers its blocked call where its core in the network does.
-use Rattle.std.proofs.Common.{◌≡◌, ℕ, List, [], ◌∷◌, map, length, Option, Some, None, slice_get, slice_set, refl, sym, ap, ◌∙◌, subst, ◌⊎◌, inl, inr}
-use Rattle.std.proofs.lemmas.List.{length-set}
-use Rattle.datatypes.specs.Contents.{Contents}
-use Rattle.perfect_queues.specs.Completions.{Answer, Awaited, ForOne, One}
-use Rattle.perfect_queues.specs.Events.{Completed, told}
-use Rattle.perfect_queues.specs.Outcomes as machine
-use Rattle.perfect_queues.specs.Receives.{Receive}
-use Rattle.perfect_queues.specs.Requests.{changed}
+use Rattle.std.proofs.Common.{◌≡◌, ℕ, List, All, map, length, Option, Some, None, option_and_then, refl, sym, ap, ◌∙◌, subst}
+use Rattle.std.proofs.lemmas.List.Elements.{recursion_from_All}
+use Rattle.std.proofs.lemmas.Option.{none-some}
+use Rattle.perfect_queues.specs.Completions as machine
+use Rattle.perfect_queues.specs.Events.{told}
+use Rattle.perfect_queues.specs.Requests.{all_changed}
 use Rattle.vocabulary.specs.declared.endpoint.Endpoint.{Endpoint}
 use Rattle.incarnation.specs.declared.place.Place.{Place}
 use Rattle.match_queues.specs.State.{State}
 use Rattle.proof_pure_network.specs.Core.{Core}
 use Rattle.proof_pure_network.specs.Engine.{core_ready, core_settled, core_settled_by}
-use Rattle.proof_pure_network.specs.Jobs.{Job, Waiting, Over, Closed, closed}
-use Rattle.requests.specs.declared.outcome.Outcome.{Outcome}
+use Rattle.proof_pure_network.specs.Jobs.{Job, closed, over_at}
+use Rattle.requests.specs.Completions.{awaited_requests, completion, outcome_at, without}
+use Rattle.requests.specs.declared.answer.Answer.{Answer}
+use Rattle.requests.specs.declared.awaited.Awaited.{Awaited}
 use Rattle.requests.specs.declared.table.Entry as slots
-use Rattle.requests.specs.declared.table.Progress.{Progress}
-use Rattle.requests.specs.declared.table.Progress.TheVariants.{Receiving, Finished}
 use Rattle.requests.specs.declared.table.Request.{Request}
-use Rattle.requests.specs.Table.{progress_at}
 use Rattle.rank_core.specs.CoreState.{CoreState}
-use Rattle.rank_core.specs.Waiting.{woken, woken_at, woken_by}
+use Rattle.rank_core.specs.Waiting.{answered_by, woken, woken_by}
 use Rattle.proof_engine_view.specs.Rows.{IsTable, Row, held_of, jobs_of, posted_rows}
-use Rattle.proof_engine_view.specs.Seen.{outcome_seen, told_completion}
-use Rattle.proof_engine_view.specs.Shown.{IsBlocked, IsShown}
+use Rattle.proof_engine_view.specs.Seen.{answer_seen, awaited_seen, told_completion}
+use Rattle.proof_engine_view.specs.Shown.{IsBlocked, IsNamed, IsShown}
+use Rattle.proof_engine_steps.proofs.Agreeing.{SayTheSame, completion_seen, completions_same, named_same_outcome, serials_of}
 use Rattle.proof_engine_steps.proofs.Knowing.{IsKnown}
-use Rattle.proof_engine_steps.proofs.RowLemmas.{closed_row, posted_closed}
-use Rattle.proof_engine_steps.proofs.Settling.{progress_over, progress_waiting, ready_free, ready_over, ready_waiting, taken_table}
+use Rattle.proof_engine_steps.proofs.Named.{all_follow}
+use Rattle.proof_engine_steps.proofs.Settling.{ready_free}
+use Rattle.proof_engine_steps.proofs.Using.{jobs_without, length_without, posted_without, rows_without, table_without, used_spent}
 
 -- the rank holds what the network's core holds, whatever its call waits for
 pub record Holding (e : CoreState) (known : List ℕ) (core : Core) (rows : List Row) : Type 0 where
@@ -37,21 +36,10 @@ pub record Holding (e : CoreState) (known : List ℕ) (core : Core) (rows : List
   pub held : core.held ≡ map held_of e.queues.unexpected
   pub knowing : IsKnown e.place known core.known
 
--- the request is a receive that waits, or it is over
-abbrev pub IsOpen : List Row → (k key : ℕ) → Type 0
-IsOpen rows k key =
-    ((p : Receive) × (slice_get rows k ≡ Some (record { key = key; job = Waiting p }))) ⊎
-    ((x : machine.Outcome) × (slice_get rows k ≡ Some (record { key = key; job = Over x })))
-
--- what the blocked call waits for
-abbrev pub IsAwaited : List Row → Option Request → Option Awaited → Type 0
-IsAwaited rows None b = b ≡ None
-IsAwaited rows (Some q) b = (b ≡ Some (One (Some q.serial))) × IsOpen rows q.serial q.key
-
 -- what is held is shown, with what the call waits for
-pub shown_with : (e : CoreState) (known : List ℕ) (core : Core) (rows : List Row) → Holding e known core rows → IsBlocked rows e.blocked core.blocked →
+pub shown_with : (e : CoreState) (known : List ℕ) (core : Core) (rows : List Row) → Holding e known core rows → IsBlocked rows e.blocked core.blocked → core_ready core ≡ None →
     IsShown e known core
-shown_with e known core rows h b =
+shown_with e known core rows h b p =
     record {
       rows = rows;
       jobs = h.jobs;
@@ -60,15 +48,11 @@ shown_with e known core rows h b =
       posted = h.posted;
       held = h.held;
       blocked = b;
+      pending = p;
       width = h.knowing.width;
       known_alike = h.knowing.same;
       itself = h.knowing.itself;
     }
-
--- what the blocked call waits for is a receive that waits, so it is awaited
-pub awaited_of : (rows : List Row) (b : Option Request) (x : Option Awaited) → IsBlocked rows b x → IsAwaited rows b x
-awaited_of rows None x h = h
-awaited_of rows (Some q) x h = (h.0, inl h.1)
 
 -- what both know is as it was
 pub known_still : (p p' : Place) (known : List ℕ) (at at' : ℕ → ℕ) → IsKnown p known at → p' ≡ p → at' ≡ at → IsKnown p' known at'
@@ -78,48 +62,62 @@ known_still p p' known at at' h ep ea =
 -- THE RANK
 
 -- no call is blocked
-pub woken_free : (e : CoreState) → e.blocked ≡ None → woken e ≡ e
+woken_free : (e : CoreState) → e.blocked ≡ None → woken e ≡ e
 unfolding woken
 woken_free e h = ap (woken_by e) h
 
--- its receive still waits
-pub woken_waiting : (e : CoreState) (q : Request) (b : Contents) → e.blocked ≡ Some q → progress_at e.slots q.key q.serial ≡ Some (Receiving b) → woken e ≡ e
+-- its answer isn't ready
+woken_pending : (e : CoreState) (a : Awaited) → e.blocked ≡ Some a → completion e.slots a ≡ None → woken e ≡ e
 unfolding woken
-woken_waiting e q b h g = ap (woken_by e) h ∙ ap (woken_at e q) g
+woken_pending e a h g = ap (woken_by e) h ∙ ap (answered_by e) g
 
--- the rank once the request was taken out
-abbrev pub answered : CoreState → Request → Outcome → CoreState
-answered e q o = record e { slots = slice_set e.slots q.key None; blocked = None; completion = Some o }
+-- the rank once the blocked call was answered
+abbrev pub answered : CoreState → Answer → List Request → CoreState
+answered e answer used = record e { slots = without e.slots used; blocked = None; completion = Some answer }
 
--- its request is finished
-pub woken_over : (e : CoreState) (q : Request) (o : Outcome) → e.blocked ≡ Some q → progress_at e.slots q.key q.serial ≡ Some (Finished o) → woken e ≡ answered e q o
+-- its answer is ready
+woken_ready : (e : CoreState) (a : Awaited) (answer : Answer) (used : List Request) → e.blocked ≡ Some a → completion e.slots a ≡ Some (answer, used) → woken e ≡ answered e answer used
 unfolding woken
-woken_over e q o h g = ap (woken_by e) h ∙ ap (woken_at e q) g
+woken_ready e a answer used h g = ap (woken_by e) h ∙ ap (answered_by e) g
 
 -- BOTH
 
--- the core once its call was answered
-abbrev pub core_answered : Core → (k : ℕ) → Core
-core_answered core k = record core { jobs = changed closed core.jobs k; blocked = None }
+-- both say the same of a request that the call waits for
+say_the_same : (e : CoreState) (known : List ℕ) (core : Core) (rows : List Row) → Holding e known core rows → (q : Request) → IsNamed rows q → SayTheSame (outcome_at e.slots) (over_at core.jobs) q
+say_the_same e known core rows h q named =
+    subst (λ (js : List Job). SayTheSame (outcome_at e.slots) (over_at js) q) (sym h.jobs) (named_same_outcome e.slots rows h.table q named)
 
--- its request is over, in the core
-pub settled_over : (core : Core) (k : ℕ) (x : machine.Outcome) → core_ready core ≡ Some (ForOne x, k ∷ []) → core_settled core ≡ core_answered core k
-settled_over core k x h = ap (core_settled_by core) h
+-- what the core answers to this is what the rank answers
+pub core_completion : (e : CoreState) (known : List ℕ) (core : Core) (rows : List Row) (a : Awaited) → Holding e known core rows → All (IsNamed rows) (awaited_requests a) →
+    machine.completion (over_at core.jobs) (awaited_seen a) ≡ completion_seen (completion e.slots a)
+core_completion e known core rows a h named =
+    completions_same e.slots (over_at core.jobs) a
+    (all_follow (IsNamed rows) (SayTheSame (outcome_at e.slots) (over_at core.jobs)) (say_the_same e known core rows h) (awaited_requests a)
+    (recursion_from_All (IsNamed rows) (awaited_requests a) named))
 
--- a request that is over is taken out of both
-pub holding_taken : (e e' : CoreState) (known : List ℕ) (core core' : Core) (rows : List Row) (k key : ℕ) (x : machine.Outcome) → Holding e known core rows →
-    slice_get rows k ≡ Some (record { key = key; job = Over x }) →
-    core'.jobs ≡ changed closed core.jobs k → core'.held ≡ core.held → core'.known ≡ core.known → e'.slots ≡ slice_set e.slots key None → e'.serial ≡ e.serial → e'.queues ≡ e.queues → e'.place ≡ e.place →
-    Holding e' known core' (slice_set rows k (record { key = key; job = Closed }))
-holding_taken e e' known core core' rows k key x h row js hs kn sl se qu pl =
+-- so it is with the blocked call
+core_ready_is : (e : CoreState) (known : List ℕ) (core : Core) (rows : List Row) (a : Awaited) → Holding e known core rows → core.blocked ≡ Some (awaited_seen a) →
+    All (IsNamed rows) (awaited_requests a) → core_ready core ≡ completion_seen (completion e.slots a)
+core_ready_is e known core rows a h b named =
+    ap (λ (x : Option machine.Awaited). option_and_then (machine.completion (over_at core.jobs)) x) b ∙ core_completion e known core rows a h named
+
+-- what the answer uses up is taken out of both
+pub holding_used : (e e' : CoreState) (known : List ℕ) (core core' : Core) (rows : List Row) (a : Awaited) (answer : Answer) (used : List Request) → Holding e known core rows →
+    completion e.slots a ≡ Some (answer, used) → core'.jobs ≡ all_changed closed core.jobs (serials_of used) → core'.held ≡ core.held → core'.known ≡ core.known →
+    e'.slots ≡ without e.slots used → e'.serial ≡ e.serial → e'.queues ≡ e.queues → e'.place ≡ e.place → Holding e' known core' (rows_without rows used)
+holding_used e e' known core core' rows a answer used h g js hs kn sl se qu pl =
     record {
-      jobs = js ∙ (ap (λ (ys : List Job). changed closed ys k) h.jobs ∙ closed_row rows k key x row);
-      count = length-set rows k (record { key = key; job = Closed }) ∙ (h.count ∙ sym se);
-      table = subst (λ (t : List (Option slots.Entry)). IsTable t (slice_set rows k (record { key = key; job = Closed }))) (sym sl) (taken_table e.slots rows k key x h.table row);
-      posted = ap (λ (q : State). q.posted) qu ∙ (h.posted ∙ sym (posted_closed rows k key x row));
+      jobs = js ∙ (ap (λ (ys : List Job). all_changed closed ys (serials_of used)) h.jobs ∙ sym (jobs_without used rows));
+      count = length_without used rows ∙ (h.count ∙ sym se);
+      table = subst (λ (t : List (Option slots.Entry)). IsTable t (rows_without rows used)) (sym sl) (table_without used e.slots rows h.table (used_spent e.slots rows a answer used h.table g));
+      posted = ap (λ (q : State). q.posted) qu ∙ (h.posted ∙ sym (posted_without used rows));
       held = hs ∙ (h.held ∙ ap (λ (q : State). map held_of q.unexpected) (sym qu));
       knowing = known_still e.place e'.place known core.known core'.known h.knowing pl kn;
     }
+
+-- the core once its call was answered
+abbrev pub core_answered : Core → List ℕ → Core
+core_answered core ks = record core { jobs = all_changed closed core.jobs ks; blocked = None }
 
 -- the rank is woken as the core is settled
 pub record IsSettled (e : CoreState) (known : List ℕ) (core : Core) : Type 0 where
@@ -127,7 +125,7 @@ pub record IsSettled (e : CoreState) (known : List ℕ) (core : Core) : Type 0 w
   pub tells : (a : Endpoint) → told a None (core_ready core) ≡ told_completion a (woken e).completion
 
 -- both, by what they become
-settled_from : (e e' : CoreState) (known : List ℕ) (core core' : Core) (ready : Option (Answer × List ℕ)) → woken e ≡ e' → core_settled core ≡ core' → core_ready core ≡ ready → IsShown e' known core' →
+settled_from : (e e' : CoreState) (known : List ℕ) (core core' : Core) (ready : Option (machine.Answer × List ℕ)) → woken e ≡ e' → core_settled core ≡ core' → core_ready core ≡ ready → IsShown e' known core' →
     ((a : Endpoint) → told a None ready ≡ told_completion a e'.completion) → IsSettled e known core
 settled_from e e' known core core' ready w s r shown tells =
     record {
@@ -136,49 +134,64 @@ settled_from e e' known core core' ready w s r shown tells =
     }
 
 -- a rank is woken as its core is settled
-pub settles : (e : CoreState) (known : List ℕ) (core : Core) (rows : List Row) → Holding e known core rows → IsAwaited rows e.blocked core.blocked → e.completion ≡ None → IsSettled e known core
-settles e known core rows h a free = go e.blocked refl a
+pub settles : (e : CoreState) (known : List ℕ) (core : Core) (rows : List Row) → Holding e known core rows → IsBlocked rows e.blocked core.blocked → e.completion ≡ None → IsSettled e known core
+settles e known core rows h b free = go e.blocked refl b
   where
-    still : woken e ≡ e → core_ready core ≡ None → IsBlocked rows e.blocked core.blocked → IsSettled e known core
-    still w r b = settled_from e e known core core None w (ap (core_settled_by core) r) r (shown_with e known core rows h b) (λ t. ap (told_completion t) (sym free))
+    still : woken e ≡ e → core_ready core ≡ None → IsSettled e known core
+    still w r = settled_from e e known core core None w (ap (core_settled_by core) r) r (shown_with e known core rows h b r) (λ t. ap (told_completion t) (sym free))
 
-    wait : (q : Request) → e.blocked ≡ Some q → core.blocked ≡ Some (One (Some q.serial)) → IsOpen rows q.serial q.key → IsSettled e known core
-    wait q b c (inl t) =
-        let g : (b : Contents) × (progress_at e.slots q.key q.serial ≡ Some (Receiving b)) = progress_waiting e.slots rows q.serial q.key t.0 h.table t.1 in
-        still (woken_waiting e q g.0 b g.1) (ready_waiting core rows q.serial q.key t.0 c h.jobs t.1)
-        (subst (λ (x : Option Request). IsBlocked rows x core.blocked) (sym b) (c, t))
-    wait q b c (inr t) =
-        let g : (o : Outcome) × (progress_at e.slots q.key q.serial ≡ Some (Finished o)) × (t.0 ≡ outcome_seen o) = progress_over e.slots rows q.serial q.key t.0 h.table t.1 in
-        let r : core_ready core ≡ Some (ForOne t.0, q.serial ∷ []) = ready_over core rows q.serial q.key t.0 c h.jobs t.1 in
-        settled_from e (answered e q g.0) known core (core_answered core q.serial) (Some (ForOne t.0, q.serial ∷ [])) (woken_over e q g.0 b g.1) (settled_over core q.serial t.0 r) r
-        (shown_with (answered e q g.0) known (core_answered core q.serial) (slice_set rows q.serial (record { key = q.key; job = Closed }))
-        (holding_taken e (answered e q g.0) known core (core_answered core q.serial) rows q.serial q.key t.0 h t.1 refl refl refl refl refl refl refl) refl)
-        (λ a. ap (λ (x : machine.Outcome). Completed a (ForOne x) ∷ []) g.2)
+    ready : (a : Awaited) (answer : Answer) (used : List Request) → e.blocked ≡ Some a → core_ready core ≡ completion_seen (completion e.slots a) → completion e.slots a ≡ Some (answer, used) →
+        IsSettled e known core
+    ready a answer used is same g =
+        let r : core_ready core ≡ Some (answer_seen answer, serials_of used) = same ∙ ap completion_seen g in
+        settled_from e (answered e answer used) known core (core_answered core (serials_of used)) (Some (answer_seen answer, serials_of used)) (woken_ready e a answer used is g) (ap (core_settled_by core) r) r
+        (shown_with (answered e answer used) known (core_answered core (serials_of used)) (rows_without rows used)
+        (holding_used e (answered e answer used) known core (core_answered core (serials_of used)) rows a answer used h g refl refl refl refl refl refl refl) refl refl)
+        (λ t. refl)
 
-    go : (b : Option Request) → e.blocked ≡ b → IsAwaited rows b core.blocked → IsSettled e known core
-    go None b c = still (woken_free e b) (ready_free core c) (subst (λ (x : Option Request). IsBlocked rows x core.blocked) (sym b) c)
-    go (Some q) b c = wait q b c.0 c.1
+    wait : (a : Awaited) (o : Option (Answer × List Request)) → e.blocked ≡ Some a → core_ready core ≡ completion_seen (completion e.slots a) → completion e.slots a ≡ o → IsSettled e known core
+    wait a None is same g = still (woken_pending e a is g) (same ∙ ap completion_seen g)
+    wait a (Some t) is same g = ready a t.0 t.1 is same g
+
+    go : (x : Option Awaited) → e.blocked ≡ x → IsBlocked rows x core.blocked → IsSettled e known core
+    go None is c = still (woken_free e is) (ready_free core c)
+    go (Some a) is c = wait a (completion e.slots a) is (core_ready_is e known core rows a h c.0 c.1) refl
 
 -- ---- what waking leaves
 
--- where what the call waits for still waits, nothing changes
+-- an answer that the core hasn't ready isn't ready at the rank either
+unready : (o : Option (Answer × List Request)) → completion_seen o ≡ None → o ≡ None
+unready None h = refl
+unready (Some t) h = absurd (none-some (answer_seen t.0, serials_of t.1) (sym h))
+
+-- what is shown is held
+pub holding_of : (e : CoreState) (known : List ℕ) (core : Core) → (s : IsShown e known core) → Holding e known core s.rows
+holding_of e known core s =
+    record {
+      jobs = s.jobs;
+      count = s.count;
+      table = s.table;
+      posted = s.posted;
+      held = s.held;
+      knowing = record { width = s.width; same = s.known_alike; itself = s.itself };
+    }
+
+-- where what is shown stands, nothing changes: no answer is ready
 pub woken_still : (e : CoreState) (known : List ℕ) (core : Core) → IsShown e known core → woken e ≡ e
 woken_still e known core shown = go e.blocked refl shown.blocked
   where
-    go : (b : Option Request) → e.blocked ≡ b → IsBlocked shown.rows b core.blocked → woken e ≡ e
+    go : (b : Option Awaited) → e.blocked ≡ b → IsBlocked shown.rows b core.blocked → woken e ≡ e
     go None b c = woken_free e b
-    go (Some q) b c =
-        let g : (b : Contents) × (progress_at e.slots q.key q.serial ≡ Some (Receiving b)) = progress_waiting e.slots shown.rows q.serial q.key c.1.0 shown.table c.1.1 in
-        woken_waiting e q g.0 b g.1
+    go (Some a) b c =
+        woken_pending e a b (unready (completion e.slots a) (sym (core_ready_is e known core shown.rows a (holding_of e known core shown) c.0 c.1) ∙ shown.pending))
 
-place_at : (e : CoreState) (q : Request) (g : Option Progress) → (woken_at e q g).place ≡ e.place
-place_at e q None = refl
-place_at e q (Some (Receiving b)) = refl
-place_at e q (Some (Finished o)) = refl
+place_at : (e : CoreState) (o : Option (Answer × List Request)) → (answered_by e o).place ≡ e.place
+place_at e None = refl
+place_at e (Some t) = refl
 
-place_by : (e : CoreState) (b : Option Request) → (woken_by e b).place ≡ e.place
+place_by : (e : CoreState) (b : Option Awaited) → (woken_by e b).place ≡ e.place
 place_by e None = refl
-place_by e (Some q) = place_at e q (progress_at e.slots q.key q.serial)
+place_by e (Some a) = place_at e (completion e.slots a)
 
 -- the rank stays at its place
 pub woken_place : (e : CoreState) → (woken e).place ≡ e.place

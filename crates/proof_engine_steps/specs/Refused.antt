@@ -7,8 +7,7 @@ use Rattle.rank_core.specs.declared.refused.Refused.TheVariants as refusals
 use Rattle.rank_core.specs.Calls.{call_fault}
 use Rattle.rank_core.specs.CoreState.{CoreState}
 use Rattle.rank_core.specs.Refusals.{number_of_refusal}
-use Rattle.rank_core.specs.Sending.{byte_count}
-use Rattle.vocabulary.specs.declared.envelope.Source.TheVariants as sources
+use Rattle.requests.specs.Regions.{byte_count}
 use Rattle.perfect_queues.specs.Refusals.{fault}
 use Rattle.proof_pure_network.specs.Core.{Core, view}
 use Rattle.proof_pure_network.specs.Held.{blank}
@@ -19,12 +18,9 @@ use Rattle.proof_engine_view.specs.Shown.{IsShown}
 abbrev pub fault_seen : CoreState → Core → Call → Option ℕ
 fault_seen old core call = fault old.place.size (view blank core) (call_meant old call)
 
--- The rules by which the engine is for now narrower than the machine: a send has at most 1,024 bytes (1), and no call names
--- the null process (5)
+-- The rule by which the engine is for now narrower than the machine: a send has at most 1,024 bytes (1)
 abbrev pub IsNarrower : Call → Refused → Type 0
-IsNarrower (calls.Isend s) refusals.Count = 1024 < byte_count s.elements
-IsNarrower (calls.Isend s) refusals.Rank = s.target ≡ None
-IsNarrower (calls.Irecv v) refusals.Rank = v.source ≡ sources.Null
+IsNarrower (calls.Isend s) refusals.Count = 1024 < byte_count s.from
 IsNarrower call why = ⊥
 
 -- the number of a limit or of want of memory: 13 or 14

@@ -58,8 +58,8 @@ pub record IsFromOther (old : CoreState) (known : List ℕ) (news : NewsText) : 
   pub apart : news.source.rank ≡ old.place.endpoint.rank → ⊥
   pub lesson : nat_lt (slice_index known news.source.rank) news.source.incarnation ≡ news.lesson
 
--- What is heard makes of the rank what it makes of its core in the network; the blocked call is answered where its request
--- has ended by that
+-- What is heard makes of the rank what it makes of its core in the network; the blocked call is answered where its answer is
+-- ready by that
 pub record IsHeard (old : CoreState) (known : List ℕ) (core : Core) (news : NewsText) : Type 0 where
   pub place : (after_news old news).place ≡ old.place
   pub shown :

@@ -6,9 +6,10 @@ ghost use Rattle.proof_engine_steps.specs.Refused.{FaultsHaveReasons, AllowedCal
 /// States that a rank's core holds what a core of the pure network holds, at whatever incarnation it starts, and that each call
 /// that is taken and all that is heard, be it a lesson or not, with a frame or without, keeps that: the machine finds no
 /// fault with the call, is told the same reply and completion, and the network's core gives the same frames to its links.
-/// Each call that meets a rule or a limit has the machine's first fault, or a limit met it, or one of the few rules by which
-/// the engine is narrower for now; each call that meets none names no request of another engine, and the machine finds no
-/// fault with it, so that a limit of its frame or want of memory is a reason. It does nothing when it is called.
+/// Each call that meets a rule or a limit has the machine's first fault, or a limit met it, or the one rule by which the engine
+/// is narrower for now (a send has at most 1,024 bytes); each call that meets none names no request of another engine, and the
+/// machine finds no fault with it, so that a limit of its frame or want of memory is a reason. It does nothing when it is
+/// called.
 pub fn engines_are_cores()
     ensures opening { OpeningIsShown }
     ensures calls { CallsAreShown }

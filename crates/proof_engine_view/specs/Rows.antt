@@ -1,13 +1,12 @@
 -- A rank's requests by their serials, each with the key under which it stands in the table.
 use Rattle.std.specs.Prelude.{◌≡◌, ℕ, List, [], ◌∷◌, ◌++◌, length, map, Option, Some, None, slice_get}
-use Rattle.datatypes.specs.Contents.{Contents}
 use Rattle.match_queues.specs.declared.envelope.Receive as posted
 use Rattle.match_queues.specs.declared.envelope.Message.{Message}
 use Rattle.requests.specs.declared.table.Entry.{Entry}
 use Rattle.requests.specs.declared.table.Progress.{Progress}
 use Rattle.requests.specs.declared.table.Progress.TheVariants.{Receiving, Finished}
+use Rattle.requests.specs.Regions.{handed_of}
 use Rattle.requests.specs.Table.{slot_at}
-use Rattle.perfect_queues.specs.Buffers.{whole}
 use Rattle.perfect_queues.specs.Receives.{Receive}
 use Rattle.proof_pure_network.specs.Held.{Held, Whole}
 use Rattle.proof_pure_network.specs.Jobs.{Job, Waiting, Collecting, Offering, Over, Closed}
@@ -22,23 +21,18 @@ pub record Row : Type 0 where
 abbrev pub jobs_of : List Row → List Job
 jobs_of rows = map (λ (r : Row). r.job) rows
 
--- the buffer of a receive
-abbrev pub contents_of : Receive → Contents
-contents_of p = p.into.buffer
-
--- the receive is into the whole buffer, on world
-pub record IsWhole (p : Receive) : Type 0 where
+-- the receive is on world
+pub record IsOnWorld (p : Receive) : Type 0 where
   pub context : p.context ≡ 0
   pub group : p.group ≡ None
-  pub into : p.into ≡ whole p.into.buffer
 
 -- how far the request is says what the job says
 abbrev pub Fits : Progress → Job → Type 0
-Fits (Receiving b) (Waiting p) = (b ≡ contents_of p) × IsWhole p
-Fits (Receiving b) (Collecting p h got) = ⊥
-Fits (Receiving b) (Offering d values) = ⊥
-Fits (Receiving b) (Over x) = ⊥
-Fits (Receiving b) Closed = ⊥
+Fits (Receiving r) (Waiting p) = (p.into ≡ handed_of r) × IsOnWorld p
+Fits (Receiving r) (Collecting p h got) = ⊥
+Fits (Receiving r) (Offering d values) = ⊥
+Fits (Receiving r) (Over x) = ⊥
+Fits (Receiving r) Closed = ⊥
 Fits (Finished o) (Waiting p) = ⊥
 Fits (Finished o) (Collecting p h got) = ⊥
 Fits (Finished o) (Offering d values) = ⊥

@@ -1,10 +1,15 @@
 -- What the machine of perfect queues sees of a rank's calls, replies and outcomes.
-use Rattle.std.specs.Prelude.{ℕ, Bool, false, not, ◌&&◌, List, [], ◌∷◌, length, Option, Some, None, if◌then◌else◌, ◌==◌, option_map}
+use Rattle.std.specs.Prelude.{ℕ, Bool, false, not, ◌&&◌, List, [], ◌∷◌, Option, Some, None, if◌then◌else◌, ◌==◌, map, option_map}
 use Rattle.std.specs.List.{list_any}
 use Rattle.vocabulary.specs.declared.endpoint.Endpoint.{Endpoint}
+use Rattle.requests.specs.declared.answer.Answer.{Answer}
+use Rattle.requests.specs.declared.answer.Answer.TheVariants as answers
+use Rattle.requests.specs.declared.awaited.Awaited.{Awaited}
+use Rattle.requests.specs.declared.awaited.Awaited.TheVariants as awaiteds
 use Rattle.requests.specs.declared.outcome.Outcome.{Outcome}
 use Rattle.requests.specs.declared.outcome.Outcome.TheVariants as outcomes
 use Rattle.requests.specs.Outcomes.{number_of_failure}
+use Rattle.requests.specs.Regions.{handed_of}
 use Rattle.requests.specs.Table.{slot_at}
 use Rattle.requests.specs.declared.table.Entry as table
 use Rattle.requests.specs.declared.table.Request.{Request}
@@ -18,13 +23,9 @@ use Rattle.rank_core.specs.CoreState.{CoreState}
 use Rattle.perfect_queues.specs.Outcomes as machine_outcomes
 use Rattle.perfect_queues.specs.Receives as machine_receives
 use Rattle.perfect_queues.specs.Calls as machine
-use Rattle.perfect_queues.specs.Completions.{One, ForOne}
+use Rattle.perfect_queues.specs.Completions as completions
 use Rattle.perfect_queues.specs.Events.{Entry, Called, Completed}
-use Rattle.perfect_queues.specs.Buffers.{whole}
 use Rattle.perfect_queues.specs.Refusals.{world}
-use Rattle.rank_core.specs.declared.call.Send.{Send}
-use Rattle.vocabulary.specs.declared.envelope.Source.{Source}
-use Rattle.vocabulary.specs.declared.envelope.Source.TheVariants.{Rank, Null}
 
 -- how an operation ended
 abbrev pub outcome_seen : Outcome → machine_outcomes.Outcome
@@ -32,28 +33,62 @@ outcome_seen outcomes.Sent = machine_outcomes.Sent
 outcome_seen (outcomes.Received status b) = machine_outcomes.Received status b.values
 outcome_seen (outcomes.Ended why status b) = machine_outcomes.Ended (number_of_failure why) status b.values
 outcome_seen (outcomes.Replaced b) = machine_outcomes.Replaced (option_map (λ c. c.values) b)
+outcome_seen (outcomes.Cancelled b) = machine_outcomes.Cancelled b.values
 outcome_seen outcomes.Empty = machine_outcomes.Empty
 
--- A receive on world into a whole buffer: its values take the buffer's places from the first on
+-- what a completing call answers
+abbrev pub answer_seen : Answer → completions.Answer
+answer_seen (answers.One o) = completions.ForOne (outcome_seen o)
+answer_seen (answers.Index i o) = completions.ForAny (Some (i, outcome_seen o))
+answer_seen answers.IndexUndefined = completions.ForAny None
+answer_seen (answers.All os) = completions.ForAll (map outcome_seen os)
+
+-- a receive on world
 abbrev pub receive_seen : Receive → machine_receives.Receive
 receive_seen v =
-    record { source = v.source; tag = v.tag; context = world; group = None; into = whole v.buffer }
+    record { source = v.source; tag = v.tag; context = world; group = None; into = handed_of v.into }
 
--- whom a send names: a rank, or the null process
-abbrev pub target_seen : Option ℕ → Source
-target_seen None = Null
-target_seen (Some to) = Rank to
-
--- a send of a whole buffer
+-- a send on world
 abbrev pub send_seen : Send → machine.Call
-send_seen s = machine.Isend world (target_seen s.target) (Some s.tag) (whole s.elements)
+send_seen s = machine.Isend world s.target s.tag (handed_of s.from)
 
--- a request is named by its serial
+-- a request is named by its serial; what that is may depend on the rank
+abbrev pub request_by : (Request → ℕ) → Option Request → Option ℕ
+request_by f None = None
+request_by f (Some q) = Some (f q)
+
+-- several are
+abbrev pub requests_by : (Request → ℕ) → List (Option Request) → List (Option ℕ)
+requests_by f [] = []
+requests_by f (q ∷ qs) = request_by f q ∷ requests_by f qs
+
+-- what a call waits for
+abbrev pub awaited_by : (Request → ℕ) → Awaited → completions.Awaited
+awaited_by f (awaiteds.One q) = completions.One (request_by f q)
+awaited_by f (awaiteds.AnyOf qs) = completions.AnyOf (requests_by f qs)
+awaited_by f (awaiteds.AllOf qs) = completions.AllOf (requests_by f qs)
+
+-- a call, where requests are named so
+abbrev pub call_by : (Request → ℕ) → Call → machine.Call
+call_by f (calls.Isend s) = send_seen s
+call_by f (calls.Irecv v) = machine.Irecv (receive_seen v)
+call_by f (calls.Wait q) = machine.Wait (awaited_by f (awaiteds.One q))
+call_by f (calls.Test q) = machine.Test (request_by f q)
+call_by f (calls.Waitany qs) = machine.Wait (awaited_by f (awaiteds.AnyOf qs))
+call_by f (calls.Waitall qs) = machine.Wait (awaited_by f (awaiteds.AllOf qs))
+call_by f (calls.Cancel q) = machine.Cancel (request_by f q)
+
+-- the serial of a request
+abbrev pub own_serial : Request → ℕ
+own_serial q = q.serial
+
+-- what is seen of a call: each request is named by its own serial
 abbrev pub call_seen : Call → machine.Call
-call_seen (calls.Isend s) = send_seen s
-call_seen (calls.Irecv v) = machine.Irecv (receive_seen v)
-call_seen (calls.Wait None) = machine.Wait (One None)
-call_seen (calls.Wait (Some q)) = machine.Wait (One (Some q.serial))
+call_seen call = call_by own_serial call
+
+-- what is seen of what a call waits for
+abbrev pub awaited_seen : Awaited → completions.Awaited
+awaited_seen a = awaited_by own_serial a
 
 -- whether a request with this serial stands in a slot of the table
 abbrev pub has_serial : (serial : ℕ) → Option table.Entry → Bool
@@ -70,20 +105,19 @@ serial_meant c q = if is_foreign c.slots q then c.serial else q.serial
 
 -- what a call means at a rank: what is seen of it, but that a request of another engine is one that it never gave
 abbrev pub call_meant : CoreState → Call → machine.Call
-call_meant c (calls.Isend s) = call_seen (calls.Isend s)
-call_meant c (calls.Irecv v) = call_seen (calls.Irecv v)
-call_meant c (calls.Wait None) = call_seen (calls.Wait None)
-call_meant c (calls.Wait (Some q)) = machine.Wait (One (Some (serial_meant c q)))
+call_meant c call = call_by (serial_meant c) call
 
 -- what is seen of a call at an endpoint that was answered so; of a refused one nothing is
 abbrev pub told_call : Endpoint → Call → Option Reply → List Entry
 told_call e call None = []
 told_call e call (Some (replies.Started q)) = Called e (call_seen call) (machine.Started q.serial) ∷ []
-told_call e call (Some (replies.Done o)) = Called e (call_seen call) (machine.Done (ForOne (outcome_seen o))) ∷ []
+told_call e call (Some (replies.Done a)) = Called e (call_seen call) (machine.Done (answer_seen a)) ∷ []
+told_call e call (Some replies.Pending) = Called e (call_seen call) machine.Pending ∷ []
+told_call e call (Some replies.Accepted) = Called e (call_seen call) machine.Accepted ∷ []
 told_call e call (Some replies.Blocked) = Called e (call_seen call) machine.Blocked ∷ []
 told_call e call (Some (replies.Refused why back)) = []
 
 -- what is seen of the answer to a call that was blocked
-abbrev pub told_completion : Endpoint → Option Outcome → List Entry
+abbrev pub told_completion : Endpoint → Option Answer → List Entry
 told_completion e None = []
-told_completion e (Some o) = Completed e (ForOne (outcome_seen o)) ∷ []
+told_completion e (Some a) = Completed e (answer_seen a) ∷ []

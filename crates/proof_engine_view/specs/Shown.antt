@@ -1,19 +1,27 @@
 -- When a rank's core holds what a core of the pure network holds.
-use Rattle.std.specs.Prelude.{◌≡◌, ℕ, List, length, map, Option, Some, None, slice_get, slice_index}
+use Rattle.std.specs.Prelude.{◌≡◌, ℕ, List, All, length, map, Option, Some, None, slice_get, slice_index}
+use Rattle.requests.specs.declared.awaited.Awaited as engine
 use Rattle.requests.specs.declared.table.Request.{Request}
+use Rattle.requests.specs.Completions.{awaited_requests}
 use Rattle.rank_core.specs.CoreState.{CoreState}
-use Rattle.perfect_queues.specs.Completions.{Awaited, One}
-use Rattle.perfect_queues.specs.Receives.{Receive}
+use Rattle.perfect_queues.specs.Completions.{Awaited}
 use Rattle.proof_pure_network.specs.Core.{Core}
-use Rattle.proof_pure_network.specs.Jobs.{Waiting}
+use Rattle.proof_pure_network.specs.Engine.{core_ready}
+use Rattle.proof_pure_network.specs.Jobs.{Closed}
 use Rattle.proof_engine_view.specs.Rows.{Row, IsTable, held_of, jobs_of, posted_rows}
+use Rattle.proof_engine_view.specs.Seen.{awaited_seen}
 
--- what the blocked call waits for is a receive that waits
-abbrev pub IsBlocked : List Row → Option Request → Option Awaited → Type 0
+-- a request that wasn't answered: its row stands under its key
+pub record IsNamed (rows : List Row) (q : Request) : Type 0 where
+  pub row : Row
+  pub there : slice_get rows q.serial ≡ Some row
+  pub key_is : row.key ≡ q.key
+  pub unanswered : row.job ≡ Closed → ⊥
+
+-- the blocked call waits for requests that weren't answered, and both wait for the same
+abbrev pub IsBlocked : List Row → Option engine.Awaited → Option Awaited → Type 0
 IsBlocked rows None b = b ≡ None
-IsBlocked rows (Some q) b =
-    (b ≡ Some (One (Some q.serial))) ×
-    ((p : Receive) × (slice_get rows q.serial ≡ Some (record { key = q.key; job = Waiting p })))
+IsBlocked rows (Some a) b = (b ≡ Some (awaited_seen a)) × All (IsNamed rows) (awaited_requests a)
 
 -- The rank holds the requests and messages of the network's core and is blocked on the same; and both know the ranks alike:
 -- `known` is what the rank's sessions know, the incarnation of each rank by its number
@@ -25,6 +33,8 @@ pub record IsShown (c : CoreState) (known : List ℕ) (core : Core) : Type 0 whe
   pub posted : c.queues.posted ≡ posted_rows rows
   pub held : core.held ≡ map held_of c.queues.unexpected
   pub blocked : IsBlocked rows c.blocked core.blocked
+  -- the blocked call's answer isn't ready
+  pub pending : core_ready core ≡ None
   -- both know each rank at the same incarnation, and the rank itself at its own
   pub width : length known ≡ c.place.size
   pub known_alike : (r : ℕ) → core.known r ≡ slice_index known r

@@ -1,8 +1,8 @@
 -- That the machine and `datatypes` mean the same by a layout (MPI 3.1, 4.1): both speak of one definition of places, and
 -- here stands what each makes of it.
 use Rattle.std.specs.Prelude.{◌≡◌, Bool, true, false, Option, Some, None, length}
-use Rattle.datatypes.specs.declared.refusal.Refusal.{Refusal}
-use Rattle.datatypes.specs.declared.refusal.Refusal.TheVariants.{WrongType, TooShort}
+use Rattle.derived_types.specs.declared.refusal.Refusal.{Refusal}
+use Rattle.derived_types.specs.declared.refusal.Refusal.TheVariants.{WrongType, TooShort}
 use Rattle.datatypes.specs.Transfers.{send_fault, receive_fault, unpack_fault}
 use Rattle.layouts.specs.Buffers.{Contents, elements_at, put_at}
 use Rattle.layouts.specs.Layouts.{places}

@@ -1,6 +1,6 @@
 -- A world of engines follows the pure network: the laws of the parts, put together.
 use Rattle.proof_engine_matching.proofs.ArrivalLemmas.{arrivals_match}
-use Rattle.proof_engine_matching.proofs.EndingLemmas.{outcomes_agree, receives_fit}
+use Rattle.proof_engine_matching.proofs.EndingLemmas.{outcomes_agree}
 use Rattle.proof_engine_matching.proofs.PostLemmas.{posts_match}
 use Rattle.proof_engine_steps.proofs.CallsShown.{calls_are_shown}
 use Rattle.proof_engine_steps.proofs.News.{news_are_shown}
@@ -22,7 +22,7 @@ pub opening_follows : OpeningFollows
 opening_follows = parts.opening_follows opening_is_shown opening_is_true
 
 pub calls_follow : CallsFollow
-calls_follow = parts.calls_follow (calls_are_shown receives_fit posts_match arrivals_match outcomes_agree) events_are_true
+calls_follow = parts.calls_follow (calls_are_shown posts_match arrivals_match outcomes_agree) events_are_true
 
 pub datagrams_follow : DatagramsFollow
 datagrams_follow = words.datagrams_follow (news_are_shown arrivals_match outcomes_agree) hearing_is_true events_are_true
@@ -38,5 +38,4 @@ restarts_follow = parts.restarts_follow opening_is_shown restarts_are_true
 
 pub following_is_run : FollowingIsRun
 following_is_run =
-    machine.following_is_run idle_is_still (faults_have_reasons receives_fit) (room_is_a_reason (allowed_calls_are_faultless receives_fit))
-    (allowed_calls_are_faultless receives_fit)
+    machine.following_is_run idle_is_still faults_have_reasons (room_is_a_reason allowed_calls_are_faultless) allowed_calls_are_faultless

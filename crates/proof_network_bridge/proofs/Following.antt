@@ -11,7 +11,7 @@ use Rattle.rank_core.specs.declared.call.Reply.{Reply}
 use Rattle.rank_core.specs.CoreState.{CoreState}
 use Rattle.rank_core.specs.Calls.{IsWithin, call_fault, call_frame}
 use Rattle.rank_core.specs.Sending.{FrameFor}
-use Rattle.requests.specs.declared.outcome.Outcome.{Outcome}
+use Rattle.requests.specs.declared.answer.Answer.{Answer}
 use Rattle.sessions.specs.Events.{after_event}
 use Rattle.sessions.specs.SessionsState.{SessionsState}
 use Rattle.engine.specs.Calls.{IsAnswered, frame_limit, sendings_of}
@@ -136,7 +136,7 @@ pub followed_unanswered : (n r : ℕ) (engines : List EngineState) (datagrams : 
 followed_unanswered n r engines datagrams history old mid f there beside truth =
     let none : mid.core.completion ≡ None = ap (λ (c : CoreState). c.completion) beside.core ∙ (f.joined.clean r old there).completion in
     let nothing : history ≡ history ++ told_completion old.sessions.place.endpoint mid.core.completion =
-    sym (append-nil history) ∙ ap (λ (o : Option Outcome). history ++ told_completion old.sessions.place.endpoint o) (sym none) in
+    sym (append-nil history) ∙ ap (λ (o : Option Answer). history ++ told_completion old.sessions.place.endpoint o) (sym none) in
     subst (λ (es : List Entry). LeavesFollowed n engines datagrams r mid es) nothing (followed_still n r engines datagrams history old mid f there beside truth)
 
 -- the sessions of a rank of the world, out of which everything was taken
@@ -231,7 +231,7 @@ answered_follows shows truth n r engines datagrams history old mid call reply f 
         ≡ told_call old.sessions.place.endpoint call (Some reply) ++ told_completion old.sessions.place.endpoint mid.core.completion
     entries_are =
         c.tells ∙ told_there ∙ sym (append-nil (told_call old.sessions.place.endpoint call (Some reply)))
-        ∙ ap (λ (o : Option Outcome). told_call old.sessions.place.endpoint call (Some reply) ++ told_completion old.sessions.place.endpoint o) (sym none)
+        ∙ ap (λ (o : Option Answer). told_call old.sessions.place.endpoint call (Some reply) ++ told_completion old.sessions.place.endpoint o) (sym none)
 
 pub calls_follow : CallsAreShown → EventsAreTrue → CallsFollow
 calls_follow shows truth n r engines datagrams history old mid call reply f there within taken gives =

@@ -63,6 +63,8 @@ pub answered : (old new : EngineState) (call : Call) (reply : Reply) → IsTaken
 answered old new call (replies.Refused why back) taken gives = absurd taken
 answered old new call (replies.Started q) taken gives = gives
 answered old new call (replies.Done o) taken gives = gives
+answered old new call replies.Pending taken gives = gives
+answered old new call replies.Accepted taken gives = gives
 answered old new call replies.Blocked taken gives = gives
 
 -- where neither of two is, the first is not

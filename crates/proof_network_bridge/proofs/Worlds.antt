@@ -82,6 +82,7 @@ held_emptied e core h =
         posted = h.shown.posted;
         held = h.shown.held;
         blocked = h.shown.blocked;
+        pending = h.shown.pending;
         width = h.shown.width;
         known_alike = h.shown.known_alike;
         itself = h.shown.itself;

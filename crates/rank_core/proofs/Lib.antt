@@ -1,1 +1,3 @@
 pub mod Sends
+pub mod Packs
+pub mod Allowed

@@ -3,8 +3,8 @@ use Rattle.std.specs.Prelude.{ℕ, ◌+◌, ◌<◌, ◌≤◌, ◌^◌, List, [
 use Rattle.incarnation.specs.declared.place.Place.{Place}
 use Rattle.match_queues.specs.State.{State}
 use Rattle.requests.specs.declared.table.Entry.{Entry}
-use Rattle.requests.specs.declared.table.Request.{Request}
-use Rattle.requests.specs.declared.outcome.Outcome.{Outcome}
+use Rattle.requests.specs.declared.answer.Answer.{Answer}
+use Rattle.requests.specs.declared.awaited.Awaited.{Awaited}
 
 -- where the rank stands, its queues, its requests, and the call that isn't answered yet
 pub record CoreState : Type 0 where
@@ -13,10 +13,10 @@ pub record CoreState : Type 0 where
   -- what stands under each key in the table of requests, and how many were started
   pub slots : List (Option Entry)
   pub serial : ℕ
-  -- the request that the blocked call waits for
-  pub blocked : Option Request
+  -- what the blocked call waits for
+  pub blocked : Option Awaited
   -- the blocked call's answer, until it is taken out
-  pub completion : Option Outcome
+  pub completion : Option Answer
 
 -- a core at its start: nothing is pending
 abbrev pub opening : Place → CoreState

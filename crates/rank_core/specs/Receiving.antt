@@ -1,39 +1,40 @@
 -- What a receive does to the core (MPI 3.1, 3.2.4 and 3.7).
-use Rattle.std.specs.Prelude.{◌≡◌, ℕ, ◌+◌, nat_le, Bool, true, false, List, Option, Some, None, length, if◌then◌else◌}
+use Rattle.std.specs.Prelude.{◌≡◌, ℕ, ◌+◌, List, Option, Some, None, length, if◌then◌else◌}
 use Rattle.vocabulary.specs.declared.envelope.Source.{Source}
 use Rattle.vocabulary.specs.declared.envelope.Source.TheVariants as sources
 use Rattle.vocabulary.specs.declared.envelope.Status.{Status}
-use Rattle.datatypes.specs.Contents.{Contents}
-use Rattle.perfect_queues.specs.Refusals.{is_tag_above}
+use Rattle.perfect_queues.specs.Buffers.{is_too_short}
+use Rattle.perfect_queues.specs.Outcomes.{null_status}
+use Rattle.perfect_queues.specs.Refusals.{is_source_beyond, is_tag_above}
 use Rattle.match_queues.specs.declared.envelope.Receive as posted
 use Rattle.match_queues.specs.declared.envelope.Message.{Message}
 use Rattle.match_queues.specs.declared.queues.Arrival.{Arrival}
 use Rattle.match_queues.specs.declared.queues.Arrival.TheVariants.{Kept, Matched}
 use Rattle.match_queues.specs.State.{message_at, message_for, after_post}
+use Rattle.requests.specs.declared.region.Region.{Region}
 use Rattle.requests.specs.declared.table.Entry.{Entry}
 use Rattle.requests.specs.declared.table.Request.{Request}
 use Rattle.requests.specs.declared.table.Progress.{Progress}
 use Rattle.requests.specs.declared.table.Progress.TheVariants.{Receiving, Finished}
+use Rattle.requests.specs.declared.outcome.Outcome.TheVariants as outcomes
 use Rattle.requests.specs.Outcomes.{outcome_of}
+use Rattle.requests.specs.Regions.{handed_of, is_unfit_to_receive}
 use Rattle.requests.specs.Table.{slot_at, IsSet, after_finish, is_full}
 use Rattle.rank_core.specs.declared.call.Receive.{Receive}
 use Rattle.rank_core.specs.declared.refused.Refused.{Refused}
 use Rattle.rank_core.specs.declared.refused.Refused.TheVariants as refusals
 use Rattle.rank_core.specs.CoreState.{CoreState}
 
--- for now no receive names the null process
-abbrev pub is_no_source : ℕ → Source → Bool
-is_no_source size sources.Any = false
-is_no_source size (sources.Rank rank) = nat_le size rank
-is_no_source size sources.Null = true
-
--- the first rule or limit that a receive meets
+-- The first rule or limit that a receive meets: buffer and layout differ in basic type, or a place is named twice; the buffer
+-- is too short; the tag is above the highest; there is no such rank; no request can be started.
 unfoldable pub receive_fault : CoreState → Receive → Option Refused
 receive_fault c v =
-    if is_tag_above v.tag then Some refusals.Tag
-    else (if is_no_source c.place.size v.source then Some refusals.Rank
+    if is_unfit_to_receive (handed_of v.into) then Some refusals.WrongType
+    else (if is_too_short (handed_of v.into) then Some refusals.Count
+    else (if is_tag_above v.tag then Some refusals.Tag
+    else (if is_source_beyond c.place.size v.source then Some refusals.Rank
     else (if is_full c.slots c.serial then Some refusals.Limit
-    else None))
+    else None))))
 
 -- the receive as it stands in the queue, under its key in the table; it is on world, whose context is 0
 abbrev pub posted_by : ℕ → Receive → posted.Receive
@@ -49,17 +50,37 @@ slots_on_arrival slots (Matched r m) = after_finish slots r.request (status_of m
 slots_on_arrival slots Kept = slots
 
 -- how far a receive is once it was posted: it waits, or it has ended with the message that was found
-abbrev pub progress_on_post : Contents → Option Message → Progress
-progress_on_post b None = Receiving b
-progress_on_post b (Some m) = Finished (outcome_of b (status_of m) m.elements)
+abbrev pub progress_on_post : Region → Option Message → Progress
+progress_on_post r None = Receiving r
+progress_on_post r (Some m) = Finished (outcome_of (handed_of r) (status_of m) m.elements)
 
 -- the receive has the next serial and a key that was free; it has ended with the oldest message that it accepts, or it
 -- waits (MPI 3.1, 3.5)
-pub record IsReceiving (old : CoreState) (v : Receive) (r : Request) (new : CoreState) : Type 0 where
+pub record IsPosting (old : CoreState) (v : Receive) (r : Request) (new : CoreState) : Type 0 where
   pub fresh : slot_at old.slots r.key ≡ None
   pub serial : r.serial ≡ old.serial
   pub entry : IsSet old.slots new.slots r.key (Some (record {
     serial = old.serial;
-    progress = progress_on_post v.buffer (message_at old.queues.unexpected (message_for (posted_by r.key v) old.queues.unexpected));
+    progress = progress_on_post v.into (message_at old.queues.unexpected (message_for (posted_by r.key v) old.queues.unexpected));
   }))
   pub rest : new ≡ record old { slots = new.slots; serial = old.serial + 1; queues = after_post old.queues (posted_by r.key v) }
+
+-- a receive from the null process is finished in its own call, and its buffer is as it was (MPI 3.1, 3.11)
+pub record IsReceivingNothing (old : CoreState) (v : Receive) (r : Request) (new : CoreState) : Type 0 where
+  pub fresh : slot_at old.slots r.key ≡ None
+  pub serial : r.serial ≡ old.serial
+  pub entry : IsSet old.slots new.slots r.key (Some (record {
+    serial = old.serial;
+    progress = Finished (outcomes.Received null_status v.into.buffer);
+  }))
+  pub rest : new ≡ record old { slots = new.slots; serial = old.serial + 1 }
+
+-- by whom it names
+abbrev pub ReceivesFrom : Source → CoreState → Receive → Request → CoreState → Type 0
+ReceivesFrom sources.Any old v r new = IsPosting old v r new
+ReceivesFrom (sources.Rank rank) old v r new = IsPosting old v r new
+ReceivesFrom sources.Null old v r new = IsReceivingNothing old v r new
+
+-- what a receive leaves, under the request that it started
+abbrev pub IsReceiving : CoreState → Receive → Request → CoreState → Type 0
+IsReceiving old v r new = ReceivesFrom v.source old v r new

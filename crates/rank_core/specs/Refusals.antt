@@ -5,11 +5,12 @@ use Rattle.datagram.specs.declared.refused.Refused.TheVariants as lowers
 use Rattle.incarnation.specs.declared.refused.Refused as judging
 use Rattle.incarnation.specs.declared.refused.Refused.TheVariants as judgings
 use Rattle.rank_core.specs.declared.refused.Refused.{Refused}
-use Rattle.rank_core.specs.declared.refused.Refused.TheVariants.{Count, Tag, Rank, Request, Limit, OutOfMemory, Short, Magic, Version, Kind, Length, ForeignJob, NotForMe, StaleSource, StaleTarget, BadFrame, OutOfWindow, ClockBack}
+use Rattle.rank_core.specs.declared.refused.Refused.TheVariants.{Count, WrongType, Tag, Rank, Request, Limit, OutOfMemory, Short, Magic, Version, Kind, Length, ForeignJob, NotForMe, StaleSource, StaleTarget, BadFrame, OutOfWindow, ClockBack}
 
 -- the number that a call or an event answers
 abbrev pub number_of_refusal : Refused → ℕ
 number_of_refusal Count = 1
+number_of_refusal WrongType = 2
 number_of_refusal Tag = 3
 number_of_refusal Rank = 5
 number_of_refusal Request = 6

@@ -1,41 +1,85 @@
--- What a wait does to the core, and how a blocked call is answered (MPI 3.1, 3.7.3).
-use Rattle.std.specs.Prelude.{◌≡◌, Option, Some, None, slice_set}
+-- What completing calls and cancels do to the core, and how a blocked call is answered (MPI 3.1, 3.7.3, 3.7.5 and 3.8.4).
+use Rattle.std.specs.Prelude.{◌≡◌, ◌||◌, List, Option, Some, None, if◌then◌else◌}
+use Rattle.match_queues.specs.State as queues
+use Rattle.requests.specs.declared.answer.Answer.{Answer}
+use Rattle.requests.specs.declared.awaited.Awaited.{Awaited}
+use Rattle.requests.specs.declared.awaited.Awaited.TheVariants.{One}
 use Rattle.requests.specs.declared.table.Request.{Request}
 use Rattle.requests.specs.declared.table.Progress.{Progress}
 use Rattle.requests.specs.declared.table.Progress.TheVariants.{Receiving, Finished}
-use Rattle.requests.specs.Table.{progress_at}
+use Rattle.requests.specs.Completions.{awaited_requests, completion, without}
+use Rattle.requests.specs.Lists.{is_one_absent, is_twice}
+use Rattle.requests.specs.Table.{after_cancel, is_receive, progress_at}
 use Rattle.rank_core.specs.declared.call.Reply.{Reply}
 use Rattle.rank_core.specs.declared.call.Reply.TheVariants as replies
 use Rattle.rank_core.specs.declared.refused.Refused.{Refused}
 use Rattle.rank_core.specs.declared.refused.Refused.TheVariants as refusals
 use Rattle.rank_core.specs.CoreState.{CoreState}
 
--- a wait for a request that isn't there is refused
-abbrev pub wait_fault : Option Progress → Option Refused
-wait_fault None = Some refusals.Request
-wait_fault (Some p) = None
+-- requests that aren't there, or of which one is named twice, can't be waited for
+abbrev pub requests_fault : CoreState → List Request → Option Refused
+requests_fault c qs = if is_one_absent c.slots qs || is_twice qs then Some refusals.Request else None
 
--- by how far the request is: a wait ends a finished request, and is blocked by an unfinished one
-abbrev pub WaitsAt : CoreState → Request → Option Progress → Reply → CoreState → Type 0
-WaitsAt old q None reply new = ⊥
-WaitsAt old q (Some (Receiving b)) reply new = (reply ≡ replies.Blocked) × (new ≡ record old { blocked = Some q })
-WaitsAt old q (Some (Finished o)) reply new = (reply ≡ replies.Done o) × (new ≡ record old { slots = slice_set old.slots q.key None })
+-- a completing call is refused where what it waits for isn't there
+abbrev pub wait_fault : CoreState → Awaited → Option Refused
+wait_fault c a = requests_fault c (awaited_requests a)
 
--- what a wait for a request that is there answers and leaves
-abbrev pub Waits : CoreState → Request → Reply → CoreState → Type 0
-Waits old q reply new = WaitsAt old q (progress_at old.slots q.key q.serial) reply new
+-- only a receive can be cancelled; the null request is none
+abbrev pub cancel_fault : CoreState → Option Request → Option Refused
+cancel_fault c None = Some refusals.Request
+cancel_fault c (Some q) = if is_receive (progress_at c.slots q.key q.serial) then None else Some refusals.Request
 
--- by how far its request is: a finished one ends, and its outcome is the completion
-abbrev pub woken_at : CoreState → Request → Option Progress → CoreState
-woken_at c q None = c
-woken_at c q (Some (Receiving b)) = c
-woken_at c q (Some (Finished o)) = record c { slots = slice_set c.slots q.key None; blocked = None; completion = Some o }
+-- ---- waits
 
--- where no wait is blocked, nothing is answered
-abbrev pub woken_by : CoreState → Option Request → CoreState
+-- by whether its answer is ready: the requests that the answer uses up are gone, or the call is blocked
+abbrev pub WaitsBy : CoreState → Awaited → Option (Answer × List Request) → Reply → CoreState → Type 0
+WaitsBy old a None reply new = (reply ≡ replies.Blocked) × (new ≡ record old { blocked = Some a })
+WaitsBy old a (Some (answer, used)) reply new = (reply ≡ replies.Done answer) × (new ≡ record old { slots = without old.slots used })
+
+-- what a wait answers and leaves
+abbrev pub Waits : CoreState → Awaited → Reply → CoreState → Type 0
+Waits old a reply new = WaitsBy old a (completion old.slots a) reply new
+
+-- ---- tests
+
+-- by whether its answer is ready: a test never blocks
+abbrev pub TestsBy : CoreState → Option (Answer × List Request) → Reply → CoreState → Type 0
+TestsBy old None reply new = (reply ≡ replies.Pending) × (new ≡ old)
+TestsBy old (Some (answer, used)) reply new = (reply ≡ replies.Done answer) × (new ≡ record old { slots = without old.slots used })
+
+-- what a test answers and leaves
+abbrev pub Tests : CoreState → Option Request → Reply → CoreState → Type 0
+Tests old q reply new = TestsBy old (completion old.slots (One q)) reply new
+
+-- ---- cancels
+
+-- a receive that waits has ended and is posted no more; anything else stays as it is
+abbrev pub cancelled_at : CoreState → Request → Option Progress → CoreState
+cancelled_at c q None = c
+cancelled_at c q (Some (Receiving r)) = record c { slots = after_cancel c.slots q; queues = queues.after_cancel c.queues q.key }
+cancelled_at c q (Some (Finished o)) = c
+
+-- what a cancel makes of the core
+abbrev pub cancelled : CoreState → Option Request → CoreState
+cancelled c None = c
+cancelled c (Some q) = cancelled_at c q (progress_at c.slots q.key q.serial)
+
+-- what a cancel answers and leaves
+abbrev pub Cancels : CoreState → Option Request → Reply → CoreState → Type 0
+Cancels old q reply new = (reply ≡ replies.Accepted) × (new ≡ cancelled old q)
+
+-- ---- the blocked call
+
+-- the blocked call is answered where its answer is ready
+abbrev pub answered_by : CoreState → Option (Answer × List Request) → CoreState
+answered_by c None = c
+answered_by c (Some (answer, used)) = record c { slots = without c.slots used; blocked = None; completion = Some answer }
+
+-- where no call is blocked, nothing is answered
+abbrev pub woken_by : CoreState → Option Awaited → CoreState
 woken_by c None = c
-woken_by c (Some q) = woken_at c q (progress_at c.slots q.key q.serial)
+woken_by c (Some a) = answered_by c (completion c.slots a)
 
--- the blocked wait is answered if its request is finished
+-- the blocked call is answered if its answer is ready
 unfoldable pub woken : CoreState → CoreState
 woken c = woken_by c c.blocked

@@ -3,20 +3,19 @@
 ghost use Rattle.std.specs.Prelude.{◌≡◌, IfOk};
 
 use crate::refused::Refused;
-use datatypes::Buffer;
-use requests::{Outcome, Request};
+use requests::{Answer, Region, Request, RequestList};
 use std::alloc::{AllocError, Global};
 use vocabulary::Source;
 
 /// A standard send on `world` (MPI 3.1, 3.4 and 3.7.2).
 #[derive(Debug, Drop)]
 pub struct Send {
-    /// The rank that it goes to; `None` is the null process.
-    pub target: Option<u16>,
-    /// The tag, at most 2,147,483,647.
-    pub tag: u32,
-    /// The elements.
-    pub elements: Buffer,
+    /// The rank that it goes to, or the null process (3.11). Any rank is no target: it is refused.
+    pub target: Source,
+    /// The tag, at most 2,147,483,647. The wildcard, `None`, is no tag of a send: it is refused.
+    pub tag: Option<u32>,
+    /// Where the data are taken from.
+    pub from: Region,
 }
 
 /// A receive on `world` (MPI 3.1, 3.2.4 and 3.7.2).
@@ -27,18 +26,26 @@ pub struct Receive {
     /// The tag that it wants, at most 2,147,483,647; `None` is the wildcard.
     pub tag: Option<u32>,
     /// Where the data go. The receive takes the buffer with it, and its outcome hands it back.
-    pub buffer: Buffer,
+    pub into: Region,
 }
 
-/// What a program may ask of its rank.
+/// What a program may ask of its rank. Where a request is named, none is the null request.
 #[derive(Debug, Drop)]
 pub enum Call {
     /// Starts a send.
     Isend(Send),
     /// Starts a receive.
     Irecv(Receive),
-    /// Waits until the request is finished, and ends it; none is the null request.
+    /// Waits until the request is finished, and ends it (MPI 3.1, 3.7.3).
     Wait(Option<Request>),
+    /// Ends the request, if it is finished (3.7.3).
+    Test(Option<Request>),
+    /// Waits until a request of the list is finished, and ends the first in the list that is (3.7.5).
+    Waitany(RequestList),
+    /// Waits until each request of the list is finished, and ends them all (3.7.5).
+    Waitall(RequestList),
+    /// Ends a receive that waits as cancelled; one that was matched goes on (3.8.4).
+    Cancel(Option<Request>),
 }
 
 /// What a call answers.
@@ -46,8 +53,12 @@ pub enum Call {
 pub enum Reply {
     /// The operation is started under this request.
     Started(Request),
-    /// The request is finished, and ended with this outcome.
-    Done(Outcome),
+    /// What was asked for is finished, and ended so.
+    Done(Answer),
+    /// The request of a test is unfinished.
+    Pending,
+    /// The cancel was taken.
+    Accepted,
     /// The answer is not ready. It is handed out once, as the completion of the event in which it is.
     Blocked,
     /// The call broke this rule, or met a limit or want of memory. It is handed back, and nothing changed.
@@ -72,14 +83,18 @@ impl Call {
             Call::Isend(send) => Ok(Call::Isend(Send {
                 target: send.target,
                 tag: send.tag,
-                elements: send.elements.try_clone(alloc)?,
+                from: send.from.try_clone(alloc)?,
             })),
             Call::Irecv(receive) => Ok(Call::Irecv(Receive {
                 source: receive.source,
                 tag: receive.tag,
-                buffer: receive.buffer.try_clone(alloc)?,
+                into: receive.into.try_clone(alloc)?,
             })),
             Call::Wait(request) => Ok(Call::Wait(*request)),
+            Call::Test(request) => Ok(Call::Test(*request)),
+            Call::Waitany(list) => Ok(Call::Waitany(list.try_clone(alloc)?)),
+            Call::Waitall(list) => Ok(Call::Waitall(list.try_clone(alloc)?)),
+            Call::Cancel(request) => Ok(Call::Cancel(*request)),
         }
     }
 }

@@ -12,8 +12,9 @@ use crate::refused::Refused;
 use datagram::{Eager, Frame, Plane};
 use datatypes::Buffer;
 use match_queues::{Arrival, Message};
-use requests::Taken;
+use requests::Answer;
 use std::alloc::Global;
+use std::mem;
 use vocabulary::Endpoint;
 
 /// What is heard from another rank, as far as it concerns a core.
@@ -67,6 +68,9 @@ fn message_from(
         Some(Frame::Eager(eager)) => Ok(Some(message_of(alloc, source, &eager)?)),
     }
 }
+
+/// Drops an answer that was not taken out.
+fn forget(_answer: Option<Answer>) {}
 
 impl Core {
     /// The rule that news break: 30 (for now a message of a collective operation). It takes no memory.
@@ -163,16 +167,16 @@ impl Core {
         }
     }
 
-    /// Answers the blocked call, if its request is finished now.
+    /// Answers the blocked call, if its answer is ready now.
     #[tactic(auto, unfolding(crate::specs::Waiting::woken))]
     fn wake(&mut self)
         ensures exact { self.new.state ≡ woken self.old.state }
         ensures placed { self.new.state.place ≡ self.old.state.place }
     {
-        if let Some(request) = self.blocked {
-            if let Taken::Done(outcome) = self.requests.take(request) {
-                self.blocked = None;
-                self.completion = Some(outcome);
+        if let Some(awaited) = self.blocked.take() {
+            match self.requests.complete(awaited) {
+                Ok(answer) => forget(mem::replace(&mut self.completion, Some(answer))),
+                Err(awaited) => self.blocked = Some(awaited),
             }
         }
     }

@@ -5,9 +5,12 @@
 //! memory; and then it is done, which cannot fail. Until it is done the core stays as it was.
 #![tactic(auto)]
 
+mod answering;
 mod call;
-mod calls;
+mod faults;
 mod hearing;
+mod prepared;
+mod preparing;
 mod rank;
 mod receiving;
 mod refused;
@@ -15,6 +18,7 @@ mod sending;
 
 pub use call::{Call, Handed, Receive, Reply, Send};
 pub use hearing::{News, Ready};
+pub use prepared::Prepared;
 pub use rank::Core;
 pub use refused::Refused;
 pub use sending::Addressed;

@@ -5,7 +5,7 @@ ghost use Rattle.rank_core.specs.CoreState.{opening};
 
 use incarnation::Place;
 use match_queues::Queues;
-use requests::{Outcome, Request, Requests};
+use requests::{Answer, Awaited, Requests};
 use std::alloc::Global;
 use std::marker::Model;
 
@@ -20,10 +20,10 @@ pub struct Core {
     pub(crate) queues: Queues,
     /// The requests that were started and have not ended.
     pub(crate) requests: Requests,
-    /// The request that the blocked call waits for.
-    pub(crate) blocked: Option<Request>,
+    /// What the blocked call waits for.
+    pub(crate) blocked: Option<Awaited>,
     /// The answer of a blocked call, until it is taken out.
-    pub(crate) completion: Option<Outcome>,
+    pub(crate) completion: Option<Answer>,
 }
 
 impl Model for Core {
@@ -70,7 +70,7 @@ impl Core {
 
     /// Hands out the answer of a blocked call, once, after the event in which it was ready. An answer that isn't taken is
     /// lost when the next one comes.
-    pub fn take_completion(&mut self) -> Option<Outcome>
+    pub fn take_completion(&mut self) -> Option<Answer>
         ensures completion { result ≡ self.old.state.completion }
         ensures rest { self.new.state ≡ record self.old.state { completion = None } }
     {

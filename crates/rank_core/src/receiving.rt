@@ -1,13 +1,13 @@
 //! What a receive asks for, and what a message makes of it.
 
 ghost use Rattle.std.specs.Prelude.{◌≡◌};
-ghost use Rattle.perfect_queues.specs.Refusals.{is_tag_above};
-ghost use Rattle.rank_core.specs.Receiving.{is_no_source, posted_by, status_of, progress_on_post};
+ghost use Rattle.perfect_queues.specs.Outcomes.{null_status};
+ghost use Rattle.perfect_queues.specs.Refusals.{is_tag_above, is_source_beyond};
+ghost use Rattle.rank_core.specs.Receiving.{posted_by, status_of, progress_on_post};
 
 use crate::call::Receive;
-use datatypes::Buffer;
 use match_queues::Message;
-use requests::{Progress, received};
+use requests::{Progress, ReceiveRegion, received};
 use vocabulary::{HIGHEST_TAG, Source, Status};
 
 /// Whether the tag is above the greatest one.
@@ -20,14 +20,13 @@ pub(crate) fn is_tag_above(tag: Option<u32>) -> bool
     }
 }
 
-/// Whether there is no such source among `size` ranks.
-pub(crate) fn is_no_source(size: u16, source: Source) -> bool
-    ensures { result ≡ is_no_source size source }
+/// Whether the source is a rank that is not among `size` ranks.
+pub(crate) fn is_source_beyond(size: u16, source: Source) -> bool
+    ensures { result ≡ is_source_beyond size source }
 {
     match source {
-        Source::Any => false,
         Source::Rank(rank) => rank >= size,
-        Source::Null => true,
+        Source::Any | Source::Null => false,
     }
 }
 
@@ -54,15 +53,26 @@ pub(crate) fn status_of(message: &Message) -> Status
     }
 }
 
+/// The status of a receive from the null process (MPI 3.1, 3.11).
+pub(crate) fn null_status() -> Status
+    ensures { result ≡ null_status }
+{
+    Status {
+        source: Source::Null,
+        tag: None,
+        count: 0,
+    }
+}
+
 /// How far a receive is, once it was posted and found this message or none.
-pub(crate) fn progress_on_post(buffer: Buffer, found: Option<Message>) -> Progress
-    ensures { result ≡ progress_on_post buffer found }
+pub(crate) fn progress_on_post(into: ReceiveRegion, found: Option<Message>) -> Progress
+    ensures { result ≡ progress_on_post into found }
 {
     match found {
         Some(message) => {
             let status = status_of(&message);
-            Progress::Finished(received(buffer, status, &message.elements))
+            Progress::Finished(received(into, status, &message.elements))
         }
-        None => Progress::Receiving(buffer),
+        None => Progress::Receiving(into),
     }
 }

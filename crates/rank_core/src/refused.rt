@@ -9,17 +9,21 @@ use thiserror::Error;
 /// for the reset that goes out with `StaleTarget`.
 #[derive(Clone, Copy, Debug, PartialEq, Eq, Error)]
 pub enum Refused {
-    /// More data than a send may have (MPI 3.1, ERR_COUNT).
+    /// More data than a send may have, or a buffer too short for its layout and number of copies (MPI 3.1, ERR_COUNT).
     #[error("the count is out of range")]
     Count,
-    /// A tag above 2,147,483,647 (ERR_TAG).
+    /// Buffer and layout are of different basic types, or a receive names a place twice (ERR_TYPE, 3.3.1 and 4.1.11).
+    #[error("the type is wrong")]
+    WrongType,
+    /// A tag above 2,147,483,647, or the wildcard in a send (ERR_TAG).
     #[error("the tag is out of range")]
     Tag,
-    /// No such rank (ERR_RANK).
+    /// No such rank, or any rank in a send (ERR_RANK).
     #[error("there is no such rank")]
     Rank,
-    /// No such request, or any call while an earlier one is blocked (ERR_REQUEST).
-    #[error("there is no such request, or an earlier call is blocked")]
+    /// No such request, one twice in a list, a cancel of a send or of the null request, or any call while an earlier one is
+    /// blocked (ERR_REQUEST).
+    #[error("there is no such request, it is named twice or no receive, or an earlier call is blocked")]
     Request,
     /// A limit is reached.
     #[error("a limit is reached")]
@@ -73,6 +77,7 @@ impl Refused {
     {
         match self {
             Refused::Count => 1,
+            Refused::WrongType => 2,
             Refused::Tag => 3,
             Refused::Rank => 5,
             Refused::Request => 6,

@@ -41,7 +41,7 @@ pub trait Transport {
         ensures passed { passed self.old (parcel result (Printed line.now) ∷ []) self.new }
         ensures failures { FailsWith result (failed self.old) (failed self.new) };
 
-    /// Waits until a datagram is there, or so many milliseconds are over.
+    /// Waits until a datagram is there, or so many milliseconds are over. It may come back before.
     fn wait(&mut self, most: u64) -> Result<(), TransportFault>
         requires { failed self.old + 1 < 2 ^ 64 }
         ensures passed { passed self.old (waited result) self.new }

@@ -12,15 +12,15 @@ use crate::speaking::speak;
 use crate::standing::{Stage, Turned};
 use crate::transport::{Transport, TransportFault};
 use engine::{Engine, Reply};
-use requests::Outcome;
+use requests::Answer;
 use std::sync::Wait;
 
 /// What the runner waits for, once this answer of a blocked call, or none, has come.
-fn stage_with(stage: Stage, completion: Option<Outcome>) -> Stage
+fn stage_with(stage: Stage, completion: Option<Answer>) -> Stage
     ensures { result ≡ stage_with stage completion }
 {
     match completion {
-        Some(outcome) => Stage::Ready(Some(Reply::Done(outcome))),
+        Some(answer) => Stage::Ready(Some(Reply::Done(answer))),
         None => stage,
     }
 }

@@ -12,13 +12,14 @@ use std::net::{Ipv4Addr, Net, SocketAddr};
 use std::thread::yield_now;
 use std::time::Duration;
 
-/// How often a rank that waits asks for a datagram and lets other processes run, before it sleeps.
-const YIELDS: u32 = 20;
+/// How often a rank that waits behind a datagram lets other processes run and asks for the next one.
+const YIELDS: u32 = 24;
 
 /// A socket of a rank on 127.0.0.1, and its standard output.
 ///
-/// A wait first asks for a datagram some times and lets other processes run in between, since the answer to what was just
-/// sent is there soon; then it sleeps until a datagram comes.
+/// The first wait behind a datagram that was sent or came lets other processes run and asks for the next one some times, since
+/// it mostly is there soon, and comes back early where none is; each later wait sleeps until a datagram comes. So a rank that
+/// nobody speaks with sleeps at once, and just as long as it is told to.
 #[derive(Drop)]
 pub struct Udp<'a, R: Print> {
     rt: &'a R,
@@ -31,6 +32,8 @@ pub struct Udp<'a, R: Print> {
     room: Vec<u8>,
     /// How long that datagram is, until it is handed out.
     held: Option<usize>,
+    /// Whether a datagram was sent or handed out since the last wait.
+    has_carried: bool,
     /// The line that is written, with its end.
     text: Vec<u8>,
     /// How often it has failed.
@@ -53,10 +56,10 @@ fn put(buffer: &mut [u8], room: &[u8], len: usize) -> usize
 /// The length of the next datagram, which is put into the room, if one comes while others run.
 fn come(socket: &UdpSocket, room: &mut [u8]) -> Option<usize> {
     for _ in 0..YIELDS {
+        yield_now();
         if let Ok(len) = socket.recv(room) {
             return Some(len);
         }
-        yield_now();
     }
     None
 }
@@ -95,6 +98,7 @@ impl<'a, R: Print> Udp<'a, R> {
             first_port: port.saturating_sub(rank),
             room: vec![in alloc; 0u8; LONGEST]?,
             held: None,
+            has_carried: false,
             text: Vec::new(alloc),
             failures: 0,
         })
@@ -116,10 +120,14 @@ impl<'a, R: Print> Transport for Udp<'a, R> {
 
     fn receive(&mut self, buffer: &mut [u8]) -> Result<Option<usize>, TransportFault> {
         if let Some(len) = self.held.take() {
+            self.has_carried = true;
             return Ok(Some(put(buffer, &self.room, len)));
         }
         match self.socket.recv(buffer) {
-            Ok(len) => Ok(Some(len)),
+            Ok(len) => {
+                self.has_carried = true;
+                Ok(Some(len))
+            }
             Err(e) => {
                 if is_passing(&e) {
                     Ok(None)
@@ -131,6 +139,7 @@ impl<'a, R: Print> Transport for Udp<'a, R> {
     }
 
     fn send(&mut self, target: u16, bytes: &[u8]) -> Result<(), TransportFault> {
+        self.has_carried = true;
         match self
             .socket
             .send_to(bytes, address(self.first_port.saturating_add(target)))
@@ -155,8 +164,9 @@ impl<'a, R: Print> Transport for Udp<'a, R> {
     }
 
     fn wait(&mut self, most: u64) -> Result<(), TransportFault> {
-        if let Some(len) = come(&self.socket, &mut self.room) {
-            self.held = Some(len);
+        if self.has_carried {
+            self.has_carried = false;
+            self.held = come(&self.socket, &mut self.room);
             return Ok(());
         }
         match self

@@ -1,6 +1,6 @@
 -- What is so of an entry that was found under a name.
-use Rattle.std.proofs.Common.{◌≡◌, ℕ, ◌<◌, List, Option, Some, None, true, length, get_or, set, refl, sym, ◌∙◌, ap, subst}
-use Rattle.std.specs.Prelude.{slice_get, option_map, option_and_then}
+use Rattle.std.proofs.Common.{◌≡◌, ℕ, List, Option, Some, None, get_or, set, sym, ◌∙◌, ap, subst}
+use Rattle.std.specs.Prelude.{option_map, option_and_then}
 use Rattle.std.specs.Str.{bytes_eq}
 use Rattle.std.proofs.lemmas.List.{set-get_or}
 use Rattle.std.proofs.lemmas.List.Quantifiers.{position-Some}
@@ -10,7 +10,7 @@ use Rattle.datatypes.specs.Contents.{Contents}
 use Rattle.rank_script.specs.declared.table.Entry.{Entry}
 use Rattle.rank_script.specs.declared.names.Held.{Held}
 use Rattle.rank_script.specs.Tables.{place_of, value_at, value_there, with_value, with_value_there}
-use Rattle.rank_script.specs.NamesState.{NamesState, here, with_buffer, with_request}
+use Rattle.rank_script.specs.NamesState.{NamesState, with_request}
 use Rattle.rank_script.specs.Acting.{LendGives}
 use Rattle.rank_script.specs.Heeding.{held_buffer, null}
 

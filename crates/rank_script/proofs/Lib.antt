@@ -1,2 +1,3 @@
 pub mod EntryLaws
 pub mod RunLaws
+pub mod SeveralLaws

@@ -1,11 +1,11 @@
 -- What is so of a run of lines.
-use Rattle.std.proofs.Common.{◌≡◌, List, [], ◌∷◌, Option, Some, None, sym, ◌∙◌, ap}
+use Rattle.std.proofs.Common.{◌≡◌, List, [], ◌∷◌, Option, None, sym, ◌∙◌, ap}
 use Rattle.script_files.specs.declared.script.RankLine.{RankLine}
 use Rattle.rank_drive.specs.declared.runner.Step.{Step}
 use Rattle.rank_drive.specs.declared.runner.Step.TheVariants as steps
 use Rattle.rank_script.specs.Acting.{Acts, acts}
 use Rattle.rank_script.specs.NamesState.{NamesState}
-use Rattle.rank_script.specs.Running.{Does, RunnerState, along, does_by, does_or}
+use Rattle.rank_script.specs.Running.{Does, along, does_by, does_or}
 
 -- the first line is done, and then as it says
 pub along_first : (lines : List RankLine) (names : NamesState) (line : RankLine) (rest : List RankLine) (step : Option Step) (after : NamesState) →

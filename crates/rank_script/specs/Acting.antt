@@ -1,11 +1,16 @@
 -- What a line of a script asks of its rank.
-use Rattle.std.specs.Prelude.{◌≡◌, ℕ, Bool, true, false, Option, Some, None, List, if◌then◌else◌}
+use Rattle.std.specs.Prelude.{◌≡◌, ℕ, Bool, true, false, Option, Some, None, List, [], ◌∷◌, length, if◌then◌else◌, option_map, option_and_then}
+use Rattle.std.specs.Global.{Vec}
+use Rattle.layouts.specs.Layouts.{Shape}
 use Rattle.datatypes.specs.Contents.{Contents}
+use Rattle.derived_types.specs.Layouts.{contiguous_offsets, indexed_offsets, is_beyond, vector_offsets}
+use Rattle.datatypes.specs.Transfers.{whole_copies}
+use Rattle.requests.specs.declared.region.Places.{Places}
+use Rattle.requests.specs.declared.region.Places.TheVariants as places
 use Rattle.requests.specs.declared.table.Request.{Request}
 use Rattle.rank_core.specs.declared.call.Call.{Call}
 use Rattle.rank_core.specs.declared.call.Call.TheVariants as calls
-use Rattle.statements.specs.Arguments.{rank_of_target, wanted_tag, sent_tag}
-use Rattle.statements.specs.Answers.{status_text}
+use Rattle.answer_texts.specs.Answers.{count_text, status_text}
 use Rattle.statements.specs.declared.action.Action.{Action}
 use Rattle.statements.specs.declared.action.Action.TheVariants as actions
 use Rattle.statements.specs.declared.action.BufferLine.{BufferLine}
@@ -15,6 +20,12 @@ use Rattle.statements.specs.declared.action.Requested.{Requested}
 use Rattle.statements.specs.declared.action.Requested.TheVariants as requested
 use Rattle.statements.specs.declared.action.Receiving.{Receiving}
 use Rattle.statements.specs.declared.action.Sending.{Sending}
+use Rattle.statements.specs.declared.action.Through.{Through}
+use Rattle.statements.specs.declared.layout_line.LayoutForm.{LayoutForm}
+use Rattle.statements.specs.declared.layout_line.LayoutForm.TheVariants as forms
+use Rattle.statements.specs.declared.layout_line.LayoutLine.{LayoutLine}
+use Rattle.statements.specs.declared.layout_line.OldLayout.{OldLayout}
+use Rattle.statements.specs.declared.layout_line.OldLayout.TheVariants as olds
 use Rattle.script_files.specs.declared.script.RankLine.{RankLine}
 use Rattle.script_files.specs.declared.script.Statement.{Statement}
 use Rattle.script_files.specs.declared.script.Statement.TheVariants as statements
@@ -23,8 +34,9 @@ use Rattle.rank_drive.specs.declared.runner.Step.TheVariants as steps
 use Rattle.rank_script.specs.declared.names.Doing.{Doing}
 use Rattle.rank_script.specs.declared.names.Stage.{Stage}
 use Rattle.rank_script.specs.declared.names.Stage.TheVariants as stages
-use Rattle.rank_script.specs.NamesState.{NamesState, here, is_lent, request_at, with_buffer}
-use Rattle.rank_script.specs.Texts.{elements_line, words_line}
+use Rattle.rank_script.specs.NamesState.{NamesState, free, here, is_lent, request_at, with_buffer, with_layout}
+use Rattle.rank_script.specs.Tables.{value_at}
+use Rattle.rank_script.specs.Texts.{elements_line, error_line, words_line}
 
 -- what a rank does next, if that is more than a change of names, and what its names then stand for
 abbrev pub Acts : Type 0
@@ -52,16 +64,57 @@ is_world (communicators.Named name) = false
 abbrev pub sets : ℕ → BufferLine → NamesState → Acts
 sets number line s = if is_lent s line.name then stops number s else (None, with_buffer s line.name (Some line.value))
 
--- a send of the buffer's elements
-abbrev pub sends_from : ℕ → Doing → Sending → Option Contents → NamesState → Acts
-sends_from number doing x None s = stops number s
-sends_from number doing x (Some elements) s =
-    makes_call (calls.Isend (record { target = rank_of_target x.target; tag = sent_tag x.tag; elements = elements })) doing s
+-- ---- layouts (MPI 3.1, 4.1.2)
+
+-- the layout that a line starts from, if it is set: a basic type is the layout of one element
+abbrev pub old_layout : NamesState → OldLayout → Option Shape
+old_layout s (olds.Basic basic) = Some (record { basic = basic; offsets = 0 ∷ [] })
+old_layout s (olds.Named name) = value_at s.layouts name
+
+-- the offsets of what is made of it
+abbrev pub offsets_made : LayoutForm → List ℕ → List ℕ
+offsets_made (forms.Contiguous count) offsets = contiguous_offsets count offsets
+offsets_made (forms.Vector stripes) offsets = vector_offsets stripes.count stripes.blocklength stripes.stride offsets
+offsets_made (forms.Indexed blocks) offsets = indexed_offsets blocks offsets
+
+-- a layout that passes no limit is set; else the number of the limit is printed, 13, and nothing is set
+abbrev pub sets_layout_unless : Bool → List ℕ → Shape → NamesState → Acts
+sets_layout_unless true name layout s = prints (error_line 13) s
+sets_layout_unless false name layout s = (None, with_layout s name layout)
+
+-- of a layout that is there
+abbrev pub sets_layout_of : ℕ → LayoutLine → Option Shape → NamesState → Acts
+sets_layout_of number line None s = stops number s
+sets_layout_of number line (Some old) s =
+    sets_layout_unless (is_beyond (offsets_made line.form old.offsets)) line.name
+    (record { basic = old.basic; offsets = offsets_made line.form old.offsets }) s
+
+-- `type`
+abbrev pub sets_layout : ℕ → LayoutLine → NamesState → Acts
+sets_layout number line s = sets_layout_of number line (old_layout s line.made_of) s
+
+-- the places that a send or a receive names: all of the buffer, or so many copies of a layout, if that is set
+abbrev pub places_named : NamesState → Option Through → Option Places
+places_named s None = Some places.All
+places_named s (Some through) = option_map (λ layout. places.Copies layout through.copies) (value_at s.layouts through.layout)
+
+-- ---- sends and receives
+
+-- a send from these places of a buffer
+abbrev pub sends_from : ℕ → Doing → Sending → Option Places → Option Contents → NamesState → Acts
+sends_from number doing x None buffer s = stops number s
+sends_from number doing x (Some named) None s = stops number s
+sends_from number doing x (Some named) (Some buffer) s =
+    makes_call (calls.Isend (record { target = x.target; tag = x.tag; from = record { buffer = buffer; places = named } })) doing s
+
+-- what the answer to the start of an operation is for
+abbrev pub starting : Stage → Option (List ℕ) → Option (List ℕ) → Doing
+starting stage request buffer = record { stage = stage; request = request; buffer = buffer; several = None }
 
 abbrev pub sends : ℕ → Stage → Option (List ℕ) → Sending → NamesState → Acts
 sends number stage request x s =
     if is_world x.communicator
-    then sends_from number (record { stage = stage; request = request; buffer = None }) x (here s x.buffer) s
+    then sends_from number (starting stage request None) x (places_named s x.through) (here s x.buffer) s
     else stops number s
 
 -- a buffer that is here is lent; else nothing changes
@@ -69,38 +122,102 @@ abbrev pub LendGives : NamesState → List ℕ → Option Contents → NamesStat
 LendGives old name None new = (here old name ≡ None) × (new ≡ old)
 LendGives old name (Some buffer) new = (here old name ≡ Some buffer) × (new ≡ with_buffer old name None)
 
--- a receive, to which the buffer is lent
-abbrev pub receives_into : ℕ → Doing → Receiving → Option Contents → NamesState → Acts
-receives_into number doing x None s = stops number s
-receives_into number doing x (Some buffer) s =
-    makes_call (calls.Irecv (record { source = x.source; tag = wanted_tag x.tag; buffer = buffer })) doing (with_buffer s x.buffer None)
+-- a receive into these places of a buffer, which is lent to it
+abbrev pub receives_into : ℕ → Doing → Receiving → Option Places → Option Contents → NamesState → Acts
+receives_into number doing x None buffer s = stops number s
+receives_into number doing x (Some named) None s = stops number s
+receives_into number doing x (Some named) (Some buffer) s =
+    makes_call (calls.Irecv (record { source = x.source; tag = x.tag; into = record { buffer = buffer; places = named } })) doing
+    (with_buffer s x.buffer None)
 
 abbrev pub receives : ℕ → Stage → Option (List ℕ) → Receiving → NamesState → Acts
 receives number stage request x s =
     if is_world x.communicator
-    then receives_into number (record { stage = stage; request = request; buffer = Some x.buffer }) x (here s x.buffer) s
+    then receives_into number (starting stage request (Some x.buffer)) x (places_named s x.through) (here s x.buffer) s
     else stops number s
 
--- a wait for a request, which may be null
-abbrev pub waits_for : ℕ → Option (List ℕ) → Option (Option Request) → NamesState → Acts
-waits_for number name None s = stops number s
-waits_for number name (Some request) s = makes_call (calls.Wait request) (record { stage = stages.Waiting; request = name; buffer = None }) s
+-- ---- requests
 
-abbrev pub waits : ℕ → Requested → NamesState → Acts
-waits number requested.Null s = waits_for number None (Some None) s
-waits number (requested.Named name) s = waits_for number (Some name) (request_at s name) s
+-- the request that a line names, which may be null, if it is set
+abbrev pub request_named : NamesState → Requested → Option (Option Request)
+request_named s requested.Null = Some None
+request_named s (requested.Named name) = request_at s name
+
+-- its name, unless it is the null request
+abbrev pub name_of : Requested → Option (List ℕ)
+name_of requested.Null = None
+name_of (requested.Named name) = Some name
+
+-- what the answer to a wait or a test of this request is for
+abbrev pub waiting : Requested → Doing
+waiting r = record { stage = stages.Waiting; request = name_of r; buffer = None; several = None }
+
+-- a wait for a request
+abbrev pub waits_for : ℕ → Requested → Option (Option Request) → NamesState → Acts
+waits_for number r None s = stops number s
+waits_for number r (Some request) s = makes_call (calls.Wait request) (waiting r) s
+
+-- a test of a request
+abbrev pub tests_for : ℕ → Requested → Option (Option Request) → NamesState → Acts
+tests_for number r None s = stops number s
+tests_for number r (Some request) s = makes_call (calls.Test request) (waiting r) s
+
+-- a cancel of a request
+abbrev pub cancels_for : ℕ → Option (Option Request) → NamesState → Acts
+cancels_for number None s = stops number s
+cancels_for number (Some request) s = makes_call (calls.Cancel request) free s
+
+-- the requests that a line names, if each is set
+abbrev pub requests_named : NamesState → List Requested → Option (List (Option Request))
+requests_named s [] = Some []
+requests_named s (r ∷ rs) =
+    option_and_then (λ request. option_map (λ rest. request ∷ rest) (requests_named s rs)) (request_named s r)
+
+-- what the answer to a wait for several is for
+abbrev pub waiting_for_several : List Requested → Doing
+waiting_for_several rs = record { stage = stages.WaitingForSeveral; request = None; buffer = None; several = Some rs }
+
+-- a vector of them, if each is set
+abbrev pub AreListed : Option (List (Option Request)) → Option (Vec (Option Request)) → Type 0
+AreListed None listed = listed ≡ None
+AreListed (Some requests) None = ⊥
+AreListed (Some requests) (Some listed) = listed.items ≡ requests
+
+-- a wait for several begins, if each is set; else nothing changes
+abbrev pub Begins : List Requested → NamesState → Option (List (Option Request)) → Option (List (Option Request)) → NamesState → Type 0
+Begins rs old None list new = (list ≡ None) × (new ≡ old)
+Begins rs old (Some requests) list new = (list ≡ Some requests) × (new ≡ record old { doing = waiting_for_several rs })
+
+-- a wait for any or for all of several
+abbrev pub waits_for_several : ℕ → (List (Option Request) → Call) → List Requested → Option (List (Option Request)) → NamesState → Acts
+waits_for_several number call rs None s = stops number s
+waits_for_several number call rs (Some requests) s = makes_call (call requests) (waiting_for_several rs) s
+
+-- ---- what is printed
 
 -- `print`
 abbrev pub prints_elements : ℕ → Option Contents → NamesState → Acts
 prints_elements number None s = stops number s
 prints_elements number (Some buffer) s = prints (elements_line buffer) s
 
+-- `count`: how many whole copies of the layout the last status counts (MPI 3.1, 3.2.5)
+abbrev pub prints_count : ℕ → Option Shape → NamesState → Acts
+prints_count number None s = stops number s
+prints_count number (Some layout) s = prints (count_text (whole_copies s.last.count (length layout.offsets))) s
+
+-- ---- lines
+
 -- what files of events ask for as well
 abbrev pub acts_on : ℕ → Action → NamesState → Acts
 acts_on number (actions.Buffer line) s = sets number line s
+acts_on number (actions.Layout line) s = sets_layout number line s
 acts_on number (actions.Isend name x) s = sends number stages.Starting (Some name) x s
 acts_on number (actions.Irecv name x) s = receives number stages.Starting (Some name) x s
-acts_on number (actions.Wait request) s = waits number request s
+acts_on number (actions.Wait r) s = waits_for number r (request_named s r) s
+acts_on number (actions.Test r) s = tests_for number r (request_named s r) s
+acts_on number (actions.Cancel r) s = cancels_for number (request_named s r) s
+acts_on number (actions.Waitany rs) s = waits_for_several number calls.Waitany rs (requests_named s rs) s
+acts_on number (actions.Waitall rs) s = waits_for_several number calls.Waitall rs (requests_named s rs) s
 
 -- what the statement of this line asks for
 abbrev pub states : ℕ → Statement → NamesState → Acts
@@ -109,6 +226,7 @@ states number (statements.Send x) s = sends number stages.StartingToWait None x 
 states number (statements.Recv x) s = receives number stages.StartingToWait None x s
 states number (statements.Print name) s = prints_elements number (here s name) s
 states number statements.Status s = prints (status_text s.last) s
+states number (statements.Count name) s = prints_count number (value_at s.layouts name) s
 states number (statements.Say words) s = prints (words_line words) s
 states number statements.Fail s = (Some (steps.End 5 None), s)
 

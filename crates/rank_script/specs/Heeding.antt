@@ -1,8 +1,9 @@
 -- What is made of the answer to a call.
-use Rattle.std.specs.Prelude.{ℕ, Option, Some, None, List, option_and_then}
+use Rattle.std.specs.Prelude.{◌≡◌, ℕ, Option, Some, None, List, [], ◌∷◌, ◌++◌, option_and_then, slice_get}
 use Rattle.vocabulary.specs.declared.envelope.Status.{Status}
-use Rattle.datatypes.specs.Contents.{Contents}
 use Rattle.requests.specs.Outcomes.{number_of_failure}
+use Rattle.requests.specs.declared.answer.Answer.{Answer}
+use Rattle.requests.specs.declared.answer.Answer.TheVariants as answers
 use Rattle.requests.specs.declared.outcome.Outcome.{Outcome}
 use Rattle.requests.specs.declared.outcome.Outcome.TheVariants as outcomes
 use Rattle.requests.specs.declared.table.Request.{Request}
@@ -12,7 +13,8 @@ use Rattle.rank_core.specs.declared.call.Call.{Call}
 use Rattle.rank_core.specs.declared.call.Call.TheVariants as calls
 use Rattle.rank_core.specs.declared.call.Reply.{Reply}
 use Rattle.rank_core.specs.declared.call.Reply.TheVariants as replies
-use Rattle.rank_drive.specs.declared.runner.Step.TheVariants as steps
+use Rattle.statements.specs.declared.action.Requested.{Requested}
+use Rattle.statements.specs.declared.action.Requested.TheVariants as requested
 use Rattle.rank_script.specs.declared.names.Doing.{Doing}
 use Rattle.rank_script.specs.declared.names.Held.{Held}
 use Rattle.rank_script.specs.declared.names.Stage.{Stage}
@@ -20,7 +22,7 @@ use Rattle.rank_script.specs.declared.names.Stage.TheVariants as stages
 use Rattle.rank_script.specs.Acting.{Acts, makes_call, prints}
 use Rattle.rank_script.specs.NamesState.{NamesState, empty_status, free, given_back, with_request}
 use Rattle.rank_script.specs.Tables.{value_at}
-use Rattle.rank_script.specs.Texts.{error_line}
+use Rattle.rank_script.specs.Texts.{error_line, error_lines, pending_line}
 
 -- nothing but a change of names
 abbrev pub goes_on : NamesState → Acts
@@ -40,18 +42,25 @@ abbrev pub starts_at : Stage → Doing → Request → NamesState → Acts
 starts_at stages.Free doing request s = goes_on s
 starts_at stages.Starting doing request s = goes_on (named_as doing.request (record { request = Some request; buffer = doing.buffer }) s)
 starts_at stages.StartingToWait doing request s =
-    makes_call (calls.Wait (Some request)) (record { stage = stages.Waiting; request = None; buffer = doing.buffer }) s
+    makes_call (calls.Wait (Some request)) (record { stage = stages.Waiting; request = None; buffer = doing.buffer; several = None }) s
 starts_at stages.Waiting doing request s = goes_on s
+starts_at stages.WaitingForSeveral doing request s = goes_on s
 
 -- a refused call comes back, and with a receive its buffer
 abbrev pub handed_back : Option (List ℕ) → Call → NamesState → NamesState
 handed_back name (calls.Isend x) s = s
-handed_back name (calls.Irecv x) s = given_back s name x.buffer
+handed_back name (calls.Irecv x) s = given_back s name x.into.buffer
 handed_back name (calls.Wait request) s = s
+handed_back name (calls.Test request) s = s
+handed_back name (calls.Waitany requests) s = s
+handed_back name (calls.Waitall requests) s = s
+handed_back name (calls.Cancel request) s = s
 
 -- `error N`, and nothing is set
 abbrev pub refuses : Doing → Refused → Call → NamesState → Acts
 refuses doing refused call s = prints (error_line (number_of_refusal refused)) (handed_back doing.buffer call s)
+
+-- ---- outcomes
 
 -- the name of the buffer that comes back with the outcome of a request of this name
 abbrev pub held_buffer : NamesState → List ℕ → Option (List ℕ)
@@ -67,26 +76,111 @@ abbrev pub nulled : Option (List ℕ) → NamesState → NamesState
 nulled None s = s
 nulled (Some name) s = with_request s name null
 
--- the outcome of an operation whose buffer comes back to this name
-abbrev pub ends_with : Option (List ℕ) → Outcome → NamesState → Acts
-ends_with name outcomes.Sent s = goes_on s
-ends_with name (outcomes.Received status buffer) s = goes_on (record (given_back s name buffer) { last = status })
-ends_with name (outcomes.Ended failure status buffer) s = prints (error_line (number_of_failure failure)) (given_back s name buffer)
-ends_with name (outcomes.Replaced None) s = prints (error_line 11) s
-ends_with name (outcomes.Replaced (Some buffer)) s = prints (error_line 11) (given_back s name buffer)
-ends_with name outcomes.Empty s = goes_on (record s { last = empty_status })
+-- the number of the error with which an operation ended, if it did
+abbrev pub error_of : Outcome → Option ℕ
+error_of outcomes.Sent = None
+error_of (outcomes.Received status buffer) = None
+error_of (outcomes.Ended failure status buffer) = Some (number_of_failure failure)
+error_of (outcomes.Replaced buffer) = Some 11
+error_of (outcomes.Cancelled buffer) = None
+error_of outcomes.Empty = None
 
--- an outcome, where one is waited for
-abbrev pub ends_at : Stage → Doing → Outcome → NamesState → Acts
-ends_at stages.Waiting doing outcome s = ends_with (buffer_of doing doing.request s) outcome (nulled doing.request s)
-ends_at stages.Free doing outcome s = goes_on s
-ends_at stages.Starting doing outcome s = goes_on s
-ends_at stages.StartingToWait doing outcome s = goes_on s
+-- a receive's buffer comes back to this name with its outcome
+abbrev pub returned : Option (List ℕ) → Outcome → NamesState → NamesState
+returned name outcomes.Sent s = s
+returned name (outcomes.Received status buffer) s = given_back s name buffer
+returned name (outcomes.Ended failure status buffer) s = given_back s name buffer
+returned name (outcomes.Replaced None) s = s
+returned name (outcomes.Replaced (Some buffer)) s = given_back s name buffer
+returned name (outcomes.Cancelled buffer) s = given_back s name buffer
+returned name outcomes.Empty s = s
+
+-- the status that `status` and `count` tell of from now on: that of a receive, or of the null request, without an error
+abbrev pub status_after : Status → Outcome → Status
+status_after last outcomes.Sent = last
+status_after last (outcomes.Received status buffer) = status
+status_after last (outcomes.Ended failure status buffer) = last
+status_after last (outcomes.Replaced buffer) = last
+status_after last (outcomes.Cancelled buffer) = last
+status_after last outcomes.Empty = empty_status
+
+-- an error is printed, if there is one
+abbrev pub tells_error : Option ℕ → NamesState → Acts
+tells_error None s = goes_on s
+tells_error (Some number) s = prints (error_line number) s
+
+-- several are, a line each
+abbrev pub tells_errors : List ℕ → NamesState → Acts
+tells_errors [] s = goes_on s
+tells_errors (number ∷ numbers) s = prints (error_lines number numbers) s
+
+-- the outcome of the one operation that was waited for or tested
+abbrev pub ends_with : Option (List ℕ) → Outcome → NamesState → Acts
+ends_with name outcome s = tells_error (error_of outcome) (record (returned name outcome s) { last = status_after s.last outcome })
+
+-- what is left once a request of this name has ended so
+abbrev pub ended_named : Requested → Outcome → NamesState → NamesState
+ended_named requested.Null outcome s = s
+ended_named (requested.Named name) outcome s = returned (held_buffer s name) outcome (with_request s name null)
+
+-- the outcome of one of several operations
+abbrev pub ends_one : Option Requested → Outcome → NamesState → Acts
+ends_one None outcome s = goes_on s
+ends_one (Some r) outcome s = tells_error (error_of outcome) (ended_named r outcome s)
+
+-- an error, before those of the others
+abbrev pub with_error : Option ℕ → List ℕ → List ℕ
+with_error None numbers = numbers
+with_error (Some number) numbers = number ∷ numbers
+
+-- the errors with which several requests have ended, in order, and what is left then
+abbrev pub ended_each : List Requested → List Outcome → NamesState → List ℕ × NamesState
+ended_each [] os s = ([], s)
+ended_each (r ∷ rs) [] s = ([], s)
+ended_each (r ∷ rs) (o ∷ os) s =
+    (with_error (error_of o) (ended_each rs os (ended_named r o s)).0, (ended_each rs os (ended_named r o s)).1)
+
+-- these errors come before those of the others
+abbrev pub behind : List ℕ → List ℕ × NamesState → List ℕ × NamesState
+behind errors ended = (errors ++ ended.0, ended.1)
+
+-- one more has ended so: whatever the others do, errors and names come out as if it had not yet
+abbrev pub EndsNext : List ℕ → Requested → Outcome → NamesState → List ℕ → NamesState → Type 0
+EndsNext errors r o s errors' s' = (rs : List Requested) → (os : List Outcome) →
+    behind errors' (ended_each rs os s') ≡ behind errors (ended_each (r ∷ rs) (o ∷ os) s)
+
+-- the outcomes of all
+abbrev pub ends_all : List Requested → List Outcome → NamesState → Acts
+ends_all rs os s = tells_errors (ended_each rs os s).0 (ended_each rs os s).1
+
+-- the requests of a list, if there is one
+abbrev pub listed : Option (List Requested) → List Requested
+listed None = []
+listed (Some rs) = rs
+
+-- the requests that were waited for
+abbrev pub several_of : Doing → List Requested
+several_of doing = listed doing.several
+
+-- an answer, where one is waited for
+abbrev pub ends_by : Stage → Doing → Answer → NamesState → Acts
+ends_by stages.Waiting doing (answers.One outcome) s =
+    ends_with (buffer_of doing doing.request s) outcome (nulled doing.request s)
+ends_by stages.Free doing (answers.One outcome) s = goes_on s
+ends_by stages.Starting doing (answers.One outcome) s = goes_on s
+ends_by stages.StartingToWait doing (answers.One outcome) s = goes_on s
+ends_by stages.WaitingForSeveral doing (answers.One outcome) s = goes_on s
+ends_by stage doing (answers.Index index outcome) s = ends_one (slice_get (several_of doing) index) outcome s
+ends_by stage doing answers.IndexUndefined s = goes_on s
+ends_by stage doing (answers.All outcomes) s = ends_all (several_of doing) outcomes s
 
 -- by what the answer is for
 abbrev pub heeds_by : Doing → Reply → NamesState → Acts
 heeds_by doing (replies.Started request) s = starts_at doing.stage doing request s
-heeds_by doing (replies.Done outcome) s = ends_at doing.stage doing outcome s
+heeds_by doing (replies.Done answer) s = ends_by doing.stage doing answer s
+-- a test of an unfinished request prints so
+heeds_by doing replies.Pending s = prints pending_line s
+heeds_by doing replies.Accepted s = goes_on s
 heeds_by doing replies.Blocked s = goes_on s
 heeds_by doing (replies.Refused refused call) s = refuses doing refused call s
 

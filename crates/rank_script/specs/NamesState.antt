@@ -2,6 +2,7 @@
 use Rattle.std.specs.Prelude.{ℕ, Bool, true, false, List, [], Option, Some, None, option_and_then, option_map}
 use Rattle.vocabulary.specs.declared.envelope.Source.TheVariants as sources
 use Rattle.vocabulary.specs.declared.envelope.Status.{Status}
+use Rattle.layouts.specs.Layouts.{Shape}
 use Rattle.datatypes.specs.Contents.{Contents}
 use Rattle.requests.specs.declared.table.Request.{Request}
 use Rattle.rank_script.specs.declared.table.Entry.{Entry}
@@ -10,10 +11,11 @@ use Rattle.rank_script.specs.declared.names.Doing.{Doing}
 use Rattle.rank_script.specs.declared.names.Stage.TheVariants.{Free}
 use Rattle.rank_script.specs.Tables.{value_at, with_value}
 
--- The buffers that were set, where none is one that is lent; the requests that were started; the status of the last receive;
--- and what the answer to the last call is for.
+-- The buffers that were set, where none is one that is lent; the layouts; the requests that were started; the status of the
+-- last receive; and what the answer to the last call is for.
 pub record NamesState : Type 0 where
   pub buffers : List (Entry (Option Contents))
+  pub layouts : List (Entry Shape)
   pub requests : List (Entry Held)
   pub last : Status
   pub doing : Doing
@@ -24,11 +26,11 @@ empty_status = record { source = sources.Any; tag = None; count = 0 }
 
 -- no answer is awaited
 abbrev pub free : Doing
-free = record { stage = Free; request = None; buffer = None }
+free = record { stage = Free; request = None; buffer = None; several = None }
 
 -- the names at the start
 abbrev pub no_names : NamesState
-no_names = record { buffers = []; requests = []; last = empty_status; doing = free }
+no_names = record { buffers = []; layouts = []; requests = []; last = empty_status; doing = free }
 
 -- the buffer of a name, unless it is lent or isn't set
 abbrev pub here : NamesState → List ℕ → Option Contents
@@ -51,6 +53,10 @@ request_at s name = option_map (λ h. h.request) (value_at s.requests name)
 -- a buffer's name stands for these elements, or is lent
 abbrev pub with_buffer : NamesState → List ℕ → Option Contents → NamesState
 with_buffer s name slot = record s { buffers = with_value s.buffers name slot }
+
+-- a layout's name stands for this
+abbrev pub with_layout : NamesState → List ℕ → Shape → NamesState
+with_layout s name layout = record s { layouts = with_value s.layouts name layout }
 
 -- a request's name stands for this
 abbrev pub with_request : NamesState → List ℕ → Held → NamesState

@@ -1,5 +1,5 @@
 -- What names stand for: entries in the order in which their names were first set.
-use Rattle.std.specs.Prelude.{ℕ, List, [], ◌∷◌, ◌++◌, Option, Some, None, position, slice_get, slice_set, option_map, option_and_then}
+use Rattle.std.specs.Prelude.{ℕ, List, [], ◌∷◌, ◌++◌, Option, Some, None, position, slice_get, slice_set, option_map}
 use Rattle.std.specs.Str.{bytes_eq}
 use Rattle.rank_script.specs.declared.table.Entry.{Entry}
 

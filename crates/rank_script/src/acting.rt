@@ -1,19 +1,23 @@
 //! What a line of a script asks of its rank.
 
-ghost use Rattle.std.specs.Prelude.{◌≡◌, IfOk};
+ghost use Rattle.std.specs.Prelude.{◌≡◌, IfOk, Some};
+ghost use Rattle.derived_types.specs.Layouts.{LayoutGives};
 ghost use Rattle.rank_script.specs.NamesState.{here};
-ghost use Rattle.rank_script.specs.Acting.{acts, acts_on, is_world, prints_elements, LendGives, receives, sends, sets, states, waits, waits_for};
+ghost use Rattle.rank_script.specs.Tables.{value_at};
+ghost use Rattle.rank_script.specs.Acting.{acts, acts_on, AreListed, Begins, cancels_for, is_world, offsets_made, old_layout, places_named, prints_count, prints_elements, LendGives, receives, request_named, requests_named, sends, sets, sets_layout, starting, states, tests_for, waiting, waits_for, waits_for_several};
 
-use crate::names::{Doing, Names, Stage};
+use crate::names::{Doing, Names, Stage, free};
 use crate::table::place_of;
-use crate::texts::{elements_line, status_line, words_line};
-use datatypes::Buffer;
-use engine::{Call, Receive, Send};
+use crate::texts::{count_line, elements_line, error_line, status_line, words_line};
+use datatypes::{Buffer, Layout, Refusal};
+use engine::{Call, Places, Receive, Region, Request, RequestList, Send};
 use rank_drive::Step;
-use requests::Request;
 use script_files::{RankLine, Statement};
-use statements::{Action, BufferLine, Communicator, Name, Receiving, Requested, Sending};
-use std::alloc::AllocError;
+use statements::{
+    Action, BufferLine, Communicator, LayoutForm, LayoutLine, Name, OldLayout, Receiving,
+    Requested, RequestedList, Sending, Through,
+};
+use std::alloc::{AllocError, Global};
 
 /// The line is faulty now that it is reached, and the script ends.
 fn stop(number: usize) -> Step
@@ -30,6 +34,47 @@ fn is_world(communicator: &Communicator) -> bool
         Communicator::World => true,
         Communicator::Own => false,
         Communicator::Named(_) => false,
+    }
+}
+
+/// What the answer to the start of an operation is for.
+fn starting(stage: Stage, request: Option<Name>, buffer: Option<Name>) -> Doing
+    ensures { result ≡ starting stage request buffer }
+{
+    Doing {
+        stage,
+        request,
+        buffer,
+        several: None,
+    }
+}
+
+/// What the answer to a wait or a test of this request is for.
+fn waiting(requested: Requested) -> Doing
+    ensures { result ≡ waiting requested }
+{
+    let request = match requested {
+        Requested::Null => None,
+        Requested::Named(name) => Some(name),
+    };
+    Doing {
+        stage: Stage::Waiting,
+        request,
+        buffer: None,
+        several: None,
+    }
+}
+
+/// What is made of a layout in this form.
+fn layout_made(alloc: Global, form: &LayoutForm, old: &Layout) -> Result<Layout, Refusal>
+    ensures { LayoutGives old.now.basic (offsets_made form.now old.now.offsets) result }
+{
+    match form {
+        LayoutForm::Contiguous(count) => old.contiguous(alloc, *count),
+        LayoutForm::Vector(stripes) => {
+            old.vector(alloc, stripes.count, stripes.blocklength, stripes.stride)
+        }
+        LayoutForm::Indexed(blocks) => old.indexed(alloc, blocks.as_slice()),
     }
 }
 
@@ -55,6 +100,57 @@ impl Names {
         Ok(None)
     }
 
+    /// The layout that a line starts from, if it is set.
+    fn old_layout(&self, made_of: &OldLayout) -> Result<Option<Layout>, AllocError>
+        ensures { IfOk result (λ layout. layout ≡ old_layout self.now made_of.now) }
+    {
+        match made_of {
+            OldLayout::Basic(basic) => match Layout::new(self.alloc, *basic) {
+                Ok(layout) => Ok(Some(layout)),
+                Err(_) => Err(AllocError),
+            },
+            OldLayout::Named(name) => self.layout_of(name),
+        }
+    }
+
+    fn set_layout_line(
+        &mut self,
+        number: usize,
+        line: LayoutLine,
+    ) -> Result<Option<Step>, AllocError>
+        ensures { IfOk result (λ step. sets_layout number line self.old ≡ (step, self.new)) }
+    {
+        let LayoutLine {
+            name,
+            form,
+            made_of,
+        } = line;
+        let Some(old) = self.old_layout(&made_of)? else {
+            return Ok(Some(stop(number)));
+        };
+        match layout_made(self.alloc, &form, &old) {
+            Ok(layout) => {
+                self.set_layout(name, layout)?;
+                Ok(None)
+            }
+            Err(Refusal::OutOfMemory) => Err(AllocError),
+            Err(refusal) => Ok(Some(Step::Print(error_line(self.alloc, refusal.number())?))),
+        }
+    }
+
+    /// The places that a send or a receive names, if its layout is set.
+    fn places_named(&self, through: &Option<Through>) -> Result<Option<Places>, AllocError>
+        ensures { IfOk result (λ places. places ≡ places_named self.now through.now) }
+    {
+        match through {
+            None => Ok(Some(Places::All)),
+            Some(through) => match self.layout_of(&through.layout)? {
+                Some(layout) => Ok(Some(Places::Copies(layout, through.copies))),
+                None => Ok(None),
+            },
+        }
+    }
+
     fn send(
         &mut self,
         number: usize,
@@ -67,18 +163,17 @@ impl Names {
         if !is_world(&sending.communicator) {
             return Ok(Some(stop(number)));
         }
-        let Some(elements) = self.copy_of(&sending.buffer)? else {
+        let Some(places) = self.places_named(&sending.through)? else {
             return Ok(Some(stop(number)));
         };
-        self.doing = Doing {
-            stage,
-            request,
-            buffer: None,
+        let Some(buffer) = self.copy_of(&sending.buffer)? else {
+            return Ok(Some(stop(number)));
         };
+        self.doing = starting(stage, request, None);
         Ok(Some(Step::Call(Call::Isend(Send {
-            target: sending.target.rank(),
-            tag: sending.tag.sent(),
-            elements,
+            target: sending.target,
+            tag: sending.tag,
+            from: Region { buffer, places },
         }))))
     }
 
@@ -94,49 +189,119 @@ impl Names {
         if !is_world(&receiving.communicator) {
             return Ok(Some(stop(number)));
         }
+        let Some(places) = self.places_named(&receiving.through)? else {
+            return Ok(Some(stop(number)));
+        };
         let Some(buffer) = self.lend(&receiving.buffer) else {
             return Ok(Some(stop(number)));
         };
-        self.doing = Doing {
-            stage,
-            request,
-            buffer: Some(receiving.buffer),
-        };
+        self.doing = starting(stage, request, Some(receiving.buffer));
         Ok(Some(Step::Call(Call::Irecv(Receive {
             source: receiving.source,
-            tag: receiving.tag.wanted(),
-            buffer,
+            tag: receiving.tag,
+            into: Region { buffer, places },
         }))))
     }
 
-    fn wait_for(
-        &mut self,
-        number: usize,
-        name: Option<Name>,
-        request: Option<Option<Request>>,
-    ) -> Option<Step>
-        ensures { waits_for number name request self.old ≡ (result, self.new) }
+    /// The request that a line names, if it is set.
+    fn request_named(&self, requested: &Requested) -> Option<Option<Request>>
+        ensures { result ≡ request_named self.now requested.now }
     {
-        let Some(request) = request else {
-            return Some(stop(number));
-        };
-        self.doing = Doing {
-            stage: Stage::Waiting,
-            request: name,
-            buffer: None,
-        };
-        Some(Step::Call(Call::Wait(request)))
+        match requested {
+            Requested::Null => Some(None),
+            Requested::Named(name) => self.held(name),
+        }
     }
 
     fn wait(&mut self, number: usize, requested: Requested) -> Option<Step>
-        ensures { waits number requested self.old ≡ (result, self.new) }
+        ensures { waits_for number requested (request_named self.old requested) self.old ≡ (result, self.new) }
     {
-        match requested {
-            Requested::Null => self.wait_for(number, None, Some(None)),
-            Requested::Named(name) => {
-                let request = self.held(&name);
-                self.wait_for(number, Some(name), request)
+        let Some(request) = self.request_named(&requested) else {
+            return Some(stop(number));
+        };
+        self.doing = waiting(requested);
+        Some(Step::Call(Call::Wait(request)))
+    }
+
+    fn test(&mut self, number: usize, requested: Requested) -> Option<Step>
+        ensures { tests_for number requested (request_named self.old requested) self.old ≡ (result, self.new) }
+    {
+        let Some(request) = self.request_named(&requested) else {
+            return Some(stop(number));
+        };
+        self.doing = waiting(requested);
+        Some(Step::Call(Call::Test(request)))
+    }
+
+    fn cancel(&mut self, number: usize, requested: Requested) -> Option<Step>
+        ensures { cancels_for number (request_named self.old requested) self.old ≡ (result, self.new) }
+    {
+        let Some(request) = self.request_named(&requested) else {
+            return Some(stop(number));
+        };
+        self.doing = free();
+        Some(Step::Call(Call::Cancel(request)))
+    }
+
+    /// The requests that a line names, if each is set.
+    fn requests_named(
+        &self,
+        several: &[Requested],
+    ) -> Result<Option<Vec<Option<Request>>>, AllocError>
+        ensures { IfOk result (λ requests. AreListed (requests_named self.now several.now) requests) }
+    {
+        let mut requests = Vec::with_capacity(self.alloc, several.len())?;
+        for requested in several {
+            match self.request_named(requested) {
+                Some(request) => requests.push(request)?,
+                None => return Ok(None),
             }
+        }
+        Ok(Some(requests))
+    }
+
+    /// Begins a wait for several requests, if each is set.
+    fn begin_several(&mut self, several: RequestedList) -> Result<Option<RequestList>, AllocError>
+        ensures { IfOk result (λ list. Begins several self.old (requests_named self.old several) list self.new) }
+    {
+        let Some(requests) = self.requests_named(several.as_slice())? else {
+            return Ok(None);
+        };
+        let list = RequestList::new(self.alloc, requests)?;
+        self.doing = Doing {
+            stage: Stage::WaitingForSeveral,
+            request: None,
+            buffer: None,
+            several: Some(several),
+        };
+        Ok(Some(list))
+    }
+
+    fn wait_any(
+        &mut self,
+        number: usize,
+        several: RequestedList,
+    ) -> Result<Option<Step>, AllocError>
+        ensures { IfOk result (λ step.
+            waits_for_several number Call.Waitany several (requests_named self.old several) self.old ≡ (step, self.new)) }
+    {
+        match self.begin_several(several)? {
+            Some(list) => Ok(Some(Step::Call(Call::Waitany(list)))),
+            None => Ok(Some(stop(number))),
+        }
+    }
+
+    fn wait_all(
+        &mut self,
+        number: usize,
+        several: RequestedList,
+    ) -> Result<Option<Step>, AllocError>
+        ensures { IfOk result (λ step.
+            waits_for_several number Call.Waitall several (requests_named self.old several) self.old ≡ (step, self.new)) }
+    {
+        match self.begin_several(several)? {
+            Some(list) => Ok(Some(Step::Call(Call::Waitall(list)))),
+            None => Ok(Some(stop(number))),
         }
     }
 
@@ -149,11 +314,25 @@ impl Names {
         }
     }
 
+    fn count(&self, number: usize, name: &Name) -> Result<Step, AllocError>
+        ensures { IfOk result (λ step.
+            prints_count number (value_at self.now.layouts name.now) self.now ≡ (Some step, self.now)) }
+    {
+        match place_of(&self.layouts, name) {
+            Some(place) => {
+                let copies = self.layouts[place].value.get_count(self.last.count);
+                Ok(Step::Print(count_line(self.alloc, copies)?))
+            }
+            None => Ok(stop(number)),
+        }
+    }
+
     fn act_on(&mut self, number: usize, action: Action) -> Result<Option<Step>, AllocError>
         ensures { IfOk result (λ step. acts_on number action self.old ≡ (step, self.new)) }
     {
         match action {
             Action::Buffer(line) => self.set_line(number, line),
+            Action::Layout(line) => self.set_layout_line(number, line),
             Action::Isend(name, sending) => self.send(number, Stage::Starting, Some(name), sending),
             Action::Irecv(name, receiving) => self.receive(
                 number,
@@ -162,6 +341,10 @@ impl Names {
                 receiving,
             ),
             Action::Wait(requested) => Ok(self.wait(number, requested)),
+            Action::Test(requested) => Ok(self.test(number, requested)),
+            Action::Cancel(requested) => Ok(self.cancel(number, requested)),
+            Action::Waitany(several) => self.wait_any(number, several),
+            Action::Waitall(several) => self.wait_all(number, several),
         }
     }
 
@@ -179,6 +362,7 @@ impl Names {
             ),
             Statement::Print(name) => Ok(Some(self.print(number, &name)?)),
             Statement::Status => Ok(Some(Step::Print(status_line(self.alloc, self.last)?))),
+            Statement::Count(name) => Ok(Some(self.count(number, &name)?)),
             Statement::Say(words) => Ok(Some(Step::Print(words_line(self.alloc, &words)?))),
             Statement::Fail => Ok(Some(Step::End(5, None))),
         }

@@ -1,19 +1,18 @@
 //! What is made of the answer to a call.
 
-ghost use Rattle.std.specs.Prelude.{◌≡◌, IfOk, OnOk};
+ghost use Rattle.std.specs.Prelude.{◌≡◌, IfOk, OnOk, slice_get};
 ghost use Rattle.rank_script.specs.NamesState.{with_request};
-ghost use Rattle.rank_script.specs.Texts.{error_line};
-ghost use Rattle.rank_script.specs.Heeding.{buffer_of, ends_at, ends_with, handed_back, heeds, held_buffer, named_as, null, nulled, refuses, starts_at};
+ghost use Rattle.rank_script.specs.Heeding.{buffer_of, ended_each, ended_named, ends_all, ends_by, ends_one, ends_with, error_of, handed_back, heeds, held_buffer, EndsNext, named_as, null, nulled, refuses, returned, several_of, starts_at, status_after, tells_error, tells_errors};
 
 use crate::names::{Doing, Held, Names, Stage, empty_status};
 use crate::table::place_of;
-use crate::texts::error_line;
-use engine::{Call, Refused, Reply};
+use crate::texts::{error_line, error_lines, pending_line};
+use engine::{Answer, Call, Outcome, Outcomes, Refused, Reply, Request};
 use rank_drive::Step;
-use requests::{Outcome, Request};
-use statements::Name;
-use std::alloc::AllocError;
+use statements::{Name, Requested};
+use std::alloc::{AllocError, Global};
 use std::mem;
+use vocabulary::Status;
 
 /// The null request.
 fn null() -> Held
@@ -22,6 +21,48 @@ fn null() -> Held
     Held {
         request: None,
         buffer: None,
+    }
+}
+
+/// The number of the error with which an operation ended, if it did.
+fn error_of(outcome: &Outcome) -> Option<u8>
+    ensures { result ≡ error_of outcome.now }
+{
+    match outcome {
+        Outcome::Ended(failure, _, _) => Some(failure.number()),
+        Outcome::Replaced(_) => Some(11),
+        Outcome::Sent => None,
+        Outcome::Received(_, _) => None,
+        Outcome::Cancelled(_) => None,
+        Outcome::Empty => None,
+    }
+}
+
+/// The status that is told of from now on: that of a receive, or of the null request, without an error.
+fn status_after(last: Status, outcome: &Outcome) -> Status
+    ensures { result ≡ status_after last outcome.now }
+{
+    match outcome {
+        Outcome::Received(status, _) => *status,
+        Outcome::Empty => empty_status(),
+        Outcome::Sent => last,
+        Outcome::Ended(_, _, _) => last,
+        Outcome::Replaced(_) => last,
+        Outcome::Cancelled(_) => last,
+    }
+}
+
+/// The request at this place among those that were waited for.
+fn requested_at(alloc: Global, doing: &Doing, index: usize) -> Result<Option<Requested>, AllocError>
+    ensures { IfOk result (λ requested. requested ≡ slice_get (several_of doing.now) index) }
+{
+    let Some(several) = &doing.several else {
+        return Ok(None);
+    };
+    match several.as_slice().get(index) {
+        Some(Requested::Null) => Ok(Some(Requested::Null)),
+        Some(Requested::Named(name)) => Ok(Some(Requested::Named(name.try_clone(alloc)?))),
+        None => Ok(None),
     }
 }
 
@@ -53,6 +94,7 @@ impl Names {
             stage,
             request: name,
             buffer,
+            several: _,
         } = doing;
         match stage {
             Stage::Starting => {
@@ -64,11 +106,13 @@ impl Names {
                     stage: Stage::Waiting,
                     request: None,
                     buffer,
+                    several: None,
                 };
                 Ok(Some(Step::Call(Call::Wait(Some(request)))))
             }
             Stage::Free => Ok(None),
             Stage::Waiting => Ok(None),
+            Stage::WaitingForSeveral => Ok(None),
         }
     }
 
@@ -76,9 +120,13 @@ impl Names {
         ensures { OnOk result (self.new ≡ handed_back name call self.old) }
     {
         match call {
-            Call::Irecv(receive) => self.give_back(name, receive.buffer),
+            Call::Irecv(receive) => self.give_back(name, receive.into.buffer),
             Call::Isend(_) => Ok(()),
             Call::Wait(_) => Ok(()),
+            Call::Test(_) => Ok(()),
+            Call::Waitany(_) => Ok(()),
+            Call::Waitall(_) => Ok(()),
+            Call::Cancel(_) => Ok(()),
         }
     }
 
@@ -118,6 +166,7 @@ impl Names {
             stage: _,
             request,
             buffer,
+            several: _,
         } = doing;
         match request {
             Some(name) => self.null_request(name),
@@ -125,49 +174,149 @@ impl Names {
         }
     }
 
-    fn print_error(&self, number: u8) -> Result<Option<Step>, AllocError>
-        ensures { IfOk result (λ step. step ≡ Some (Step.Print (error_line number))) }
+    /// A receive's buffer comes back to this name with its outcome.
+    fn return_buffer(&mut self, name: Option<Name>, outcome: Outcome) -> Result<(), AllocError>
+        ensures { OnOk result (self.new ≡ returned name outcome self.old) }
     {
-        Ok(Some(Step::Print(error_line(self.alloc, number)?)))
+        match outcome {
+            Outcome::Sent => Ok(()),
+            Outcome::Received(_, buffer) => self.give_back(name, buffer),
+            Outcome::Ended(_, _, buffer) => self.give_back(name, buffer),
+            Outcome::Replaced(None) => Ok(()),
+            Outcome::Replaced(Some(buffer)) => self.give_back(name, buffer),
+            Outcome::Cancelled(buffer) => self.give_back(name, buffer),
+            Outcome::Empty => Ok(()),
+        }
+    }
+
+    fn tell_error(&self, error: Option<u8>) -> Result<Option<Step>, AllocError>
+        ensures { IfOk result (λ step. tells_error error self.now ≡ (step, self.now)) }
+    {
+        match error {
+            Some(number) => Ok(Some(Step::Print(error_line(self.alloc, number)?))),
+            None => Ok(None),
+        }
+    }
+
+    fn tell_errors(&self, errors: &[u8]) -> Result<Option<Step>, AllocError>
+        ensures { IfOk result (λ step. tells_errors errors.now self.now ≡ (step, self.now)) }
+    {
+        match errors {
+            [] => Ok(None),
+            [first, rest @ ..] => Ok(Some(Step::Print(error_lines(self.alloc, *first, rest)?))),
+        }
     }
 
     fn end_with(&mut self, name: Option<Name>, outcome: Outcome) -> Result<Option<Step>, AllocError>
         ensures { IfOk result (λ step. ends_with name outcome self.old ≡ (step, self.new)) }
     {
-        match outcome {
-            Outcome::Sent => Ok(None),
-            Outcome::Received(status, buffer) => {
-                self.give_back(name, buffer)?;
-                self.last = status;
-                Ok(None)
-            }
-            Outcome::Ended(failure, _, buffer) => {
-                self.give_back(name, buffer)?;
-                self.print_error(failure.number())
-            }
-            Outcome::Replaced(None) => self.print_error(11),
-            Outcome::Replaced(Some(buffer)) => {
-                self.give_back(name, buffer)?;
-                self.print_error(11)
-            }
-            Outcome::Empty => {
-                self.last = empty_status();
-                Ok(None)
+        let error = error_of(&outcome);
+        let last = status_after(self.last, &outcome);
+        self.return_buffer(name, outcome)?;
+        self.last = last;
+        self.tell_error(error)
+    }
+
+    /// One of several requests has ended so.
+    fn end_named(&mut self, requested: Requested, outcome: Outcome) -> Result<(), AllocError>
+        ensures { OnOk result (self.new ≡ ended_named requested outcome self.old) }
+    {
+        match requested {
+            Requested::Null => Ok(()),
+            Requested::Named(name) => {
+                let buffer = self.null_request(name)?;
+                self.return_buffer(buffer, outcome)
             }
         }
     }
 
-    fn end(&mut self, doing: Doing, outcome: Outcome) -> Result<Option<Step>, AllocError>
-        ensures { IfOk result (λ step. ends_at doing.stage doing outcome self.old ≡ (step, self.new)) }
+    fn end_one(
+        &mut self,
+        doing: Doing,
+        index: usize,
+        outcome: Outcome,
+    ) -> Result<Option<Step>, AllocError>
+        ensures { IfOk result (λ step. ends_one (slice_get (several_of doing) index) outcome self.old ≡ (step, self.new)) }
     {
-        match doing.stage {
-            Stage::Waiting => {
-                let name = self.end_request(doing)?;
-                self.end_with(name, outcome)
+        match requested_at(self.alloc, &doing, index)? {
+            Some(requested) => {
+                let error = error_of(&outcome);
+                self.end_named(requested, outcome)?;
+                self.tell_error(error)
             }
-            Stage::Free => Ok(None),
-            Stage::Starting => Ok(None),
-            Stage::StartingToWait => Ok(None),
+            None => Ok(None),
+        }
+    }
+
+    /// One more of several requests has ended so: its error, if it has one, comes behind those before.
+    fn end_next(
+        &mut self,
+        errors: &mut Vec<u8>,
+        requested: Requested,
+        outcome: Outcome,
+    ) -> Result<(), AllocError>
+        ensures { OnOk result (EndsNext errors.old.items requested outcome self.old errors.new.items self.new) }
+    {
+        if let Some(number) = error_of(&outcome) {
+            errors.push(number).map_err(AllocError::from)?;
+        }
+        self.end_named(requested, outcome)
+    }
+
+    /// Each of several requests has ended, in order. Answers the errors with which they did.
+    fn end_each(
+        &mut self,
+        several: Vec<Requested>,
+        outcomes: Vec<Outcome>,
+    ) -> Result<Vec<u8>, AllocError>
+        ensures { IfOk result (λ errors. ended_each several.items outcomes.items self.old ≡ (errors.items, self.new)) }
+    {
+        let mut errors = Vec::new(self.alloc);
+        let mut outcomes = outcomes.into_iter();
+        for requested in several {
+            let Some(outcome) = outcomes.next() else {
+                return Ok(errors);
+            };
+            self.end_next(&mut errors, requested, outcome)?;
+        }
+        Ok(errors)
+    }
+
+    fn end_all(&mut self, doing: Doing, outcomes: Outcomes) -> Result<Option<Step>, AllocError>
+        ensures { IfOk result (λ step. ends_all (several_of doing) outcomes self.old ≡ (step, self.new)) }
+    {
+        let Doing {
+            stage: _,
+            request: _,
+            buffer: _,
+            several,
+        } = doing;
+        match several {
+            Some(several) => {
+                let errors = self.end_each(several.into_vec(), outcomes.into_vec())?;
+                self.tell_errors(errors.as_slice())
+            }
+            None => Ok(None),
+        }
+    }
+
+    fn end(&mut self, doing: Doing, answer: Answer) -> Result<Option<Step>, AllocError>
+        ensures { IfOk result (λ step. ends_by doing.stage doing answer self.old ≡ (step, self.new)) }
+    {
+        match answer {
+            Answer::One(outcome) => match doing.stage {
+                Stage::Waiting => {
+                    let name = self.end_request(doing)?;
+                    self.end_with(name, outcome)
+                }
+                Stage::Free => Ok(None),
+                Stage::Starting => Ok(None),
+                Stage::StartingToWait => Ok(None),
+                Stage::WaitingForSeveral => Ok(None),
+            },
+            Answer::Index(index, outcome) => self.end_one(doing, index, outcome),
+            Answer::IndexUndefined => Ok(None),
+            Answer::All(outcomes) => self.end_all(doing, outcomes),
         }
     }
 
@@ -178,7 +327,9 @@ impl Names {
         let doing = self.take_doing();
         match reply {
             Reply::Started(request) => self.start(doing, request),
-            Reply::Done(outcome) => self.end(doing, outcome),
+            Reply::Done(answer) => self.end(doing, answer),
+            Reply::Pending => Ok(Some(Step::Print(pending_line(self.alloc)?))),
+            Reply::Accepted => Ok(None),
             Reply::Blocked => Ok(None),
             Reply::Refused(refused, call) => self.refuse(doing, refused, call),
         }

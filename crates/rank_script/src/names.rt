@@ -2,19 +2,19 @@
 
 ghost use Rattle.std.specs.Prelude.{◌≡◌, IfOk, OnOk, Option, Some, None};
 ghost use Rattle.rank_script.specs.Tables.{value_at, value_there, with_value};
-ghost use Rattle.rank_script.specs.NamesState.{empty_status, free, no_names, here, is_lent, request_at, with_buffer, with_request, given_back};
+ghost use Rattle.rank_script.specs.NamesState.{empty_status, free, no_names, here, is_lent, request_at, with_buffer, with_layout, with_request, given_back};
 
 use crate::table::{Entry, place_of, set};
-use datatypes::Buffer;
+use datatypes::{Buffer, Layout};
 use requests::Request;
-use statements::Name;
+use statements::{Name, RequestedList};
 use std::alloc::{AllocError, Global};
 use std::marker::Model;
 use std::mem;
 use vocabulary::{Source, Status};
 
 /// What a name of a request stands for.
-#[derive(Debug, Drop)]
+#[derive(Drop)]
 pub(crate) struct Held {
     /// The request; none is the null request.
     pub request: Option<Request>,
@@ -23,7 +23,7 @@ pub(crate) struct Held {
 }
 
 /// What the answer to the last call is for.
-#[derive(Clone, Copy, Debug, PartialEq, Eq)]
+#[derive(Clone, Copy)]
 pub(crate) enum Stage {
     /// No answer is awaited.
     Free,
@@ -31,12 +31,14 @@ pub(crate) enum Stage {
     Starting,
     /// An operation is started, to be waited for.
     StartingToWait,
-    /// An operation is waited for.
+    /// An operation is waited for, or tested.
     Waiting,
+    /// Any or all of several operations are waited for.
+    WaitingForSeveral,
 }
 
 /// What the answer to the last call is for, and what it changes.
-#[derive(Debug, Drop)]
+#[derive(Drop)]
 pub(crate) struct Doing {
     /// What the answer is for.
     pub stage: Stage,
@@ -44,6 +46,8 @@ pub(crate) struct Doing {
     pub request: Option<Name>,
     /// The name of the buffer that comes back, if no request's name says so.
     pub buffer: Option<Name>,
+    /// The requests that are waited for, where there are several.
+    pub several: Option<RequestedList>,
 }
 
 /// What the names of a rank stand for, and what it waits for.
@@ -51,6 +55,7 @@ pub(crate) struct Doing {
 pub(crate) struct Names {
     pub alloc: Global,
     pub buffers: Vec<Entry<Option<Buffer>>>,
+    pub layouts: Vec<Entry<Layout>>,
     pub requests: Vec<Entry<Held>>,
     pub last: Status,
     pub doing: Doing,
@@ -61,17 +66,18 @@ impl Model for Names {
 
     ghost Value = { NamesState };
 
-    ghost view = { λ n. record { buffers = n.buffers.items; requests = n.requests.items; last = n.last; doing = n.doing } };
+    ghost view = { λ n. record { buffers = n.buffers.items; layouts = n.layouts.items; requests = n.requests.items; last = n.last; doing = n.doing } };
 }
 
 /// No answer is awaited.
-fn free() -> Doing
+pub(crate) fn free() -> Doing
     ensures { result ≡ free }
 {
     Doing {
         stage: Stage::Free,
         request: None,
         buffer: None,
+        several: None,
     }
 }
 
@@ -94,6 +100,7 @@ impl Names {
         Names {
             alloc,
             buffers: Vec::new(alloc),
+            layouts: Vec::new(alloc),
             requests: Vec::new(alloc),
             last: empty_status(),
             doing: free(),
@@ -105,6 +112,23 @@ impl Names {
         ensures { OnOk result (self.new ≡ with_buffer self.old name slot) }
     {
         set(&mut self.buffers, name, slot)
+    }
+
+    /// Lets a layout's name stand for this.
+    pub(crate) fn set_layout(&mut self, name: Name, layout: Layout) -> Result<(), AllocError>
+        ensures { OnOk result (self.new ≡ with_layout self.old name layout) }
+    {
+        set(&mut self.layouts, name, layout)
+    }
+
+    /// A copy of the layout of this name, if it is set.
+    pub(crate) fn layout_of(&self, name: &Name) -> Result<Option<Layout>, AllocError>
+        ensures { IfOk result (λ layout. layout ≡ value_at self.now.layouts name.now) }
+    {
+        match place_of(&self.layouts, name) {
+            Some(place) => Ok(Some(self.layouts[place].value.try_clone(self.alloc)?)),
+            None => Ok(None),
+        }
     }
 
     /// Lets a request's name stand for this.

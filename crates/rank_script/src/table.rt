@@ -7,7 +7,7 @@ use statements::Name;
 use std::alloc::AllocError;
 
 /// A name, and what it stands for.
-#[derive(Debug, Drop)]
+#[derive(Drop)]
 pub(crate) struct Entry<V> {
     pub name: Name,
     pub value: V,

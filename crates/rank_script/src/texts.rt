@@ -1,12 +1,13 @@
 //! The lines that a script prints.
 
-ghost use Rattle.std.specs.Prelude.{◌≡◌, ◌++◌, drop, IfOk};
-ghost use Rattle.statements.specs.Answers.{status_text};
-ghost use Rattle.rank_script.specs.Texts.{error_line, elements_line, words_line, spaced};
+ghost use Rattle.std.specs.Prelude.{◌≡◌, drop, IfOk};
+ghost use Rattle.answer_texts.specs.Answers.{count_text, status_text};
+ghost use Rattle.rank_script.specs.Texts.{error_line, error_lines, further_errors, pending_line, elements_line, words_line, spaced};
 
+use answer_texts::{CountText, Elements, StatusText};
 use datagram::Bytes;
 use datatypes::Buffer;
-use statements::{Elements, StatusText, Words};
+use statements::Words;
 use std::alloc::{AllocError, Global};
 use vocabulary::Status;
 
@@ -24,6 +25,46 @@ pub(crate) fn status_line(alloc: Global, status: Status) -> Result<Bytes, AllocE
 {
     let status = StatusText { status };
     let text = format!(in alloc; "{status}")?;
+    Ok(Bytes::from_vec(text.into_bytes()))
+}
+
+/// `pending`
+pub(crate) fn pending_line(alloc: Global) -> Result<Bytes, AllocError>
+    ensures { IfOk result (λ line. line ≡ pending_line) }
+{
+    Bytes::from_slice(alloc, "pending".as_bytes())
+}
+
+/// A line's end and `error N`, for each of these numbers.
+fn further_errors(alloc: Global, numbers: &[u8]) -> Result<Vec<u8>, AllocError>
+    ensures { IfOk result (λ text. text.items ≡ further_errors numbers.now) }
+{
+    let mut text = Vec::new(alloc);
+    for number in numbers {
+        let line = error_line(alloc, *number)?;
+        text.push(b'\n')?;
+        text.extend_from_slice(line.as_slice())?;
+    }
+    Ok(text)
+}
+
+/// `error N` for each of these numbers, a line each.
+pub(crate) fn error_lines(alloc: Global, number: u8, numbers: &[u8]) -> Result<Bytes, AllocError>
+    ensures { IfOk result (λ line. line ≡ error_lines number numbers.now) }
+{
+    let first = error_line(alloc, number)?;
+    let further = further_errors(alloc, numbers)?;
+    let mut text = Vec::from_slice(alloc, first.as_slice())?;
+    text.extend_from_slice(&further)?;
+    Ok(Bytes::from_vec(text))
+}
+
+/// The number of copies, or `undefined`
+pub(crate) fn count_line(alloc: Global, copies: Option<u64>) -> Result<Bytes, AllocError>
+    ensures { IfOk result (λ line. line ≡ count_text copies) }
+{
+    let count = CountText { copies };
+    let text = format!(in alloc; "{count}")?;
     Ok(Bytes::from_vec(text.into_bytes()))
 }
 

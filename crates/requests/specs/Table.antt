@@ -1,14 +1,17 @@
 -- The table of requests.
-use Rattle.std.specs.Prelude.{◌≡◌, ◌≢◌, ℕ, ◌+◌, ◌≤◌, nat_le, Bool, ◌||◌, List, [], ◌∷◌, Option, Some, None, is_some, count_by, slice_index_or, slice_set, ◌==◌, if◌then◌else◌}
+use Rattle.std.specs.Prelude.{◌≡◌, ◌≢◌, ℕ, ◌+◌, ◌≤◌, nat_le, Bool, true, false, ◌||◌, List, [], ◌∷◌, Option, Some, None, is_some, count_by, slice_index_or, slice_set, ◌==◌, if◌then◌else◌}
 use Rattle.vocabulary.specs.declared.envelope.Status.{Status}
 use Rattle.datatypes.specs.Contents.{Contents}
 use Rattle.requests.specs.declared.table.Entry.{Entry}
 use Rattle.requests.specs.declared.table.Progress.{Progress}
 use Rattle.requests.specs.declared.table.Progress.TheVariants.{Receiving, Finished}
+use Rattle.requests.specs.declared.outcome.Outcome.{Outcome}
 use Rattle.requests.specs.declared.outcome.Outcome.TheVariants as outcomes
-use Rattle.requests.specs.declared.table.Taken.{Taken}
-use Rattle.requests.specs.declared.table.Taken.TheVariants as takens
+use Rattle.requests.specs.declared.table.Request.{Request}
+use Rattle.requests.specs.declared.table.Tested.{Tested}
+use Rattle.requests.specs.declared.table.Tested.TheVariants as tests
 use Rattle.requests.specs.Outcomes.{outcome_of}
+use Rattle.requests.specs.Regions.{handed_of}
 
 -- what stands under each key, the key of the next request, for how many there is memory, and how many were started
 pub record Table : Type 0 where
@@ -40,7 +43,7 @@ pub record IsSet (old new : List (Option Entry)) (key : ℕ) (slot : Option Entr
 
 -- how far a request is once its message came: a receive that waits ends with it
 abbrev pub progress_after : Progress → Status → Contents → Progress
-progress_after (Receiving b) status m = Finished (outcome_of b status m)
+progress_after (Receiving r) status m = Finished (outcome_of (handed_of r) status m)
 progress_after (Finished o) status m = Finished o
 
 -- a receive that was unfinished ends with the message
@@ -66,16 +69,45 @@ abbrev pub progress_at : List (Option Entry) → ℕ → ℕ → Option Progress
 progress_at slots key serial = progress_of (slot_at slots key) serial
 
 -- what a look at a request answers, and what it leaves
-abbrev pub TakeGives : Table → ℕ → Option Progress → Taken → Table → Type 0
-TakeGives old key None taken new = (taken ≡ takens.Absent) × (new ≡ old)
-TakeGives old key (Some (Receiving b)) taken new = (taken ≡ takens.Pending) × (new ≡ old)
-TakeGives old key (Some (Finished o)) taken new = (taken ≡ takens.Done o) × (new.slots ≡ slice_set old.slots key None) × (new.serial ≡ old.serial)
+abbrev pub TestGives : Table → ℕ → Option Progress → Tested → Table → Type 0
+TestGives old key None tested new = (tested ≡ tests.Absent) × (new ≡ old)
+TestGives old key (Some (Receiving r)) tested new = (tested ≡ tests.Pending) × (new ≡ old)
+TestGives old key (Some (Finished o)) tested new = (tested ≡ tests.Done o) × (new.slots ≡ slice_set old.slots key None) × (new.serial ≡ old.serial)
+
+-- A RECEIVE THAT IS CANCELLED
+
+-- a receive that waits has ended, and its buffer is as it was (MPI 3.1, 3.8.4)
+abbrev pub cancelled_by : List (Option Entry) → Request → Option Progress → List (Option Entry)
+cancelled_by slots q None = slots
+cancelled_by slots q (Some (Receiving r)) =
+    slice_set slots q.key (Some (record { serial = q.serial; progress = Finished (outcomes.Cancelled r.buffer) }))
+cancelled_by slots q (Some (Finished o)) = slots
+
+-- the slots once a request was cancelled: only a receive that waits changes
+abbrev pub after_cancel : List (Option Entry) → Request → List (Option Entry)
+after_cancel slots q = cancelled_by slots q (progress_at slots q.key q.serial)
+
+-- whether an outcome is a receive's
+abbrev pub is_receives : Outcome → Bool
+is_receives outcomes.Sent = false
+is_receives (outcomes.Received status b) = true
+is_receives (outcomes.Ended why status b) = true
+is_receives (outcomes.Replaced None) = false
+is_receives (outcomes.Replaced (Some b)) = true
+is_receives (outcomes.Cancelled b) = true
+is_receives outcomes.Empty = true
+
+-- whether this is how far a receive is
+abbrev pub is_receive : Option Progress → Bool
+is_receive None = false
+is_receive (Some (Receiving r)) = true
+is_receive (Some (Finished o)) = is_receives o
 
 -- A RANK THAT WAS STARTED ANEW
 
 -- a receive that waits ends, and its buffer is as it was
 abbrev pub replaced_progress : Progress → Progress
-replaced_progress (Receiving b) = Finished (outcomes.Replaced (Some b))
+replaced_progress (Receiving r) = Finished (outcomes.Replaced (Some r.buffer))
 replaced_progress (Finished o) = Finished o
 
 -- an entry once the rank that it names was replaced

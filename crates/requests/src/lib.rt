@@ -3,10 +3,19 @@
 //! MPI 3.1, 3.7: a nonblocking call starts a request, and a completing call ends it.
 #![tactic(auto)]
 
+mod answer;
+mod awaited;
+mod completing;
+mod list;
 mod outcome;
 mod refused;
+mod region;
 mod table;
 
+pub use answer::{Answer, OutcomeRoom, Outcomes};
+pub use awaited::{Awaited, AwaitedAll};
+pub use list::RequestList;
 pub use outcome::{Failure, Outcome, received};
 pub use refused::Refused;
-pub use table::{Entry, Progress, Request, Requests, Taken};
+pub use region::{Places, ReceiveRegion, Region};
+pub use table::{Entry, Progress, Request, Requests, Tested};

@@ -1,9 +1,13 @@
 //! How an operation ends.
 
-ghost use Rattle.std.specs.Prelude.{◌≡◌};
-ghost use Rattle.requests.specs.Outcomes.{outcome_of, number_of_failure};
+ghost use Rattle.std.specs.Prelude.{◌≡◌, false};
+ghost use Rattle.perfect_queues.specs.Buffers.{is_too_short};
+ghost use Rattle.requests.specs.Outcomes.{outcome_of, outcome_of_whole, number_of_failure};
+ghost use Rattle.requests.specs.Regions.{handed_by, handed_of, is_unfit_to_receive};
+ghost use Rattle.requests.specs.Table.{is_receives};
 
-use datatypes::Buffer;
+use crate::region::{Places, ReceiveRegion, Region};
+use datatypes::{Buffer, Layout};
 use vocabulary::Status;
 
 /// Why a receive ended without its message's data (MPI 3.1, 3.2.4 and 3.3.1).
@@ -39,16 +43,48 @@ pub enum Outcome {
     /// The rank that the operation names was started anew: number 11, where it is told. A receive's buffer is handed
     /// back as it was. MPI 3.1 defines no restart of a rank; this outcome is this project's own.
     Replaced(Option<Buffer>),
+    /// A receive was cancelled before a message was matched with it; its buffer is as it was (MPI 3.1, 3.8.4).
+    Cancelled(Buffer),
     /// The null request was completed (MPI 3.1, 3.7.3).
     Empty,
 }
 
-/// How a receive into the buffer ends with a message of this status and these elements.
+impl Outcome {
+    /// Whether this is how a receive ended; the null request counts as one (MPI 3.1, 3.8.4).
+    pub fn is_receives(&self) -> bool
+        ensures { result ≡ is_receives self.now }
+    {
+        match self {
+            Outcome::Sent | Outcome::Replaced(None) => false,
+            Outcome::Received(..)
+            | Outcome::Ended(..)
+            | Outcome::Replaced(Some(_))
+            | Outcome::Cancelled(_)
+            | Outcome::Empty => true,
+        }
+    }
+}
+
+/// How a receive into the region ends with a message of this status and these elements.
 ///
 /// A shorter message changes only its own places (MPI 3.1, 3.2.4). Where the types differ, or the message is
 /// longer, the buffer stays as it was; that, and the status beside it, are this project's own choice.
-pub fn received(mut buffer: Buffer, status: Status, message: &Buffer) -> Outcome
-    ensures { result ≡ outcome_of buffer status message.now }
+#[tactic(auto, using(crate::proofs::Receiving::whole_is))]
+pub fn received(into: ReceiveRegion, status: Status, message: &Buffer) -> Outcome
+    ensures { result ≡ outcome_of (handed_of into) status message.now }
+{
+    let Region { buffer, places } = into.into_region();
+    match places {
+        Places::All => received_whole(buffer, status, message),
+        Places::Copies(layout, copies) => {
+            received_apart(buffer, &layout, copies, status, message)
+        }
+    }
+}
+
+/// How a receive into all elements of the buffer ends.
+fn received_whole(mut buffer: Buffer, status: Status, message: &Buffer) -> Outcome
+    ensures { result ≡ outcome_of_whole buffer status message.now }
 {
     if buffer.basic() != message.basic() {
         return Outcome::Ended(Failure::WrongType, status, buffer);
@@ -57,5 +93,27 @@ pub fn received(mut buffer: Buffer, status: Status, message: &Buffer) -> Outcome
         return Outcome::Ended(Failure::Truncated, status, buffer);
     }
     buffer.overwrite(message);
+    Outcome::Received(status, buffer)
+}
+
+/// How a receive into the places of so many copies of the layout ends.
+fn received_apart(
+    mut buffer: Buffer,
+    layout: &Layout,
+    copies: u64,
+    status: Status,
+    message: &Buffer,
+) -> Outcome
+    requires types { is_unfit_to_receive (handed_by buffer (Places.Copies layout.now copies)) ≡ false }
+    requires room { is_too_short (handed_by buffer (Places.Copies layout.now copies)) ≡ false }
+    ensures { result ≡ outcome_of (handed_by buffer (Places.Copies layout.now copies)) status message.now }
+{
+    if buffer.basic() != message.basic() {
+        return Outcome::Ended(Failure::WrongType, status, buffer);
+    }
+    if message.len() as u64 > layout.place_count(copies) {
+        return Outcome::Ended(Failure::Truncated, status, buffer);
+    }
+    let _done = buffer.unpack(message, layout, copies);
     Outcome::Received(status, buffer)
 }

@@ -1,10 +1,16 @@
 //! The table of requests.
 
-ghost use Rattle.std.specs.Prelude.{◌≡◌, ◌+◌, ◌<◌, ◌^◌, OnOk, OnErr, IsErrOf, ◌↔◌, IsTrue, false, [], Some, None, is_some};
-ghost use Rattle.requests.specs.Table.{Table, HasRoom, is_full, entry_at, IsSet, after_finish, after_message, progress_at, TakeGives, replaced_entry, after_replace, after_replaces};
+ghost use Rattle.std.specs.Prelude.{◌≡◌, ◌+◌, ◌<◌, ◌^◌, OnOk, OnErr, IsErrOf, ◌↔◌, IsTrue, false, true, not, [], Some, None, is_some};
+ghost use Rattle.std.specs.List.{list_any};
+ghost use Rattle.requests.specs.Completions.{outcome_at};
+ghost use Rattle.requests.specs.Lists.{named, is_one_absent};
+ghost use Rattle.requests.specs.Steps.{is_waiting, lacks, cancelled_entry};
+ghost use Rattle.requests.specs.Table.{Table, HasRoom, is_full, entry_at, IsSet, after_finish, after_message, progress_at, TestGives, replaced_entry, after_replace, after_replaces, after_cancel, is_receive, is_receives};
 
+use crate::list::RequestList;
 use crate::outcome::{Outcome, received};
 use crate::refused::Refused;
+use crate::region::ReceiveRegion;
 use datatypes::Buffer;
 use slab::Slab;
 use std::alloc::Global;
@@ -16,7 +22,7 @@ use vocabulary::Status;
 const MOST_REQUESTS: usize = 65_536;
 
 /// A request, as its caller holds it: the key of its place, and its number in the order of starting.
-#[derive(Clone, Copy, Debug, PartialEq, Eq)]
+#[derive(Clone, Copy, Debug, PartialEq, Eq, Hash)]
 pub struct Request {
     /// Its place in the table. A key is used again once its request has ended.
     pub key: usize,
@@ -27,8 +33,8 @@ pub struct Request {
 /// How far an operation is.
 #[derive(Debug, Drop)]
 pub enum Progress {
-    /// A receive into this buffer waits for its message.
-    Receiving(Buffer),
+    /// A receive into this region waits for its message.
+    Receiving(ReceiveRegion),
     /// The operation is over, and its outcome was not yet answered.
     Finished(Outcome),
 }
@@ -42,9 +48,9 @@ pub struct Entry {
     pub progress: Progress,
 }
 
-/// What a look at a request answers.
+/// What a test of a request answers.
 #[derive(Debug, Drop)]
-pub enum Taken {
+pub enum Tested {
     /// There is no such request, or it has ended.
     Absent,
     /// It is unfinished.
@@ -68,12 +74,13 @@ impl Model for Requests {
     ghost view = { λ r. record { slots = r.entries.slots; vacant = r.entries.vacant_key; capacity = r.entries.capacity; serial = r.serial } };
 }
 
+/// Ends a receive that waits with the message that was matched with it.
 fn advance(entry: &mut Entry, status: Status, message: &Buffer)
     ensures { entry.new ≡ after_message entry.old status message.now }
 {
     match mem::replace(&mut entry.progress, Progress::Finished(Outcome::Sent)) {
-        Progress::Receiving(buffer) => {
-            entry.progress = Progress::Finished(received(buffer, status, message));
+        Progress::Receiving(region) => {
+            entry.progress = Progress::Finished(received(region, status, message));
         }
         Progress::Finished(outcome) => entry.progress = Progress::Finished(outcome),
     }
@@ -84,8 +91,20 @@ fn end_replaced(entry: &mut Entry)
     ensures { entry.new ≡ replaced_entry entry.old }
 {
     match mem::replace(&mut entry.progress, Progress::Finished(Outcome::Sent)) {
-        Progress::Receiving(buffer) => {
-            entry.progress = Progress::Finished(Outcome::Replaced(Some(buffer)));
+        Progress::Receiving(region) => {
+            entry.progress = Progress::Finished(Outcome::Replaced(Some(region.into_buffer())));
+        }
+        Progress::Finished(outcome) => entry.progress = Progress::Finished(outcome),
+    }
+}
+
+/// Ends a receive that waits, for it was cancelled.
+fn end_cancelled(entry: &mut Entry)
+    ensures { entry.new ≡ cancelled_entry entry.old }
+{
+    match mem::replace(&mut entry.progress, Progress::Finished(Outcome::Sent)) {
+        Progress::Receiving(region) => {
+            entry.progress = Progress::Finished(Outcome::Cancelled(region.into_buffer()));
         }
         Progress::Finished(outcome) => entry.progress = Progress::Finished(outcome),
     }
@@ -188,27 +207,122 @@ impl Requests {
         }
     }
 
-    /// Looks at a request. One that is finished ends with that, and its outcome is handed out, once.
-    pub fn take(&mut self, request: Request) -> Taken
-        ensures { TakeGives self.old request.key (progress_at self.old.slots request.key request.serial) result self.new }
+    /// Whether a request is named that isn't in the table; the null request never is such a one.
+    fn lacks(&self, request: Option<Request>) -> bool
+        ensures { result ≡ lacks self.now.slots request }
+    {
+        match request {
+            Some(request) => !self.contains(request),
+            None => false,
+        }
+    }
+
+    /// Whether all requests of the list stand in the table, finished or not; the null request needs not.
+    #[tactic(auto, using(crate::proofs::ListLaws::one_lacks))]
+    pub fn contains_all(&self, list: &RequestList) -> bool
+        ensures { result ≡ not (is_one_absent self.now.slots (named list.now)) }
+    {
+        !self.lacks_one(list.as_slice())
+    }
+
+    /// Whether a request of these isn't in the table; the null request never is such a one.
+    fn lacks_one(&self, requests: &[Option<Request>]) -> bool
+        ensures { result ≡ list_any (lacks self.now.slots) requests.now }
+    {
+        requests.iter().any(|request| self.lacks(*request))
+    }
+
+    /// Whether the request is a receive, be it one that waits or one that is over (MPI 3.1, 3.8.4).
+    pub fn is_receive(&self, request: Request) -> bool
+        ensures { result ≡ is_receive (progress_at self.now.slots request.key request.serial) }
     {
         match self.entries.get(request.key) {
             Some(entry) => {
                 if entry.serial != request.serial {
-                    return Taken::Absent;
+                    return false;
                 }
-                if let Progress::Receiving(_) = &entry.progress {
-                    return Taken::Pending;
+                match &entry.progress {
+                    Progress::Receiving(_) => true,
+                    Progress::Finished(outcome) => outcome.is_receives(),
                 }
             }
-            None => return Taken::Absent,
+            None => false,
+        }
+    }
+
+    /// Whether the request is a receive that waits for its message.
+    pub fn is_waiting(&self, request: Request) -> bool
+        ensures { result ≡ is_waiting (progress_at self.now.slots request.key request.serial) }
+    {
+        match self.entries.get(request.key) {
+            Some(entry) => {
+                if entry.serial != request.serial {
+                    return false;
+                }
+                match &entry.progress {
+                    Progress::Receiving(_) => true,
+                    Progress::Finished(_) => false,
+                }
+            }
+            None => false,
+        }
+    }
+
+    /// Cancels a request: a receive that waits is over, and its buffer is as it was; anything else stays as it is. It
+    /// answers whether a receive ended so (MPI 3.1, 3.8.4).
+    #[tactic(auto, using(crate::proofs::Cancelling::cancelled_is, crate::proofs::Cancelling::not_cancelled))]
+    pub fn cancel(&mut self, request: Request) -> bool
+        ensures exact { self.new ≡ record self.old { slots = after_cancel self.old.slots request } }
+        ensures ended { result ≡ is_waiting (progress_at self.old.slots request.key request.serial) }
+    {
+        if !self.is_waiting(request) {
+            return false;
+        }
+        if let Some(entry) = self.entries.get_mut(request.key) {
+            end_cancelled(entry);
+        }
+        true
+    }
+
+    /// Whether the request is finished, and its outcome not yet handed out.
+    pub(crate) fn is_finished(&self, request: Request) -> bool
+        ensures { result ≡ is_some (outcome_at self.now.slots request) }
+    {
+        match self.entries.get(request.key) {
+            Some(entry) => {
+                if entry.serial != request.serial {
+                    return false;
+                }
+                match &entry.progress {
+                    Progress::Receiving(_) => false,
+                    Progress::Finished(_) => true,
+                }
+            }
+            None => false,
+        }
+    }
+
+    /// Looks at a request. One that is finished ends with that, and its outcome is handed out, once (MPI 3.1, 3.7.3).
+    pub fn test(&mut self, request: Request) -> Tested
+        ensures { TestGives self.old request.key (progress_at self.old.slots request.key request.serial) result self.new }
+    {
+        match self.entries.get(request.key) {
+            Some(entry) => {
+                if entry.serial != request.serial {
+                    return Tested::Absent;
+                }
+                if let Progress::Receiving(_) = &entry.progress {
+                    return Tested::Pending;
+                }
+            }
+            None => return Tested::Absent,
         }
         match self.entries.try_remove(request.key) {
             Some(entry) => match entry.progress {
-                Progress::Finished(outcome) => Taken::Done(outcome),
-                Progress::Receiving(_) => Taken::Absent,
+                Progress::Finished(outcome) => Tested::Done(outcome),
+                Progress::Receiving(_) => Tested::Absent,
             },
-            None => Taken::Absent,
+            None => Tested::Absent,
         }
     }
 }

@@ -15,7 +15,7 @@ use Rattle.script_files.specs.declared.script.Statement.TheVariants as statement
 use Rattle.script_files.specs.declared.script.Item.{Item}
 use Rattle.script_files.specs.declared.script.Item.TheVariants as items
 use Rattle.script_files.specs.Grammar.{SpellsStatement, SpellsItem}
-use Rattle.script_files.specs.Reading.{verb_of, audience_of, buffer_named, said_words, item_by, item_of}
+use Rattle.script_files.specs.Reading.{verb_of, audience_of, name_alone, said_words, item_by, item_of}
 use Rattle.script_files.proofs.VerbLaws.{verb_word, verb_takes, verb_again, no_verb}
 use Rattle.script_files.proofs.MemberLaws.{audience_takes, audience_again}
 
@@ -36,13 +36,21 @@ recv_takes words i e =
     let b = bind_ok (receiving_of words) (λ receive. Some (items.Does (statements.Recv receive))) i e in
     made (SpellsItem (codes "recv" ∷ words)) (items.Does (statements.Recv b.0)) i (words, refl, receiving_takes words b.0 b.1) b.2
 
-print_takes : (words : List Word) (i : Item) → (buffer_named words >>= λ buffer. Some (items.Does (statements.Print buffer))) ≡ Some i → SpellsItem (codes "print" ∷ words) i
-unfolding buffer_named first ended
+print_takes : (words : List Word) (i : Item) → (name_alone words >>= λ buffer. Some (items.Does (statements.Print buffer))) ≡ Some i → SpellsItem (codes "print" ∷ words) i
+unfolding name_alone first ended
 print_takes [] i e = absurd cc
 print_takes (a ∷ b ∷ words) i e = absurd cc
 print_takes (a ∷ []) i e =
     let b = bind_ok (name_of a) (λ buffer. Some (items.Does (statements.Print buffer))) i e in
     made (SpellsItem (codes "print" ∷ a ∷ [])) (items.Does (statements.Print b.0)) i (a, refl, named_takes a b.0 b.1) b.2
+
+count_takes : (words : List Word) (i : Item) → (name_alone words >>= λ layout. Some (items.Does (statements.Count layout))) ≡ Some i → SpellsItem (codes "count" ∷ words) i
+unfolding name_alone first ended
+count_takes [] i e = absurd cc
+count_takes (a ∷ b ∷ words) i e = absurd cc
+count_takes (a ∷ []) i e =
+    let b = bind_ok (name_of a) (λ layout. Some (items.Does (statements.Count layout))) i e in
+    made (SpellsItem (codes "count" ∷ a ∷ [])) (items.Does (statements.Count b.0)) i (a, refl, named_takes a b.0 b.1) b.2
 
 status_takes : (words : List Word) (i : Item) → (ended words >>= λ end. Some (items.Does statements.Status)) ≡ Some i → SpellsItem (codes "status" ∷ words) i
 unfolding ended
@@ -68,6 +76,7 @@ verb_by verbs.Send all words i e = send_takes words i e
 verb_by verbs.Recv all words i e = recv_takes words i e
 verb_by verbs.Print all words i e = print_takes words i e
 verb_by verbs.Status all words i e = status_takes words i e
+verb_by verbs.Count all words i e = count_takes words i e
 verb_by verbs.Say all words i e = say_takes words i e
 verb_by verbs.Fail all words i e = fail_takes words i e
 
@@ -96,9 +105,9 @@ from_action word words action is e = rw (is, e) refl
 then_some : {A : Type 0} (read : Option A) (make : A → Item) (x : A) → read ≡ Some x → (read >>= λ y. Some (make y)) ≡ Some (make x)
 then_some read make x e = rw e refl
 
-buffer_from : (a name : Word) → name_of a ≡ Some name → buffer_named (a ∷ []) ≡ Some name
-unfolding buffer_named first ended
-buffer_from a name e = e
+alone_from : (a name : Word) → name_of a ≡ Some name → name_alone (a ∷ []) ≡ Some name
+unfolding name_alone first ended
+alone_from a name e = e
 
 said_from : (words : List Word) → words ≢ [] → said_words words ≡ Some words
 unfolding said_words first
@@ -122,8 +131,10 @@ statement_again words (statements.Send x) h =
 statement_again words (statements.Recv x) h =
     ap item_of h.1 ∙ from_verb verbs.Recv h.0 (items.Does (statements.Recv x)) (then_some (receiving_of h.0) (λ y. items.Does (statements.Recv y)) x (receiving_again h.0 x h.2))
 statement_again words (statements.Print x) h =
-    ap item_of h.1 ∙ from_verb verbs.Print (h.0 ∷ []) (items.Does (statements.Print x)) (then_some (buffer_named (h.0 ∷ [])) (λ y. items.Does (statements.Print y)) x (buffer_from h.0 x (named_again h.0 x h.2)))
+    ap item_of h.1 ∙ from_verb verbs.Print (h.0 ∷ []) (items.Does (statements.Print x)) (then_some (name_alone (h.0 ∷ [])) (λ y. items.Does (statements.Print y)) x (alone_from h.0 x (named_again h.0 x h.2)))
 statement_again words statements.Status h = ap item_of h ∙ from_verb verbs.Status [] (items.Does statements.Status) (ended_here (items.Does statements.Status))
+statement_again words (statements.Count x) h =
+    ap item_of h.1 ∙ from_verb verbs.Count (h.0 ∷ []) (items.Does (statements.Count x)) (then_some (name_alone (h.0 ∷ [])) (λ y. items.Does (statements.Count y)) x (alone_from h.0 x (named_again h.0 x h.2)))
 statement_again words (statements.Say x) h =
     ap item_of h.0 ∙ from_verb verbs.Say x (items.Does (statements.Say x)) (then_some (said_words x) (λ y. items.Does (statements.Say y)) x (said_from x h.1))
 statement_again words statements.Fail h = ap item_of h ∙ from_verb verbs.Fail [] (items.Does statements.Fail) (ended_here (items.Does statements.Fail))

@@ -1,24 +1,22 @@
 -- Whom lines are for: reading and the grammar agree.
-use Rattle.std.proofs.Common.{◌≡◌, ◌≢◌, ℕ, ◌+◌, Bool, true, false, cond, eqb, ltb, List, [], ◌∷◌, ◌++◌, length, get_or, take, drop, Option, Some, None, refl, sym, ap, ◌∙◌, arith}
+use Rattle.std.proofs.Common.{◌≡◌, ◌≢◌, ℕ, Bool, true, false, cond, eqb, List, [], ◌∷◌, ◌++◌, length, take, drop, Option, Some, None, refl, sym, ap, ◌∙◌}
 use Rattle.std.specs.Prelude.{codes, ◌&&◌}
-use Rattle.std.specs.List.{position, position_or_len, AllByRecursion}
-use Rattle.std.specs.Char.{is_ascii_digit}
-use Rattle.std.specs.Str.{bytes_eq, all_ascii_digits}
-use Rattle.std.proofs.lemmas.Bool.{eqb-true, lt-ltb, le-ltb, false≢true}
-use Rattle.std.proofs.lemmas.List.{nil_from_length, at_drop_more, drop-drop, take-append-drop, length-append}
-use Rattle.std.proofs.lemmas.List.Quantifiers.{position-Some}
-use Rattle.statements.specs.declared.fault.LineError.{LineError}
-use Rattle.statements.specs.Grammar.{Word}
+use Rattle.std.specs.List.{position}
+use Rattle.std.specs.Str.{bytes_eq}
+use Rattle.std.proofs.lemmas.Bool.{eqb-true, false≢true}
+use Rattle.std.proofs.lemmas.List.{nil_from_length}
+use Rattle.statements.specs.Grammar.{Word, StandFor}
 use Rattle.statements.specs.Numbers.{number_or}
-use Rattle.statements.specs.Results.{◌>>=◌, Fails}
+use Rattle.statements.specs.Results.{◌>>=◌}
 use Rattle.statements.specs.Reading.{rank_of, each}
-use Rattle.statements.proofs.WordLaws.{bind_ok, made, same_word, no_test, other_word, capped_takes, capped_again, no_letters}
+use Rattle.statements.proofs.WordLaws.{bind_ok, made, same_word, other_word, capped_takes, capped_again, no_letters}
 use Rattle.statements.proofs.FieldLaws.{rank_takes, rank_again}
-use Rattle.statements.proofs.EachLaws.{bind_fails}
+use Rattle.statements.proofs.EachLaws.{all_take, all_again}
+use Rattle.statements.proofs.MarkLaws.{mark_here, digits_plain, no_place, a_place, take_front, drop_front}
 use Rattle.script_files.specs.declared.audience.Member.{Member}
 use Rattle.script_files.specs.declared.audience.Audience.{Audience}
 use Rattle.script_files.specs.declared.audience.Audience.TheVariants as audiences
-use Rattle.script_files.specs.Grammar.{IsNamed, IsMember, AreMembers, IsAudience}
+use Rattle.script_files.specs.Grammar.{IsNamed, IsMember, IsAudience}
 use Rattle.script_files.specs.Reading.{is_point, member_at, member_of, one_member, audience_of}
 
 both : (a b : Bool) → (a && b) ≡ true → (a ≡ true) × (b ≡ true)
@@ -26,13 +24,6 @@ both true b e = (refl, e)
 both false b e = absurd cc
 
 -- ---- one rank
-
-point_here : (word : Word) (i : ℕ) → position is_point word ≡ Some i → word ≡ take i word ++ 46 ∷ drop 1 (drop i word)
-point_here word i e =
-    let p = position-Some is_point word i 0 e in
-    let point : get_or word i 0 ≡ 46 = eqb-true (get_or word i 0) 46 p.1 in
-    sym (take-append-drop i word) ∙ at_drop_more (λ (ws : Word). take i word ++ ws) word i 0 p.0
-    ∙ ap (λ (b : ℕ). take i word ++ b ∷ drop (i + 1) word) point ∙ ap (λ (ws : Word). take i word ++ 46 ∷ ws) (sym (drop-drop 1 i word))
 
 member_made : ℕ → Option ℕ → Member
 member_made r one = record { rank = r; incarnation = one }
@@ -45,44 +36,11 @@ at_takes word None m is e =
 at_takes word (Some i) m is e =
     let r = bind_ok (rank_of (take i word)) (λ r. number_or 65536 (drop 1 (drop i word)) >>= λ one. Some (member_made r (Some one))) m e in
     let n = bind_ok (number_or 65536 (drop 1 (drop i word))) (λ one. Some (member_made r.0 (Some one))) m r.2 in
-    made (IsMember word) (member_made r.0 (Some n.0)) m (take i word, drop 1 (drop i word), point_here word i is, rank_takes (take i word) r.0 r.1, capped_takes 65536 (drop 1 (drop i word)) n.0 n.1) n.2
+    made (IsMember word) (member_made r.0 (Some n.0)) m (take i word, drop 1 (drop i word), mark_here 46 word i is, rank_takes (take i word) r.0 r.1, capped_takes 65536 (drop 1 (drop i word)) n.0 n.1) n.2
 
 pub member_takes : (word : Word) (m : Member) → member_of word ≡ Some m → IsMember word m
 unfolding member_of
 member_takes word m e = at_takes word (position is_point word) m refl e
-
-abbrev HasNoPoint : Word → Type 0
-HasNoPoint word = AllByRecursion (λ b. is_point b ≡ false) word
-
-digits_plain : (word : Word) → all_ascii_digits word ≡ true → HasNoPoint word
-digits_plain [] e = tt
-digits_plain (b ∷ bs) e =
-    let p = both (is_ascii_digit b) (all_ascii_digits bs) e in
-    (no_test (eqb b 46) (λ f. false≢true (ap is_ascii_digit (sym (eqb-true b 46 f)) ∙ p.0)), digits_plain bs p.1)
-
-plain_length : (word : Word) → HasNoPoint word → position_or_len is_point word ≡ length word
-plain_length [] h = refl
-plain_length (b ∷ bs) h = let t : eqb b 46 ≡ false = h.0 in let rest = plain_length bs h.1 in let e : 1 + position_or_len is_point bs ≡ length (b ∷ bs) = omega (arith, rest) in rw t e
-
-point_length : (front rest : Word) → HasNoPoint front → position_or_len is_point (front ++ 46 ∷ rest) ≡ length front
-point_length [] rest h = refl
-point_length (b ∷ bs) rest h = let t : eqb b 46 ≡ false = h.0 in let more = point_length bs rest h.1 in let e : 1 + position_or_len is_point (bs ++ 46 ∷ rest) ≡ length (b ∷ bs) = omega (arith, more) in rw t e
-
-no_place : (word : Word) → HasNoPoint word → position is_point word ≡ None
-no_place word h = let t : ltb (position_or_len is_point word) (length word) ≡ false = le-ltb _ _ (omega (arith, plain_length word h)) in rw t refl
-
-a_place : (front rest : Word) → HasNoPoint front → position is_point (front ++ 46 ∷ rest) ≡ Some (length front)
-a_place front rest h =
-    let t : ltb (position_or_len is_point (front ++ 46 ∷ rest)) (length (front ++ 46 ∷ rest)) ≡ true = lt-ltb _ _ (omega (arith, point_length front rest h, length-append front (46 ∷ rest))) in
-    rw t (ap (λ (n : ℕ). Some n) (point_length front rest h))
-
-take_front : (front rest : Word) → take (length front) (front ++ rest) ≡ front
-take_front [] rest = refl
-take_front (b ∷ bs) rest = ap (λ (w : Word). b ∷ w) (take_front bs rest)
-
-drop_front : (front rest : Word) → drop (length front) (front ++ rest) ≡ rest
-drop_front [] rest = refl
-drop_front (b ∷ bs) rest = drop_front bs rest
 
 plain_member : (word : Word) (rank : ℕ) → position is_point word ≡ None → rank_of word ≡ Some rank → member_of word ≡ Some (member_made rank None)
 unfolding member_of member_made
@@ -96,41 +54,20 @@ pointed_member word front rest i rank one p t d r n =
     rw (p, r0, n0) refl
 
 named_again : (word : Word) (rank : ℕ) (one : Option ℕ) → IsNamed word rank one → member_of word ≡ Some (member_made rank one)
-named_again word rank None h = plain_member word rank (no_place word (digits_plain word h.1.digits)) (rank_again word rank h)
+named_again word rank None h = plain_member word rank (no_place 46 word (digits_plain 46 word refl h.1.digits)) (rank_again word rank h)
 named_again word rank (Some one) h =
     let spelled : Word = h.0 ++ 46 ∷ h.1 in
-    let plain = digits_plain h.0 h.3.1.digits in
+    let plain = digits_plain 46 h.0 refl h.3.1.digits in
     ap member_of h.2
-    ∙ pointed_member spelled h.0 h.1 (length h.0) rank one (a_place h.0 h.1 plain) (take_front h.0 (46 ∷ h.1)) (ap (drop 1) (drop_front h.0 (46 ∷ h.1))) (rank_again h.0 rank h.3) (capped_again 65536 h.1 one h.4)
+    ∙ pointed_member spelled h.0 h.1 (length h.0) rank one (a_place 46 h.0 h.1 plain) (take_front h.0 (46 ∷ h.1)) (ap (drop 1) (drop_front h.0 (46 ∷ h.1))) (rank_again h.0 rank h.3) (capped_again 65536 h.1 one h.4)
 
 pub member_again : (word : Word) (m : Member) → IsMember word m → member_of word ≡ Some m
 unfolding member_made
 member_again word m h = named_again word m.rank m.incarnation h
 
--- ---- ranks
-
-members_take : (words : List Word) (ms : List Member) → each one_member words ≡ Some ms → AreMembers words ms
-unfolding each
-members_take [] [] e = tt
-members_take [] (m ∷ ms) e = absurd cc
-members_take (w ∷ ws) ms e =
-    let a = bind_ok (one_member w) (λ front. each one_member ws >>= λ rest. Some (front ++ rest)) ms e in
-    let q = bind_ok (member_of w) (λ member. Some (member ∷ [])) a.0 a.1 in
-    let b = bind_ok (each one_member ws) (λ rest. Some (a.0 ++ rest)) ms a.2 in
-    let there : AreMembers (w ∷ ws) (q.0 ∷ b.0) = (member_takes w q.0 q.1, members_take ws b.0 b.1) in
-    let front : a.0 ≡ q.0 ∷ [] = made (λ x. x ≡ q.0 ∷ []) (q.0 ∷ []) a.0 refl q.2 in
-    made (AreMembers (w ∷ ws)) (q.0 ∷ b.0) ms there (ap (λ (x : List Member). Some (x ++ b.0)) (sym front) ∙ b.2)
-
-members_again : (words : List Word) (ms : List Member) → AreMembers words ms → each one_member words ≡ Some ms
-unfolding each
-members_again [] [] h = refl
-members_again [] (m ∷ ms) h = absurd h
-members_again (w ∷ ws) [] h = absurd h
-members_again (w ∷ ws) (m ∷ ms) h = rw (member_again w m h.0, members_again ws ms h.1) refl
-
 -- ---- audiences
 
-all_or_ranks : (t : Bool) (words : List Word) (read : Option (List Member)) (a : Audience) → (t ≡ true → words ≡ codes "all" ∷ []) → ((ms : List Member) → read ≡ Some ms → (words ≢ []) × AreMembers words ms)
+all_or_ranks : (t : Bool) (words : List Word) (read : Option (List Member)) (a : Audience) → (t ≡ true → words ≡ codes "all" ∷ []) → ((ms : List Member) → read ≡ Some ms → (words ≢ []) × StandFor IsMember words ms)
     → cond t (Some audiences.All) (read >>= λ members. Some (audiences.Ranks members)) ≡ Some a → IsAudience words a
 all_or_ranks true words read a all ranks e = made (IsAudience words) audiences.All a (all refl) e
 all_or_ranks false words read a all ranks e =
@@ -149,14 +86,14 @@ pub audience_takes : (words : List Word) (a : Audience) → audience_of words �
 unfolding audience_of
 audience_takes [] a e = absurd cc
 audience_takes (w ∷ ws) a e =
-    all_or_ranks (bytes_eq w (codes "all") && eqb (length ws) 0) (w ∷ ws) (each one_member (w ∷ ws)) a (all_alone w ws) (λ ms h. (not_empty w ws, members_take (w ∷ ws) ms h)) e
+    all_or_ranks (bytes_eq w (codes "all") && eqb (length ws) 0) (w ∷ ws) (each one_member (w ∷ ws)) a (all_alone w ws) (λ ms h. (not_empty w ws, all_take IsMember member_of member_takes (w ∷ ws) ms h)) e
 
 -- a word that names a rank isn't `all`
 not_all : (word : Word) (rank : ℕ) (one : Option ℕ) → IsNamed word rank one → bytes_eq word (codes "all") ≡ false
 not_all word rank None h = no_letters word (codes "all") h.0 refl h.1
 not_all word rank (Some one) h = other_word word (codes "all") (λ e. pointless (sym h.2 ∙ e)) where
   pointless : h.0 ++ 46 ∷ h.1 ≡ codes "all" → ⊥
-  pointless e = absurd (let q : position is_point (h.0 ++ 46 ∷ h.1) ≡ None = ap (position is_point) e in (let r : Some (length h.0) ≡ None = sym (a_place h.0 h.1 (digits_plain h.0 h.3.1.digits)) ∙ q in (let z : ⊥ = absurd cc in z)))
+  pointless e = absurd (let q : position is_point (h.0 ++ 46 ∷ h.1) ≡ None = ap (position is_point) e in (let r : Some (length h.0) ≡ None = sym (a_place 46 h.0 h.1 (digits_plain 46 h.0 refl h.3.1.digits)) ∙ q in (let z : ⊥ = absurd cc in z)))
 
 no_and : (a b : Bool) → a ≡ false → (a && b) ≡ false
 no_and false b e = refl
@@ -175,12 +112,4 @@ audience_again words audiences.All h = ap audience_of h ∙ all_read
 audience_again [] (audiences.Ranks ms) h = absurd (h.0 refl)
 audience_again (w ∷ ws) (audiences.Ranks []) h = absurd h.1
 audience_again (w ∷ ws) (audiences.Ranks (m ∷ ms)) h =
-    ranks_read w ws (m ∷ ms) (no_and (bytes_eq w (codes "all")) (eqb (length ws) 0) (not_all w m.rank m.incarnation h.1.0)) (members_again (w ∷ ws) (m ∷ ms) h.1)
-
--- ---- as a loop reads them
-
-pub member_fails : (e : LineError) (bytes word : Word) → bytes ≡ word → Fails e (member_of bytes) → Fails e (one_member word)
-member_fails e bytes word is h = bind_fails e (member_of word) (λ member. Some (member ∷ [])) (rw (sym is) h)
-
-pub member_is : (member : Member) (bytes word : Word) → bytes ≡ word → member_of bytes ≡ Some member → one_member word ≡ Some (member ∷ [])
-member_is member bytes word is h = let e : member_of word ≡ Some member = ap member_of (sym is) ∙ h in rw e refl
+    ranks_read w ws (m ∷ ms) (no_and (bytes_eq w (codes "all")) (eqb (length ws) 0) (not_all w m.rank m.incarnation h.1.0)) (all_again IsMember member_of member_again (w ∷ ws) (m ∷ ms) h.1)

@@ -16,6 +16,7 @@ verb_word verbs.Send = codes "send"
 verb_word verbs.Recv = codes "recv"
 verb_word verbs.Print = codes "print"
 verb_word verbs.Status = codes "status"
+verb_word verbs.Count = codes "count"
 verb_word verbs.Say = codes "say"
 verb_word verbs.Fail = codes "fail"
 
@@ -28,8 +29,9 @@ verbs_are word =
     (step P (bytes_eq word (codes "recv")) _ _ (same_word word (codes "recv"))
     (step P (bytes_eq word (codes "print")) _ _ (same_word word (codes "print"))
     (step P (bytes_eq word (codes "status")) _ _ (same_word word (codes "status"))
+    (step P (bytes_eq word (codes "count")) _ _ (same_word word (codes "count"))
     (step P (bytes_eq word (codes "say")) _ _ (same_word word (codes "say"))
-    (step P (bytes_eq word (codes "fail")) _ _ (same_word word (codes "fail")) tt))))))
+    (step P (bytes_eq word (codes "fail")) _ _ (same_word word (codes "fail")) tt)))))))
 
 pub verb_takes : (word : Word) (verb : Verb) → verb_of word ≡ Some verb → word ≡ verb_word verb
 verb_takes word verb e = yielded (λ verb. word ≡ verb_word verb) (verb_of word) verb (verbs_are word) e
@@ -41,10 +43,11 @@ verb_again verbs.Send = refl
 verb_again verbs.Recv = refl
 verb_again verbs.Print = refl
 verb_again verbs.Status = refl
+verb_again verbs.Count = refl
 verb_again verbs.Say = refl
 verb_again verbs.Fail = refl
 
 -- the first words of what files of events have too are none of these
 pub no_verb : (words : List Word) (action : Action) → Spells words action → (word : Word) × (rest : List Word) × (words ≡ word ∷ rest) × (verb_of word ≡ None)
 unfolding verb_of
-no_verb words action h = begins words action h (λ word. verb_of word ≡ None) refl refl refl refl
+no_verb words action h = begins words action h (λ word. verb_of word ≡ None) refl refl refl refl refl refl refl refl refl

@@ -1,6 +1,6 @@
 -- The grammar of scripts: which words say what.
 use Rattle.std.specs.Prelude.{◌≡◌, ◌≢◌, ℕ, List, [], ◌∷◌, ◌++◌, codes, Option, Some, None}
-use Rattle.statements.specs.Grammar.{Word, NamesIt, IsCapped, IsSending, IsReceiving, Spells}
+use Rattle.statements.specs.Grammar.{Word, NamesIt, IsCapped, StandFor, IsSending, IsReceiving, Spells}
 use Rattle.script_files.specs.declared.audience.Member.{Member}
 use Rattle.script_files.specs.declared.audience.Audience.{Audience}
 use Rattle.script_files.specs.declared.audience.Audience.TheVariants as audiences
@@ -18,17 +18,10 @@ IsNamed word rank (Some one) =
 abbrev pub IsMember : Word → Member → Type 0
 IsMember word member = IsNamed word member.rank member.incarnation
 
--- each word stands for the rank at its place
-abbrev pub AreMembers : List Word → List Member → Type 0
-AreMembers [] [] = Unit {0}
-AreMembers [] (m ∷ ms) = ⊥
-AreMembers (w ∷ ws) [] = ⊥
-AreMembers (w ∷ ws) (m ∷ ms) = IsMember w m × AreMembers ws ms
-
 -- `all`, or at least one rank
 abbrev pub IsAudience : List Word → Audience → Type 0
 IsAudience words audiences.All = words ≡ codes "all" ∷ []
-IsAudience words (audiences.Ranks members) = (words ≢ []) × AreMembers words members
+IsAudience words (audiences.Ranks members) = (words ≢ []) × StandFor IsMember words members
 
 -- what the words ask a rank to do
 abbrev pub SpellsStatement : List Word → Statement → Type 0
@@ -37,6 +30,7 @@ SpellsStatement words (statements.Send send) = (rest : List Word) × (words ≡ 
 SpellsStatement words (statements.Recv receive) = (rest : List Word) × (words ≡ codes "recv" ∷ rest) × IsReceiving rest receive
 SpellsStatement words (statements.Print buffer) = (name : Word) × (words ≡ codes "print" ∷ name ∷ []) × NamesIt name buffer
 SpellsStatement words statements.Status = words ≡ codes "status" ∷ []
+SpellsStatement words (statements.Count layout) = (name : Word) × (words ≡ codes "count" ∷ name ∷ []) × NamesIt name layout
 SpellsStatement words (statements.Say said) = (words ≡ codes "say" ∷ said) × (said ≢ [])
 SpellsStatement words statements.Fail = words ≡ codes "fail" ∷ []
 

@@ -5,7 +5,7 @@ use Rattle.std.specs.Str.{bytes_eq}
 use Rattle.statements.specs.Grammar.{Word}
 use Rattle.statements.specs.Numbers.{number_or}
 use Rattle.statements.specs.Results.{◌>>=◌}
-use Rattle.statements.specs.Reading.{first, ended, name_of, rank_of, each, action_of, sending_of, receiving_of}
+use Rattle.statements.specs.Reading.{first, ended, name_of, rank_of, each, one, action_of, sending_of, receiving_of}
 use Rattle.script_files.specs.declared.verb.Verb.{Verb}
 use Rattle.script_files.specs.declared.verb.Verb.TheVariants as verbs
 use Rattle.script_files.specs.declared.audience.Member.{Member}
@@ -24,9 +24,10 @@ verb_of word =
     else (if bytes_eq word (codes "recv") then Some verbs.Recv
     else (if bytes_eq word (codes "print") then Some verbs.Print
     else (if bytes_eq word (codes "status") then Some verbs.Status
+    else (if bytes_eq word (codes "count") then Some verbs.Count
     else (if bytes_eq word (codes "say") then Some verbs.Say
     else (if bytes_eq word (codes "fail") then Some verbs.Fail
-    else None))))))
+    else None)))))))
 
 -- ---- whom lines are for
 
@@ -43,7 +44,7 @@ unfoldable pub member_of : Word → Option Member
 member_of word = member_at (position is_point word) word
 
 abbrev pub one_member : Word → Option (List Member)
-one_member word = member_of word >>= λ member. Some (member ∷ [])
+one_member word = one member_of word
 
 -- `all`, or at least one rank
 unfoldable pub audience_of : List Word → Option Audience
@@ -54,8 +55,9 @@ audience_of (word ∷ words) =
 
 -- ---- what ranks do
 
-unfoldable pub buffer_named : List Word → Option Word
-buffer_named words = first words >>= λ name. ended name.1 >>= λ end. name_of name.0
+-- one name, and nothing behind it
+unfoldable pub name_alone : List Word → Option Word
+name_alone words = first words >>= λ name. ended name.1 >>= λ end. name_of name.0
 
 -- the words that are said, of which there is at least one
 unfoldable pub said_words : List Word → Option (List Word)
@@ -66,8 +68,9 @@ item_by None words rest = action_of words >>= λ action. Some (items.Does (state
 item_by (Some verbs.On) words rest = audience_of rest >>= λ audience. Some (items.On audience)
 item_by (Some verbs.Send) words rest = sending_of rest >>= λ send. Some (items.Does (statements.Send send))
 item_by (Some verbs.Recv) words rest = receiving_of rest >>= λ receive. Some (items.Does (statements.Recv receive))
-item_by (Some verbs.Print) words rest = buffer_named rest >>= λ buffer. Some (items.Does (statements.Print buffer))
+item_by (Some verbs.Print) words rest = name_alone rest >>= λ buffer. Some (items.Does (statements.Print buffer))
 item_by (Some verbs.Status) words rest = ended rest >>= λ end. Some (items.Does statements.Status)
+item_by (Some verbs.Count) words rest = name_alone rest >>= λ layout. Some (items.Does (statements.Count layout))
 item_by (Some verbs.Say) words rest = said_words rest >>= λ said. Some (items.Does (statements.Say said))
 item_by (Some verbs.Fail) words rest = ended rest >>= λ end. Some (items.Does statements.Fail)
 

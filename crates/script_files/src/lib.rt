@@ -15,6 +15,6 @@ pub use audience::{Audience, Member, Members};
 pub use parsing::parse;
 pub use script::{Item, Line, RankLine, RankLines, Script, Statement};
 pub use statements::{
-    Action, BufferLine, Communicator, Name, ParseError, Receiving, Requested, Sending, Tag, Target,
-    Word, Words,
+    Action, Blocks, BufferLine, Communicator, LayoutForm, LayoutLine, Name, OldLayout, ParseError,
+    Receiving, Requested, RequestedList, Sending, Stripes, Through, Word, Words,
 };

@@ -2,7 +2,7 @@
 
 ghost use Rattle.std.specs.Prelude.{◌≡◌, Some};
 ghost use Rattle.statements.specs.Results.{Gives};
-ghost use Rattle.script_files.specs.Reading.{buffer_named, said_words, item_of};
+ghost use Rattle.script_files.specs.Reading.{name_alone, said_words, item_of};
 
 use crate::fields::audience_of;
 use crate::script::{Item, Statement};
@@ -12,9 +12,10 @@ use statements::{
 };
 use std::alloc::Global;
 
-#[tactic(auto, unfolding(crate::specs::Reading::buffer_named))]
-fn buffer_named(alloc: Global, words: &[Word]) -> Result<Name, LineError>
-    ensures { Gives (λ x. x) result (buffer_named words.now) }
+/// One name, and nothing behind it.
+#[tactic(auto, unfolding(crate::specs::Reading::name_alone))]
+fn name_alone(alloc: Global, words: &[Word]) -> Result<Name, LineError>
+    ensures { Gives (λ x. x) result (name_alone words.now) }
 {
     let (name, rest) = first(words)?;
     ended(rest)?;
@@ -53,11 +54,12 @@ pub(crate) fn item_of(alloc: Global, words: &[Word]) -> Result<Item, LineError>
         Verb::On => Ok(Item::On(audience_of(alloc, rest)?)),
         Verb::Send => Ok(Item::Does(Statement::Send(sending_of(alloc, rest)?))),
         Verb::Recv => Ok(Item::Does(Statement::Recv(receiving_of(alloc, rest)?))),
-        Verb::Print => Ok(Item::Does(Statement::Print(buffer_named(alloc, rest)?))),
+        Verb::Print => Ok(Item::Does(Statement::Print(name_alone(alloc, rest)?))),
         Verb::Status => {
             ended(rest)?;
             Ok(Item::Does(Statement::Status))
         }
+        Verb::Count => Ok(Item::Does(Statement::Count(name_alone(alloc, rest)?))),
         Verb::Say => Ok(Item::Does(Statement::Say(said_words(alloc, rest)?))),
         Verb::Fail => {
             ended(rest)?;

@@ -23,6 +23,8 @@ pub enum Statement {
     Print(Name),
     /// `status`: prints the status of the last receive.
     Status,
+    /// `count L`: prints how many copies of the layout of this name the last receive took (MPI 3.1, 3.2.5, MPI_Get_count).
+    Count(Name),
     /// `say WORD ..`: prints the words, of which there is at least one.
     Say(Words),
     /// `fail`: ends the rank.

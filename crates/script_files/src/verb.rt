@@ -18,6 +18,8 @@ pub(crate) enum Verb {
     Print,
     /// `status`
     Status,
+    /// `count`
+    Count,
     /// `say`
     Say,
     /// `fail`
@@ -39,6 +41,8 @@ pub(crate) fn verb_of(word: &[u8]) -> Option<Verb>
         Some(Verb::Print)
     } else if is(word, b"status") {
         Some(Verb::Status)
+    } else if is(word, b"count") {
+        Some(Verb::Count)
     } else if is(word, b"say") {
         Some(Verb::Say)
     } else if is(word, b"fail") {

@@ -1,6 +1,7 @@
 //! The limit that an event meets: no last number is used.
 
-ghost use Rattle.std.specs.Prelude.{◌≡◌, ◌<◌, ◌≤◌, ◌+◌, ◌==◌, nat_le, All, Some, count_by, length, slice_get};
+ghost use Rattle.std.specs.Prelude.{◌≡◌, ◌<◌, ◌≤◌, ◌+◌, ◌==◌, ◌∷◌, [], nat_le, All, None, Some, count_by, length, slice_get};
+ghost use Rattle.datagram.specs.Spelling.{BodyText};
 ghost use Rattle.reliable_link.specs.SenderState.{next_number};
 ghost use Rattle.sessions.specs.Peers.{peer_at};
 ghost use Rattle.sessions.specs.Heard.{heard_option, CanHear};
@@ -103,5 +104,19 @@ impl Sessions {
             return Some(limit);
         }
         self.limit_of_sends(heard, frames)
+    }
+
+    /// The limit that a frame to a rank meets, whatever the frame says: 13 exactly where it would have the last number. It
+    /// changes nothing, and takes no memory.
+    pub fn limit_to(&self, rank: u16) -> Option<Refused>
+        requires { rank < self.now.place.size }
+        ensures { (b : BodyText) → result ≡ event_limit self.now None (record { rank = rank; body = b } ∷ []) }
+    {
+        // The sessions show that there is one for each rank.
+        let _peers = &self.peers;
+        if self.next_number_after(None, rank) == u64::MAX {
+            return Some(Refused::Limit);
+        }
+        None
     }
 }

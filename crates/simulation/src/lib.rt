@@ -1,8 +1,10 @@
 //! Running a file of events, and what it prints.
 #![tactic(auto)]
 
+mod error;
 mod names;
 mod printing;
 mod running;
 
-pub use running::{SimulateError, simulate};
+pub use error::SimulateError;
+pub use running::simulate;

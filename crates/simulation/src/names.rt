@@ -1,7 +1,7 @@
-//! The buffers and requests that a rank's lines name.
+//! The buffers, layouts and requests that a rank's lines name.
 
-use datatypes::Buffer;
-use requests::{Outcome, Request};
+use datatypes::{Buffer, Layout};
+use requests::{Answer, Outcome, Request};
 use statements::Name;
 use std::alloc::{AllocError, Global};
 use std::collections::BTreeMap;
@@ -30,18 +30,21 @@ pub struct Held {
 pub struct Names {
     /// The buffers that were set, by name.
     pub buffers: BTreeMap<Vec<u8>, Slot>,
+    /// The layouts that were set, by name.
+    pub layouts: BTreeMap<Vec<u8>, Layout>,
     /// The requests that were started, by name.
     pub requests: BTreeMap<Vec<u8>, Held>,
-    /// The name of the request that a blocked wait is about.
-    pub waiting: Option<Name>,
+    /// The names of the requests that the last completing call is about, in order; the null request has none.
+    pub waiting: Vec<Option<Name>>,
 }
 
 impl Names {
     pub fn new(alloc: Global) -> Names {
         Names {
             buffers: BTreeMap::new(alloc),
+            layouts: BTreeMap::new(alloc),
             requests: BTreeMap::new(alloc),
-            waiting: None,
+            waiting: Vec::new(alloc),
         }
     }
 
@@ -56,6 +59,25 @@ impl Names {
             Some(Slot::Here(buffer)) => Ok(Some(buffer.try_clone(alloc)?)),
             _ => Ok(None),
         }
+    }
+
+    /// A copy of the layout of this name, if it is set.
+    pub fn layout_of(&self, alloc: Global, name: &Name) -> Result<Option<Layout>, AllocError> {
+        match self.layouts.get(name.as_bytes()) {
+            Some(layout) => Ok(Some(layout.try_clone(alloc)?)),
+            None => Ok(None),
+        }
+    }
+
+    pub fn set_layout(
+        &mut self,
+        name: &Name,
+        alloc: Global,
+        layout: Layout,
+    ) -> Result<(), AllocError> {
+        let key = Vec::from_slice(alloc, name.as_bytes())?;
+        self.layouts.insert(key, layout).map_err(AllocError::from)?;
+        Ok(())
     }
 
     /// Lends the buffer of this name, if it is here.
@@ -94,7 +116,7 @@ impl Names {
     }
 
     /// The request of this name got its outcome: the name is null now, and the receive's buffer is here again.
-    pub fn end(&mut self, name: &Name, alloc: Global, outcome: &Outcome) -> Result<(), AllocError> {
+    fn end(&mut self, name: &Name, alloc: Global, outcome: &Outcome) -> Result<(), AllocError> {
         let null = Held {
             request: None,
             buffer: None,
@@ -110,6 +132,36 @@ impl Names {
         }
         Ok(())
     }
+
+    /// The same of the request at this place among those that the last completing call is about.
+    fn end_at(
+        &mut self,
+        names: &[Option<Name>],
+        place: usize,
+        alloc: Global,
+        outcome: &Outcome,
+    ) -> Result<(), AllocError> {
+        match names.get(place) {
+            Some(Some(name)) => self.end(name, alloc, outcome),
+            _ => Ok(()),
+        }
+    }
+
+    /// The last completing call was answered so.
+    pub fn note(&mut self, alloc: Global, answer: &Answer) -> Result<(), AllocError> {
+        let names = mem::replace(&mut self.waiting, Vec::new(alloc));
+        match answer {
+            Answer::One(outcome) => self.end_at(&names, 0, alloc, outcome),
+            Answer::Index(place, outcome) => self.end_at(&names, *place, alloc, outcome),
+            Answer::IndexUndefined => Ok(()),
+            Answer::All(outcomes) => {
+                for (place, outcome) in outcomes.as_slice().iter().enumerate() {
+                    self.end_at(&names, place, alloc, outcome)?;
+                }
+                Ok(())
+            }
+        }
+    }
 }
 
 /// The buffer that an outcome hands back.
@@ -117,6 +169,7 @@ fn buffer_of(outcome: &Outcome) -> Option<&Buffer> {
     match outcome {
         Outcome::Received(_, buffer) | Outcome::Ended(_, _, buffer) => Some(buffer),
         Outcome::Replaced(buffer) => buffer.as_ref(),
+        Outcome::Cancelled(buffer) => Some(buffer),
         Outcome::Sent | Outcome::Empty => None,
     }
 }

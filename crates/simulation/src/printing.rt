@@ -1,39 +1,77 @@
 //! What a file of events prints.
 
+use crate::error::SimulateError;
+use answer_texts::{Emission, FrameKind, Load, OutcomeText, Route};
 use datagram::{Content, Datagram, Frame};
 use engine::Reply;
-use requests::Outcome;
-use statements::{Answer, Emission, FrameKind, Load, Route};
+use requests::{Answer, Outcome};
+use std::alloc::{AllocError, Global};
 use std::io;
 use std::io::Write;
 use world::{Entry, World};
 
 /// The text of an outcome.
-fn answer_of(outcome: &Outcome) -> Answer<'_> {
+fn outcome_text(outcome: &Outcome) -> OutcomeText<'_> {
     match outcome {
-        Outcome::Sent => Answer::Sent,
-        Outcome::Received(status, buffer) => Answer::Received(*status, buffer),
-        Outcome::Ended(failure, status, buffer) => Answer::Ended(failure.number(), *status, buffer),
-        Outcome::Replaced(Some(buffer)) => Answer::Lost(buffer),
-        Outcome::Replaced(None) => Answer::Failed(11),
-        Outcome::Empty => Answer::Null,
+        Outcome::Sent => OutcomeText::Sent,
+        Outcome::Received(status, buffer) => OutcomeText::Received(*status, buffer),
+        Outcome::Ended(failure, status, buffer) => {
+            OutcomeText::Ended(failure.number(), *status, buffer)
+        }
+        Outcome::Replaced(Some(buffer)) => OutcomeText::Lost(buffer),
+        Outcome::Replaced(None) => OutcomeText::Failed(11),
+        Outcome::Cancelled(buffer) => OutcomeText::Cancelled(buffer),
+        Outcome::Empty => OutcomeText::Null,
     }
 }
 
-/// The text of what a call answers.
-fn answer_of_reply(reply: &Reply) -> Answer<'_> {
-    match reply {
-        Reply::Started(request) => Answer::Started(request.serial),
-        Reply::Done(outcome) => answer_of(outcome),
-        Reply::Blocked => Answer::Blocked,
-        Reply::Refused(refused, _) => Answer::Refused(refused.number()),
+fn print_text<W: Write>(text: &answer_texts::Answer<'_>, out: &mut W) -> io::Result<()> {
+    writeln!(out, "{text}")
+}
+
+/// The answer of a completing call.
+fn print_answer<W: Write>(
+    alloc: Global,
+    answer: &Answer,
+    out: &mut W,
+) -> Result<(), SimulateError> {
+    match answer {
+        Answer::One(outcome) => {
+            print_text(&answer_texts::Answer::One(outcome_text(outcome)), out)?;
+        }
+        Answer::Index(index, outcome) => {
+            let text = answer_texts::Answer::Index(*index, outcome_text(outcome));
+            print_text(&text, out)?;
+        }
+        Answer::IndexUndefined => print_text(&answer_texts::Answer::IndexUndefined, out)?,
+        Answer::All(outcomes) => {
+            let mut texts = Vec::new(alloc);
+            for outcome in outcomes.as_slice() {
+                texts.push(outcome_text(outcome)).map_err(AllocError::from)?;
+            }
+            print_text(&answer_texts::Answer::All(texts.as_slice()), out)?;
+        }
     }
+    Ok(())
+}
+
+/// What a call answers.
+fn print_reply<W: Write>(alloc: Global, reply: &Reply, out: &mut W) -> Result<(), SimulateError> {
+    let text = match reply {
+        Reply::Started(request) => answer_texts::Answer::Started(request.serial),
+        Reply::Done(answer) => return print_answer(alloc, answer, out),
+        Reply::Pending => answer_texts::Answer::Pending,
+        Reply::Accepted => answer_texts::Answer::Done,
+        Reply::Blocked => answer_texts::Answer::Blocked,
+        Reply::Refused(refused, _) => answer_texts::Answer::Refused(refused.number()),
+    };
+    print_text(&text, out)?;
+    Ok(())
 }
 
 /// A refusal.
 pub fn print_refusal<W: Write>(number: u8, out: &mut W) -> io::Result<()> {
-    let answer = Answer::Refused(number);
-    writeln!(out, "{answer}")
+    print_text(&answer_texts::Answer::Refused(number), out)
 }
 
 /// The text of a datagram that was emitted, by its number.
@@ -83,22 +121,22 @@ pub fn print_emitted<W: Write>(
 
 /// What an event answered, what it emitted, and the answer of a blocked call.
 pub fn print_event<W: Write>(
+    alloc: Global,
     world: &World,
     entry: &Entry,
     first: usize,
     count: usize,
     out: &mut W,
-) -> io::Result<()> {
-    let answer = match &entry.reply {
-        Some(reply) => answer_of_reply(reply),
-        None => Answer::Taken,
-    };
-    writeln!(out, "{answer}")?;
+) -> Result<(), SimulateError> {
+    match &entry.reply {
+        Some(reply) => print_reply(alloc, reply, out)?,
+        None => print_text(&answer_texts::Answer::Taken, out)?,
+    }
     print_emitted(world, first, count, out)?;
-    if let Some(outcome) = &entry.completion {
+    if let Some(answer) = &entry.completion {
         let rank = entry.endpoint.rank;
-        let answer = answer_of(outcome);
-        writeln!(out, "{rank} {answer}")?;
+        write!(out, "{rank} ")?;
+        print_answer(alloc, answer, out)?;
     }
     Ok(())
 }

@@ -1,47 +1,21 @@
 //! Running a file of events.
 
-ghost use Rattle.std.specs.Prelude.{◌≡◌};
-ghost use Rattle.simulation.specs.declared.running.SimulateError.TheVariants.{OutOfMemory, Output};
-
+use crate::error::SimulateError;
 use crate::names::{Held, Names, Slot};
 use crate::printing::{print_emitted, print_event, print_refusal};
-use datatypes::Buffer;
+use datatypes::{Buffer, Layout, Refusal};
 use engine::{Call, Receive, Reply, Send};
 use event_files::{Line, Statement, parse};
-use requests::{Outcome, Request};
-use statements::{Action, Communicator, Name, ParseError, Receiving, Requested, Sending};
+use requests::{Answer, Places, Region, Request, RequestList};
+use statements::{
+    Action, Communicator, LayoutForm, LayoutLine, Name, OldLayout, ParseError, Receiving,
+    Requested, Sending, Through,
+};
 use std::alloc::{AllocError, Global};
 use std::collections::BTreeMap;
 use std::io::Write;
-use std::{io, mem};
+use std::{mem, slice};
 use world::{Entry, Event, World};
-
-/// Why a file of events did not run to its end.
-#[derive(Clone, Copy, Debug, PartialEq, Eq)]
-pub enum SimulateError {
-    /// This line is faulty, which is refusal number 51; the first line is 1.
-    Script(usize),
-    /// A growth was refused, which is refusal number 14.
-    OutOfMemory,
-    /// The output failed.
-    Output,
-}
-
-impl From<AllocError> for SimulateError {
-    ghost from_gives = { λ _ e. e ≡ OutOfMemory };
-
-    fn from(_e: AllocError) -> SimulateError {
-        SimulateError::OutOfMemory
-    }
-}
-
-impl From<io::Error> for SimulateError {
-    ghost from_gives = { λ _ e. e ≡ Output };
-
-    fn from(_e: io::Error) -> SimulateError {
-        SimulateError::Output
-    }
-}
 
 /// A world, and the names of its ranks' lines.
 #[derive(Drop)]
@@ -51,32 +25,41 @@ struct Simulation {
     ranks: BTreeMap<u16, Names>,
 }
 
-/// What the last event at a rank ended: a wait that was answered at once or blocked before.
-fn ended_outcome(entry: &Entry) -> Option<&Outcome> {
+/// What the last event at a rank answered to a completing call, at once or to one that was blocked before.
+fn answer_of(entry: &Entry) -> Option<&Answer> {
     match &entry.completion {
-        Some(outcome) => Some(outcome),
+        Some(answer) => Some(answer),
         None => match &entry.reply {
-            Some(Reply::Done(outcome)) => Some(outcome),
+            Some(Reply::Done(answer)) => Some(answer),
             _ => None,
         },
     }
 }
 
 /// The names of the event's rank, after what it answered.
-fn note_outcome(
+fn note_answer(
     alloc: Global,
     ranks: &mut BTreeMap<u16, Names>,
     entry: &Entry,
 ) -> Result<(), SimulateError> {
-    let Some(outcome) = ended_outcome(entry) else {
+    let Some(answer) = answer_of(entry) else {
         return Ok(());
     };
     if let Some(names) = ranks.get_mut(&entry.endpoint.rank) {
-        if let Some(waiting) = names.waiting.take() {
-            names.end(&waiting, alloc, outcome)?;
-        }
+        names.note(alloc, answer)?;
     }
     Ok(())
+}
+
+/// What is made of a layout in this form.
+fn layout_made(alloc: Global, form: &LayoutForm, old: &Layout) -> Result<Layout, Refusal> {
+    match form {
+        LayoutForm::Contiguous(count) => old.contiguous(alloc, *count),
+        LayoutForm::Vector(stripes) => {
+            old.vector(alloc, stripes.count, stripes.blocklength, stripes.stride)
+        }
+        LayoutForm::Indexed(blocks) => old.indexed(alloc, blocks.as_slice()),
+    }
 }
 
 /// Whether this is `world`: no line can name another communicator yet.
@@ -112,8 +95,8 @@ impl Simulation {
             }
         };
         if let Some(entry) = self.world.history().last() {
-            print_event(&self.world, entry, first, count, out)?;
-            note_outcome(self.alloc, &mut self.ranks, entry)?;
+            print_event(self.alloc, &self.world, entry, first, count, out)?;
+            note_answer(self.alloc, &mut self.ranks, entry)?;
         }
         Ok(None)
     }
@@ -200,7 +183,7 @@ impl Simulation {
     fn give_back(&mut self, rank: u16, name: &Name, event: Event) {
         if let Event::Call(_, Call::Irecv(receive)) = event {
             if let Some(names) = self.ranks.get_mut(&rank) {
-                names.give_back(name, receive.buffer);
+                names.give_back(name, receive.into.buffer);
             }
         }
     }
@@ -233,9 +216,12 @@ impl Simulation {
             return Err(SimulateError::Script(line));
         }
         let call = Call::Isend(Send {
-            target: send.target.rank(),
-            tag: send.tag.sent(),
-            elements: self.copy_of(rank, line, &send.buffer)?,
+            target: send.target,
+            tag: send.tag,
+            from: Region {
+                places: self.places_of(rank, line, &send.through)?,
+                buffer: self.copy_of(rank, line, &send.buffer)?,
+            },
         });
         if self.happen(Event::Call(rank, call), out)?.is_none() {
             self.name_request(rank, request, None)?;
@@ -256,8 +242,11 @@ impl Simulation {
         }
         let call = Call::Irecv(Receive {
             source: receive.source,
-            tag: receive.tag.wanted(),
-            buffer: self.lend(rank, line, &receive.buffer)?,
+            tag: receive.tag,
+            into: Region {
+                places: self.places_of(rank, line, &receive.through)?,
+                buffer: self.lend(rank, line, &receive.buffer)?,
+            },
         });
         match self.happen(Event::Call(rank, call), out)? {
             Some(refused) => self.give_back(rank, &receive.buffer, refused),
@@ -266,46 +255,182 @@ impl Simulation {
         Ok(())
     }
 
-    fn wait<W: Write>(
+    /// A completing call that is about these names.
+    fn complete<W: Write>(
         &mut self,
         rank: u16,
-        line: usize,
-        name: Option<&Name>,
+        about: Vec<Option<Name>>,
+        call: Call,
         out: &mut W,
     ) -> Result<(), SimulateError> {
-        let request = match name {
-            Some(name) => self.request_of(rank, line, name)?,
-            None => None,
-        };
-        let earlier = self.begin_waiting(rank, name)?;
-        if self
-            .happen(Event::Call(rank, Call::Wait(request)), out)?
-            .is_some()
-        {
+        let earlier = self.set_waiting(rank, about);
+        if self.happen(Event::Call(rank, call), out)?.is_some() {
             self.set_waiting(rank, earlier);
         }
         Ok(())
     }
 
-    /// The rank's wait is about this name now. Answers what it was about before.
-    fn begin_waiting(
-        &mut self,
-        rank: u16,
-        name: Option<&Name>,
-    ) -> Result<Option<Name>, SimulateError> {
-        let about = match name {
-            Some(name) => Some(name.try_clone(self.alloc)?),
-            None => None,
-        };
+    /// The rank's last completing call is about these names. Answers what the one before was about.
+    fn set_waiting(&mut self, rank: u16, about: Vec<Option<Name>>) -> Vec<Option<Name>> {
         match self.ranks.get_mut(&rank) {
-            Some(names) => Ok(mem::replace(&mut names.waiting, about)),
-            None => Ok(None),
+            Some(names) => mem::replace(&mut names.waiting, about),
+            None => about,
         }
     }
 
-    fn set_waiting(&mut self, rank: u16, about: Option<Name>) {
-        if let Some(names) = self.ranks.get_mut(&rank) {
-            names.waiting = about;
+    /// The request that a line names; none is the null request.
+    fn requested(
+        &self,
+        rank: u16,
+        line: usize,
+        requested: &Requested,
+    ) -> Result<Option<Request>, SimulateError> {
+        match requested {
+            Requested::Null => Ok(None),
+            Requested::Named(name) => self.request_of(rank, line, name),
+        }
+    }
+
+    /// The names of the requests that a line names; the null request has none.
+    fn names_of(&self, requested: &[Requested]) -> Result<Vec<Option<Name>>, SimulateError> {
+        let mut names = Vec::with_capacity(self.alloc, requested.len())?;
+        for one in requested {
+            match one {
+                Requested::Null => names.push(None).map_err(AllocError::from)?,
+                Requested::Named(name) => names
+                    .push(Some(name.try_clone(self.alloc)?))
+                    .map_err(AllocError::from)?,
+            }
+        }
+        Ok(names)
+    }
+
+    fn wait<W: Write>(
+        &mut self,
+        rank: u16,
+        line: usize,
+        requested: &Requested,
+        out: &mut W,
+    ) -> Result<(), SimulateError> {
+        let request = self.requested(rank, line, requested)?;
+        let about = self.names_of(slice::from_ref(requested))?;
+        self.complete(rank, about, Call::Wait(request), out)
+    }
+
+    fn test<W: Write>(
+        &mut self,
+        rank: u16,
+        line: usize,
+        requested: &Requested,
+        out: &mut W,
+    ) -> Result<(), SimulateError> {
+        let request = self.requested(rank, line, requested)?;
+        let about = self.names_of(slice::from_ref(requested))?;
+        self.complete(rank, about, Call::Test(request), out)
+    }
+
+    fn cancel<W: Write>(
+        &mut self,
+        rank: u16,
+        line: usize,
+        requested: &Requested,
+        out: &mut W,
+    ) -> Result<(), SimulateError> {
+        let request = self.requested(rank, line, requested)?;
+        let _ = self.happen(Event::Call(rank, Call::Cancel(request)), out)?;
+        Ok(())
+    }
+
+    /// The requests that a line names.
+    fn list_of(
+        &self,
+        rank: u16,
+        line: usize,
+        several: &[Requested],
+    ) -> Result<RequestList, SimulateError> {
+        let mut requests = Vec::with_capacity(self.alloc, several.len())?;
+        for requested in several {
+            let request = self.requested(rank, line, requested)?;
+            requests.push(request).map_err(AllocError::from)?;
+        }
+        Ok(RequestList::new(self.alloc, requests)?)
+    }
+
+    fn wait_any<W: Write>(
+        &mut self,
+        rank: u16,
+        line: usize,
+        several: &[Requested],
+        out: &mut W,
+    ) -> Result<(), SimulateError> {
+        let list = self.list_of(rank, line, several)?;
+        let about = self.names_of(several)?;
+        self.complete(rank, about, Call::Waitany(list), out)
+    }
+
+    fn wait_all<W: Write>(
+        &mut self,
+        rank: u16,
+        line: usize,
+        several: &[Requested],
+        out: &mut W,
+    ) -> Result<(), SimulateError> {
+        let list = self.list_of(rank, line, several)?;
+        let about = self.names_of(several)?;
+        self.complete(rank, about, Call::Waitall(list), out)
+    }
+
+    /// A copy of a layout that is set.
+    fn layout_of(&self, rank: u16, line: usize, name: &Name) -> Result<Layout, SimulateError> {
+        match self.ranks.get(&rank) {
+            Some(names) => match names.layout_of(self.alloc, name)? {
+                Some(layout) => Ok(layout),
+                None => Err(SimulateError::Script(line)),
+            },
+            None => Err(SimulateError::Script(line)),
+        }
+    }
+
+    /// The places that a send or a receive names.
+    fn places_of(
+        &self,
+        rank: u16,
+        line: usize,
+        through: &Option<Through>,
+    ) -> Result<Places, SimulateError> {
+        match through {
+            None => Ok(Places::All),
+            Some(through) => {
+                let layout = self.layout_of(rank, line, &through.layout)?;
+                Ok(Places::Copies(layout, through.copies))
+            }
+        }
+    }
+
+    fn set_layout<W: Write>(
+        &mut self,
+        rank: u16,
+        number: usize,
+        line: &LayoutLine,
+        out: &mut W,
+    ) -> Result<(), SimulateError> {
+        let alloc = self.alloc;
+        let old = match &line.made_of {
+            OldLayout::Named(name) => self.layout_of(rank, number, name)?,
+            OldLayout::Basic(basic) => match Layout::new(alloc, *basic) {
+                Ok(layout) => layout,
+                Err(_) => return Err(SimulateError::OutOfMemory),
+            },
+        };
+        match layout_made(alloc, &line.form, &old) {
+            Ok(layout) => {
+                if let Some(names) = self.ranks.get_mut(&rank) {
+                    names.set_layout(&line.name, alloc, layout)?;
+                }
+                Ok(())
+            }
+            Err(Refusal::OutOfMemory) => Err(SimulateError::OutOfMemory),
+            Err(refusal) => Ok(print_refusal(refusal.number(), out)?),
         }
     }
 
@@ -321,8 +446,12 @@ impl Simulation {
             Action::Buffer(buffer) => self.set_buffer(rank, line, &buffer.name, &buffer.value),
             Action::Isend(request, send) => self.isend(rank, line, request, send, out),
             Action::Irecv(request, receive) => self.irecv(rank, line, request, receive, out),
-            Action::Wait(Requested::Named(name)) => self.wait(rank, line, Some(name), out),
-            Action::Wait(Requested::Null) => self.wait(rank, line, None, out),
+            Action::Layout(layout) => self.set_layout(rank, line, layout, out),
+            Action::Wait(requested) => self.wait(rank, line, requested, out),
+            Action::Test(requested) => self.test(rank, line, requested, out),
+            Action::Cancel(requested) => self.cancel(rank, line, requested, out),
+            Action::Waitany(several) => self.wait_any(rank, line, several.as_slice(), out),
+            Action::Waitall(several) => self.wait_all(rank, line, several.as_slice(), out),
         }
     }
 

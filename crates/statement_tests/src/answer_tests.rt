@@ -1,7 +1,7 @@
 //! The texts of answers.
 
+use answer_texts::*;
 use datatypes::Buffer;
-use statements::*;
 use std::alloc::Global;
 use vocabulary::{BasicType, Endpoint, Source, Status};
 
@@ -35,17 +35,23 @@ fn is_written(alloc: Global, answer: Answer<'_>, text: &str) -> bool {
 /// How many of the answers about a buffer are written as they are to be.
 fn answers_with_data(alloc: Global) -> Option<usize> {
     let held = buffer(alloc)?;
+    let several = [
+        OutcomeText::Cancelled(&held),
+        OutcomeText::Sent,
+        OutcomeText::Failed(11),
+    ];
     let mut good: usize = 0;
     for (answer, text) in [
         (
-            Answer::Received(FROM_TWO, &held),
+            Answer::One(OutcomeText::Received(FROM_TWO, &held)),
             "source 2 tag 9 count 2 data -1 7",
         ),
         (
-            Answer::Ended(10, FROM_ANY, &held),
-            "error 10 source null tag any count 0 data -1 7",
+            Answer::Index(12, OutcomeText::Ended(10, FROM_ANY, &held)),
+            "index 12 error 10 source null tag any count 0 data -1 7",
         ),
-        (Answer::Lost(&held), "error 11 data -1 7"),
+        (Answer::One(OutcomeText::Lost(&held)), "error 11 data -1 7"),
+        (Answer::All(&several), "cancelled data -1 7; sent; error 11"),
     ] {
         if is_written(alloc, answer, text) {
             good = good.saturating_add(1);
@@ -54,16 +60,30 @@ fn answers_with_data(alloc: Global) -> Option<usize> {
     Some(good)
 }
 
+/// Whether so many copies are written so.
+fn is_count(alloc: Global, copies: Option<u64>, text: &str) -> bool {
+    let count = CountText { copies };
+    match format!(in alloc; "{count}") {
+        Ok(written) => written.as_str() == text,
+        Err(_) => false,
+    }
+}
+
 #[test]
 fn answers_are_written(rt: HostRuntime) {
-    assert_eq!(rt; answers_with_data(rt.alloc()), Some(3));
+    assert_eq!(rt; answers_with_data(rt.alloc()), Some(4));
+    assert!(rt; is_count(rt.alloc(), Some(0), "0"));
+    assert!(rt; is_count(rt.alloc(), None, "undefined"));
     for (answer, text) in [
         (Answer::Started(12), "request 12"),
         (Answer::Blocked, "blocked"),
         (Answer::Refused(51), "refused 51"),
-        (Answer::Sent, "sent"),
-        (Answer::Failed(11), "error 11"),
-        (Answer::Null, "source any tag any count 0"),
+        (Answer::One(OutcomeText::Null), "source any tag any count 0"),
+        (Answer::IndexUndefined, "index undefined"),
+        (Answer::All(&[OutcomeText::Sent]), "sent"),
+        (Answer::All(&[]), "done"),
+        (Answer::Pending, "pending"),
+        (Answer::Done, "done"),
         (Answer::Taken, "ok"),
     ] {
         assert!(rt; is_written(rt.alloc(), answer, text), "{text}");

@@ -1,5 +1,6 @@
 //! Each line of a file of events is read, and a faulty line is named.
 
+use datatypes::Block;
 use event_files::*;
 use std::alloc::Global;
 use vocabulary::{BasicType, Source};
@@ -25,9 +26,10 @@ fn is_send_to_nobody(statement: &Statement) -> bool {
         Statement::Rank(1, Action::Isend(request, send)) => {
             request.as_bytes() == b"q".as_slice()
                 && matches!(&send.communicator, Communicator::World)
-                && send.target.rank().is_none()
-                && send.tag.sent() == u32::MAX
+                && send.target == Source::Null
+                && send.tag.is_none()
                 && send.buffer.as_bytes() == b"a".as_slice()
+                && send.through.is_none()
         }
         _ => false,
     }
@@ -39,7 +41,7 @@ fn is_receive_from_anyone(statement: &Statement) -> bool {
             request.as_bytes() == b"r".as_slice()
                 && matches!(&receive.communicator, Communicator::Own)
                 && receive.source == Source::Any
-                && receive.tag.wanted() == Some(7)
+                && receive.tag == Some(7)
                 && receive.buffer.as_bytes() == b"b1".as_slice()
         }
         _ => false,
@@ -97,6 +99,106 @@ fn every_statement_is_read(rt: HostRuntime) {
     assert_eq!(rt; every_statement(rt.alloc()), Some((3, 10, 87, 10)));
 }
 
+/// Lines of layouts, and of all that there is to do with requests.
+const LAYOUTS_AND_REQUESTS: &str =
+    "world 1\n0 type l contiguous 18446744073709551616 int32\n0 type m vector 2 3 4 l\n0 type n indexed 2:0 1:99999999999999999999 byte\n0 type n indexed n\n0 isend q world 0 7 a as l 3\n0 irecv q world 0 7 a as l 18446744073709551616\n0 test q\n0 cancel null\n0 waitany\n0 waitall q null q";
+
+/// Whether the layout of this name is made so of an old one that the test accepts.
+fn is_layout(line: &LayoutLine, name: &[u8], made_of: Option<&[u8]>) -> bool {
+    let is_old = match (&line.made_of, made_of) {
+        (OldLayout::Basic(_), None) => true,
+        (OldLayout::Named(old), Some(name)) => old.as_bytes() == name,
+        _ => false,
+    };
+    is_old && line.name.as_bytes() == name
+}
+
+/// Whether the blocks are two copies at the beginning and one as far as a number goes.
+fn are_blocks(blocks: &[Block]) -> bool {
+    let first = Block {
+        length: 2,
+        displacement: 0,
+    };
+    let second = Block {
+        length: 1,
+        displacement: u64::MAX,
+    };
+    blocks == [first, second].as_slice()
+}
+
+/// Whether the layout at this place of the row is as the row says.
+fn is_layout_said(place: usize, line: &LayoutLine) -> bool {
+    match (place, &line.form) {
+        (0, LayoutForm::Contiguous(u64::MAX)) => is_layout(line, b"l", None),
+        (1, LayoutForm::Vector(stripes)) => {
+            let said = Stripes {
+                count: 2,
+                blocklength: 3,
+                stride: 4,
+            };
+            *stripes == said && is_layout(line, b"m", Some(b"l"))
+        }
+        (2, LayoutForm::Indexed(blocks)) => {
+            are_blocks(blocks.as_slice()) && is_layout(line, b"n", None)
+        }
+        (3, LayoutForm::Indexed(blocks)) => {
+            blocks.as_slice().is_empty() && is_layout(line, b"n", Some(b"n"))
+        }
+        _ => false,
+    }
+}
+
+/// Whether the buffer is used through so many copies of `l`.
+fn is_through(through: Option<&Through>, copies: u64) -> bool {
+    match through {
+        Some(through) => {
+            through.layout.as_bytes() == b"l".as_slice() && through.copies == copies
+        }
+        None => false,
+    }
+}
+
+/// Whether the requests are a name, the null request, and a name.
+fn are_three(requests: &[Requested]) -> bool {
+    matches!(
+        requests,
+        [Requested::Named(_), Requested::Null, Requested::Named(_)]
+    )
+}
+
+/// Whether what the rank does at this place of the row is as the row says.
+fn is_action_said(place: usize, action: &Action) -> bool {
+    match (place, action) {
+        (_, Action::Layout(line)) => is_layout_said(place, line),
+        (4, Action::Isend(_, send)) => is_through(send.through.as_ref(), 3),
+        (5, Action::Irecv(_, receive)) => is_through(receive.through.as_ref(), u64::MAX),
+        (6, Action::Test(Requested::Named(_))) => true,
+        (7, Action::Cancel(Requested::Null)) => true,
+        (8, Action::Waitany(requests)) => requests.as_slice().is_empty(),
+        (9, Action::Waitall(requests)) => are_three(requests.as_slice()),
+        _ => false,
+    }
+}
+
+/// How many of the lines are as the row says.
+fn layouts_and_requests(alloc: Global) -> Option<usize> {
+    let file = parse(alloc, LAYOUTS_AND_REQUESTS.as_bytes()).ok()?;
+    let mut good = 0;
+    for (place, line) in file.lines.as_slice().iter().enumerate() {
+        if let Statement::Rank(0, action) = &line.statement {
+            if is_action_said(place, action) {
+                good = 1_usize.saturating_add(good);
+            }
+        }
+    }
+    Some(good)
+}
+
+#[test]
+fn layouts_and_requests_are_read(rt: HostRuntime) {
+    assert_eq!(rt; layouts_and_requests(rt.alloc()), Some(10));
+}
+
 /// The line that the text is faulty at.
 fn faulty_line(alloc: Global, text: &str) -> Option<usize> {
     match parse(alloc, text.as_bytes()) {
@@ -127,8 +229,9 @@ fn faulty_lines_answer_their_number(rt: HostRuntime) {
         ("world 2\nstray 0 4\n", 2),
         ("world 2\nstray 0 4F\n", 2),
         ("world 2\n0 buf a uint8 256\n", 2),
-        ("world 2\n0 isend q world 1 7 a as l 1\n", 2),
-        ("world 2\n0 test q\n", 2),
+        ("world 2\n0 isend q world 1 7 a as int32 1\n", 2),
+        ("world 2\n0 barrier world\n", 2),
+        ("world 2\n0 count l\n", 2),
         ("world 2\n0 irecv q world 1 x a\nrestart\n", 2),
     ] {
         assert_eq!(rt; faulty_line(rt.alloc(), text), Some(line), "{text}");

@@ -2,6 +2,7 @@
 
 use script_files::*;
 use std::alloc::Global;
+use vocabulary::Source;
 
 /// Whether the lines for this rank have these numbers, in order.
 fn are_lines_for(
@@ -59,7 +60,7 @@ fn lines_are_for_their_ranks(rt: HostRuntime) {
 
 /// A line of each kind.
 const EVERY_STATEMENT: &str =
-    "buf a uint8 1\nisend q world 1 2 a\nirecv q self any 2 a\nwait q\nsend world null 3 a\nrecv c 4 any a\nprint a\nstatus\nsay #a b\nfail";
+    "buf a uint8 1\nisend q world 1 2 a\nirecv q self any 2 a\nwait q\nsend world null 3 a\nrecv c 4 any a as l 2\nprint a\nstatus\nsay #a b\nfail\ncount l\nwaitall q null";
 
 /// Whether the statement of the line of this number is as the row says.
 fn is_as_said(number: usize, statement: &Statement) -> bool {
@@ -68,12 +69,16 @@ fn is_as_said(number: usize, statement: &Statement) -> bool {
         (2, Statement::Action(Action::Isend(_, _))) => true,
         (3, Statement::Action(Action::Irecv(_, _))) => true,
         (4, Statement::Action(Action::Wait(_))) => true,
-        (5, Statement::Send(send)) => send.target.rank().is_none(),
-        (6, Statement::Recv(receive)) => matches!(&receive.communicator, Communicator::Named(_)),
+        (5, Statement::Send(send)) => send.target == Source::Null && send.through.is_none(),
+        (6, Statement::Recv(receive)) => {
+            matches!(&receive.communicator, Communicator::Named(_)) && receive.through.is_some()
+        }
         (7, Statement::Print(name)) => name.as_bytes() == b"a".as_slice(),
         (8, Statement::Status) => true,
         (9, Statement::Say(words)) => words.len() == 2,
         (10, Statement::Fail) => true,
+        (11, Statement::Count(name)) => name.as_bytes() == b"l".as_slice(),
+        (12, Statement::Action(Action::Waitall(requests))) => requests.as_slice().len() == 2,
         _ => false,
     }
 }
@@ -94,7 +99,7 @@ fn every_statement(alloc: Global) -> Option<usize> {
 
 #[test]
 fn every_statement_is_read(rt: HostRuntime) {
-    assert_eq!(rt; every_statement(rt.alloc()), Some(10));
+    assert_eq!(rt; every_statement(rt.alloc()), Some(12));
 }
 
 /// The line that the text is faulty at.
@@ -123,8 +128,11 @@ fn faulty_lines_answer_their_number(rt: HostRuntime) {
         ("send world 1 2\n", 1),
         ("recv world 1 2 a b\n", 1),
         ("0 wait q\n", 1),
-        ("test q\n", 1),
-        ("count l\n", 1),
+        ("count\n", 1),
+        ("count int8\n", 1),
+        ("count l m\n", 1),
+        ("send world 1 2 a as l\n", 1),
+        ("barrier world\n", 1),
         ("fail\t\n", 1),
         ("#\ta\n", 1),
         ("fail\r\n", 1),

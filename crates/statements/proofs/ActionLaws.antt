@@ -1,89 +1,88 @@
 -- What ranks do: reading and the grammar agree.
-use Rattle.std.proofs.Common.{◌≡◌, ◌≢◌, ℕ, Bool, true, false, cond, List, [], ◌∷◌, ◌++◌, Option, Some, None, refl, sym, ap, subst, ◌∙◌}
+use Rattle.std.proofs.Common.{◌≡◌, ℕ, List, [], ◌∷◌, Option, Some, None, refl, sym, ap, subst, ◌∙◌}
 use Rattle.std.specs.Prelude.{codes}
-use Rattle.std.specs.Str.{bytes_eq}
-use Rattle.vocabulary.specs.declared.basic_type.BasicType.{BasicType}
 use Rattle.vocabulary.specs.declared.envelope.Source.{Source}
 use Rattle.datatypes.specs.Contents.{Contents}
 use Rattle.statements.specs.declared.verb.Verb.{Verb}
 use Rattle.statements.specs.declared.verb.Verb.TheVariants as verbs
 use Rattle.statements.specs.declared.action.Communicator.{Communicator}
-use Rattle.statements.specs.declared.action.Target.{Target}
-use Rattle.statements.specs.declared.action.Tag.{Tag}
 use Rattle.statements.specs.declared.action.Requested.{Requested}
 use Rattle.statements.specs.declared.action.BufferLine.{BufferLine}
+use Rattle.statements.specs.declared.action.Through.{Through}
 use Rattle.statements.specs.declared.action.Sending.{Sending}
 use Rattle.statements.specs.declared.action.Receiving.{Receiving}
 use Rattle.statements.specs.declared.action.Action.{Action}
 use Rattle.statements.specs.declared.action.Action.TheVariants as actions
-use Rattle.statements.specs.Grammar.{Word, IsBuffer, IsSending, IsReceiving, Spells, type_word, NamesIt, AreElements, IsCommunicator, IsTarget, IsSource, IsTag, IsRequested}
+use Rattle.statements.specs.Grammar.{Word, IsBuffer, IsSending, IsReceiving, Spells, type_word, IsRequested}
 use Rattle.statements.specs.Words.{basic_type_of, verb_of}
 use Rattle.statements.specs.Results.{◌>>=◌}
-use Rattle.statements.specs.Reading.{first, ended, name_of, communicator_of, target_of, source_of, tag_of, requested_of, each, elements_of, buffer_with, buffer_of, sending_of, receiving_of, isend_of, irecv_of, one_of, action_by, action_of}
+use Rattle.statements.specs.Reading.{first, ended, name_of, communicator_of, target_of, source_of, tag_of, requested_of, through_of, each, one_request, elements_of, buffer_with, buffer_of, sending_of, receiving_of, isend_of, irecv_of, one_of, layout_of, action_by, action_of}
 use Rattle.statements.proofs.WordLaws.{bind_ok, made, type_takes, type_again, verb_word, verb_takes, verb_again}
-use Rattle.statements.proofs.FieldLaws.{named_takes, named_again, communicator_takes, communicator_again, target_takes, target_again, source_takes, source_again, tag_takes, tag_again, requested_takes, requested_again}
+use Rattle.statements.proofs.FieldLaws.{named_takes, named_again, communicator_takes, communicator_again, target_takes, target_again, source_takes, source_again, tag_takes, tag_again, requested_takes, requested_again, requests_take, requests_again, through_takes, through_again}
+use Rattle.statements.proofs.LayoutLaws.{layout_takes, layout_again}
 use Rattle.statements.proofs.ElementLaws.{elements_take, elements_again}
 
 -- ---- fields that don't depend on one another
 
-pub four : {A B C D S : Type 0} (a : Option A) (b : Option B) (c : Option C) (d : Option D) (make : A → B → C → D → S) (s : S)
-    → (a >>= λ x. b >>= λ y. c >>= λ z. d >>= λ u. Some (make x y z u)) ≡ Some s
-    → (x : A) × (y : B) × (z : C) × (u : D) × (a ≡ Some x) × (b ≡ Some y) × (c ≡ Some z) × (d ≡ Some u) × (make x y z u ≡ s)
-four (Some x) (Some y) (Some z) (Some u) make s h = (x, y, z, u, refl, refl, refl, refl, cc)
-four None b c d make s h = absurd cc
-four (Some x) None c d make s h = absurd cc
-four (Some x) (Some y) None d make s h = absurd cc
-four (Some x) (Some y) (Some z) None make s h = absurd cc
+pub five : {A B C D E S : Type 0} (a : Option A) (b : Option B) (c : Option C) (d : Option D) (e : Option E) (make : A → B → C → D → E → S) (s : S)
+    → (a >>= λ x. b >>= λ y. c >>= λ z. d >>= λ u. e >>= λ v. Some (make x y z u v)) ≡ Some s
+    → (x : A) × (y : B) × (z : C) × (u : D) × (v : E) × (a ≡ Some x) × (b ≡ Some y) × (c ≡ Some z) × (d ≡ Some u) × (e ≡ Some v) × (make x y z u v ≡ s)
+five (Some x) (Some y) (Some z) (Some u) (Some v) make s h = (x, y, z, u, v, refl, refl, refl, refl, refl, cc)
+five None b c d e make s h = absurd cc
+five (Some x) None c d e make s h = absurd cc
+five (Some x) (Some y) None d e make s h = absurd cc
+five (Some x) (Some y) (Some z) None e make s h = absurd cc
+five (Some x) (Some y) (Some z) (Some u) None make s h = absurd cc
 
 -- ---- arguments
 
-send_made : Communicator → Target → Tag → Word → Sending
-send_made c r t b = record { communicator = c; target = r; tag = t; buffer = b }
+send_made : Communicator → Source → Option ℕ → Word → Option Through → Sending
+send_made c r t b u = record { communicator = c; target = r; tag = t; buffer = b; through = u }
 
 pub sending_takes : (words : List Word) (send : Sending) → sending_of words ≡ Some send → IsSending words send
-unfolding sending_of first ended send_made
+unfolding sending_of first send_made
 sending_takes [] send e = absurd cc
 sending_takes (a ∷ []) send e = absurd cc
 sending_takes (a ∷ b ∷ []) send e = absurd cc
 sending_takes (a ∷ b ∷ c ∷ []) send e = absurd cc
-sending_takes (a ∷ b ∷ c ∷ d ∷ f ∷ rest) send e = absurd cc
-sending_takes (a ∷ b ∷ c ∷ d ∷ []) send e =
-    let p = four (communicator_of a) (target_of b) (tag_of c) (name_of d) send_made send e in
-    subst (IsSending (a ∷ b ∷ c ∷ d ∷ [])) p.8
-    (a, b, c, d, refl, communicator_takes a p.0 p.4, target_takes b p.1 p.5, tag_takes c p.2 p.6, named_takes d p.3 p.7)
+sending_takes (a ∷ b ∷ c ∷ d ∷ rest) send e =
+    let p = five (communicator_of a) (target_of b) (tag_of c) (name_of d) (through_of rest) send_made send e in
+    subst (IsSending (a ∷ b ∷ c ∷ d ∷ rest)) p.10
+    (a, b, c, d, rest, refl, communicator_takes a p.0 p.5, target_takes b p.1 p.6, tag_takes c p.2 p.7, named_takes d p.3 p.8, through_takes rest p.4 p.9)
 
-send_from : (a b c d : Word) (send : Sending) → communicator_of a ≡ Some send.communicator → target_of b ≡ Some send.target → tag_of c ≡ Some send.tag → name_of d ≡ Some send.buffer
-    → sending_of (a ∷ b ∷ c ∷ d ∷ []) ≡ Some send
-unfolding sending_of first ended
-send_from a b c d send qa qb qc qd = rw (qa, qb, qc, qd) refl
+send_from : (a b c d : Word) (rest : List Word) (send : Sending) → communicator_of a ≡ Some send.communicator → target_of b ≡ Some send.target → tag_of c ≡ Some send.tag → name_of d ≡ Some send.buffer → through_of rest ≡ Some send.through
+    → sending_of (a ∷ b ∷ c ∷ d ∷ rest) ≡ Some send
+unfolding sending_of first
+send_from a b c d rest send qa qb qc qd qe = rw (qa, qb, qc, qd, qe) refl
 
 pub sending_again : (words : List Word) (send : Sending) → IsSending words send → sending_of words ≡ Some send
 sending_again words send h =
-    ap sending_of h.4 ∙ send_from h.0 h.1 h.2 h.3 send (communicator_again h.0 send.communicator h.5) (target_again h.1 send.target h.6) (tag_again h.2 send.tag h.7) (named_again h.3 send.buffer h.8)
+    ap sending_of h.5
+    ∙ send_from h.0 h.1 h.2 h.3 h.4 send (communicator_again h.0 send.communicator h.6) (target_again h.1 send.target h.7) (tag_again h.2 send.tag h.8) (named_again h.3 send.buffer h.9) (through_again h.4 send.through h.10)
 
-receive_made : Communicator → Source → Tag → Word → Receiving
-receive_made c r t b = record { communicator = c; source = r; tag = t; buffer = b }
+receive_made : Communicator → Source → Option ℕ → Word → Option Through → Receiving
+receive_made c r t b u = record { communicator = c; source = r; tag = t; buffer = b; through = u }
 
 pub receiving_takes : (words : List Word) (receive : Receiving) → receiving_of words ≡ Some receive → IsReceiving words receive
-unfolding receiving_of first ended receive_made
+unfolding receiving_of first receive_made
 receiving_takes [] receive e = absurd cc
 receiving_takes (a ∷ []) receive e = absurd cc
 receiving_takes (a ∷ b ∷ []) receive e = absurd cc
 receiving_takes (a ∷ b ∷ c ∷ []) receive e = absurd cc
-receiving_takes (a ∷ b ∷ c ∷ d ∷ f ∷ rest) receive e = absurd cc
-receiving_takes (a ∷ b ∷ c ∷ d ∷ []) receive e =
-    let p = four (communicator_of a) (source_of b) (tag_of c) (name_of d) receive_made receive e in
-    subst (IsReceiving (a ∷ b ∷ c ∷ d ∷ [])) p.8
-    (a, b, c, d, refl, communicator_takes a p.0 p.4, source_takes b p.1 p.5, tag_takes c p.2 p.6, named_takes d p.3 p.7)
+receiving_takes (a ∷ b ∷ c ∷ d ∷ rest) receive e =
+    let p = five (communicator_of a) (source_of b) (tag_of c) (name_of d) (through_of rest) receive_made receive e in
+    subst (IsReceiving (a ∷ b ∷ c ∷ d ∷ rest)) p.10
+    (a, b, c, d, rest, refl, communicator_takes a p.0 p.5, source_takes b p.1 p.6, tag_takes c p.2 p.7, named_takes d p.3 p.8, through_takes rest p.4 p.9)
 
-receive_from : (a b c d : Word) (receive : Receiving) → communicator_of a ≡ Some receive.communicator → source_of b ≡ Some receive.source → tag_of c ≡ Some receive.tag → name_of d ≡ Some receive.buffer
-    → receiving_of (a ∷ b ∷ c ∷ d ∷ []) ≡ Some receive
-unfolding receiving_of first ended
-receive_from a b c d receive qa qb qc qd = rw (qa, qb, qc, qd) refl
+receive_from : (a b c d : Word) (rest : List Word) (receive : Receiving) → communicator_of a ≡ Some receive.communicator → source_of b ≡ Some receive.source → tag_of c ≡ Some receive.tag → name_of d ≡ Some receive.buffer → through_of rest ≡ Some receive.through
+    → receiving_of (a ∷ b ∷ c ∷ d ∷ rest) ≡ Some receive
+unfolding receiving_of first
+receive_from a b c d rest receive qa qb qc qd qe = rw (qa, qb, qc, qd, qe) refl
 
 pub receiving_again : (words : List Word) (receive : Receiving) → IsReceiving words receive → receiving_of words ≡ Some receive
 receiving_again words receive h =
-    ap receiving_of h.4 ∙ receive_from h.0 h.1 h.2 h.3 receive (communicator_again h.0 receive.communicator h.5) (source_again h.1 receive.source h.6) (tag_again h.2 receive.tag h.7) (named_again h.3 receive.buffer h.8)
+    ap receiving_of h.5
+    ∙ receive_from h.0 h.1 h.2 h.3 h.4 receive (communicator_again h.0 receive.communicator h.6) (source_again h.1 receive.source h.7) (tag_again h.2 receive.tag h.8) (named_again h.3 receive.buffer h.9) (through_again h.4 receive.through h.10)
 
 -- ---- requests
 
@@ -111,11 +110,15 @@ irecv_from : (name : Word) (rest : List Word) (request : Word) (receive : Receiv
 unfolding irecv_of first
 irecv_from name rest request receive q r = rw (q, r) refl
 
-wait_takes : (words : List Word) (r : Requested) → one_of words ≡ Some r → Spells (codes "wait" ∷ words) (actions.Wait r)
+one_takes : (words : List Word) (r : Requested) → one_of words ≡ Some r → (word : Word) × (words ≡ word ∷ []) × IsRequested word r
 unfolding one_of first ended
-wait_takes [] r e = absurd cc
-wait_takes (a ∷ []) r e = (a, refl, requested_takes a r e)
-wait_takes (a ∷ b ∷ ws) r e = absurd cc
+one_takes [] r e = absurd cc
+one_takes (a ∷ []) r e = (a, refl, requested_takes a r e)
+one_takes (a ∷ b ∷ ws) r e = absurd cc
+
+-- a line of one request
+request_takes : (P : List Word → Type 0) (words : List Word) (r : Requested) → ((word : Word) → IsRequested word r → P (word ∷ [])) → one_of words ≡ Some r → P words
+request_takes P words r makes e = let p = one_takes words r e in subst P (sym p.1) (makes p.0 p.2)
 
 one_from : (a : Word) (r : Requested) → requested_of a ≡ Some r → one_of (a ∷ []) ≡ Some r
 unfolding one_of first ended
@@ -153,9 +156,22 @@ buffer_again words line h =
 
 by_takes : (verb : Verb) (words : List Word) (s : Action) → action_by verb words ≡ Some s → Spells (verb_word verb ∷ words) s
 by_takes verbs.Buffer words s e = let b = bind_ok (buffer_of words) (λ x. Some (actions.Buffer x)) s e in made (Spells (codes "buf" ∷ words)) (actions.Buffer b.0) s (words, refl, buffer_takes words b.0 b.1) b.2
+by_takes verbs.Layout words s e = let b = bind_ok (layout_of words) (λ x. Some (actions.Layout x)) s e in made (Spells (codes "type" ∷ words)) (actions.Layout b.0) s (words, refl, layout_takes words b.0 b.1) b.2
 by_takes verbs.Isend words s e = let b = bind_ok (isend_of words) (λ x. Some (actions.Isend x.0 x.1)) s e in made (Spells (codes "isend" ∷ words)) (actions.Isend b.0.0 b.0.1) s (isend_takes words b.0 b.1) b.2
 by_takes verbs.Irecv words s e = let b = bind_ok (irecv_of words) (λ x. Some (actions.Irecv x.0 x.1)) s e in made (Spells (codes "irecv" ∷ words)) (actions.Irecv b.0.0 b.0.1) s (irecv_takes words b.0 b.1) b.2
-by_takes verbs.Wait words s e = let b = bind_ok (one_of words) (λ x. Some (actions.Wait x)) s e in made (Spells (codes "wait" ∷ words)) (actions.Wait b.0) s (wait_takes words b.0 b.1) b.2
+by_takes verbs.Wait words s e =
+    let b = bind_ok (one_of words) (λ x. Some (actions.Wait x)) s e in
+    made (Spells (codes "wait" ∷ words)) (actions.Wait b.0) s (request_takes (λ (ws : List Word). Spells (codes "wait" ∷ ws) (actions.Wait b.0)) words b.0 (λ a h. (a, refl, h)) b.1) b.2
+by_takes verbs.Test words s e =
+    let b = bind_ok (one_of words) (λ x. Some (actions.Test x)) s e in
+    made (Spells (codes "test" ∷ words)) (actions.Test b.0) s (request_takes (λ (ws : List Word). Spells (codes "test" ∷ ws) (actions.Test b.0)) words b.0 (λ a h. (a, refl, h)) b.1) b.2
+by_takes verbs.Cancel words s e =
+    let b = bind_ok (one_of words) (λ x. Some (actions.Cancel x)) s e in
+    made (Spells (codes "cancel" ∷ words)) (actions.Cancel b.0) s (request_takes (λ (ws : List Word). Spells (codes "cancel" ∷ ws) (actions.Cancel b.0)) words b.0 (λ a h. (a, refl, h)) b.1) b.2
+by_takes verbs.Waitany words s e =
+    let b = bind_ok (each one_request words) (λ x. Some (actions.Waitany x)) s e in made (Spells (codes "waitany" ∷ words)) (actions.Waitany b.0) s (words, refl, requests_take words b.0 b.1) b.2
+by_takes verbs.Waitall words s e =
+    let b = bind_ok (each one_request words) (λ x. Some (actions.Waitall x)) s e in made (Spells (codes "waitall" ∷ words)) (actions.Waitall b.0) s (words, refl, requests_take words b.0 b.1) b.2
 
 pub action_takes : (words : List Word) (s : Action) → action_of words ≡ Some s → Spells words s
 unfolding action_of first
@@ -173,16 +189,27 @@ then_some read make x e = rw e refl
 
 pub action_again : (words : List Word) (s : Action) → Spells words s → action_of words ≡ Some s
 action_again words (actions.Buffer x) h = ap action_of h.1 ∙ from_verb verbs.Buffer h.0 (actions.Buffer x) (then_some (buffer_of h.0) (λ y. actions.Buffer y) x (buffer_again h.0 x h.2))
+action_again words (actions.Layout x) h = ap action_of h.1 ∙ from_verb verbs.Layout h.0 (actions.Layout x) (then_some (layout_of h.0) (λ y. actions.Layout y) x (layout_again h.0 x h.2))
 action_again words (actions.Isend q x) h =
     ap action_of h.2 ∙ from_verb verbs.Isend (h.0 ∷ h.1) (actions.Isend q x) (then_some (isend_of (h.0 ∷ h.1)) (λ y. actions.Isend y.0 y.1) (q, x) (isend_from h.0 h.1 q x (named_again h.0 q h.3) (sending_again h.1 x h.4)))
 action_again words (actions.Irecv q x) h =
     ap action_of h.2 ∙ from_verb verbs.Irecv (h.0 ∷ h.1) (actions.Irecv q x) (then_some (irecv_of (h.0 ∷ h.1)) (λ y. actions.Irecv y.0 y.1) (q, x) (irecv_from h.0 h.1 q x (named_again h.0 q h.3) (receiving_again h.1 x h.4)))
 action_again words (actions.Wait x) h = ap action_of h.1 ∙ from_verb verbs.Wait (h.0 ∷ []) (actions.Wait x) (then_some (one_of (h.0 ∷ [])) (λ y. actions.Wait y) x (one_from h.0 x (requested_again h.0 x h.2)))
+action_again words (actions.Test x) h = ap action_of h.1 ∙ from_verb verbs.Test (h.0 ∷ []) (actions.Test x) (then_some (one_of (h.0 ∷ [])) (λ y. actions.Test y) x (one_from h.0 x (requested_again h.0 x h.2)))
+action_again words (actions.Cancel x) h = ap action_of h.1 ∙ from_verb verbs.Cancel (h.0 ∷ []) (actions.Cancel x) (then_some (one_of (h.0 ∷ [])) (λ y. actions.Cancel y) x (one_from h.0 x (requested_again h.0 x h.2)))
+action_again words (actions.Waitany x) h = ap action_of h.1 ∙ from_verb verbs.Waitany h.0 (actions.Waitany x) (then_some (each one_request h.0) (λ y. actions.Waitany y) x (requests_again h.0 x h.2))
+action_again words (actions.Waitall x) h = ap action_of h.1 ∙ from_verb verbs.Waitall h.0 (actions.Waitall x) (then_some (each one_request h.0) (λ y. actions.Waitall y) x (requests_again h.0 x h.2))
 
 -- what spells something begins with one of these words
-pub begins : (words : List Word) (s : Action) → Spells words s → (P : Word → Type 0) → P (codes "buf") → P (codes "isend") → P (codes "irecv") → P (codes "wait")
+pub begins : (words : List Word) (s : Action) → Spells words s → (P : Word → Type 0)
+    → P (codes "buf") → P (codes "type") → P (codes "isend") → P (codes "irecv") → P (codes "wait") → P (codes "test") → P (codes "cancel") → P (codes "waitany") → P (codes "waitall")
     → (word : Word) × (rest : List Word) × (words ≡ word ∷ rest) × P word
-begins words (actions.Buffer x) h P b i r w = (codes "buf", h.0, h.1, b)
-begins words (actions.Isend q x) h P b i r w = (codes "isend", h.0 ∷ h.1, h.2, i)
-begins words (actions.Irecv q x) h P b i r w = (codes "irecv", h.0 ∷ h.1, h.2, r)
-begins words (actions.Wait x) h P b i r w = (codes "wait", h.0 ∷ [], h.1, w)
+begins words (actions.Buffer x) h P b l i r w t c o a = (codes "buf", h.0, h.1, b)
+begins words (actions.Layout x) h P b l i r w t c o a = (codes "type", h.0, h.1, l)
+begins words (actions.Isend q x) h P b l i r w t c o a = (codes "isend", h.0 ∷ h.1, h.2, i)
+begins words (actions.Irecv q x) h P b l i r w t c o a = (codes "irecv", h.0 ∷ h.1, h.2, r)
+begins words (actions.Wait x) h P b l i r w t c o a = (codes "wait", h.0 ∷ [], h.1, w)
+begins words (actions.Test x) h P b l i r w t c o a = (codes "test", h.0 ∷ [], h.1, t)
+begins words (actions.Cancel x) h P b l i r w t c o a = (codes "cancel", h.0 ∷ [], h.1, c)
+begins words (actions.Waitany x) h P b l i r w t c o a = (codes "waitany", h.0, h.1, o)
+begins words (actions.Waitall x) h P b l i r w t c o a = (codes "waitall", h.0, h.1, a)

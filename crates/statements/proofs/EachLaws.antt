@@ -5,9 +5,10 @@ use Rattle.statements.specs.declared.fault.LineError.{LineError}
 use Rattle.statements.specs.declared.fault.LineError.TheVariants as errors
 use Rattle.vocabulary.specs.declared.basic_type.BasicType.{BasicType}
 use Rattle.datatypes.specs.Contents.{Contents}
-use Rattle.statements.specs.Grammar.{Word}
+use Rattle.statements.specs.Grammar.{Word, StandFor}
 use Rattle.statements.specs.Results.{◌>>=◌, Fails}
-use Rattle.statements.specs.Reading.{each, copies_of, elements_of, buffer_with}
+use Rattle.statements.proofs.WordLaws.{bind_ok, made}
+use Rattle.statements.specs.Reading.{each, one, copies_of, elements_of, buffer_with}
 
 -- what was read before, and what is still read
 abbrev pub with_more : {A : Type 0} → List A → Option (List A) → Option (List A)
@@ -55,11 +56,38 @@ pub each_is_done : {A : Type 0} (read : Word → Option (List A)) (front : List 
 each_is_done read front words i le so_far =
     sym so_far ∙ ap (λ (ws : List Word). with_more front (each read ws)) (at_drop_all (λ (ws : List Word). ws) words i le) ∙ nothing_left read front
 
--- ---- elements
+-- ---- one item for each word
 
 pub bind_fails : {A B : Type 0} (e : LineError) (read : Option A) (f : A → Option B) → Fails e read → Fails e (read >>= f)
 bind_fails {A} {B} errors.OutOfMemory read f h = tt
 bind_fails {A} {B} errors.Faulty read f h = ap (λ (r : Option A). r >>= f) h
+
+pub one_fails : {A : Type 0} (read : Word → Option A) (e : LineError) (bytes word : Word) → bytes ≡ word → Fails e (read bytes) → Fails e (one read word)
+one_fails {A} read e bytes word is h = bind_fails e (read word) (λ (item : A). Some (item ∷ [])) (rw (sym is) h)
+
+pub one_is : {A : Type 0} (read : Word → Option A) (item : A) (bytes word : Word) → bytes ≡ word → read bytes ≡ Some item → one read word ≡ Some (item ∷ [])
+one_is read item bytes word is h = let e : read word ≡ Some item = ap read (sym is) ∙ h in rw e refl
+
+pub all_take : {A : Type 0} (Is : Word → A → Type 0) (read : Word → Option A) → ((word : Word) (x : A) → read word ≡ Some x → Is word x) → (words : List Word) (xs : List A) → each (one read) words ≡ Some xs → StandFor Is words xs
+unfolding each
+all_take Is read takes [] [] e = tt
+all_take Is read takes [] (x ∷ xs) e = absurd cc
+all_take {A} Is read takes (w ∷ ws) xs e =
+    let a = bind_ok (one read w) (λ front. each (one read) ws >>= λ rest. Some (front ++ rest)) xs e in
+    let q = bind_ok (read w) (λ (item : A). Some (item ∷ [])) a.0 a.1 in
+    let b = bind_ok (each (one read) ws) (λ rest. Some (a.0 ++ rest)) xs a.2 in
+    let there : StandFor Is (w ∷ ws) (q.0 ∷ b.0) = (takes w q.0 q.1, all_take Is read takes ws b.0 b.1) in
+    let front : a.0 ≡ q.0 ∷ [] = made (λ x. x ≡ q.0 ∷ []) (q.0 ∷ []) a.0 refl q.2 in
+    made (StandFor Is (w ∷ ws)) (q.0 ∷ b.0) xs there (ap (λ (x : List A). Some (x ++ b.0)) (sym front) ∙ b.2)
+
+pub all_again : {A : Type 0} (Is : Word → A → Type 0) (read : Word → Option A) → ((word : Word) (x : A) → Is word x → read word ≡ Some x) → (words : List Word) (xs : List A) → StandFor Is words xs → each (one read) words ≡ Some xs
+unfolding each
+all_again Is read again [] [] h = refl
+all_again Is read again [] (x ∷ xs) h = absurd h
+all_again Is read again (w ∷ ws) [] h = absurd h
+all_again Is read again (w ∷ ws) (x ∷ xs) h = rw (again w x h.0, all_again Is read again ws xs h.1) refl
+
+-- ---- elements
 
 pub elements_fail : (basic : BasicType) (e : LineError) (bytes word : Word) → bytes ≡ word → Fails e (copies_of basic bytes) → Fails e (elements_of basic word)
 elements_fail basic e bytes word is h =

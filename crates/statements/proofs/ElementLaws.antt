@@ -1,20 +1,19 @@
 -- The elements of a buffer: reading and the grammar agree.
-use Rattle.std.proofs.Common.{◌≡◌, ◌≢◌, ℕ, zero, suc, ◌+◌, ◌-◌, ◌*◌, ◌/◌, ◌^◌, ◌<◌, ◌≤◌, Bool, true, false, cond, eqb, leb, ltb, List, [], ◌∷◌, ◌++◌, length, get_or, take, drop, replicate, Option, Some, None, refl, sym, ap, subst, ◌∙◌, arith, inl, inr}
-use Rattle.std.specs.Prelude.{codes, ◌⊎◌, ◌&&◌}
-use Rattle.std.specs.List.{position, position_or_len, AllByRecursion}
+use Rattle.std.proofs.Common.{◌≡◌, ℕ, zero, suc, ◌+◌, ◌-◌, ◌/◌, ◌<◌, ◌≤◌, Bool, true, false, cond, eqb, leb, ltb, List, [], ◌∷◌, ◌++◌, length, get_or, take, drop, replicate, Option, Some, None, refl, sym, ap, subst, ◌∙◌, arith, inl, inr}
+use Rattle.std.specs.Prelude.{◌⊎◌, ◌&&◌}
+use Rattle.std.specs.List.{position}
 use Rattle.std.specs.Char.{is_ascii_digit}
 use Rattle.std.specs.Str.{all_ascii_digits}
-use Rattle.std.proofs.lemmas.Bool.{eqb-true, eq-eqb, ltb-true, leb-true, le-leb, lt-ltb, le-ltb, false≢true}
-use Rattle.std.proofs.lemmas.List.{at_drop_more, drop-drop, take-append-drop, length-append}
-use Rattle.std.proofs.lemmas.List.Quantifiers.{position-Some}
+use Rattle.std.proofs.lemmas.Bool.{eqb-true, eq-eqb, ltb-true, leb-true, le-leb, lt-ltb, false≢true}
 use Rattle.vocabulary.specs.declared.basic_type.BasicType.{BasicType}
 use Rattle.vocabulary.specs.declared.basic_type.BasicType.TheVariants.{Int8, Int16, Int32, Int64, Uint8, Uint16, Uint32, Uint64, Byte}
 use Rattle.datatypes.specs.Elements.{has_sign, numbers_of, number_of_value}
-use Rattle.statements.specs.Grammar.{Word, IsNumeral, IsBelow, IsAbove, IsValue, AreCopies, AreValues, AreElements}
+use Rattle.statements.specs.Grammar.{Word, IsNumeral, IsAbove, IsValue, AreValues, AreElements}
 use Rattle.statements.specs.Numbers.{number_up_to}
 use Rattle.statements.specs.Results.{◌>>=◌}
 use Rattle.statements.specs.Reading.{value_of, is_star, count_of, copies_of, copies_at, elements_of, each}
-use Rattle.statements.proofs.WordLaws.{bind_ok, made, pick, count_takes, count_again, bounded_takes, bounded_again}
+use Rattle.statements.proofs.MarkLaws.{mark_here, HasNo, digits_plain, no_place, a_place, take_front, drop_front}
+use Rattle.statements.proofs.WordLaws.{bind_ok, made, pick, no_test, count_takes, count_again, bounded_takes, bounded_again}
 
 positive : (m : ℕ) → eqb m 0 ≡ false → 0 < m
 positive zero e = absurd cc
@@ -61,13 +60,6 @@ value_takes basic word n e =
 
 -- ---- copies
 
-star_here : (word : Word) (i : ℕ) → position is_star word ≡ Some i → word ≡ take i word ++ 42 ∷ drop 1 (drop i word)
-star_here word i e =
-    let p = position-Some is_star word i 0 e in
-    let star : get_or word i 0 ≡ 42 = eqb-true (get_or word i 0) 42 p.1 in
-    sym (take-append-drop i word) ∙ at_drop_more (λ (ws : Word). take i word ++ ws) word i 0 p.0
-    ∙ ap (λ (b : ℕ). take i word ++ b ∷ drop (i + 1) word) star ∙ ap (λ (ws : Word). take i word ++ 42 ∷ ws) (sym (drop-drop 1 i word))
-
 copies_take : (basic : BasicType) (word : Word) (o : Option ℕ) (c : ℕ × ℕ) → position is_star word ≡ o → copies_at o basic word ≡ Some c → AreValues basic word (replicate c.0 c.1)
 copies_take basic word None c is e =
     let b = bind_ok (value_of basic word) (λ number. Some (1, number)) c e in
@@ -76,7 +68,7 @@ copies_take basic word (Some i) c is e =
     let b = bind_ok (value_of basic (drop 1 (drop i word))) (λ number. count_of (take i word) >>= λ count. Some (count, number)) c e in
     let a = bind_ok (count_of (take i word)) (λ count. Some (count, b.0)) c b.2 in
     made (λ (c : ℕ × ℕ). AreValues basic word (replicate c.0 c.1)) (a.0, b.0) c
-    (inr (record { count_word = take i word; value_word = drop 1 (drop i word); count = a.0; number = b.0; spelled = star_here word i is; counted = count_takes (take i word) a.0 a.1; value = value_takes basic (drop 1 (drop i word)) b.0 b.1; copies = refl }))
+    (inr (record { count_word = take i word; value_word = drop 1 (drop i word); count = a.0; number = b.0; spelled = mark_here 42 word i is; counted = count_takes (take i word) a.0 a.1; value = value_takes basic (drop 1 (drop i word)) b.0 b.1; copies = refl }))
     a.2
 
 values_take : (basic : BasicType) (word : Word) (ns : List ℕ) → elements_of basic word ≡ Some ns → AreValues basic word ns
@@ -86,10 +78,6 @@ values_take basic word ns e =
     made (AreValues basic word) (replicate b.0.0 b.0.1) ns (copies_take basic word (position is_star word) b.0 refl b.1) b.2
 
 -- ---- values are read again
-
-no_test : (b : Bool) → (b ≡ true → ⊥) → b ≡ false
-no_test true h = absurd (h refl)
-no_test false h = refl
 
 numbers_fit : (basic : BasicType) → numbers_of basic ≤ 18446744073709551616
 numbers_fit Int8 = omega arith
@@ -149,42 +137,9 @@ value_again basic word n (inr h) =
 
 -- ---- copies are read again
 
-abbrev HasNoStar : Word → Type 0
-HasNoStar word = AllByRecursion (λ b. is_star b ≡ false) word
-
-digits_plain : (word : Word) → all_ascii_digits word ≡ true → HasNoStar word
-digits_plain [] e = tt
-digits_plain (b ∷ bs) e =
-    let p = both (is_ascii_digit b) (all_ascii_digits bs) e in
-    (no_test (eqb b 42) (λ f. false≢true (ap is_ascii_digit (sym (eqb-true b 42 f)) ∙ p.0)), digits_plain bs p.1)
-
-value_plain : (basic : BasicType) (word : Word) (n : ℕ) → IsValue basic word n → HasNoStar word
-value_plain basic word n (inl h) = subst HasNoStar (sym h.spelled) (refl, digits_plain h.digits h.numeral.digits)
-value_plain basic word n (inr h) = digits_plain word h.numeral.digits
-
-plain_length : (word : Word) → HasNoStar word → position_or_len is_star word ≡ length word
-plain_length [] h = refl
-plain_length (b ∷ bs) h = let t : eqb b 42 ≡ false = h.0 in let rest = plain_length bs h.1 in let e : 1 + position_or_len is_star bs ≡ length (b ∷ bs) = omega (arith, rest) in rw t e
-
-star_length : (front rest : Word) → HasNoStar front → position_or_len is_star (front ++ 42 ∷ rest) ≡ length front
-star_length [] rest h = refl
-star_length (b ∷ bs) rest h = let t : eqb b 42 ≡ false = h.0 in let more = star_length bs rest h.1 in let e : 1 + position_or_len is_star (bs ++ 42 ∷ rest) ≡ length (b ∷ bs) = omega (arith, more) in rw t e
-
-no_place : (word : Word) → HasNoStar word → position is_star word ≡ None
-no_place word h = let t : ltb (position_or_len is_star word) (length word) ≡ false = le-ltb _ _ (omega (arith, plain_length word h)) in rw t refl
-
-a_place : (front rest : Word) → HasNoStar front → position is_star (front ++ 42 ∷ rest) ≡ Some (length front)
-a_place front rest h =
-    let t : ltb (position_or_len is_star (front ++ 42 ∷ rest)) (length (front ++ 42 ∷ rest)) ≡ true = lt-ltb _ _ (omega (arith, star_length front rest h, length-append front (42 ∷ rest))) in
-    rw t (ap (λ (n : ℕ). Some n) (star_length front rest h))
-
-take_front : (front rest : Word) → take (length front) (front ++ rest) ≡ front
-take_front [] rest = refl
-take_front (b ∷ bs) rest = ap (λ (w : Word). b ∷ w) (take_front bs rest)
-
-drop_front : (front rest : Word) → drop (length front) (front ++ rest) ≡ rest
-drop_front [] rest = refl
-drop_front (b ∷ bs) rest = drop_front bs rest
+value_plain : (basic : BasicType) (word : Word) (n : ℕ) → IsValue basic word n → HasNo 42 word
+value_plain basic word n (inl h) = subst (HasNo 42) (sym h.spelled) (refl, digits_plain 42 h.digits refl h.numeral.digits)
+value_plain basic word n (inr h) = digits_plain 42 word refl h.numeral.digits
 
 one_copy : (basic : BasicType) (word : Word) (n : ℕ) → position is_star word ≡ None → value_of basic word ≡ Some n → copies_of basic word ≡ Some (1, n)
 unfolding copies_of
@@ -201,12 +156,12 @@ copies_are : (basic : BasicType) (word : Word) (c n : ℕ) (ns : List ℕ) → c
 copies_are basic word c n ns e is = rw e (ap (λ (x : List ℕ). Some x) (sym is))
 
 values_again : (basic : BasicType) (word : Word) (ns : List ℕ) → AreValues basic word ns → elements_of basic word ≡ Some ns
-values_again basic word ns (inl h) = copies_are basic word 1 h.0 ns (one_copy basic word h.0 (no_place word (value_plain basic word h.0 h.1)) (value_again basic word h.0 h.1)) h.2
+values_again basic word ns (inl h) = copies_are basic word 1 h.0 ns (one_copy basic word h.0 (no_place 42 word (value_plain basic word h.0 h.1)) (value_again basic word h.0 h.1)) h.2
 values_again basic word ns (inr h) =
     let spelled : Word = h.count_word ++ 42 ∷ h.value_word in
-    let plain = digits_plain h.count_word h.counted.digits in
+    let plain = digits_plain 42 h.count_word refl h.counted.digits in
     let there : copies_of basic spelled ≡ Some (h.count, h.number) =
-    more_copies basic spelled h.count_word h.value_word (length h.count_word) h.count h.number (a_place h.count_word h.value_word plain) (take_front h.count_word (42 ∷ h.value_word)) (ap (drop 1) (drop_front h.count_word (42 ∷ h.value_word)))
+    more_copies basic spelled h.count_word h.value_word (length h.count_word) h.count h.number (a_place 42 h.count_word h.value_word plain) (take_front h.count_word (42 ∷ h.value_word)) (ap (drop 1) (drop_front h.count_word (42 ∷ h.value_word)))
     (count_again h.count_word h.count h.counted) (value_again basic h.value_word h.number h.value) in
     copies_are basic word h.count h.number ns (ap (copies_of basic) h.spelled ∙ there) h.copies
 

@@ -1,23 +1,21 @@
 -- The fields of statements: reading and the grammar agree.
-use Rattle.std.proofs.Common.{◌≡◌, ◌≢◌, ℕ, Bool, true, false, cond, List, [], ◌∷◌, ◌++◌, Option, Some, None, refl, sym, ap, subst, ◌∙◌}
+use Rattle.std.proofs.Common.{◌≡◌, ℕ, true, false, List, [], ◌∷◌, Option, Some, None, refl, sym, ap, subst, ◌∙◌}
 use Rattle.std.specs.Prelude.{codes}
 use Rattle.std.specs.Str.{bytes_eq}
 use Rattle.statements.specs.declared.action.Communicator.{Communicator}
 use Rattle.statements.specs.declared.action.Communicator.TheVariants as communicators
-use Rattle.statements.specs.declared.action.Target.{Target}
-use Rattle.statements.specs.declared.action.Target.TheVariants as targets
 use Rattle.vocabulary.specs.declared.envelope.Source.{Source}
 use Rattle.vocabulary.specs.declared.envelope.Source.TheVariants as sources
-use Rattle.statements.specs.declared.action.Tag.{Tag}
-use Rattle.statements.specs.declared.action.Tag.TheVariants as tags
 use Rattle.statements.specs.declared.action.Requested.{Requested}
 use Rattle.statements.specs.declared.action.Requested.TheVariants as requests
-use Rattle.statements.specs.Grammar.{Word, IsNumeral, IsCapped, IsName, NamesIt, IsCommunicator, IsTarget, IsSource, IsTag, IsRequested}
+use Rattle.statements.specs.declared.action.Through.{Through}
+use Rattle.statements.specs.Grammar.{Word, IsCapped, IsLarge, StandFor, IsName, NamesIt, IsCommunicator, IsTarget, IsSource, IsTag, IsRequested, IsThrough}
 use Rattle.statements.specs.Numbers.{number_or}
 use Rattle.statements.specs.Words.{is_name}
 use Rattle.statements.specs.Results.{◌>>=◌}
-use Rattle.statements.specs.Reading.{name_of, communicator_of, target_of, source_of, tag_of, requested_of, rank_of}
+use Rattle.statements.specs.Reading.{first, ended, each, one_request, name_of, communicator_of, target_of, source_of, tag_of, requested_of, rank_of, large_of, behind_as, through_of}
 use Rattle.statements.proofs.WordLaws.{bind_ok, made, pick, if_some, same_word, other_word, no_letters, capped_takes, capped_again, name_takes, name_again}
+use Rattle.statements.proofs.EachLaws.{all_take, all_again}
 
 pub named_takes : (word name : Word) → name_of word ≡ Some name → NamesIt word name
 unfolding name_of
@@ -53,17 +51,26 @@ pub rank_again : (word : Word) (rank : ℕ) → IsCapped 65535 word rank → ran
 unfolding rank_of
 rank_again word rank h = capped_again 65535 word rank h
 
-pub target_takes : (word : Word) (r : Target) → target_of word ≡ Some r → IsTarget word r
+pub large_takes : (word : Word) (n : ℕ) → large_of word ≡ Some n → IsLarge word n
+unfolding large_of
+large_takes word n e = capped_takes 18446744073709551615 word n e
+
+pub large_again : (word : Word) (n : ℕ) → IsLarge word n → large_of word ≡ Some n
+unfolding large_of
+large_again word n h = capped_again 18446744073709551615 word n h
+
+pub target_takes : (word : Word) (r : Source) → target_of word ≡ Some r → IsTarget word r
 unfolding target_of
 target_takes word r e =
-    pick (IsTarget word) (bytes_eq word (codes "null")) _ _ r (λ t. made (IsTarget word) targets.Null r (same_word word (codes "null") t)) (λ _ f.
-    let b = bind_ok (rank_of word) (λ rank. Some (targets.Rank rank)) r f in
-    made (IsTarget word) (targets.Rank b.0) r (rank_takes word b.0 b.1) b.2) e
+    pick (IsTarget word) (bytes_eq word (codes "null")) _ _ r (λ t. made (IsTarget word) sources.Null r (same_word word (codes "null") t)) (λ _ f.
+    let b = bind_ok (rank_of word) (λ rank. Some (sources.Rank rank)) r f in
+    made (IsTarget word) (sources.Rank b.0) r (rank_takes word b.0 b.1) b.2) e
 
-pub target_again : (word : Word) (r : Target) → IsTarget word r → target_of word ≡ Some r
+pub target_again : (word : Word) (r : Source) → IsTarget word r → target_of word ≡ Some r
 unfolding target_of
-target_again word targets.Null h = ap target_of h
-target_again word (targets.Rank rank) h =
+target_again word sources.Any h = absurd h
+target_again word sources.Null h = ap target_of h
+target_again word (sources.Rank rank) h =
     let t0 : bytes_eq word (codes "null") ≡ false = no_letters word (codes "null") h.0 refl h.1 in
     let t1 : rank_of word ≡ Some rank = rank_again word rank h in
     rw (t0, t1) refl
@@ -86,17 +93,17 @@ source_again word (sources.Rank rank) h =
     let t2 : rank_of word ≡ Some rank = rank_again word rank h in
     rw (t0, t1, t2) refl
 
-pub tag_takes : (word : Word) (t : Tag) → tag_of word ≡ Some t → IsTag word t
+pub tag_takes : (word : Word) (t : Option ℕ) → tag_of word ≡ Some t → IsTag word t
 unfolding tag_of
 tag_takes word tag e =
-    pick (IsTag word) (bytes_eq word (codes "any")) _ _ tag (λ t. made (IsTag word) tags.Any tag (same_word word (codes "any") t)) (λ _ f.
-    let b = bind_ok (number_or 4294967295 word) (λ n. Some (tags.Number n)) tag f in
-    made (IsTag word) (tags.Number b.0) tag (capped_takes 4294967295 word b.0 b.1) b.2) e
+    pick (IsTag word) (bytes_eq word (codes "any")) _ _ tag (λ t. made (IsTag word) None tag (same_word word (codes "any") t)) (λ _ f.
+    let b = bind_ok (number_or 4294967295 word) (λ n. Some (Some n)) tag f in
+    made (IsTag word) (Some b.0) tag (capped_takes 4294967295 word b.0 b.1) b.2) e
 
-pub tag_again : (word : Word) (t : Tag) → IsTag word t → tag_of word ≡ Some t
+pub tag_again : (word : Word) (t : Option ℕ) → IsTag word t → tag_of word ≡ Some t
 unfolding tag_of
-tag_again word tags.Any h = ap tag_of h
-tag_again word (tags.Number n) h =
+tag_again word None h = ap tag_of h
+tag_again word (Some n) h =
     let t0 : bytes_eq word (codes "any") ≡ false = no_letters word (codes "any") h.0 refl h.1 in
     let t1 : number_or 4294967295 word ≡ Some n = capped_again 4294967295 word n h in
     rw (t0, t1) refl
@@ -115,3 +122,55 @@ requested_again word (requests.Named name) h =
     let t0 : bytes_eq word (codes "null") ≡ false = other_word word (codes "null") (λ e. h.1.not_null (sym h.0 ∙ e)) in
     let t1 : name_of word ≡ Some name = named_again word name h in
     rw (t0, t1) refl
+
+pub requests_take : (words : List Word) (rs : List Requested) → each one_request words ≡ Some rs → StandFor IsRequested words rs
+requests_take words rs e = all_take IsRequested requested_of requested_takes words rs e
+
+pub requests_again : (words : List Word) (rs : List Requested) → StandFor IsRequested words rs → each one_request words ≡ Some rs
+requests_again words rs h = all_again IsRequested requested_of requested_again words rs h
+
+-- ---- `as L N`
+
+through_made : Word → ℕ → Through
+through_made l n = record { layout = l; copies = n }
+
+-- two fields that don't depend on one another
+pub two : {A B S : Type 0} (a : Option A) (b : Option B) (make : A → B → S) (s : S)
+    → (a >>= λ x. b >>= λ y. Some (make x y)) ≡ Some s → (x : A) × (y : B) × (a ≡ Some x) × (b ≡ Some y) × (make x y ≡ s)
+two (Some x) (Some y) make s h = (x, y, refl, refl, cc)
+two None b make s h = absurd cc
+two (Some x) None make s h = absurd cc
+
+IsBehind : List Word → Through → Type 0
+IsBehind words through = (layout copies : Word) × (words ≡ layout ∷ copies ∷ []) × NamesIt layout through.layout × IsLarge copies through.copies
+
+behind_takes : (words : List Word) (t : Through) → behind_as words ≡ Some t → IsBehind words t
+unfolding behind_as first ended through_made IsBehind
+behind_takes [] t e = absurd cc
+behind_takes (a ∷ []) t e = absurd cc
+behind_takes (a ∷ b ∷ c ∷ rest) t e = absurd cc
+behind_takes (a ∷ b ∷ []) t e =
+    let p = two (name_of a) (large_of b) through_made t e in
+    subst (IsBehind (a ∷ b ∷ [])) p.4 (a, b, refl, named_takes a p.0 p.2, large_takes b p.1 p.3)
+
+pub through_takes : (words : List Word) (o : Option Through) → through_of words ≡ Some o → IsThrough words o
+unfolding through_of IsBehind
+through_takes [] o e = made (IsThrough []) None o refl e
+through_takes (w ∷ ws) o e =
+    pick (IsThrough (w ∷ ws)) (bytes_eq w (codes "as")) _ _ o (λ t f.
+    let b = bind_ok (behind_as ws) (λ through. Some (Some through)) o f in
+    let p = behind_takes ws b.0 b.1 in
+    let spelled : w ∷ ws ≡ codes "as" ∷ p.0 ∷ p.1 ∷ [] = ap (λ (x : Word). x ∷ ws) (same_word w (codes "as") t) ∙ ap (λ (xs : List Word). codes "as" ∷ xs) p.2 in
+    made (IsThrough (w ∷ ws)) (Some b.0) o (p.0, p.1, spelled, p.3, p.4) b.2) (λ _ f. absurd cc) e
+
+no_layout : through_of [] ≡ Some None
+unfolding through_of
+no_layout = refl
+
+through_from : (a b : Word) (t : Through) → name_of a ≡ Some t.layout → large_of b ≡ Some t.copies → through_of (codes "as" ∷ a ∷ b ∷ []) ≡ Some (Some t)
+unfolding through_of behind_as first ended
+through_from a b t n c = rw (n, c) refl
+
+pub through_again : (words : List Word) (o : Option Through) → IsThrough words o → through_of words ≡ Some o
+through_again words None h = ap through_of h ∙ no_layout
+through_again words (Some t) h = ap through_of h.2 ∙ through_from h.0 h.1 t (named_again h.0 t.layout h.3) (large_again h.1 t.copies h.4)

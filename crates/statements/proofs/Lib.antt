@@ -1,9 +1,10 @@
-pub mod Numerals
 pub mod Lists
-pub mod EachLaws
 pub mod WordLaws
+pub mod EachLaws
+pub mod MarkLaws
 pub mod FieldLaws
 pub mod ElementLaws
+pub mod LayoutLaws
 pub mod ActionLaws
 pub mod LineSteps
 pub mod LineLaws

@@ -6,7 +6,7 @@ use Rattle.statements.specs.declared.fault.LineError.{LineError}
 use Rattle.statements.specs.declared.fault.LineError.TheVariants as errors
 use Rattle.statements.specs.Grammar.{Word}
 use Rattle.statements.specs.Results.{◌>>=◌, Fails}
-use Rattle.statements.specs.Lines.{said_in, item_in, line_of, numbered, with_front, and_then, lines_from}
+use Rattle.statements.specs.Lines.{said_in, item_in, line_of, with_front, lines_from}
 use Rattle.statements.proofs.Lists.{shown, shown_all}
 
 regroup : {A : Type 0} (front more : List A) (read : Result (List A) ℕ) → with_front (front ++ more) read ≡ with_front front (with_front more read)

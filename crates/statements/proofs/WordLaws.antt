@@ -1,10 +1,10 @@
 -- What one word stands for: reading and the grammar agree.
-use Rattle.std.proofs.Common.{◌≡◌, ◌≢◌, ℕ, zero, suc, ◌<◌, ◌≤◌, Bool, true, false, cond, eqb, leb, ltb, List, [], ◌∷◌, length, get_or, Option, Some, None, refl, sym, ap, subst, ◌∙◌, arith, inl, inr}
+use Rattle.std.proofs.Common.{◌≡◌, ◌≢◌, ℕ, ◌<◌, ◌≤◌, Bool, true, false, cond, eqb, leb, ltb, [], ◌∷◌, length, get_or, Option, Some, None, refl, sym, ap, subst, ◌∙◌, arith, inl, inr}
 use Rattle.std.specs.Prelude.{codes, ◌&&◌, ◌||◌, not, is_some, ◌⊎◌}
 use Rattle.std.specs.List.{list_all, AllByRecursion}
 use Rattle.std.specs.Str.{bytes_eq, all_ascii_digits}
 use Rattle.std.specs.Str.Parse.{digits_value}
-use Rattle.std.proofs.lemmas.Bool.{eqb-true, eq-eqb, ltb-false, leb-true, le-leb, le-ltb, false≢true}
+use Rattle.std.proofs.lemmas.Bool.{eqb-true, ltb-false, leb-true, le-leb, le-ltb, false≢true}
 use Rattle.std.proofs.lemmas.List.{nil_from_length}
 use Rattle.std.proofs.lemmas.Slice.Eq.{bytes_eq-Decides}
 use Rattle.vocabulary.specs.declared.basic_type.BasicType.{BasicType}
@@ -16,7 +16,7 @@ use Rattle.statements.specs.Numbers.{is_numeral, number_up_to, number_or}
 use Rattle.statements.specs.Words.{is_letter, is_name_byte, basic_type_of, is_reserved, is_name, verb_of}
 use Rattle.statements.specs.Results.{◌>>=◌}
 use Rattle.statements.specs.Reading.{count_of}
-use Rattle.statements.proofs.Numerals.{numeral_parts}
+use Rattle.numerals.proofs.Numerals.{numeral_parts}
 
 -- ---- steps and tests
 
@@ -171,18 +171,28 @@ type_again Byte = refl
 
 abbrev pub verb_word : Verb → Word
 verb_word verbs.Buffer = codes "buf"
+verb_word verbs.Layout = codes "type"
 verb_word verbs.Isend = codes "isend"
 verb_word verbs.Irecv = codes "irecv"
 verb_word verbs.Wait = codes "wait"
+verb_word verbs.Test = codes "test"
+verb_word verbs.Cancel = codes "cancel"
+verb_word verbs.Waitany = codes "waitany"
+verb_word verbs.Waitall = codes "waitall"
 
 verbs_are : (word : Word) → Yields (verb_of word) (λ verb. word ≡ verb_word verb)
 unfolding verb_of
 verbs_are word =
     let P : Verb → Type 0 = λ verb. word ≡ verb_word verb in
     step P (bytes_eq word (codes "buf")) _ _ (same_word word (codes "buf"))
+    (step P (bytes_eq word (codes "type")) _ _ (same_word word (codes "type"))
     (step P (bytes_eq word (codes "isend")) _ _ (same_word word (codes "isend"))
     (step P (bytes_eq word (codes "irecv")) _ _ (same_word word (codes "irecv"))
-    (step P (bytes_eq word (codes "wait")) _ _ (same_word word (codes "wait")) tt)))
+    (step P (bytes_eq word (codes "wait")) _ _ (same_word word (codes "wait"))
+    (step P (bytes_eq word (codes "test")) _ _ (same_word word (codes "test"))
+    (step P (bytes_eq word (codes "cancel")) _ _ (same_word word (codes "cancel"))
+    (step P (bytes_eq word (codes "waitany")) _ _ (same_word word (codes "waitany"))
+    (step P (bytes_eq word (codes "waitall")) _ _ (same_word word (codes "waitall")) tt))))))))
 
 pub verb_takes : (word : Word) (verb : Verb) → verb_of word ≡ Some verb → word ≡ verb_word verb
 verb_takes word verb e = yielded (λ verb. word ≡ verb_word verb) (verb_of word) verb (verbs_are word) e
@@ -190,9 +200,14 @@ verb_takes word verb e = yielded (λ verb. word ≡ verb_word verb) (verb_of wor
 pub verb_again : (verb : Verb) → verb_of (verb_word verb) ≡ Some verb
 unfolding verb_of
 verb_again verbs.Buffer = refl
+verb_again verbs.Layout = refl
 verb_again verbs.Isend = refl
 verb_again verbs.Irecv = refl
 verb_again verbs.Wait = refl
+verb_again verbs.Test = refl
+verb_again verbs.Cancel = refl
+verb_again verbs.Waitany = refl
+verb_again verbs.Waitall = refl
 
 -- ---- names
 
@@ -253,6 +268,10 @@ none_of false false false true e = absurd cc
 is_none : {A : Type 0} (o : Option A) → ((x : A) → o ≡ Some x → ⊥) → is_some o ≡ false
 is_none None h = refl
 is_none (Some x) h = absurd (h x refl)
+
+pub is_nothing : {A : Type 0} (o : Option A) → ((x : A) → o ≡ Some x → ⊥) → o ≡ None
+is_nothing None h = refl
+is_nothing (Some x) h = absurd (h x refl)
 
 not_some : {A : Type 0} (o : Option A) (x : A) → is_some o ≡ false → o ≡ Some x → ⊥
 not_some None x e f = absurd cc

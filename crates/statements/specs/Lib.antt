@@ -2,8 +2,6 @@ pub mod Grammar
 pub mod Numbers
 pub mod Words
 pub mod Results
-pub mod Arguments
 pub mod Reading
 pub mod Lines
 pub mod Texts
-pub mod Answers

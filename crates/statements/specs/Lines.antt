@@ -1,5 +1,5 @@
 -- Lines of text, and what is read of them.
-use Rattle.std.specs.Prelude.{◌≡◌, ℕ, ◌+◌, ◌-◌, ◌==◌, Bool, true, false, not, nat_le, ◌&&◌, List, [], ◌∷◌, ◌++◌, length, take, filter, slice_index, Option, Some, None, Result, Ok, Err, if◌then◌else◌}
+use Rattle.std.specs.Prelude.{ℕ, ◌+◌, ◌-◌, ◌==◌, Bool, true, not, nat_le, ◌&&◌, List, [], ◌∷◌, ◌++◌, length, take, filter, slice_index, Option, Some, None, Result, Ok, Err, if◌then◌else◌}
 use Rattle.std.specs.List.{slice_split, list_all}
 use Rattle.statements.specs.Grammar.{Word}
 use Rattle.statements.specs.Results.{◌>>=◌}

@@ -1,5 +1,5 @@
 -- Reading the words of a line from left to right.
-use Rattle.std.specs.Prelude.{ℕ, ◌+◌, ◌==◌, Bool, true, false, List, [], ◌∷◌, ◌++◌, length, take, drop, slice_index, replicate, codes, Option, Some, None, if◌then◌else◌}
+use Rattle.std.specs.Prelude.{ℕ, ◌==◌, Bool, true, false, List, [], ◌∷◌, ◌++◌, take, drop, slice_index, replicate, codes, Option, Some, None, if◌then◌else◌}
 use Rattle.std.specs.List.{position}
 use Rattle.std.specs.Str.{bytes_eq}
 use Rattle.std.specs.Str.Parse.{digits_value}
@@ -8,21 +8,26 @@ use Rattle.vocabulary.specs.declared.envelope.Source.{Source}
 use Rattle.vocabulary.specs.declared.envelope.Source.TheVariants as sources
 use Rattle.datatypes.specs.Contents.{Contents}
 use Rattle.datatypes.specs.Elements.{number_of_value}
+use Rattle.derived_types.specs.declared.block.Block.{Block}
 use Rattle.statements.specs.declared.verb.Verb.{Verb}
 use Rattle.statements.specs.declared.verb.Verb.TheVariants as verbs
 use Rattle.statements.specs.declared.action.Communicator.{Communicator}
 use Rattle.statements.specs.declared.action.Communicator.TheVariants as communicators
-use Rattle.statements.specs.declared.action.Target.{Target}
-use Rattle.statements.specs.declared.action.Target.TheVariants as targets
-use Rattle.statements.specs.declared.action.Tag.{Tag}
-use Rattle.statements.specs.declared.action.Tag.TheVariants as tags
 use Rattle.statements.specs.declared.action.Requested.{Requested}
 use Rattle.statements.specs.declared.action.Requested.TheVariants as requests
 use Rattle.statements.specs.declared.action.BufferLine.{BufferLine}
+use Rattle.statements.specs.declared.action.Through.{Through}
 use Rattle.statements.specs.declared.action.Sending.{Sending}
 use Rattle.statements.specs.declared.action.Receiving.{Receiving}
 use Rattle.statements.specs.declared.action.Action.{Action}
 use Rattle.statements.specs.declared.action.Action.TheVariants as actions
+use Rattle.statements.specs.declared.layout_line.OldLayout.{OldLayout}
+use Rattle.statements.specs.declared.layout_line.OldLayout.TheVariants as olds
+use Rattle.statements.specs.declared.layout_line.LayoutForm.{LayoutForm}
+use Rattle.statements.specs.declared.layout_line.LayoutForm.TheVariants as forms
+use Rattle.statements.specs.declared.layout_line.LayoutLine.{LayoutLine}
+use Rattle.statements.specs.declared.layout_reading.FormWord.{FormWord}
+use Rattle.statements.specs.declared.layout_reading.FormWord.TheVariants as form_words
 use Rattle.statements.specs.Grammar.{Word}
 use Rattle.statements.specs.Numbers.{is_numeral, number_up_to, number_or}
 use Rattle.statements.specs.Words.{is_name, basic_type_of, verb_of}
@@ -48,10 +53,14 @@ communicator_of word =
 unfoldable pub rank_of : Word → Option ℕ
 rank_of word = number_or 65535 word
 
-unfoldable pub target_of : Word → Option Target
+-- a number, or the greatest one of 64 bits where it is greater
+unfoldable pub large_of : Word → Option ℕ
+large_of word = number_or 18446744073709551615 word
+
+unfoldable pub target_of : Word → Option Source
 target_of word =
-    if bytes_eq word (codes "null") then Some targets.Null
-    else (rank_of word >>= λ rank. Some (targets.Rank rank))
+    if bytes_eq word (codes "null") then Some sources.Null
+    else (rank_of word >>= λ rank. Some (sources.Rank rank))
 
 unfoldable pub source_of : Word → Option Source
 source_of word =
@@ -59,15 +68,29 @@ source_of word =
     else (if bytes_eq word (codes "null") then Some sources.Null
     else (rank_of word >>= λ rank. Some (sources.Rank rank)))
 
-unfoldable pub tag_of : Word → Option Tag
+unfoldable pub tag_of : Word → Option (Option ℕ)
 tag_of word =
-    if bytes_eq word (codes "any") then Some tags.Any
-    else (number_or 4294967295 word >>= λ tag. Some (tags.Number tag))
+    if bytes_eq word (codes "any") then Some None
+    else (number_or 4294967295 word >>= λ tag. Some (Some tag))
 
 unfoldable pub requested_of : Word → Option Requested
 requested_of word =
     if bytes_eq word (codes "null") then Some requests.Null
     else (name_of word >>= λ name. Some (requests.Named name))
+
+-- ---- several words
+
+-- what each of the words gives, one after the other
+unfoldable pub each : {A : Type 0} → (Word → Option (List A)) → List Word → Option (List A)
+each read [] = Some []
+each read (word ∷ words) = read word >>= λ front. each read words >>= λ rest. Some (front ++ rest)
+
+-- one item for a word
+abbrev pub one : {A : Type 0} → (Word → Option A) → Word → Option (List A)
+one read word = read word >>= λ item. Some (item ∷ [])
+
+abbrev pub one_request : Word → Option (List Requested)
+one_request word = one requested_of word
 
 -- ---- elements
 
@@ -93,11 +116,6 @@ copies_at (Some place) basic word =
 unfoldable pub copies_of : BasicType → Word → Option (ℕ × ℕ)
 copies_of basic word = copies_at (position is_star word) basic word
 
--- what each of the words gives, one after the other
-unfoldable pub each : {A : Type 0} → (Word → Option (List A)) → List Word → Option (List A)
-each read [] = Some []
-each read (word ∷ words) = read word >>= λ front. each read words >>= λ rest. Some (front ++ rest)
-
 abbrev pub elements_of : BasicType → Word → Option (List ℕ)
 elements_of basic word = copies_of basic word >>= λ copies. Some (replicate copies.0 copies.1)
 
@@ -105,7 +123,7 @@ elements_of basic word = copies_of basic word >>= λ copies. Some (replicate cop
 unfoldable pub buffer_with : BasicType → List Word → Option Contents
 buffer_with kind words = each (elements_of kind) words >>= λ elements. Some (record { basic = kind; values = elements })
 
--- ---- what ranks do, by the words behind the first one
+-- ---- the words behind the first one
 
 -- nothing stands here
 unfoldable pub ended : List Word → Option (Unit {0})
@@ -121,33 +139,48 @@ buffer_of words = do
   contents ← buffer_with kind basic.1
   Some (record { name = buffer; value = contents })
 
--- `COMM DEST TAG B`
+-- `L N`
+unfoldable pub behind_as : List Word → Option Through
+behind_as words = do
+  layout ← first words
+  copies ← first layout.1
+  end ← ended copies.1
+  l ← name_of layout.0
+  n ← large_of copies.0
+  Some (record { layout = l; copies = n })
+
+-- `as L N`, or nothing
+unfoldable pub through_of : List Word → Option (Option Through)
+through_of [] = Some None
+through_of (word ∷ words) = if bytes_eq word (codes "as") then (behind_as words >>= λ through. Some (Some through)) else None
+
+-- `COMM DEST TAG B`, and what stands behind it
 unfoldable pub sending_of : List Word → Option Sending
 sending_of words = do
   communicator ← first words
   target ← first communicator.1
   tag ← first target.1
   buffer ← first tag.1
-  end ← ended buffer.1
   c ← communicator_of communicator.0
   r ← target_of target.0
   t ← tag_of tag.0
   b ← name_of buffer.0
-  Some (record { communicator = c; target = r; tag = t; buffer = b })
+  u ← through_of buffer.1
+  Some (record { communicator = c; target = r; tag = t; buffer = b; through = u })
 
--- `COMM SRC TAG B`
+-- `COMM SRC TAG B`, and what stands behind it
 unfoldable pub receiving_of : List Word → Option Receiving
 receiving_of words = do
   communicator ← first words
   source ← first communicator.1
   tag ← first source.1
   buffer ← first tag.1
-  end ← ended buffer.1
   c ← communicator_of communicator.0
   r ← source_of source.0
   t ← tag_of tag.0
   b ← name_of buffer.0
-  Some (record { communicator = c; source = r; tag = t; buffer = b })
+  u ← through_of buffer.1
+  Some (record { communicator = c; source = r; tag = t; buffer = b; through = u })
 
 unfoldable pub isend_of : List Word → Option (Word × Sending)
 isend_of words = first words >>= λ request. name_of request.0 >>= λ q. sending_of request.1 >>= λ send. Some (q, send)
@@ -158,11 +191,101 @@ irecv_of words = first words >>= λ request. name_of request.0 >>= λ q. receivi
 unfoldable pub one_of : List Word → Option Requested
 one_of words = first words >>= λ request. ended request.1 >>= λ end. requested_of request.0
 
+-- ---- layouts
+
+-- how the word says that a layout is made
+unfoldable pub form_word_of : Word → Option FormWord
+form_word_of word =
+    if bytes_eq word (codes "contiguous") then Some form_words.Contiguous
+    else (if bytes_eq word (codes "vector") then Some form_words.Vector
+    else (if bytes_eq word (codes "indexed") then Some form_words.Indexed
+    else None))
+
+abbrev pub old_by : Option BasicType → Word → Option OldLayout
+old_by (Some basic) word = Some (olds.Basic basic)
+old_by None word = name_of word >>= λ name. Some (olds.Named name)
+
+-- a type, or the name of a layout
+unfoldable pub old_of : Word → Option OldLayout
+old_of word = old_by (basic_type_of word) word
+
+abbrev pub is_colon : ℕ → Bool
+is_colon byte = byte == 58
+
+abbrev pub block_at : Option ℕ → Word → Option Block
+block_at None word = None
+block_at (Some place) word =
+    large_of (take place word) >>= λ many. large_of (drop 1 (drop place word)) >>= λ far. Some (record { length = many; displacement = far })
+
+-- `LEN:DISP`
+unfoldable pub block_of : Word → Option Block
+block_of word = block_at (position is_colon word) word
+
+abbrev pub one_block : Word → Option (List Block)
+one_block word = one block_of word
+
+-- the words before the last one, and the last one
+unfoldable pub last : List Word → Option (List Word × Word)
+last [] = None
+last (word ∷ []) = Some ([], word)
+last (word ∷ next ∷ words) = last (next ∷ words) >>= λ split. Some (word ∷ split.0, split.1)
+
+-- `N OLD`
+unfoldable pub contiguous_of : List Word → Option (LayoutForm × OldLayout)
+contiguous_of words = do
+  count ← first words
+  old ← first count.1
+  end ← ended old.1
+  n ← large_of count.0
+  o ← old_of old.0
+  Some (forms.Contiguous n, o)
+
+-- `C B S OLD`
+unfoldable pub vector_of : List Word → Option (LayoutForm × OldLayout)
+vector_of words = do
+  count ← first words
+  blocklength ← first count.1
+  stride ← first blocklength.1
+  old ← first stride.1
+  end ← ended old.1
+  c ← large_of count.0
+  b ← large_of blocklength.0
+  s ← large_of stride.0
+  o ← old_of old.0
+  Some (forms.Vector (record { count = c; blocklength = b; stride = s }), o)
+
+-- `LEN:DISP .. OLD`
+unfoldable pub indexed_of : List Word → Option (LayoutForm × OldLayout)
+indexed_of words = last words >>= λ split. old_of split.1 >>= λ o. each one_block split.0 >>= λ blocks. Some (forms.Indexed blocks, o)
+
+-- what stands behind the word that says how the layout is made
+abbrev pub formed_by : FormWord → List Word → Option (LayoutForm × OldLayout)
+formed_by form_words.Contiguous words = contiguous_of words
+formed_by form_words.Vector words = vector_of words
+formed_by form_words.Indexed words = indexed_of words
+
+-- a name, and how the layout of this name is made
+unfoldable pub layout_of : List Word → Option LayoutLine
+layout_of words = do
+  name ← first words
+  form ← first name.1
+  n ← name_of name.0
+  f ← form_word_of form.0
+  made ← formed_by f form.1
+  Some (record { name = n; form = made.0; made_of = made.1 })
+
+-- ---- all that ranks do, by the first word
+
 abbrev pub action_by : Verb → List Word → Option Action
 action_by verbs.Buffer words = buffer_of words >>= λ line. Some (actions.Buffer line)
+action_by verbs.Layout words = layout_of words >>= λ line. Some (actions.Layout line)
 action_by verbs.Isend words = isend_of words >>= λ made. Some (actions.Isend made.0 made.1)
 action_by verbs.Irecv words = irecv_of words >>= λ made. Some (actions.Irecv made.0 made.1)
 action_by verbs.Wait words = one_of words >>= λ request. Some (actions.Wait request)
+action_by verbs.Test words = one_of words >>= λ request. Some (actions.Test request)
+action_by verbs.Cancel words = one_of words >>= λ request. Some (actions.Cancel request)
+action_by verbs.Waitany words = each one_request words >>= λ requests. Some (actions.Waitany requests)
+action_by verbs.Waitall words = each one_request words >>= λ requests. Some (actions.Waitall requests)
 
 -- what a rank does, which the words spell
 unfoldable pub action_of : List Word → Option Action

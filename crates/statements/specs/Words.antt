@@ -1,5 +1,5 @@
 -- What a word is.
-use Rattle.std.specs.Prelude.{ℕ, Bool, true, false, not, nat_le, nat_lt, ◌&&◌, ◌||◌, ◌==◌, List, length, slice_index, codes, Option, Some, None, is_some, if◌then◌else◌}
+use Rattle.std.specs.Prelude.{ℕ, Bool, false, not, nat_le, nat_lt, ◌&&◌, ◌||◌, ◌==◌, length, slice_index, codes, Option, Some, None, is_some, if◌then◌else◌}
 use Rattle.std.specs.List.{list_all}
 use Rattle.std.specs.Str.{bytes_eq}
 use Rattle.vocabulary.specs.declared.basic_type.BasicType.{BasicType}
@@ -46,7 +46,12 @@ is_name word =
 unfoldable pub verb_of : Word → Option Verb
 verb_of word =
     if bytes_eq word (codes "buf") then Some verbs.Buffer
+    else (if bytes_eq word (codes "type") then Some verbs.Layout
     else (if bytes_eq word (codes "isend") then Some verbs.Isend
     else (if bytes_eq word (codes "irecv") then Some verbs.Irecv
     else (if bytes_eq word (codes "wait") then Some verbs.Wait
-    else None)))
+    else (if bytes_eq word (codes "test") then Some verbs.Test
+    else (if bytes_eq word (codes "cancel") then Some verbs.Cancel
+    else (if bytes_eq word (codes "waitany") then Some verbs.Waitany
+    else (if bytes_eq word (codes "waitall") then Some verbs.Waitall
+    else None))))))))

@@ -1,10 +1,12 @@
 //! What a line asks a rank to do.
 
-ghost use Rattle.std.specs.Prelude.{◌≡◌};
-ghost use Rattle.statements.specs.Arguments.{rank_of_target, wanted_tag, sent_tag};
+ghost use Rattle.std.specs.Prelude.{◌≡◌, ◌++◌, [], ◌∷◌, OnOk};
 
+use crate::layout_line::LayoutLine;
 use crate::name::Name;
 use datatypes::Buffer;
+use std::alloc::{AllocFailed, Global};
+use std::marker::Model;
 use vocabulary::Source;
 
 /// The communicator that a line names.
@@ -18,59 +20,6 @@ pub enum Communicator {
     Named(Name),
 }
 
-/// The rank that a send goes to.
-#[derive(Clone, Copy, Debug, PartialEq, Eq)]
-pub enum Target {
-    /// `null`: the null process (MPI 3.1, 3.11).
-    Null,
-    /// A rank; one that 16 bits don't hold stands as the greatest number that they hold, which is no rank either.
-    Rank(u16),
-}
-
-impl Target {
-    /// The rank; none is the null process.
-    pub fn rank(self) -> Option<u16>
-        ensures { result ≡ rank_of_target self }
-    {
-        match self {
-            Target::Null => None,
-            Target::Rank(rank) => Some(rank),
-        }
-    }
-}
-
-/// The tag that a line gives.
-#[derive(Clone, Copy, Debug, PartialEq, Eq)]
-pub enum Tag {
-    /// `any`: the wildcard (MPI_ANY_TAG).
-    Any,
-    /// A tag; one that 32 bits don't hold stands as the greatest number that they hold, which is no tag either.
-    Number(u32),
-}
-
-impl Tag {
-    /// The tag that a receive wants; none is the wildcard.
-    pub fn wanted(self) -> Option<u32>
-        ensures { result ≡ wanted_tag self }
-    {
-        match self {
-            Tag::Any => None,
-            Tag::Number(tag) => Some(tag),
-        }
-    }
-
-    /// The tag of a send. The wildcard, which no send may have, stands as the greatest number of 32 bits, which is no tag
-    /// either.
-    pub fn sent(self) -> u32
-        ensures { result ≡ sent_tag self }
-    {
-        match self {
-            Tag::Any => u32::MAX,
-            Tag::Number(tag) => tag,
-        }
-    }
-}
-
 /// The request that a line names.
 #[derive(Debug, Drop)]
 pub enum Requested {
@@ -78,6 +27,53 @@ pub enum Requested {
     Null,
     /// A name.
     Named(Name),
+}
+
+/// Requests that a line names, in order. Contracts see them as a list.
+#[derive(Debug, Drop)]
+pub struct RequestedList {
+    items: Vec<Requested>,
+}
+
+impl Model for RequestedList {
+    ghost use Rattle.std.specs.Prelude.{List};
+    ghost use Rattle.statements.specs.declared.action.Requested.{Requested};
+
+    ghost Value = { List Requested };
+
+    ghost view = { λ r. r.items.items };
+}
+
+impl RequestedList {
+    /// No requests. It takes no memory.
+    pub(crate) fn new(alloc: Global) -> RequestedList
+        ensures { result ≡ [] }
+    {
+        RequestedList {
+            items: Vec::new(alloc),
+        }
+    }
+
+    /// Adds a request at the end.
+    pub(crate) fn push(&mut self, request: Requested) -> Result<(), AllocFailed<Requested>>
+        ensures { OnOk result (self.new ≡ self.old ++ request ∷ []) }
+    {
+        self.items.push(request)
+    }
+
+    /// The requests, in order.
+    pub fn as_slice(&self) -> &[Requested]
+        ensures { result.now ≡ self.now }
+    {
+        self.items.as_slice()
+    }
+
+    /// The requests, in order, each of which can be moved out.
+    pub fn into_vec(self) -> Vec<Requested>
+        ensures { result.items ≡ self }
+    {
+        self.items
+    }
 }
 
 /// `B TYPE V ..`: a buffer's name and elements.
@@ -89,30 +85,46 @@ pub struct BufferLine {
     pub value: Buffer,
 }
 
-/// `COMM DEST TAG B`: the arguments of a send.
+/// `as L N`: the places of a buffer that hold a message's data.
+#[derive(Debug, Drop)]
+pub struct Through {
+    /// The name of the layout.
+    pub layout: Name,
+    /// How many copies of it. A number that 64 bits don't hold stands as the greatest that they hold.
+    pub copies: u64,
+}
+
+/// `COMM DEST TAG B`, and `as L N` if it stands there: the arguments of a send (MPI 3.1, 3.2.1).
 #[derive(Debug, Drop)]
 pub struct Sending {
     /// The communicator in which the message goes.
     pub communicator: Communicator,
-    /// The rank that it goes to.
-    pub target: Target,
-    /// Its tag.
-    pub tag: Tag,
+    /// The rank that it goes to, or the null process (MPI 3.1, 3.11); never the wildcard. A rank that 16 bits don't hold
+    /// stands as the greatest number that they hold, which is no rank either.
+    pub target: Source,
+    /// Its tag; none: `any`, which no send may have. A tag that 32 bits don't hold stands as the greatest number that they
+    /// hold, which is no tag either.
+    pub tag: Option<u32>,
     /// The name of the buffer whose elements go.
     pub buffer: Name,
+    /// The places that they stand at; none: the buffer as it is.
+    pub through: Option<Through>,
 }
 
-/// `COMM SRC TAG B`: the arguments of a receive.
+/// `COMM SRC TAG B`, and `as L N` if it stands there: the arguments of a receive (MPI 3.1, 3.2.4).
 #[derive(Debug, Drop)]
 pub struct Receiving {
     /// The communicator in which the message comes.
     pub communicator: Communicator,
     /// From whom it is wanted; a rank that 16 bits don't hold stands as the greatest number that they hold.
     pub source: Source,
-    /// The tag that is wanted.
-    pub tag: Tag,
+    /// The tag that is wanted; none: the wildcard. A tag that 32 bits don't hold stands as the greatest number that they
+    /// hold.
+    pub tag: Option<u32>,
     /// The name of the buffer that is lent.
     pub buffer: Name,
+    /// The places that the data go to; none: the buffer as it is.
+    pub through: Option<Through>,
 }
 
 /// What a line asks a rank to do, in a file of events as in a script.
@@ -120,10 +132,20 @@ pub struct Receiving {
 pub enum Action {
     /// `buf B TYPE V ..` sets a buffer.
     Buffer(BufferLine),
+    /// `type L ..` sets a layout.
+    Layout(LayoutLine),
     /// `isend Q COMM DEST TAG B` starts a send, and names its request.
     Isend(Name, Sending),
     /// `irecv Q COMM SRC TAG B` starts a receive, and names its request; the buffer is lent until the outcome.
     Irecv(Name, Receiving),
-    /// `wait Q` waits for the request.
+    /// `wait Q` waits for the request (MPI 3.1, 3.7.3).
     Wait(Requested),
+    /// `test Q` asks whether the request is finished (MPI 3.1, 3.7.3).
+    Test(Requested),
+    /// `cancel Q` cancels a receive (MPI 3.1, 3.8.4).
+    Cancel(Requested),
+    /// `waitany Q ..` waits for one of the requests, of which there may be none (MPI 3.1, 3.7.5).
+    Waitany(RequestedList),
+    /// `waitall Q ..` waits for all the requests, of which there may be none (MPI 3.1, 3.7.5).
+    Waitall(RequestedList),
 }

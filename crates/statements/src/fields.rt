@@ -1,10 +1,10 @@
 //! What one word stands for.
 
 ghost use Rattle.std.specs.Prelude.{◌≡◌};
-ghost use Rattle.statements.specs.Reading.{first, name_of, communicator_of, target_of, source_of, tag_of, requested_of, ended, rank_of};
+ghost use Rattle.statements.specs.Reading.{first, name_of, communicator_of, target_of, source_of, tag_of, requested_of, ended, rank_of, large_of, each, one_request, behind_as, through_of};
 ghost use Rattle.statements.specs.Results.{Gives};
 
-use crate::action::{Communicator, Requested, Tag, Target};
+use crate::action::{Communicator, Requested, RequestedList, Through};
 use crate::fault::LineError;
 use crate::name::{Name, is_name};
 pub use crate::number::{number_or, number_up_to};
@@ -67,6 +67,14 @@ pub fn rank_of(word: &[u8]) -> Result<u16, LineError>
     }
 }
 
+/// A number that 64 bits don't hold stands as the greatest that they hold.
+#[tactic(auto, unfolding(crate::specs::Reading::large_of))]
+pub(crate) fn large_of(word: &[u8]) -> Result<u64, LineError>
+    ensures { Gives (λ x. x) result (large_of word.now) }
+{
+    required(number_or(word, u64::MAX))
+}
+
 #[tactic(auto, unfolding(crate::specs::Reading::communicator_of))]
 pub(crate) fn communicator_of(alloc: Global, word: &[u8]) -> Result<Communicator, LineError>
     ensures { Gives (λ x. x) result (communicator_of word.now) }
@@ -81,13 +89,13 @@ pub(crate) fn communicator_of(alloc: Global, word: &[u8]) -> Result<Communicator
 }
 
 #[tactic(auto, unfolding(crate::specs::Reading::target_of))]
-pub(crate) fn target_of(word: &[u8]) -> Result<Target, LineError>
+pub(crate) fn target_of(word: &[u8]) -> Result<Source, LineError>
     ensures { Gives (λ x. x) result (target_of word.now) }
 {
     if is(word, b"null") {
-        return Ok(Target::Null);
+        return Ok(Source::Null);
     }
-    Ok(Target::Rank(rank_of(word)?))
+    Ok(Source::Rank(rank_of(word)?))
 }
 
 #[tactic(auto, unfolding(crate::specs::Reading::source_of))]
@@ -104,14 +112,14 @@ pub(crate) fn source_of(word: &[u8]) -> Result<Source, LineError>
 }
 
 #[tactic(auto, unfolding(crate::specs::Reading::tag_of))]
-pub(crate) fn tag_of(word: &[u8]) -> Result<Tag, LineError>
+pub(crate) fn tag_of(word: &[u8]) -> Result<Option<u32>, LineError>
     ensures { Gives (λ x. x) result (tag_of word.now) }
 {
     if is(word, b"any") {
-        return Ok(Tag::Any);
+        return Ok(None);
     }
     match number_or(word, 4_294_967_295) {
-        Some(tag) => Ok(Tag::Number(tag as u32)),
+        Some(tag) => Ok(Some(tag as u32)),
         None => Err(LineError::Faulty),
     }
 }
@@ -125,4 +133,43 @@ pub(crate) fn requested_of(alloc: Global, word: &[u8]) -> Result<Requested, Line
     } else {
         Ok(Requested::Named(name_of(alloc, word)?))
     }
+}
+
+/// A request for each word.
+pub(crate) fn requests_of(alloc: Global, words: &[Word]) -> Result<RequestedList, LineError>
+    ensures { Gives (λ x. x) result (each one_request words.now) }
+{
+    let mut requests = RequestedList::new(alloc);
+    for word in words {
+        let request = requested_of(alloc, word.as_bytes())?;
+        requests.push(request)?;
+    }
+    Ok(requests)
+}
+
+/// `L N`
+#[tactic(auto, unfolding(crate::specs::Reading::behind_as))]
+fn behind_as(alloc: Global, words: &[Word]) -> Result<Through, LineError>
+    ensures { Gives (λ x. x) result (behind_as words.now) }
+{
+    let (layout, rest) = first(words)?;
+    let (copies, rest) = first(rest)?;
+    ended(rest)?;
+    let layout = name_of(alloc, layout)?;
+    let copies = large_of(copies)?;
+    Ok(Through { layout, copies })
+}
+
+/// `as L N`, or nothing.
+#[tactic(auto, unfolding(crate::specs::Reading::through_of))]
+pub(crate) fn through_of(alloc: Global, words: &[Word]) -> Result<Option<Through>, LineError>
+    ensures { Gives (λ x. x) result (through_of words.now) }
+{
+    let Some((word, rest)) = words.split_first() else {
+        return Ok(None);
+    };
+    if !is(word.as_bytes(), b"as") {
+        return Err(LineError::Faulty);
+    }
+    Ok(Some(behind_as(alloc, rest)?))
 }

@@ -1,50 +1,12 @@
 //! Numbers in words.
 
-ghost use Rattle.std.specs.Prelude.{◌≡◌, ◌≤◌, ◌<◌, ◌^◌, ◌↔◌, IsTrue, IfSome};
-ghost use Rattle.std.specs.Option.{SomeIff};
-ghost use Rattle.std.specs.Str.{all_ascii_digits};
-ghost use Rattle.std.specs.Str.Parse.{digits_value};
-ghost use Rattle.statements.specs.Numbers.{is_numeral, number_up_to, number_or};
+ghost use Rattle.std.specs.Prelude.{◌≡◌, ◌≤◌, IfSome};
+ghost use Rattle.statements.specs.Numbers.{number_up_to, number_or};
 ghost use Rattle.statements.specs.Reading.{count_of};
 ghost use Rattle.statements.specs.Results.{Gives};
 
 use crate::fault::LineError;
-use std::str;
-
-fn are_digits(word: &[u8]) -> bool
-    ensures { result ≡ all_ascii_digits word.now }
-{
-    for b in word {
-        if !b.is_ascii_digit() {
-            return false;
-        }
-    }
-    true
-}
-
-/// Whether the word is decimal digits, at least one, without leading zeros.
-fn is_numeral(word: &[u8]) -> bool
-    ensures { result ≡ is_numeral word.now }
-{
-    if word.is_empty() {
-        return false;
-    }
-    if word[0] == b'0' && word.len() > 1 {
-        return false;
-    }
-    are_digits(word)
-}
-
-/// The number that a numeral stands for, where it fits.
-fn numeral_value(word: &[u8]) -> Option<u64>
-    requires { IsTrue (is_numeral word.now) }
-    ensures { SomeIff result (digits_value 10 word.now < 2 ^ 64) (digits_value 10 word.now) }
-{
-    match str::from_utf8(word) {
-        Ok(text) => text.parse::<u64>().ok(),
-        Err(_) => None,
-    }
-}
+use numerals::{is_numeral, numeral_value};
 
 /// The number that the word spells, where it is at most this one.
 #[tactic(auto, unfolding(crate::specs::Numbers::number_up_to))]

@@ -7,8 +7,10 @@ ghost use Rattle.statements.specs.Results.{Gives};
 use crate::action::{Action, BufferLine, Receiving, Requested, Sending};
 use crate::fault::LineError;
 use crate::fields::{
-    communicator_of, ended, first, name_of, requested_of, required, source_of, tag_of, target_of,
+    communicator_of, ended, first, name_of, requested_of, requests_of, required, source_of, tag_of,
+    target_of, through_of,
 };
+use crate::layout_reading::layout_of;
 use crate::name::Name;
 use crate::types::basic_type_of;
 use crate::values::buffer_with;
@@ -28,7 +30,7 @@ fn buffer_of(alloc: Global, words: &[Word]) -> Result<BufferLine, LineError>
     Ok(BufferLine { name, value })
 }
 
-/// The arguments of a send, which the words `COMM DEST TAG B` spell.
+/// The arguments of a send, which the words `COMM DEST TAG B` spell, with or without `as L N`.
 #[tactic(auto, unfolding(crate::specs::Reading::sending_of))]
 pub fn sending_of(alloc: Global, words: &[Word]) -> Result<Sending, LineError>
     ensures { Gives (λ x. x) result (sending_of words.now) }
@@ -37,16 +39,16 @@ pub fn sending_of(alloc: Global, words: &[Word]) -> Result<Sending, LineError>
     let (target, rest) = first(rest)?;
     let (tag, rest) = first(rest)?;
     let (buffer, rest) = first(rest)?;
-    ended(rest)?;
     Ok(Sending {
         communicator: communicator_of(alloc, communicator)?,
         target: target_of(target)?,
         tag: tag_of(tag)?,
         buffer: name_of(alloc, buffer)?,
+        through: through_of(alloc, rest)?,
     })
 }
 
-/// The arguments of a receive, which the words `COMM SRC TAG B` spell.
+/// The arguments of a receive, which the words `COMM SRC TAG B` spell, with or without `as L N`.
 #[tactic(auto, unfolding(crate::specs::Reading::receiving_of))]
 pub fn receiving_of(alloc: Global, words: &[Word]) -> Result<Receiving, LineError>
     ensures { Gives (λ x. x) result (receiving_of words.now) }
@@ -55,12 +57,12 @@ pub fn receiving_of(alloc: Global, words: &[Word]) -> Result<Receiving, LineErro
     let (source, rest) = first(rest)?;
     let (tag, rest) = first(rest)?;
     let (buffer, rest) = first(rest)?;
-    ended(rest)?;
     Ok(Receiving {
         communicator: communicator_of(alloc, communicator)?,
         source: source_of(source)?,
         tag: tag_of(tag)?,
         buffer: name_of(alloc, buffer)?,
+        through: through_of(alloc, rest)?,
     })
 }
 
@@ -99,6 +101,7 @@ pub fn action_of(alloc: Global, words: &[Word]) -> Result<Action, LineError>
     let (verb, rest) = first(words)?;
     match required(verb_of(verb))? {
         Verb::Buffer => Ok(Action::Buffer(buffer_of(alloc, rest)?)),
+        Verb::Layout => Ok(Action::Layout(layout_of(alloc, rest)?)),
         Verb::Isend => {
             let (request, send) = isend_of(alloc, rest)?;
             Ok(Action::Isend(request, send))
@@ -108,5 +111,9 @@ pub fn action_of(alloc: Global, words: &[Word]) -> Result<Action, LineError>
             Ok(Action::Irecv(request, receive))
         }
         Verb::Wait => Ok(Action::Wait(one_of(alloc, rest)?)),
+        Verb::Test => Ok(Action::Test(one_of(alloc, rest)?)),
+        Verb::Cancel => Ok(Action::Cancel(one_of(alloc, rest)?)),
+        Verb::Waitany => Ok(Action::Waitany(requests_of(alloc, rest)?)),
+        Verb::Waitall => Ok(Action::Waitall(requests_of(alloc, rest)?)),
     }
 }

@@ -10,12 +10,22 @@ use crate::word::is;
 pub(crate) enum Verb {
     /// `buf`
     Buffer,
+    /// `type`
+    Layout,
     /// `isend`
     Isend,
     /// `irecv`
     Irecv,
     /// `wait`
     Wait,
+    /// `test`
+    Test,
+    /// `cancel`
+    Cancel,
+    /// `waitany`
+    Waitany,
+    /// `waitall`
+    Waitall,
 }
 
 /// What the first word says.
@@ -25,12 +35,22 @@ pub(crate) fn verb_of(word: &[u8]) -> Option<Verb>
 {
     if is(word, b"buf") {
         Some(Verb::Buffer)
+    } else if is(word, b"type") {
+        Some(Verb::Layout)
     } else if is(word, b"isend") {
         Some(Verb::Isend)
     } else if is(word, b"irecv") {
         Some(Verb::Irecv)
     } else if is(word, b"wait") {
         Some(Verb::Wait)
+    } else if is(word, b"test") {
+        Some(Verb::Test)
+    } else if is(word, b"cancel") {
+        Some(Verb::Cancel)
+    } else if is(word, b"waitany") {
+        Some(Verb::Waitany)
+    } else if is(word, b"waitall") {
+        Some(Verb::Waitall)
     } else {
         None
     }

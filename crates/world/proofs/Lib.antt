@@ -2,6 +2,7 @@ pub mod Openings
 pub mod Places
 pub mod QuietPairs
 pub mod Ranks
+pub mod Asked
 pub mod Runs
 pub mod Sound
 pub mod Strays

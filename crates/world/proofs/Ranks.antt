@@ -18,7 +18,7 @@ pub ran_at : (d : List (ℕ × List ℕ)) (event : Event) (old : List EngineStat
 ran_at d event old rank e next result target there ran = record { rank = rank; target = target; engine = e; there = there; next = next; ran = ran; others = refl }
 
 -- what stands at a place, put there once more
-set_same : (xs : List EngineState) (k : ℕ) (x : EngineState) → slice_get xs k ≡ Some x → slice_set xs k x ≡ xs
+pub set_same : (xs : List EngineState) (k : ℕ) (x : EngineState) → slice_get xs k ≡ Some x → slice_set xs k x ≡ xs
 set_same xs k x is = ap (slice_set xs k) (sym (get_or_from_slice_get xs k x x is)) ∙ set-get_or xs k x
 
 -- an engine that refuses an event stays as it was

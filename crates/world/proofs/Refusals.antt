@@ -17,7 +17,7 @@ use Rattle.rank_core.specs.declared.refused.Refused.{Refused}
 use Rattle.proof_network_bridge.specs.Following.{RefusesDatagram}
 use Rattle.proof_network_bridge.specs.Joined.{IsClean, IsFollowed}
 use Rattle.proof_network_bridge.proofs.Closed.{refusals_follow}
-use Rattle.requests.specs.declared.outcome.Outcome.{Outcome}
+use Rattle.requests.specs.declared.answer.Answer.{Answer}
 use Rattle.world.specs.Faults.{event_fault, target_of}
 use Rattle.world.specs.Headline.{IsSound, history_seen}
 use Rattle.world.specs.Steps.{DatagramRuns, DeliveryRuns, EventRuns, IsRefusedBy, IsWhy, RanAt, Refusal, first_of, with_out}
@@ -26,6 +26,7 @@ use Rattle.world.specs.declared.event.Entry.{Entry}
 use Rattle.world.specs.declared.event.Event.{Event}
 use Rattle.world.specs.declared.event.Event.TheVariants as events
 use Rattle.world.specs.declared.event.Failed.{Failed}
+use Rattle.world.proofs.Asked.{first_fault_refuses}
 use Rattle.world.proofs.Places.{sound_placed}
 use Rattle.world.proofs.Sound.{stray_breaks}
 use Rattle.world.proofs.Strays.{alike_at_engine}
@@ -77,7 +78,7 @@ refused_is_old old mid bytes why none g =
 emptied_is_old : (old mid : EngineState) (bytes : List ℕ) (why : Refused) → IsClean old → RefusesDatagram old bytes why mid → emptied mid ≡ old
 emptied_is_old old mid bytes why clean g =
     ap without_completion (refused_is_old old mid bytes why clean.out g)
-    ∙ ap (λ (c : Option Outcome). record old { core = record old.core { completion = c } }) (sym clean.completion)
+    ∙ ap (λ (c : Option Answer). record old { core = record old.core { completion = c } }) (sym clean.completion)
 
 -- ---- what it leaves of a world
 
@@ -146,6 +147,7 @@ refused_so old event failed engines datagrams history dr er out s es ds hs reset
       reset = reset;
       back = back;
       why = why;
+      first = first_fault_refuses old event failed.refused out why;
       alike = alike_at_engine old event failed.refused out (sound_placed old.engines old.datagrams old.history s) why;
     }
 

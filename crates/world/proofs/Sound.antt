@@ -8,7 +8,7 @@ use Rattle.vocabulary.specs.declared.endpoint.Endpoint.{Endpoint}
 use Rattle.engine.specs.EngineState.{EngineState, emptied, opening}
 use Rattle.rank_core.specs.declared.call.Call.{Call}
 use Rattle.rank_core.specs.declared.call.Reply.{Reply}
-use Rattle.requests.specs.declared.outcome.Outcome.{Outcome}
+use Rattle.requests.specs.declared.answer.Answer.{Answer}
 use Rattle.perfect_queues.specs.Events as machine
 use Rattle.proof_engine_view.specs.Seen.{told_call, told_completion}
 use Rattle.proof_network_bridge.specs.Following.{LeavesFollowed, next_place}
@@ -83,7 +83,7 @@ record IsEngineOf (old new : List EngineState) (d : List (ℕ × List ℕ)) (h :
 completion_at : (e : EngineState) (mid : EngineState) (gave : Gave) → gave.endpoint ≡ e.sessions.place.endpoint → gave.completion ≡ mid.core.completion →
     told_completion e.sessions.place.endpoint mid.core.completion ≡ told_completion gave.endpoint gave.completion
 completion_at e mid gave endpoint completion =
-    ap (λ (o : Option Outcome). told_completion e.sessions.place.endpoint o) (sym completion) ∙ ap (λ (x : Endpoint). told_completion x gave.completion) (sym endpoint)
+    ap (λ (o : Option Answer). told_completion e.sessions.place.endpoint o) (sym completion) ∙ ap (λ (x : Endpoint). told_completion x gave.completion) (sym endpoint)
 
 -- ---- a call
 

@@ -110,7 +110,7 @@ stray_alike old r bytes why out e placed is there other = go is
     go : IsWhy old (events.Stray r bytes) why out → EngineRefuses e bytes why
     go (ByTheWorld fault silent) =
         subst (λ (x : Refused). EngineRefuses e bytes x) (same_Some (stray_fault bytes) why (sym fault_is ∙ fault)) (stray_refused e bytes (placed r e there).job other)
-    go (ForRoom none needs room silent) = let clash : Some (stray_fault bytes) ≡ None = sym fault_is ∙ none in absurd cc
+    go (ForRoom none allowed needs room silent) = let clash : Some (stray_fault bytes) ≡ None = sym fault_is ∙ none in absurd cc
     go (ByTheEngine refusal none refused gives ran) = let clash : Some (stray_fault bytes) ≡ None = sym fault_is ∙ none in absurd cc
 
 -- whatever is answered stray bytes is what the engine of their rank would answer

@@ -4,7 +4,7 @@ use Rattle.vocabulary.specs.declared.endpoint.Endpoint.{Endpoint}
 use Rattle.vocabulary.specs.Endpoints.{last_incarnation}
 use Rattle.incarnation.specs.declared.place.Place.{Place}
 use Rattle.engine.specs.EngineState.{EngineState, emptied, opening}
-use Rattle.engine.specs.Calls.{CallGives}
+use Rattle.engine.specs.Calls.{CallGives, fault_of}
 use Rattle.rank_core.specs.Calls.{IsTaken, IsWithin}
 use Rattle.rank_core.specs.Refusals.{IsRefusal}
 use Rattle.rank_core.specs.declared.refused.Refused as lower
@@ -12,7 +12,7 @@ use Rattle.rank_core.specs.declared.refused.Refused.TheVariants as lowers
 use Rattle.rank_core.specs.declared.call.Call.{Call}
 use Rattle.rank_core.specs.declared.call.Reply.{Reply}
 use Rattle.rank_core.specs.declared.call.Reply.TheVariants as replies
-use Rattle.requests.specs.declared.outcome.Outcome.{Outcome}
+use Rattle.requests.specs.declared.answer.Answer.{Answer}
 use Rattle.world.specs.declared.event.Event.{Event}
 use Rattle.world.specs.declared.event.Event.TheVariants as events
 use Rattle.world.specs.declared.event.Entry.{Entry}
@@ -22,7 +22,7 @@ use Rattle.world.specs.declared.event.Stepped.{Stepped}
 use Rattle.world.specs.declared.refused.Refused.{Refused}
 use Rattle.world.specs.declared.refused.Refused.TheVariants as refusals
 use Rattle.proof_network_bridge.specs.Following.{RefusesDatagram, RefusesTick, TakesDatagram, TakesTick, next_place}
-use Rattle.world.specs.Faults.{event_fault, target_of}
+use Rattle.world.specs.Faults.{event_fault, first_fault, target_of}
 use Rattle.world.specs.Headline.{IsRunOfPerfectQueues}
 use Rattle.world.specs.Strays.{EngineRefuses, carries_job}
 use Rattle.world.specs.WorldState.{HasRoom, WorldState}
@@ -34,7 +34,7 @@ pub record Gave : Type 0 where
   pub endpoint : Endpoint
   pub out : List (ℕ × List ℕ)
   pub reply : Option Reply
-  pub completion : Option Outcome
+  pub completion : Option Answer
 
 -- why an engine refused an event, and what it gave all the same: nothing, or a reset
 pub record Refusal : Type 0 where
@@ -119,6 +119,25 @@ EventRuns datagrams (events.Stray rank bytes) old result new = DatagramRuns old 
 EventRuns datagrams (events.Tick rank now) old result new = TickRuns old now result new
 EventRuns datagrams (events.Restart rank) old result new = RestartRuns old result new
 
+-- The rule or limit by which an engine refuses an event, whatever memory there is, as far as a world asks for it before it
+-- makes room: of a call and of a restart
+abbrev pub asked_fault : EngineState → Event → Option lower.Refused
+asked_fault e (events.Call rank call) = fault_of e call
+asked_fault e (events.Deliver number) = None
+asked_fault e (events.Stray rank bytes) = None
+asked_fault e (events.Tick rank now) = None
+asked_fault e (events.Restart rank) = restart_fault e.sessions.place
+
+-- the same of the engine at a place, if there is one
+abbrev pub fault_by : Option EngineState → Event → Option lower.Refused
+fault_by None event = None
+fault_by (Some e) event = asked_fault e event
+
+-- and of the engine of a rank among these
+abbrev pub fault_among : List EngineState → (rank : Option ℕ) → Event → Option lower.Refused
+fault_among engines None event = None
+fault_among engines (Some rank) event = fault_by (slice_get engines rank) event
+
 -- of these engines, the one of the rank that the event comes to took it or refused it, and no other changed
 pub record RanAt (datagrams : List (ℕ × List ℕ)) (event : Event) (old : List EngineState) (result : Result Gave Refusal) (new : List EngineState) : Type 0 where
   pub rank : ℕ
@@ -134,6 +153,10 @@ pub record RanAt (datagrams : List (ℕ × List ℕ)) (event : Event) (old : Lis
 -- the first rule of the world that an event breaks
 abbrev pub fault_in : WorldState → Event → Option Refused
 fault_in w event = event_fault (length w.engines) w.datagrams event
+
+-- the rule or limit by which the engine of its rank refuses it, as far as the world asks for it
+abbrev pub engine_fault : WorldState → Event → Option lower.Refused
+engine_fault w event = fault_among w.engines (target_of w.datagrams event) event
 
 -- what the history holds of an event
 abbrev pub entry_of : Event → Gave → Entry
@@ -165,12 +188,36 @@ NeedsMemory w event = (HasRoom w → ⊥) ⊎ IsCopied event
 pub data IsWhy (old : WorldState) (event : Event) (refused : Refused) (out : List (ℕ × List ℕ)) : Type 0 where
   -- by the first rule of the world that it breaks, before room is looked for
   ByTheWorld : fault_in old event ≡ Some refused → out ≡ [] → IsWhy old event refused out
-  -- it breaks none of them; before the engine saw it, memory was wanting that the world needed
-  ForRoom : fault_in old event ≡ None → NeedsMemory old event → refused ≡ refusals.Engine lowers.OutOfMemory → out ≡ [] → IsWhy old event refused out
+  -- it breaks none of them, nor, if it is a call or a restart, a rule or limit of its engine; before the engine saw it, memory
+  -- was wanting that the world needed
+  ForRoom :
+      fault_in old event ≡ None → engine_fault old event ≡ None → NeedsMemory old event →
+      refused ≡ refusals.Engine lowers.OutOfMemory → out ≡ [] → IsWhy old event refused out
   -- it breaks none of them, and the engine of its rank refused it
   ByTheEngine :
       (e : Refusal) → fault_in old event ≡ None → refused ≡ refusals.Engine e.refused → out ≡ e.out →
       RanAt old.datagrams event old.engines (Err e) old.engines → IsWhy old event refused out
+
+-- an engine's refusal, as the world's
+abbrev pub of_engine : Option lower.Refused → Option Refused
+of_engine None = None
+of_engine (Some fault) = Some (refusals.Engine fault)
+
+-- it is by the fault, where there is one, and else for want of memory
+abbrev pub IsFaultOrMemory : Option Refused → Refused → Type 0
+IsFaultOrMemory (Some fault) refused = refused ≡ fault
+IsFaultOrMemory None refused = refused ≡ refusals.Engine lowers.OutOfMemory
+
+-- A call and a restart are refused by the first rule of the world that they break, else by the engine's rule or limit, and only
+-- where there is none for want of memory
+abbrev pub IsFirstFault : WorldState → Event → Refused → Type 0
+IsFirstFault w (events.Call rank call) refused =
+    IsFaultOrMemory (first_fault (fault_in w (events.Call rank call)) (of_engine (engine_fault w (events.Call rank call)))) refused
+IsFirstFault w (events.Restart rank) refused =
+    IsFaultOrMemory (first_fault (fault_in w (events.Restart rank)) (of_engine (engine_fault w (events.Restart rank)))) refused
+IsFirstFault w (events.Deliver number) refused = Unit {0}
+IsFirstFault w (events.Stray rank bytes) refused = Unit {0}
+IsFirstFault w (events.Tick rank now) refused = Unit {0}
 
 -- stray bytes of another job than the world's are refused at a rank just as its engine would refuse them
 abbrev pub IsAsAtTheEngine : List EngineState → Event → Refused → Type 0
@@ -194,6 +241,7 @@ pub record IsRefusedBy (old : WorldState) (event : Event) (failed : Failed) (new
   pub reset : failed.reset ≡ first_of (length old.datagrams) out
   pub back : failed.event ≡ event
   pub why : IsWhy old event failed.refused out
+  pub first : IsFirstFault old event failed.refused
   pub alike : IsAsAtTheEngine old.engines event failed.refused
 
 -- one event: it is taken, or refused

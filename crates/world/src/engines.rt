@@ -7,12 +7,12 @@ ghost use Rattle.proof_network_bridge.specs.Joined.{opening_engines};
 ghost use Rattle.proof_link_truth.specs.Wire.{at, place_of};
 ghost use Rattle.world.specs.Faults.{target_of, bytes_fault, event_fault};
 ghost use Rattle.world.specs.WorldState.{IsWorld, ArePlaced};
-ghost use Rattle.world.specs.Steps.{RanAt, emitted};
+ghost use Rattle.world.specs.Steps.{RanAt, emitted, fault_by};
 ghost use Rattle.world.specs.Strays.{stray_fault};
 ghost use Rattle.world.specs.Views.{gave_of};
 
 use crate::event::Event;
-use crate::one_engine::{Given, Rejected, happen};
+use crate::one_engine::{Given, Rejected, fault_of, happen};
 use crate::refused::{OUT_OF_MEMORY, Refused};
 use byteorder::{BigEndian, ByteOrder};
 use datagram::Bytes;
@@ -89,6 +89,17 @@ pub fn judge(size: usize, datagrams: &[(u16, Bytes)], event: &Event) -> Result<u
     match fault_of_bytes(event) {
         Some(fault) => Err(fault),
         None => Ok(rank),
+    }
+}
+
+/// The rule or limit by which the engine of a rank refuses a call or a restart, whatever memory there is; of other events it
+/// isn't asked. It takes no memory.
+pub fn fault_at(engines: &[Engine], rank: u16, event: &Event) -> Option<engine::Refused>
+    ensures { result ≡ fault_by (slice_get engines.now rank) event.now }
+{
+    match engines.get(rank as usize) {
+        Some(engine) => fault_of(engine, event),
+        None => None,
     }
 }
 

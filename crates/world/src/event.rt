@@ -6,7 +6,6 @@ ghost use Rattle.world.specs.Steps.{IsCopied};
 use crate::refused::Refused;
 use datagram::Bytes;
 use engine::{Call, Reply};
-use requests::Outcome;
 use std::alloc::{AllocError, Global};
 use vocabulary::Endpoint;
 
@@ -37,7 +36,7 @@ pub struct Entry {
     /// What the call answered, if it was one.
     pub reply: Option<Reply>,
     /// The answer of a blocked call that was ready now, if one was.
-    pub completion: Option<Outcome>,
+    pub completion: Option<requests::Answer>,
 }
 
 /// What a step added to the world.

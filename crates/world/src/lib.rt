@@ -1,4 +1,4 @@
-//! A world of ranks in one process, with every datagram that they ever emitted, and the files of events that run it.
+//! A world of ranks in one process, with every datagram that they ever emitted and everything that happened to them.
 #![tactic(auto)]
 
 mod engines;

@@ -4,19 +4,19 @@ ghost use Rattle.std.specs.Prelude.{◌≡◌, ◌≤◌, ◌+◌, ◌*◌, [], 
 ghost use Rattle.engine.specs.EngineState.{emptied};
 ghost use Rattle.world.specs.Faults.{target_of};
 ghost use Rattle.world.specs.WorldState.{IsReady};
-ghost use Rattle.world.specs.Steps.{CallRuns, DatagramRuns, TickRuns, RestartRuns, EventRuns, emitted};
+ghost use Rattle.world.specs.Steps.{CallRuns, DatagramRuns, TickRuns, RestartRuns, EventRuns, asked_fault, emitted, restart_fault};
 ghost use Rattle.world.specs.Views.{gave_of};
 
 use crate::event::Event;
 use datagram::Bytes;
 use engine::{Call, Engine, Place, Reply};
 use incarnation::next_incarnation;
-use requests::Outcome;
+use requests::Answer;
 use std::alloc::Global;
 use vocabulary::Endpoint;
 
 /// What the engine of an endpoint gave in an event.
-#[derive(Debug, Drop)]
+#[derive(Drop)]
 pub struct Given {
     /// The endpoint that the engine was before the event.
     pub endpoint: Endpoint,
@@ -25,16 +25,40 @@ pub struct Given {
     /// What the call answered, if the event was one.
     pub reply: Option<Reply>,
     /// The answer of a blocked call that was ready now, if one was.
-    pub completion: Option<Outcome>,
+    pub completion: Option<Answer>,
 }
 
 /// Why an engine refused an event, and what it gave all the same.
-#[derive(Debug, Drop)]
+#[derive(Drop)]
 pub struct Rejected {
     /// Why it refused.
     pub refused: engine::Refused,
     /// The datagrams that it emitted: none, or a reset.
     pub out: Vec<(u16, Bytes)>,
+}
+
+/// That there is no incarnation after this one, if there is none.
+fn fault_of_restart(place: Place) -> Option<engine::Refused>
+    ensures { result ≡ restart_fault place }
+{
+    match next_incarnation(place.endpoint.incarnation) {
+        Ok(_) => None,
+        Err(_) => Some(engine::Refused::Limit),
+    }
+}
+
+/// The rule or limit by which an engine refuses a call or a restart, whatever memory there is; of other events it isn't asked.
+/// It takes no memory.
+pub fn fault_of(engine: &Engine, event: &Event) -> Option<engine::Refused>
+    ensures { result ≡ asked_fault engine.now event.now }
+{
+    match event {
+        Event::Call(_, call) => engine.fault_of(call),
+        Event::Restart(_) => fault_of_restart(engine.place()),
+        Event::Deliver(_) => None,
+        Event::Stray(_, _) => None,
+        Event::Tick(_, _) => None,
+    }
 }
 
 /// A refusal with which nothing goes out.
@@ -78,7 +102,9 @@ fn call(alloc: Global, engine: &mut Engine, call: Call) -> Result<Given, Rejecte
     match engine.call(call) {
         Reply::Refused(refused, _call) => Err(plain(alloc, refused)),
         Reply::Started(request) => Ok(take_given(engine, Some(Reply::Started(request)))),
-        Reply::Done(outcome) => Ok(take_given(engine, Some(Reply::Done(outcome)))),
+        Reply::Done(answer) => Ok(take_given(engine, Some(Reply::Done(answer)))),
+        Reply::Pending => Ok(take_given(engine, Some(Reply::Pending))),
+        Reply::Accepted => Ok(take_given(engine, Some(Reply::Accepted))),
         Reply::Blocked => Ok(take_given(engine, Some(Reply::Blocked))),
     }
 }

@@ -8,7 +8,7 @@ ghost use Rattle.world.specs.Headline.{IsRunOfPerfectQueues, IsSound, SessionsAr
 ghost use Rattle.world.specs.Steps.{StepGives, RunGives, IsNotRun, entry_of, first_of};
 ghost use Rattle.world.specs.Views.{gave_in};
 
-use crate::engines::{datagram_at, judge, new_engines, run_event};
+use crate::engines::{datagram_at, fault_at, judge, new_engines, run_event};
 use crate::event::{Answer, Entry, Event, Failed, FailedRun, Stepped};
 use crate::one_engine::{Given, Rejected};
 use crate::quiet::are_quiet;
@@ -123,8 +123,8 @@ fn plain(refused: Refused, event: Event) -> Failed
     }
 }
 
-/// One event at the rank that it comes to, whose engine alone changes: the rules of the world first, then the room that it
-/// may take, then the engine.
+/// One event at the rank that it comes to, whose engine alone changes: the rules of the world first, then those of the engine
+/// for a call or a restart, then the room that it may take, then the engine.
 fn advance(
     alloc: Global,
     engines: &mut Vec<Engine>,
@@ -143,6 +143,9 @@ fn advance(
         Ok(rank) => rank,
         Err(refused) => return Err(plain(refused, event)),
     };
+    if let Some(refused) = fault_at(engines, rank, &event) {
+        return Err(plain(Refused::Engine(refused), event));
+    }
     if !has_made_room(datagrams, history, engines.len()) {
         return Err(plain(OUT_OF_MEMORY, event));
     }
@@ -194,13 +197,12 @@ impl World {
     /// The events that were not refused, with what they answered, in order. It takes no memory.
     ///
     /// What is seen in it, calls with their replies, completions and restarts, is a run of the machine of perfect queues,
-    /// which has come to rest where the world is quiet (MPI 3.1, 3.5 and 3.7; restarts are this project's own). With a call
-    /// that a rank would take now the machine finds no fault. With one that it would refuse the machine finds the same fault
-    /// first; or it finds none, and the number is 13 or 14; or the call breaks one of the few rules by which the rank's
-    /// engine is narrower for now, whatever
-    /// the machine finds. In each session that ever was, what was handed up is a beginning of what was accepted, and every
-    /// frame below the lowest unacknowledged number was handed up (`law`, which the datagrams pin for former incarnations too;
-    /// `sessions` says it in numbers of ranks that know each other).
+    /// which has come to rest where the world is quiet (MPI 3.1, 3.5, 3.7, 3.8.4 and 3.11; restarts are this project's own).
+    /// With a call that a rank would take now the machine finds no fault. With one that it would refuse the machine finds the
+    /// same fault first; or it finds none, and the number is 13 or 14; or, whatever the machine finds, the call is a send of
+    /// more than 1,024 bytes, for which the rank's engine is too narrow for now. In each session that ever was, what was handed
+    /// up is a beginning of what was accepted, and every frame below the lowest unacknowledged number was handed up (`law`,
+    /// which the datagrams pin for former incarnations too; `sessions` says it in numbers of ranks that know each other).
     pub fn history(&self) -> &[Entry]
         ensures entries { result.now ≡ self.now.history }
         ensures headline { IsRunOfPerfectQueues self.now }
@@ -227,11 +229,13 @@ impl World {
     /// that were emitted before may still be delivered. MPI 3.1 has no restarts of a rank: they are this project's own.
     ///
     /// Refused is the first that holds of: 62 (no such datagram), 61 (no such rank), 63 (stray bytes that carry job 1) or the
-    /// number of what else is wrong with stray bytes, 14 (want of memory for what the event may add to the world, where it has
-    /// no room for that, or for a copy of a call), 13 (a restart of a rank at incarnation 65,535, the last one), what the
-    /// rank's engine refuses with. A refusal hands the event back, and changes nothing but this: with 29, the refusal of a
-    /// datagram for a former incarnation of its target, a reset goes out to the datagram's source, unless the datagram was a
-    /// reset; it is numbered, and the refusal tells its number.
+    /// number of what else is wrong with stray bytes, the rule or limit by which the rank's engine refuses a call
+    /// (`Engine::fault_of`), 13 (a restart of a rank at incarnation 65,535, the last one), 14 (want of memory for what the event
+    /// may add to the world, where it has no room for that, or for a copy of a call), what the rank's engine refuses with: a
+    /// datagram or a tick by its rules, and any event for want of memory (14). So a call or a restart is refused with 14 only
+    /// where no rule and no limit refuses it. A refusal hands the event back, and changes nothing but this: with 29, the
+    /// refusal of a datagram for a former incarnation of its target, a reset goes out to the datagram's source, unless the
+    /// datagram was a reset; it is numbered, and the refusal tells its number.
     pub fn step(&mut self, event: Event) -> Answer
         ensures exact { StepGives self.old event result self.new }
         ensures headline { IsRunOfPerfectQueues self.new }

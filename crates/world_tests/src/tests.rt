@@ -2,8 +2,9 @@
 
 use datatypes::Buffer;
 use engine::{Call, Send};
+use requests::Region;
 use std::alloc::Global;
-use vocabulary::BasicType;
+use vocabulary::{BasicType, Source};
 use world::{Answer, Event, World};
 
 /// The first, count and place of an event that ran.
@@ -39,9 +40,9 @@ fn send_to(alloc: Global, target: u16) -> Option<Event> {
     Some(Event::Call(
         0,
         Call::Isend(Send {
-            target: Some(target),
-            tag: 7,
-            elements,
+            target: Source::Rank(target),
+            tag: Some(7),
+            from: Region::whole(elements),
         }),
     ))
 }

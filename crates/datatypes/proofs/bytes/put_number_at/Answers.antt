@@ -19,8 +19,8 @@ copy_within-requires c =
     let a = c.args in
     let piece : c.piece.result.now ≡ big_bytes a.size a.number =
     c.piece.ensures
-    ∙ ap (λ (n : ℕ). take a.size (drop n c.write_uint.new.buf)) (zero-mul a.size)
-    ∙ ap (take a.size) c.write_uint.ensures
+    ∙ ap (λ (n : ℕ). take a.size (drop n c.write_number.new.bytes)) (zero-mul a.size)
+    ∙ ap (take a.size) c.write_number.ensures
     ∙ take_at (big_bytes a.size a.number) _ a.size (length-bytes_high_first a.size a.number)
     in
     let len : length c.piece.result.now ≡ a.size = ap length piece ∙ length-bytes_high_first a.size a.number in
@@ -32,8 +32,8 @@ returns-clause-whole c =
     let a = c.args in
     let piece : c.piece.result.now ≡ big_bytes a.size a.number =
     c.piece.ensures
-    ∙ ap (λ (n : ℕ). take a.size (drop n c.write_uint.new.buf)) (zero-mul a.size)
-    ∙ ap (take a.size) c.write_uint.ensures
+    ∙ ap (λ (n : ℕ). take a.size (drop n c.write_number.new.bytes)) (zero-mul a.size)
+    ∙ ap (take a.size) c.write_number.ensures
     ∙ take_at (big_bytes a.size a.number) _ a.size (length-bytes_high_first a.size a.number)
     in
     let len : length c.piece.result.now ≡ a.size = ap length piece ∙ length-bytes_high_first a.size a.number in
@@ -50,8 +50,8 @@ returns-clause-values c =
     let a = c.args in
     let piece : c.piece.result.now ≡ big_bytes a.size a.number =
     c.piece.ensures
-    ∙ ap (λ (n : ℕ). take a.size (drop n c.write_uint.new.buf)) (zero-mul a.size)
-    ∙ ap (take a.size) c.write_uint.ensures
+    ∙ ap (λ (n : ℕ). take a.size (drop n c.write_number.new.bytes)) (zero-mul a.size)
+    ∙ ap (take a.size) c.write_number.ensures
     ∙ take_at (big_bytes a.size a.number) _ a.size (length-bytes_high_first a.size a.number)
     in
     let len : length c.piece.result.now ≡ a.size = ap length piece ∙ length-bytes_high_first a.size a.number in

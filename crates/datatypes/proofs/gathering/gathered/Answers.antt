@@ -1,8 +1,8 @@
-use Rattle.std.proofs.Common.{◌≡◌, ◌+◌, ◌*◌, ◌<◌, ◌≤◌, ℕ, List, [], length, get_or, sym, ap, subst, ◌∙◌, arith}
+use Rattle.std.proofs.Common.{◌≡◌, ◌+◌, ◌*◌, ◌<◌, ◌≤◌, ℕ, length, get_or, sym, ap, subst, ◌∙◌, arith}
 use Rattle.std.proofs.Math.Nat.{add-mul, mul-le-mul_left}
 use Rattle.std.proofs.lemmas.Bool.{eqb-true, eqb-false}
 use Rattle.datatypes.specs.Contents.{values_of, AreWhole}
-use Rattle.datatypes.specs.Layouts.{places}
+use Rattle.derived_types.specs.Layouts.{places}
 use Rattle.datatypes.specs.Transfers.{elements_at}
 use Rattle.datatypes.proofs.RunLaws.{AreRun, run_fits, room_in_bytes, run_gathered, none_gathered, nil_gathered, if_ok}
 use Rattle.datatypes.proofs.gathering.gathered.Goals as goal

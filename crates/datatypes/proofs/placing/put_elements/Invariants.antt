@@ -1,6 +1,6 @@
 use Rattle.std.proofs.Common.{◌≡◌, ℕ, List, length, take, drop}
 use Rattle.datatypes.specs.Contents.{values_of, AreWhole}
-use Rattle.datatypes.specs.Layouts.{moved}
+use Rattle.derived_types.specs.Layouts.{moved}
 use Rattle.datatypes.specs.Transfers.{put_at}
 use Rattle.datatypes.proofs.placing.put_elements.Given as goal
 

@@ -4,10 +4,11 @@ use Rattle.std.proofs.lemmas.Bool.{eqb-false}
 use Rattle.std.proofs.lemmas.List.{length-take, take_all}
 use Rattle.datatypes.specs.Contents.{values_of}
 use Rattle.datatypes.specs.ContentLaws.{length-values_of}
-use Rattle.datatypes.specs.Layouts.{extent_of, moved, places}
+use Rattle.derived_types.specs.Layouts.{extent_of, moved, places}
 use Rattle.datatypes.specs.Transfers.{put_at, first_places, AreNear}
 use Rattle.datatypes.proofs.BufferSteps.{element_fits}
-use Rattle.datatypes.proofs.PlaceLaws.{near_copy_whole, near_part, near_moved, whole_more, part_more, first_split, first_places-is, length-copies_at}
+use Rattle.datatypes.proofs.PlaceLaws.{near_copy_whole, near_part, near_moved, whole_more, part_more, first_split, first_places-is}
+use Rattle.derived_types.proofs.LayoutLaws.{length-copies_at}
 use Rattle.datatypes.proofs.placing.put_sized.Goals as goal
 
 pub overflow_mul-copy : goal.overflow_mul-copy
@@ -51,8 +52,8 @@ overflow_mul-copy-in-loop-copy c =
     let room : k * l + l ≤ a.count = omega arith in
     omega arith
 
-pub put_elements-requires-clause-start : goal.put_elements-requires-clause-start
-put_elements-requires-clause-start c =
+pub put_copy-requires-clause-start : goal.put_copy-requires-clause-start
+put_copy-requires-clause-start c =
     let a = c.args in
     let size = a.size in
     let xs = a.offsets.now in
@@ -69,8 +70,8 @@ put_elements-requires-clause-start c =
     let room : k * l + l ≤ a.count = omega arith in
     omega (arith, c.requires.count)
 
-pub put_elements-requires-clause-near : goal.put_elements-requires-clause-near
-put_elements-requires-clause-near c =
+pub put_copy-requires-clause-near : goal.put_copy-requires-clause-near
+put_copy-requires-clause-near c =
     let a = c.args in
     let size = a.size in
     let xs = a.offsets.now in
@@ -109,12 +110,12 @@ loop-copy-preserved c =
     let old = values_of size a.bytes.now in
     let before = values_of size c.loop-copy.bytes in
     let part = take l (drop (k * l) ms) in
-    let bytes = ap (λ (n : ℕ). n / size) c.put_elements.ensures.len in
+    let bytes = ap (λ (n : ℕ). n / size) c.put_copy.ensures.len in
     record {
-      whole = c.put_elements.ensures.whole;
-      len = c.put_elements.ensures.len ∙ inv.len;
-      elements = length-values_of size c.put_elements.new.bytes ∙ bytes ∙ sym (length-values_of size c.loop-copy.bytes) ∙ inv.elements;
-      values = c.put_elements.ensures.values
+      whole = c.put_copy.ensures.whole;
+      len = c.put_copy.ensures.len ∙ inv.len;
+      elements = length-values_of size c.put_copy.new.bytes ∙ bytes ∙ sym (length-values_of size c.loop-copy.bytes) ∙ inv.elements;
+      values = c.put_copy.ensures.values
           ∙ ap (λ (e : ℕ). put_at before (moved (k * e) xs) part) c.requires.extent
           ∙ ap (λ (t : List ℕ). put_at t (moved by xs) part) inv.values
           ∙ sym (whole_more old xs ms k (omega (arith, c.requires.count)));
@@ -142,8 +143,8 @@ overflow_mul-whole c =
     let same : n * a.extent ≡ by = ap (λ (e : ℕ). n * e) c.requires.extent in
     rw same (omega arith)
 
-pub put_elements-requires-then-rest-gt0-clause-near : goal.put_elements-requires-then-rest-gt0-clause-near
-put_elements-requires-then-rest-gt0-clause-near c =
+pub put_elements-requires-clause-near : goal.put_elements-requires-clause-near
+put_elements-requires-clause-near c =
     let a = c.args in
     let size = a.size in
     let xs = a.offsets.now in
@@ -188,7 +189,7 @@ returns-then-rest-gt0-clause-values c =
     let lp = length-copies_at 0 n xs in
     let lm : length ms ≡ a.count = sym c.requires.count in
     let rest = drop (n * l) ms in
-    c.put_elements-then-rest-gt0.ensures.values
+    c.put_elements.ensures.values
     ∙ ap (λ (m : ℕ). put_at before (moved (n * a.extent) first) (take m rest)) len
     ∙ ap (λ (t : List ℕ). put_at before (moved (n * a.extent) t) (take r rest)) c.split_at.ensures.front
     ∙ ap (λ (e : ℕ). put_at before (moved (n * e) (take r xs)) (take r rest)) c.requires.extent

@@ -1,6 +1,6 @@
 use Rattle.std.proofs.Common.{◌≡◌, ◌*◌, ℕ, List, length, take}
 use Rattle.datatypes.specs.Contents.{values_of, AreWhole}
-use Rattle.datatypes.specs.Layouts.{places}
+use Rattle.derived_types.specs.Layouts.{places}
 use Rattle.datatypes.specs.Transfers.{put_at}
 use Rattle.datatypes.proofs.placing.put_sized.Given as goal
 

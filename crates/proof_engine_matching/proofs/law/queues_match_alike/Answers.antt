@@ -1,6 +1,6 @@
 use Rattle.proof_engine_matching.proofs.ArrivalLemmas.{arrivals_match}
 use Rattle.proof_engine_matching.proofs.PostLemmas.{posts_match}
-use Rattle.proof_engine_matching.proofs.EndingLemmas.{outcomes_agree, receives_fit}
+use Rattle.proof_engine_matching.proofs.EndingLemmas.{outcomes_agree}
 use Rattle.proof_engine_matching.proofs.law.queues_match_alike.Goals as goal
 
 pub returns-clause-arrivals : goal.returns-clause-arrivals
@@ -11,6 +11,3 @@ returns-clause-posts c = posts_match
 
 pub returns-clause-outcomes : goal.returns-clause-outcomes
 returns-clause-outcomes c = outcomes_agree
-
-pub returns-clause-receives : goal.returns-clause-receives
-returns-clause-receives c = receives_fit

@@ -1,4 +1,4 @@
-use Rattle.std.proofs.Common.{◌≡◌, ◌∙◌, sym, Some, None}
+use Rattle.std.proofs.Common.{◌∙◌, sym, Some, None}
 use Rattle.rank_script.proofs.RunLaws.{along_first, along_none}
 use Rattle.rank_script.proofs.runner.go_on.Goals as goal
 

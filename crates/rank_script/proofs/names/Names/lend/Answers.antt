@@ -1,4 +1,4 @@
-use Rattle.std.proofs.Common.{◌≡◌, sym}
+use Rattle.std.proofs.Common.{sym}
 use Rattle.rank_script.proofs.EntryLaws.{lends}
 use Rattle.rank_script.proofs.names.Names.lend.Goals as goal
 

@@ -1,4 +1,4 @@
-use Rattle.std.proofs.Common.{◌≡◌, sym}
+use Rattle.std.proofs.Common.{sym}
 use Rattle.rank_script.proofs.EntryLaws.{nulls}
 use Rattle.rank_script.proofs.names.Names.null_request.Goals as goal
 

@@ -1,0 +1,54 @@
+//! The texts of answers.
+
+use crate::outcomes::{OutcomeText, OutcomesText};
+use std::fmt;
+
+/// What a call or an event answers, as it is written.
+#[derive(Clone, Copy, Debug)]
+pub enum Answer<'a> {
+    /// A request was started: its number in the order of starting.
+    Started(u64),
+    /// The call waits.
+    Blocked,
+    /// The call or the event was refused, with this number.
+    Refused(u8),
+    /// One operation ended.
+    One(OutcomeText<'a>),
+    /// One of several operations ended: its place among them, from 0, and how (MPI 3.1, 3.7.5).
+    Index(usize, OutcomeText<'a>),
+    /// There is no request but null ones (MPI 3.1, 3.7.5).
+    IndexUndefined,
+    /// All operations ended: how, in the order of the requests (MPI 3.1, 3.7.5).
+    All(&'a [OutcomeText<'a>]),
+    /// The operation isn't over yet.
+    Pending,
+    /// The call is over, and tells nothing else.
+    Done,
+    /// An event that answers nothing else was taken.
+    Taken,
+}
+
+impl<'a> fmt::Display for Answer<'a> {
+    ghost use Rattle.std.specs.Prelude.{Some};
+    ghost use Rattle.answer_texts.specs.Answers.{answer_text};
+
+    ghost output = { λ a. Some (answer_text a) };
+
+    fn fmt<W: fmt::Write>(&self, f: &mut fmt::Formatter<W>) -> fmt::Result {
+        match *self {
+            Answer::Started(serial) => write!(f, "request {serial}"),
+            Answer::Blocked => write!(f, "blocked"),
+            Answer::Refused(number) => write!(f, "refused {number}"),
+            Answer::One(outcome) => write!(f, "{outcome}"),
+            Answer::Index(place, outcome) => write!(f, "index {place} {outcome}"),
+            Answer::IndexUndefined => write!(f, "index undefined"),
+            Answer::All(outcomes) => {
+                let outcomes = OutcomesText { outcomes };
+                write!(f, "{outcomes}")
+            }
+            Answer::Pending => write!(f, "pending"),
+            Answer::Done => write!(f, "done"),
+            Answer::Taken => write!(f, "ok"),
+        }
+    }
+}

@@ -1,0 +1,132 @@
+//! The texts of datagrams that went out.
+
+use std::fmt;
+use vocabulary::Endpoint;
+
+/// `S.I`: an endpoint as it is written, its rank and its incarnation.
+#[derive(Clone, Copy, Debug, PartialEq, Eq)]
+pub struct EndpointText {
+    /// The endpoint.
+    pub endpoint: Endpoint,
+}
+
+impl fmt::Display for EndpointText {
+    ghost use Rattle.std.specs.Prelude.{Some};
+    ghost use Rattle.answer_texts.specs.Answers.{endpoint_text};
+
+    ghost output = { λ e. Some (endpoint_text e.endpoint) };
+
+    fn fmt<W: fmt::Write>(&self, f: &mut fmt::Formatter<W>) -> fmt::Result {
+        let rank = self.endpoint.rank;
+        let incarnation = self.endpoint.incarnation;
+        write!(f, "{rank}.{incarnation}")
+    }
+}
+
+/// What a datagram carries.
+#[derive(Clone, Copy, Debug, PartialEq, Eq)]
+pub enum FrameKind {
+    /// A message with its data: `EAGER`.
+    Eager,
+    /// The announcement of a long message: `RTS`.
+    Rts,
+    /// The answer to an announcement: `CTS`.
+    Cts,
+    /// A part of a long message: `DATA`.
+    Data,
+    /// An acknowledgement: `ACK`.
+    Ack,
+    /// A reset: `RESET`.
+    Reset,
+}
+
+impl fmt::Display for FrameKind {
+    ghost use Rattle.std.specs.Prelude.{Some};
+    ghost use Rattle.answer_texts.specs.Answers.{kind_text};
+
+    ghost output = { λ k. Some (kind_text k) };
+
+    fn fmt<W: fmt::Write>(&self, f: &mut fmt::Formatter<W>) -> fmt::Result {
+        match self {
+            FrameKind::Eager => write!(f, "EAGER"),
+            FrameKind::Rts => write!(f, "RTS"),
+            FrameKind::Cts => write!(f, "CTS"),
+            FrameKind::Data => write!(f, "DATA"),
+            FrameKind::Ack => write!(f, "ACK"),
+            FrameKind::Reset => write!(f, "RESET"),
+        }
+    }
+}
+
+/// `S.I>T.J`: from where and to where a datagram goes.
+#[derive(Clone, Copy, Debug, PartialEq, Eq)]
+pub struct Route {
+    /// From where.
+    pub source: Endpoint,
+    /// To where.
+    pub target: Endpoint,
+}
+
+impl fmt::Display for Route {
+    ghost use Rattle.std.specs.Prelude.{Some};
+    ghost use Rattle.answer_texts.specs.Answers.{route_text};
+
+    ghost output = { λ r. Some (route_text r) };
+
+    fn fmt<W: fmt::Write>(&self, f: &mut fmt::Formatter<W>) -> fmt::Result {
+        let source = EndpointText {
+            endpoint: self.source,
+        };
+        let target = EndpointText {
+            endpoint: self.target,
+        };
+        write!(f, "{source}>{target}")
+    }
+}
+
+/// `KIND SEQ`: a datagram's kind and sequence.
+#[derive(Clone, Copy, Debug, PartialEq, Eq)]
+pub struct Load {
+    /// What it carries.
+    pub kind: FrameKind,
+    /// Its sequence.
+    pub sequence: u64,
+}
+
+impl fmt::Display for Load {
+    ghost use Rattle.std.specs.Prelude.{Some};
+    ghost use Rattle.answer_texts.specs.Answers.{load_text};
+
+    ghost output = { λ l. Some (load_text l) };
+
+    fn fmt<W: fmt::Write>(&self, f: &mut fmt::Formatter<W>) -> fmt::Result {
+        let kind = self.kind;
+        let sequence = self.sequence;
+        write!(f, "{kind} {sequence}")
+    }
+}
+
+/// `+D S.I>T.J KIND SEQ`: a datagram that went out.
+#[derive(Clone, Copy, Debug, PartialEq, Eq)]
+pub struct Emission {
+    /// Its number in the world.
+    pub datagram: usize,
+    /// From where and to where it goes.
+    pub route: Route,
+    /// What it carries.
+    pub load: Load,
+}
+
+impl fmt::Display for Emission {
+    ghost use Rattle.std.specs.Prelude.{Some};
+    ghost use Rattle.answer_texts.specs.Answers.{emission_text};
+
+    ghost output = { λ e. Some (emission_text e) };
+
+    fn fmt<W: fmt::Write>(&self, f: &mut fmt::Formatter<W>) -> fmt::Result {
+        let datagram = self.datagram;
+        let route = self.route;
+        let load = self.load;
+        write!(f, "+{datagram} {route} {load}")
+    }
+}

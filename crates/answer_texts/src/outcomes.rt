@@ -1,0 +1,127 @@
+//! The texts of how operations ended.
+
+use crate::statuses::StatusText;
+use datatypes::{Buffer, Element};
+use std::fmt;
+use vocabulary::Status;
+
+/// The elements of a buffer as they are written behind `data`: a space and its value for each.
+#[derive(Clone, Copy, Debug)]
+pub struct Elements<'a> {
+    /// The buffer.
+    pub buffer: &'a Buffer,
+}
+
+impl<'a> fmt::Display for Elements<'a> {
+    ghost use Rattle.std.specs.Prelude.{Some};
+    ghost use Rattle.answer_texts.specs.Answers.{elements_text};
+
+    ghost output = { λ e. Some (elements_text e.buffer.now) };
+
+    fn fmt<W: fmt::Write>(&self, f: &mut fmt::Formatter<W>) -> fmt::Result {
+        let basic = self.buffer.basic();
+        for place in 0..self.buffer.len() {
+            let number = self.buffer.number(place);
+            let element = Element { basic, number };
+            write!(f, " {element}")?;
+        }
+        Ok(())
+    }
+}
+
+/// How an operation ended, as it is written.
+#[derive(Clone, Copy, Debug)]
+pub enum OutcomeText<'a> {
+    /// A send finished.
+    Sent,
+    /// A receive finished: what it took, and its buffer.
+    Received(Status, &'a Buffer),
+    /// A receive ended with this error: what it took, and its buffer.
+    Ended(u8, Status, &'a Buffer),
+    /// A receive ended since its source was started anew: its buffer, which is as it was.
+    Lost(&'a Buffer),
+    /// A receive was cancelled (MPI 3.1, 3.8.4): its buffer, which is as it was.
+    Cancelled(&'a Buffer),
+    /// A send ended with this error.
+    Failed(u8),
+    /// The request was null (MPI 3.1, 3.7.3).
+    Null,
+}
+
+impl<'a> fmt::Display for OutcomeText<'a> {
+    ghost use Rattle.std.specs.Prelude.{Some};
+    ghost use Rattle.answer_texts.specs.Answers.{outcome_text};
+
+    ghost output = { λ o. Some (outcome_text o) };
+
+    fn fmt<W: fmt::Write>(&self, f: &mut fmt::Formatter<W>) -> fmt::Result {
+        match *self {
+            OutcomeText::Sent => write!(f, "sent"),
+            OutcomeText::Received(status, buffer) => {
+                let status = StatusText { status };
+                let elements = Elements { buffer };
+                write!(f, "{status} data{elements}")
+            }
+            OutcomeText::Ended(number, status, buffer) => {
+                let status = StatusText { status };
+                let elements = Elements { buffer };
+                write!(f, "error {number} {status} data{elements}")
+            }
+            OutcomeText::Lost(buffer) => {
+                let elements = Elements { buffer };
+                write!(f, "error 11 data{elements}")
+            }
+            OutcomeText::Cancelled(buffer) => {
+                let elements = Elements { buffer };
+                write!(f, "cancelled data{elements}")
+            }
+            OutcomeText::Failed(number) => write!(f, "error {number}"),
+            OutcomeText::Null => write!(f, "source any tag any count 0"),
+        }
+    }
+}
+
+/// How further operations ended, as it is written behind the first: `; ` and the text of each.
+#[derive(Clone, Copy, Debug)]
+struct FurtherOutcomes<'a> {
+    outcomes: &'a [OutcomeText<'a>],
+}
+
+impl<'a> fmt::Display for FurtherOutcomes<'a> {
+    ghost use Rattle.std.specs.Prelude.{Some};
+    ghost use Rattle.answer_texts.specs.Answers.{further_text};
+
+    ghost output = { λ o. Some (further_text o.outcomes.now) };
+
+    fn fmt<W: fmt::Write>(&self, f: &mut fmt::Formatter<W>) -> fmt::Result {
+        for place in 0..self.outcomes.len() {
+            let outcome = self.outcomes[place];
+            write!(f, "; {outcome}")?;
+        }
+        Ok(())
+    }
+}
+
+/// How several operations ended, as it is written: the texts in their order, `; ` between two; `done` where there is none.
+#[derive(Clone, Copy, Debug)]
+pub struct OutcomesText<'a> {
+    /// How each of them ended.
+    pub outcomes: &'a [OutcomeText<'a>],
+}
+
+impl<'a> fmt::Display for OutcomesText<'a> {
+    ghost use Rattle.std.specs.Prelude.{Some};
+    ghost use Rattle.answer_texts.specs.Answers.{outcomes_text};
+
+    ghost output = { λ o. Some (outcomes_text o.outcomes.now) };
+
+    fn fmt<W: fmt::Write>(&self, f: &mut fmt::Formatter<W>) -> fmt::Result {
+        match self.outcomes.split_first() {
+            None => write!(f, "done"),
+            Some((first, rest)) => {
+                let further = FurtherOutcomes { outcomes: rest };
+                write!(f, "{first}{further}")
+            }
+        }
+    }
+}

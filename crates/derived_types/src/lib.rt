@@ -1,0 +1,13 @@
+//! Derived datatypes: layouts that are made of basic types (MPI 3.1, 4.1), and why a call over them is
+//! refused.
+#![tactic(auto)]
+
+mod block;
+mod building;
+mod layout;
+mod refusal;
+mod span;
+
+pub use block::Block;
+pub use layout::Layout;
+pub use refusal::Refusal;

@@ -1,0 +1,80 @@
+-- The rows of requests that the table holds.
+use Rattle.std.proofs.Common.{◌≡◌, ℕ, true, List, Option, Some, None, ◌==◌, slice_get, refl, sym, ap, ◌∙◌, subst}
+use Rattle.std.proofs.lemmas.Bool.{eqb-true}
+use Rattle.std.proofs.lemmas.Option.{cond_some, none-some}
+use Rattle.perfect_queues.specs.Receives as receives
+use Rattle.proof_pure_network.specs.Jobs.{Job, Waiting, Collecting, Offering, Over, Closed}
+use Rattle.requests.specs.Table.{progress_at, progress_of, slot_at}
+use Rattle.requests.specs.declared.outcome.Outcome.{Outcome}
+use Rattle.requests.specs.declared.region.Region.{Region}
+use Rattle.requests.specs.declared.table.Entry.{Entry}
+use Rattle.requests.specs.declared.table.Progress.{Progress}
+use Rattle.requests.specs.declared.table.Progress.TheVariants.{Receiving, Finished}
+use Rattle.requests.specs.declared.table.Request.{Request}
+use Rattle.proof_engine_view.specs.Rows.{Fits, IsRow, IsTable, Row}
+use Rattle.proof_engine_view.specs.Seen.{outcome_seen}
+use Rattle.proof_engine_view.specs.Shown.{IsNamed}
+
+-- the row of a request that stands in the table
+pub record HasRow (rows : List Row) (k key : ℕ) (g : Progress) : Type 0 where
+  pub job : Job
+  pub there : slice_get rows k ≡ Some (record { key = key; job = job })
+  pub fits : Fits g job
+
+-- the row of an entry with this serial
+row_found : (rows : List Row) (k key : ℕ) (g : Progress) (t : Entry) → IsRow rows key t → t.serial ≡ k → t.progress ≡ g → HasRow rows k key g
+row_found rows k key g t r s p =
+    record {
+      job = r.row.job;
+      there = sym (ap (slice_get rows) s) ∙ (r.there ∙ ap (λ (x : ℕ). Some (record { key = x; job = r.row.job })) r.key_is);
+      fits = subst (λ (x : Progress). Fits x r.row.job) p r.fits;
+    }
+
+-- a request whose progress the table tells has a row
+pub row_of : (table : List (Option Entry)) (rows : List Row) (k key : ℕ) (g : Progress) → IsTable table rows → progress_at table key k ≡ Some g → HasRow rows k key g
+row_of table rows k key g t h = go (slot_at table key) refl h
+  where
+    go : (s : Option Entry) → slot_at table key ≡ s → progress_of s k ≡ Some g → HasRow rows k key g
+    go None e p = absurd (none-some g p)
+    go (Some x) e p =
+        let c : ((x.serial == k) ≡ true) × (x.progress ≡ g) = cond_some (x.serial == k) x.progress g p in
+        row_found rows k key g x (t.entries key x e) (eqb-true x.serial k c.0) c.1
+
+-- a request that is received waits
+pub waiting_of : (b : Region) (j : Job) → Fits (Receiving b) j → (p : receives.Receive) × (j ≡ Waiting p)
+waiting_of b (Waiting p) f = (p, refl)
+waiting_of b (Collecting p h got) f = absurd f
+waiting_of b (Offering d values) f = absurd f
+waiting_of b (Over x) f = absurd f
+waiting_of b Closed f = absurd f
+
+-- a request that is finished is over
+pub over_of : (o : Outcome) (j : Job) → Fits (Finished o) j → j ≡ Over (outcome_seen o)
+over_of o (Waiting p) f = absurd f
+over_of o (Collecting p h got) f = absurd f
+over_of o (Offering d values) f = absurd f
+over_of o (Over x) f = ap Over f
+over_of o Closed f = absurd f
+
+-- one that stands in the table isn't closed
+open_of : (g : Progress) → Fits g Closed → ⊥
+open_of (Receiving b) f = f
+open_of (Finished o) f = f
+
+-- a request whose progress the table tells is named by an unanswered row
+pub named_of : (table : List (Option Entry)) (rows : List Row) (q : Request) (g : Progress) → IsTable table rows → progress_at table q.key q.serial ≡ Some g → IsNamed rows q
+named_of table rows q g t h =
+    let r : HasRow rows q.serial q.key g = row_of table rows q.serial q.key g t h in
+    record {
+      row = record { key = q.key; job = r.job };
+      there = r.there;
+      key_is = refl;
+      unanswered = λ e. open_of g (subst (λ (j : Job). Fits g j) e r.fits);
+    }
+
+-- the row of a request that is finished
+pub finished_row : (table : List (Option Entry)) (rows : List Row) (q : Request) (o : Outcome) → IsTable table rows → progress_at table q.key q.serial ≡ Some (Finished o) →
+    slice_get rows q.serial ≡ Some (record { key = q.key; job = Over (outcome_seen o) })
+finished_row table rows q o t h =
+    let r : HasRow rows q.serial q.key (Finished o) = row_of table rows q.serial q.key (Finished o) t h in
+    r.there ∙ ap (λ (j : Job). Some (record { key = q.key; job = j })) (over_of o r.job r.fits)

@@ -1,0 +1,172 @@
+//! How a layout is made, by the words that spell it.
+
+ghost use Rattle.std.specs.Prelude.{◌≡◌};
+ghost use Rattle.std.specs.List.{position};
+ghost use Rattle.statements.specs.Reading.{block_of, contiguous_of, each, form_word_of, formed_by, indexed_of, is_colon, last, layout_of, old_of, one_block, vector_of};
+ghost use Rattle.statements.specs.Results.{Gives};
+
+use crate::fault::LineError;
+use crate::fields::{ended, first, large_of, name_of, required};
+use crate::layout_line::{Blocks, LayoutForm, LayoutLine, OldLayout, Stripes};
+use crate::types::basic_type_of;
+use crate::word::{Word, is};
+use datatypes::Block;
+use std::alloc::Global;
+
+/// How a layout is made, by its word.
+#[derive(Clone, Copy, Debug, PartialEq, Eq)]
+enum FormWord {
+    /// `contiguous`
+    Contiguous,
+    /// `vector`
+    Vector,
+    /// `indexed`
+    Indexed,
+}
+
+/// How the word says that a layout is made.
+#[tactic(auto, unfolding(crate::specs::Reading::form_word_of))]
+fn form_word_of(word: &[u8]) -> Option<FormWord>
+    ensures { result ≡ form_word_of word.now }
+{
+    if is(word, b"contiguous") {
+        Some(FormWord::Contiguous)
+    } else if is(word, b"vector") {
+        Some(FormWord::Vector)
+    } else if is(word, b"indexed") {
+        Some(FormWord::Indexed)
+    } else {
+        None
+    }
+}
+
+/// A type, or the name of a layout.
+#[tactic(auto, unfolding(crate::specs::Reading::old_of))]
+fn old_of(alloc: Global, word: &[u8]) -> Result<OldLayout, LineError>
+    ensures { Gives (λ x. x) result (old_of word.now) }
+{
+    match basic_type_of(word) {
+        Some(basic) => Ok(OldLayout::Basic(basic)),
+        None => Ok(OldLayout::Named(name_of(alloc, word)?)),
+    }
+}
+
+fn colon_place(word: &[u8]) -> Option<usize>
+    ensures { result ≡ position is_colon word.now }
+{
+    word.iter().position(|byte| *byte == b':')
+}
+
+/// `LEN:DISP`
+#[tactic(auto, unfolding(crate::specs::Reading::block_of))]
+fn block_of(word: &[u8]) -> Result<Block, LineError>
+    ensures { Gives (λ x. x) result (block_of word.now) }
+{
+    let Some(place) = colon_place(word) else {
+        return Err(LineError::Faulty);
+    };
+    let (length, back) = word.split_at(place);
+    let (_, displacement) = back.split_at(1);
+    let length = large_of(length)?;
+    let displacement = large_of(displacement)?;
+    Ok(Block {
+        length,
+        displacement,
+    })
+}
+
+fn blocks_of(alloc: Global, words: &[Word]) -> Result<Blocks, LineError>
+    ensures { Gives (λ x. x) result (each one_block words.now) }
+{
+    let mut blocks = Blocks::new(alloc);
+    for word in words {
+        let block = block_of(word.as_bytes())?;
+        blocks.push(block)?;
+    }
+    Ok(blocks)
+}
+
+/// The words before the last one, and the last one.
+fn last(words: &[Word]) -> Result<(&[Word], &[u8]), LineError>
+    ensures { Gives (λ x. (x.0.now, x.1.now)) result (last words.now) }
+{
+    match words.split_last() {
+        Some((word, front)) => Ok((front, word.as_bytes())),
+        None => Err(LineError::Faulty),
+    }
+}
+
+/// `N OLD`
+#[tactic(auto, unfolding(crate::specs::Reading::contiguous_of))]
+fn contiguous_of(alloc: Global, words: &[Word]) -> Result<(LayoutForm, OldLayout), LineError>
+    ensures { Gives (λ x. x) result (contiguous_of words.now) }
+{
+    let (count, rest) = first(words)?;
+    let (old, rest) = first(rest)?;
+    ended(rest)?;
+    let count = large_of(count)?;
+    let old = old_of(alloc, old)?;
+    Ok((LayoutForm::Contiguous(count), old))
+}
+
+/// `C B S OLD`
+#[tactic(auto, unfolding(crate::specs::Reading::vector_of))]
+fn vector_of(alloc: Global, words: &[Word]) -> Result<(LayoutForm, OldLayout), LineError>
+    ensures { Gives (λ x. x) result (vector_of words.now) }
+{
+    let (count, rest) = first(words)?;
+    let (blocklength, rest) = first(rest)?;
+    let (stride, rest) = first(rest)?;
+    let (old, rest) = first(rest)?;
+    ended(rest)?;
+    let stripes = Stripes {
+        count: large_of(count)?,
+        blocklength: large_of(blocklength)?,
+        stride: large_of(stride)?,
+    };
+    let old = old_of(alloc, old)?;
+    Ok((LayoutForm::Vector(stripes), old))
+}
+
+/// `LEN:DISP .. OLD`
+#[tactic(auto, unfolding(crate::specs::Reading::indexed_of))]
+fn indexed_of(alloc: Global, words: &[Word]) -> Result<(LayoutForm, OldLayout), LineError>
+    ensures { Gives (λ x. x) result (indexed_of words.now) }
+{
+    let (front, old) = last(words)?;
+    let old = old_of(alloc, old)?;
+    let blocks = blocks_of(alloc, front)?;
+    Ok((LayoutForm::Indexed(blocks), old))
+}
+
+/// What stands behind the word that says how the layout is made.
+fn formed_by(
+    alloc: Global,
+    form: FormWord,
+    words: &[Word],
+) -> Result<(LayoutForm, OldLayout), LineError>
+    ensures { Gives (λ x. x) result (formed_by form words.now) }
+{
+    match form {
+        FormWord::Contiguous => contiguous_of(alloc, words),
+        FormWord::Vector => vector_of(alloc, words),
+        FormWord::Indexed => indexed_of(alloc, words),
+    }
+}
+
+/// A layout's name, and how it is made.
+#[tactic(auto, unfolding(crate::specs::Reading::layout_of))]
+pub(crate) fn layout_of(alloc: Global, words: &[Word]) -> Result<LayoutLine, LineError>
+    ensures { Gives (λ x. x) result (layout_of words.now) }
+{
+    let (name, rest) = first(words)?;
+    let (form, rest) = first(rest)?;
+    let name = name_of(alloc, name)?;
+    let form = required(form_word_of(form))?;
+    let (form, made_of) = formed_by(alloc, form, rest)?;
+    Ok(LayoutLine {
+        name,
+        form,
+        made_of,
+    })
+}
