@@ -3,8 +3,8 @@
 It shares nothing with the Rattle code: one Python class for a rank, lists for its queues and its sessions, and no memory that
 could be wanting. `answer(text)` is what `mpisim` must print on a file.
 
-The rules that are narrower for now stand in constants and in functions of their own (`fault_of_send`, `fault_of_receive`,
-`is_frame`), so that they are found when a rule grows.
+The rules that are narrower for now stand in constants and in functions of their own (`fault_of_send`, `fault_of_receive`), so
+that they are found when a rule grows.
 """
 
 from dataclasses import dataclass, field
@@ -17,6 +17,7 @@ MAGIC = bytes.fromhex("4d505544")
 HEADER = 32
 LONGEST_BODY = 1200
 MOST_EAGER_BYTES = 1024
+MOST_BYTES = 2**20
 HIGHEST_TAG = 2**31 - 1
 WINDOW = 64
 RESEND_AFTER = 20
@@ -220,17 +221,43 @@ def layout_made(event, old):
     return made
 
 
-def is_frame(body):
-    """Whether these bytes are a frame; for now there are only those of messages that come whole."""
-    if len(body) < 20 or body[0] != 1 or body[1] > 1 or body[3] != 0:
-        return False
+def length_of_message(body):
+    """How many bytes of data a message has by bytes 1 to 19 of an EAGER frame or an RTS; None where they say no message."""
+    if len(body) < 20 or body[1] > 1 or body[3] != 0:
+        return None
     sizes = [size for size, _, code in TYPES.values() if code == body[2]]
     if not sizes or (body[1] == 1 and body[2] != TYPES["byte"][2]):
-        return False
+        return None
     if int.from_bytes(body[4:8], "big") > HIGHEST_TAG:
+        return None
+    return int.from_bytes(body[16:20], "big") * sizes[0]
+
+
+def is_eager(body):
+    length = length_of_message(body)
+    return length is not None and length <= MOST_EAGER_BYTES and len(body) == 20 + length
+
+
+def is_request(body):
+    length = length_of_message(body)
+    return length is not None and MOST_EAGER_BYTES < length <= MOST_BYTES and len(body) == 24
+
+
+def is_clear(body):
+    return len(body) == 8 and body[1] <= 1 and not any(body[2:4])
+
+
+def is_data(body):
+    if not 12 < len(body) <= 12 + MOST_EAGER_BYTES or any(body[1:4]):
         return False
-    length = int.from_bytes(body[16:20], "big") * sizes[0]
-    return length <= MOST_EAGER_BYTES and len(body) == 20 + length
+    offset = int.from_bytes(body[8:12], "big")
+    return offset % MOST_EAGER_BYTES == 0 and offset < MOST_BYTES
+
+
+def is_frame(body):
+    """Whether these bytes are a frame: a message that comes whole, or one of those of a large message."""
+    forms = {1: is_eager, 2: is_request, 3: is_clear, 4: is_data}
+    return bool(body) and body[0] in forms and forms[body[0]](body)
 
 
 def fault_of_bytes(data):

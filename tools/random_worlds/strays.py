@@ -19,7 +19,12 @@ def header(random, size, kind, body):
 
 
 def a_frame(random):
-    """A frame of a message that comes whole: of a rank's calls, or of a collective."""
+    """A frame: mostly of a message that comes whole."""
+    return random.choice([a_whole_message, a_whole_message, a_request, a_clear, a_part])(random)
+
+
+def a_whole_message(random):
+    """An EAGER frame, of a rank's calls or of a collective."""
     plane = random.choice([0, 0, 1])
     kind = "byte" if plane == 1 else random.choice(list(TYPES))
     size, _, code = TYPES[kind]
@@ -34,14 +39,14 @@ def frame(random, plane, code, count, tag=None):
 
 def a_bad_frame(random):
     """A body that is no frame that is taken."""
-    good = a_frame(random)
-    kind = random.randrange(12)
+    good = a_whole_message(random)
+    kind = random.randrange(14)
     if kind == 0:
         return b""
     if kind == 1:
         return good[:random.randrange(20)]
     if kind == 2:
-        return bytes([random.choice([0, 5, 255])]) + good[1:]
+        return bytes([random.choice([0, 2, 3, 4, 5, 255])]) + good[1:]
     if kind == 3:
         return good[:1] + bytes([random.choice([2, 255])]) + good[2:]
     if kind == 4:
@@ -58,17 +63,82 @@ def a_bad_frame(random):
         return frame(random, 1, 3, 2) + bytes(8)
     if kind == 10:
         return frame(random, 0, 8, random.choice([2**29, 2**32 - 1])) + bytes(8)
-    return a_later_frame(random)
+    if kind == 11:
+        return a_bad_request(random)
+    if kind == 12:
+        return a_bad_clear(random)
+    return a_bad_part(random)
 
 
-def a_later_frame(random):
-    """A frame of a message whose data come apart: none is taken for now."""
-    kind = random.randrange(3)
+def a_transfer(random):
+    return random.choice([0, 1, 2**32 - 1]).to_bytes(4, "big")
+
+
+def a_request(random):
+    """The announcement of a large message (RTS), of a rank's calls or of a collective."""
+    plane = random.choice([0, 0, 1])
+    kind = "byte" if plane == 1 else random.choice(list(TYPES))
+    size, _, code = TYPES[kind]
+    count = random.choice([1024 // size + 1, 5000, 2**20 // size])
+    return b"\x02" + frame(random, plane, code, count)[1:] + a_transfer(random)
+
+
+def a_bad_request(random):
+    good = a_request(random)
+    kind = random.randrange(6)
     if kind == 0:
-        return b"\x02\x00\x05\x00" + bytes(12) + (1025).to_bytes(4, "big") + bytes(4)
+        return good[:random.choice([1, 20, 23])]
     if kind == 1:
-        return bytes([3, random.randrange(2), 0, 0]) + bytes(4)
-    return b"\x04\x00\x00\x00" + bytes(8) + bytes(random.choice([1, 1024]))
+        return good + bytes(random.choice([1, 1005]))
+    if kind == 2:
+        size, _, code = TYPES[random.choice(list(TYPES))]
+        count = random.choice([0, 1024 // size, 2**20 // size + 1, 2**32 - 1])
+        return b"\x02" + frame(random, 0, code, count)[1:] + a_transfer(random)
+    if kind == 3:
+        return good[:1] + bytes([random.choice([2, 255])]) + good[2:]
+    if kind == 4:
+        return good[:3] + bytes([random.choice([1, 255])]) + good[4:]
+    return good[:4] + (2**31 + random.choice([0, 5])).to_bytes(4, "big") + good[8:]
+
+
+def a_clear(random):
+    """The answer to an announcement (CTS)."""
+    return bytes([3, random.randrange(2), 0, 0]) + a_transfer(random)
+
+
+def a_bad_clear(random):
+    good = a_clear(random)
+    kind = random.randrange(4)
+    if kind == 0:
+        return good[:random.randrange(1, 8)]
+    if kind == 1:
+        return good + bytes(random.choice([1, 12]))
+    if kind == 2:
+        return good[:1] + bytes([random.choice([2, 255])]) + good[2:]
+    return good[:2] + random.choice([b"\x01\x00", b"\x00\x01"]) + good[4:]
+
+
+def a_part(random):
+    """Bytes of a large message (DATA)."""
+    return part_at(random, 1024 * random.choice([0, 1, 1023]), random.choice([1, 3, 1024]))
+
+
+def part_at(random, offset, length):
+    return b"\x04\x00\x00\x00" + a_transfer(random) + offset.to_bytes(4, "big") + random.randbytes(length)
+
+
+def a_bad_part(random):
+    kind = random.randrange(5)
+    if kind == 0:
+        return part_at(random, 0, random.choice([0, 1025]))
+    if kind == 1:
+        return part_at(random, random.choice([1, 1023, 2**20 - 1]), 1)
+    if kind == 2:
+        return part_at(random, random.choice([2**20, 2**32 - 1024]), 1)
+    if kind == 3:
+        return a_part(random)[:random.randrange(1, 12)]
+    good = a_part(random)
+    return good[:1] + random.choice([b"\x01\x00\x00", b"\x00\x01\x00", b"\x00\x00\x01"]) + good[4:]
 
 
 def a_datagram(random, size):

@@ -1,9 +1,9 @@
 -- What bytes say, field by field, with the first fault.
-use Rattle.std.specs.Prelude.{◌≡◌, ℕ, ◌*◌, List, length, drop, slice_index, Option, Some, None, Result, Ok, Err, Bool, true, nat_le, ◌==◌, if◌then◌else◌}
+use Rattle.std.specs.Prelude.{◌≡◌, ℕ, ◌+◌, ◌*◌, ◌%◌, List, length, drop, slice_index, Option, Some, None, Result, Ok, Err, Bool, true, nat_le, nat_lt, ◌==◌, if◌then◌else◌}
 use Rattle.byteorder.specs.Endian.{big_number}
 use Rattle.vocabulary.specs.declared.basic_type.BasicType.{BasicType}
 use Rattle.vocabulary.specs.BasicTypes.{code_of, size_of, type_at}
-use Rattle.vocabulary.specs.Limits.{eager_limit, highest_tag}
+use Rattle.vocabulary.specs.Limits.{eager_limit, highest_tag, send_limit}
 use Rattle.datagram.specs.declared.refused.Refused.{Refused}
 use Rattle.datagram.specs.declared.refused.Refused.TheVariants as refusals
 use Rattle.datagram.specs.declared.kinds.Kind.{Kind}
@@ -11,8 +11,9 @@ use Rattle.datagram.specs.declared.kinds.Kind.TheVariants as kinds
 use Rattle.datagram.specs.declared.kinds.Plane.{Plane}
 use Rattle.datagram.specs.declared.kinds.Plane.TheVariants.{PointToPoint, Collective}
 use Rattle.datagram.specs.declared.datagram.Header.{Header}
-use Rattle.datagram.specs.Kinds.{kind_at, plane_at}
-use Rattle.datagram.specs.Spelling.{EagerText, BodyText, EagerBody, AckBody, ResetBody, DatagramText}
+use Rattle.datagram.specs.declared.reading.Opening.{Opening}
+use Rattle.datagram.specs.Kinds.{clearance_at, kind_at, plane_at}
+use Rattle.datagram.specs.Spelling.{EagerText, RequestText, ClearText, DataText, FrameText, EagerFrame, RequestFrame, ClearFrame, DataFrame, BodyText, FrameBody, AckBody, ResetBody, DatagramText}
 
 infixl 10 ◌>>=◌
 -- a step after a step that gave no fault
@@ -74,34 +75,94 @@ abbrev pub basic_fits_plane : Plane → BasicType → Bool
 basic_fits_plane PointToPoint basic = true
 basic_fits_plane Collective basic = code_of basic == 9
 
--- an eager frame, or 30
-unfoldable pub eager_of : List ℕ → Result EagerText Refused
-eager_of body =
+-- what an EAGER and an RTS say of their message in bytes 1 to 19, or 30
+unfoldable pub opening_of : List ℕ → Result Opening Refused
+opening_of body =
     guard (nat_le 20 (length body)) refusals.BadFrame
-    (guard (slice_index body 0 == 1) refusals.BadFrame
     (guard (slice_index body 3 == 0) refusals.BadFrame (do
       plane ← required (plane_at (slice_index body 1)) refusals.BadFrame
       basic ← required (type_at (slice_index body 2)) refusals.BadFrame
       guard (basic_fits_plane plane basic) refusals.BadFrame
           (guard (nat_le (number_at 4 4 body) highest_tag) refusals.BadFrame
-          (guard (nat_le (length (drop 20 body)) eager_limit) refusals.BadFrame
-          (guard (length (drop 20 body) == number_at 16 4 body * size_of basic) refusals.BadFrame
           (Ok (record {
             plane = plane;
             basic = basic;
             tag = number_at 4 4 body;
             context = number_at 8 8 body;
             count = number_at 16 4 body;
-            elements = drop 20 body;
-          }))))))))
+          })))))
+
+-- an eager frame, or 30
+unfoldable pub eager_of : List ℕ → Result EagerText Refused
+eager_of body = do
+  o ← opening_of body
+  guard (nat_le (length (drop 20 body)) eager_limit) refusals.BadFrame
+      (guard (length (drop 20 body) == o.count * size_of o.basic) refusals.BadFrame
+      (Ok (record {
+        plane = o.plane;
+        basic = o.basic;
+        tag = o.tag;
+        context = o.context;
+        count = o.count;
+        elements = drop 20 body;
+      })))
+
+-- an RTS, or 30
+unfoldable pub request_of : List ℕ → Result RequestText Refused
+request_of body =
+    guard (length body == 24) refusals.BadFrame (do
+      o ← opening_of body
+      guard (nat_lt eager_limit (o.count * size_of o.basic)) refusals.BadFrame
+          (guard (nat_le (o.count * size_of o.basic) send_limit) refusals.BadFrame
+          (Ok (record {
+            plane = o.plane;
+            basic = o.basic;
+            tag = o.tag;
+            context = o.context;
+            count = o.count;
+            transfer = number_at 20 4 body;
+          }))))
+
+-- a CTS, or 30
+unfoldable pub clear_of : List ℕ → Result ClearText Refused
+clear_of body =
+    guard (length body == 8) refusals.BadFrame
+    (guard (number_at 2 2 body == 0) refusals.BadFrame (do
+      clearance ← required (clearance_at (slice_index body 1)) refusals.BadFrame
+      Ok (record { transfer = number_at 4 4 body; clearance = clearance })))
+
+-- a DATA frame, or 30
+unfoldable pub data_of : List ℕ → Result DataText Refused
+data_of body =
+    guard (nat_lt 12 (length body)) refusals.BadFrame
+    (guard (number_at 0 4 body == 0x04000000) refusals.BadFrame
+    (guard (nat_le (length (drop 12 body)) eager_limit) refusals.BadFrame
+    (guard (number_at 8 4 body % eager_limit == 0) refusals.BadFrame
+    (guard (nat_le (number_at 8 4 body + eager_limit) send_limit) refusals.BadFrame
+    (Ok (record { transfer = number_at 4 4 body; offset = number_at 8 4 body; bytes = drop 12 body }))))))
+
+-- what was read, as a frame
+abbrev pub as_frame : {A : Type 0} → (A → FrameText) → Result A Refused → Result FrameText Refused
+as_frame make read = do
+  x ← read
+  Ok (make x)
+
+-- a frame by its first byte, or 30; no frame is empty
+unfoldable pub frame_of : List ℕ → Result FrameText Refused
+frame_of body =
+    if slice_index body 0 == 1 then as_frame EagerFrame (eager_of body)
+    else (if slice_index body 0 == 2 then as_frame RequestFrame (request_of body)
+    else (if slice_index body 0 == 3 then as_frame ClearFrame (clear_of body)
+    else (if slice_index body 0 == 4 then as_frame DataFrame (data_of body)
+    else Err refusals.BadFrame)))
 
 -- the content of a body of this kind under this number, or 30: a reset has number 0
 unfoldable pub content_of : Kind → ℕ → List ℕ → Result BodyText Refused
 content_of kinds.Ack n body = Ok AckBody
 content_of kinds.Reset n body = guard (n == 0) refusals.BadFrame (Ok ResetBody)
 content_of kinds.Frame n body = do
-  e ← eager_of body
-  Ok (EagerBody e)
+  f ← frame_of body
+  Ok (FrameBody f)
 
 -- what all of the bytes say, or the first fault
 unfoldable pub datagram_of : List ℕ → Result DatagramText Refused

@@ -1,7 +1,10 @@
 //! The coded fields of a datagram.
 
-ghost use Rattle.std.specs.Prelude.{◌≡◌};
-ghost use Rattle.datagram.specs.Kinds.{kind_code, kind_at, plane_code, plane_at};
+ghost use Rattle.std.specs.Prelude.{◌≡◌, ◌↔◌, IsTrue};
+ghost use Rattle.datagram.specs.Kinds.{clearance_at, clearance_code, kind_code, kind_at, plane_code, plane_at};
+ghost use Rattle.datagram.specs.Spelling.{BasicFitsPlane};
+
+use vocabulary::BasicType;
 
 /// What a datagram is for.
 #[derive(Clone, Copy, Debug, PartialEq, Eq)]
@@ -67,6 +70,45 @@ impl Plane {
         match code {
             0 => Some(Plane::PointToPoint),
             1 => Some(Plane::Collective),
+            _ => None,
+        }
+    }
+
+    /// Whether elements of this basic type go in this plane: only bytes go between collectives.
+    pub(crate) fn carries(self, basic: BasicType) -> bool
+        ensures { IsTrue result ↔ BasicFitsPlane self basic }
+    {
+        self == Plane::PointToPoint || basic == BasicType::Byte
+    }
+}
+
+/// What the receiver of an announced message wants of it.
+#[derive(Clone, Copy, Debug, PartialEq, Eq)]
+pub enum Clearance {
+    /// The data are to come.
+    Send,
+    /// The message is used up without its data: its receive ended when it was matched.
+    Drop,
+}
+
+impl Clearance {
+    /// The code that stands for this clearance.
+    pub(crate) fn code(self) -> u8
+        ensures { result ≡ clearance_code self }
+    {
+        match self {
+            Clearance::Send => 0,
+            Clearance::Drop => 1,
+        }
+    }
+
+    /// The clearance that has this code, where there is one.
+    pub(crate) fn from_code(code: u8) -> Option<Clearance>
+        ensures { result ≡ clearance_at code }
+    {
+        match code {
+            0 => Some(Clearance::Send),
+            1 => Some(Clearance::Drop),
             _ => None,
         }
     }

@@ -3,6 +3,7 @@
 
 mod bytes;
 mod datagram;
+mod frame;
 mod kinds;
 mod laws;
 mod reading;
@@ -10,8 +11,9 @@ mod refused;
 mod writing;
 
 pub use bytes::Bytes;
-pub use datagram::{Content, Datagram, Eager, Frame, Header};
-pub use kinds::{Kind, Plane};
+pub use datagram::{Content, Datagram, Header};
+pub use frame::{ClearToSend, Data, Eager, Frame, RequestToSend};
+pub use kinds::{Clearance, Kind, Plane};
 pub use laws::no_spelling_begins_another;
 pub use reading::read;
 pub use refused::Refused;

@@ -1,14 +1,15 @@
 //! Reading a datagram.
 
 ghost use Rattle.std.specs.Prelude.{◌≡◌, ◌≤◌, length, IfOk, OnOk, IfErr, Ok, Err};
-ghost use Rattle.datagram.specs.Spelling.{DatagramText, eager_text, content_text, datagram_text, DatagramFits, spelling};
-ghost use Rattle.datagram.specs.Reading.{Gives, kind_of, body_of, header_of, eager_of, content_of, datagram_of};
+ghost use Rattle.datagram.specs.Spelling.{DatagramText, eager_text, request_text, clear_text, data_text, frame_text, content_text, datagram_text, DatagramFits, spelling};
+ghost use Rattle.datagram.specs.Reading.{Gives, kind_of, body_of, header_of, opening_of, eager_of, request_of, clear_of, data_of, frame_of, content_of, datagram_of};
 
-use crate::datagram::{Content, Datagram, Eager, Frame, Header};
-use crate::kinds::{Kind, Plane};
+use crate::datagram::{Content, Datagram, Header};
+use crate::frame::{ClearToSend, Data, Eager, Frame, RequestToSend};
+use crate::kinds::{Clearance, Kind, Plane};
 use crate::refused::Refused;
 use byteorder::{BigEndian, ByteOrder};
-use vocabulary::{BasicType, EAGER_LIMIT, Endpoint, HIGHEST_TAG};
+use vocabulary::{BasicType, EAGER_LIMIT, Endpoint, HIGHEST_TAG, SEND_LIMIT};
 
 /// The first four bytes of every datagram.
 const MAGIC: u32 = 0x4d50_5544;
@@ -16,8 +17,32 @@ const MAGIC: u32 = 0x4d50_5544;
 /// The length of a header.
 const HEADER_BYTES: usize = 32;
 
-/// The length of an eager frame without its elements.
-const EAGER_BYTES: usize = 20;
+/// The length of what an EAGER and an RTS begin with, the first byte counted.
+const OPENING_BYTES: usize = 20;
+
+/// The length of an RTS.
+const REQUEST_BYTES: usize = 24;
+
+/// The length of a CTS.
+const CLEAR_BYTES: usize = 8;
+
+/// The length of a DATA frame without its data.
+const DATA_BYTES: usize = 12;
+
+/// What an EAGER and an RTS say of their message.
+#[derive(Clone, Copy)]
+struct Opening {
+    /// Whether it is point to point or part of a collective.
+    plane: Plane,
+    /// The basic type of its elements.
+    basic: BasicType,
+    /// Its tag.
+    tag: u32,
+    /// The context of the communicator that it was sent on.
+    context: u64,
+    /// How many elements it has.
+    count: u32,
+}
 
 /// The kind, where the fields up to it have no fault.
 #[tactic(auto, unfolding(crate::specs::Reading::kind_of))]
@@ -81,12 +106,13 @@ fn header_of(bytes: &[u8]) -> Header
     }
 }
 
-/// The eager frame that a body spells.
-#[tactic(auto, unfolding(crate::specs::Reading::eager_of))]
-fn eager_of(body: &[u8]) -> Result<Eager<'_>, Refused>
-    ensures { Gives eager_text result (eager_of body.now) }
+/// What a body says of its message, as an EAGER and an RTS begin: bytes 1 to 19.
+#[tactic(auto, unfolding(crate::specs::Reading::opening_of))]
+fn opening_of(body: &[u8]) -> Result<Opening, Refused>
+    ensures exact { Gives (λ opening. opening) result (opening_of body.now) }
+    ensures long { OnOk result (20 ≤ length body.now) }
 {
-    if body.len() < EAGER_BYTES || body[0] != 1 || body[3] != 0 {
+    if body.len() < OPENING_BYTES || body[3] != 0 {
         return Err(Refused::BadFrame);
     }
     let plane = Plane::from_code(body[1]).ok_or(Refused::BadFrame)?;
@@ -95,23 +121,116 @@ fn eager_of(body: &[u8]) -> Result<Eager<'_>, Refused>
         return Err(Refused::BadFrame);
     }
     let tag = BigEndian::read_u32(&body[4..]);
-    let context = BigEndian::read_u64(&body[8..]);
-    let count = BigEndian::read_u32(&body[16..]);
-    let (_, elements) = body.split_at(EAGER_BYTES);
-    if tag > HIGHEST_TAG || elements.len() > EAGER_LIMIT {
+    if tag > HIGHEST_TAG {
         return Err(Refused::BadFrame);
     }
-    if elements.len() as u64 != u64::from(count) * u64::from(basic.size()) {
-        return Err(Refused::BadFrame);
-    }
-    Ok(Eager {
+    Ok(Opening {
         plane,
         basic,
         tag,
-        context,
-        count,
+        context: BigEndian::read_u64(&body[8..]),
+        count: BigEndian::read_u32(&body[16..]),
+    })
+}
+
+/// The eager frame that a body spells.
+#[tactic(auto, unfolding(crate::specs::Reading::eager_of))]
+fn eager_of(body: &[u8]) -> Result<Eager<'_>, Refused>
+    ensures { Gives eager_text result (eager_of body.now) }
+{
+    let opening = opening_of(body)?;
+    let (_, elements) = body.split_at(OPENING_BYTES);
+    if elements.len() > EAGER_LIMIT {
+        return Err(Refused::BadFrame);
+    }
+    let size = u64::from(opening.count) * u64::from(opening.basic.size());
+    if elements.len() as u64 != size {
+        return Err(Refused::BadFrame);
+    }
+    Ok(Eager {
+        plane: opening.plane,
+        basic: opening.basic,
+        tag: opening.tag,
+        context: opening.context,
+        count: opening.count,
         elements,
     })
+}
+
+/// The RTS that a body spells.
+#[tactic(auto, unfolding(crate::specs::Reading::request_of))]
+fn request_of(body: &[u8]) -> Result<RequestToSend, Refused>
+    ensures { Gives request_text result (request_of body.now) }
+{
+    if body.len() != REQUEST_BYTES {
+        return Err(Refused::BadFrame);
+    }
+    let opening = opening_of(body)?;
+    let size = u64::from(opening.count) * u64::from(opening.basic.size());
+    if size <= EAGER_LIMIT as u64 || size > SEND_LIMIT as u64 {
+        return Err(Refused::BadFrame);
+    }
+    Ok(RequestToSend {
+        plane: opening.plane,
+        basic: opening.basic,
+        tag: opening.tag,
+        context: opening.context,
+        count: opening.count,
+        transfer: BigEndian::read_u32(&body[20..]),
+    })
+}
+
+/// The CTS that a body spells.
+#[tactic(auto, unfolding(crate::specs::Reading::clear_of))]
+fn clear_of(body: &[u8]) -> Result<ClearToSend, Refused>
+    ensures { Gives clear_text result (clear_of body.now) }
+{
+    if body.len() != CLEAR_BYTES || BigEndian::read_u16(&body[2..]) != 0 {
+        return Err(Refused::BadFrame);
+    }
+    let clearance = Clearance::from_code(body[1]).ok_or(Refused::BadFrame)?;
+    Ok(ClearToSend {
+        transfer: BigEndian::read_u32(&body[4..]),
+        clearance,
+    })
+}
+
+/// The DATA frame that a body spells.
+#[tactic(auto, unfolding(crate::specs::Reading::data_of))]
+fn data_of(body: &[u8]) -> Result<Data<'_>, Refused>
+    ensures { Gives data_text result (data_of body.now) }
+{
+    if body.len() <= DATA_BYTES || BigEndian::read_u32(body) != 0x0400_0000 {
+        return Err(Refused::BadFrame);
+    }
+    let transfer = BigEndian::read_u32(&body[4..]);
+    let offset = BigEndian::read_u32(&body[8..]);
+    let (_, bytes) = body.split_at(DATA_BYTES);
+    if bytes.len() > EAGER_LIMIT || offset as usize % EAGER_LIMIT != 0 {
+        return Err(Refused::BadFrame);
+    }
+    if offset as usize + EAGER_LIMIT > SEND_LIMIT {
+        return Err(Refused::BadFrame);
+    }
+    Ok(Data {
+        transfer,
+        offset,
+        bytes,
+    })
+}
+
+/// The frame that a body spells.
+#[tactic(auto, unfolding(crate::specs::Reading::frame_of))]
+fn frame_of(body: &[u8]) -> Result<Frame<'_>, Refused>
+    ensures { Gives frame_text result (frame_of body.now) }
+{
+    match body.first() {
+        Some(1) => Ok(Frame::Eager(eager_of(body)?)),
+        Some(2) => Ok(Frame::RequestToSend(request_of(body)?)),
+        Some(3) => Ok(Frame::ClearToSend(clear_of(body)?)),
+        Some(4) => Ok(Frame::Data(data_of(body)?)),
+        _ => Err(Refused::BadFrame),
+    }
 }
 
 /// What a body of this kind says under this sequence.
@@ -127,7 +246,7 @@ fn content_of(kind: Kind, sequence: u64, body: &[u8]) -> Result<Content<'_>, Ref
             }
             Ok(Content::Reset)
         }
-        Kind::Frame => Ok(Content::Frame(Frame::Eager(eager_of(body)?))),
+        Kind::Frame => Ok(Content::Frame(frame_of(body)?)),
     }
 }
 

@@ -2,9 +2,10 @@
 
 ghost use Rattle.std.specs.Prelude.{◌≡◌, ◌+◌, ◌≤◌, ◌++◌, [], ◌∷◌, OnOk, OnErr, IsOkUnless, length, vec_len, vec_capacity};
 ghost use Rattle.byteorder.specs.Endian.{big_bytes};
-ghost use Rattle.datagram.specs.Spelling.{eager_text, eager_spelling, frame_text, content_text, body_spelling, kind_of_body, datagram_text, DatagramFits, BodyFits, SequenceFits, HeaderIsWithinFields, EagerIsWithinFields, BodyIsWithinFields, header_spelling, spelling};
+ghost use Rattle.datagram.specs.Spelling.{eager_text, eager_spelling, request_text, request_spelling, clear_text, clear_spelling, data_text, data_spelling, frame_text, frame_spelling, content_text, datagram_text, DatagramFits, BodyFits, SequenceFits, HeaderIsWithinFields, EagerIsWithinFields, RequestIsWithinFields, ClearIsWithinFields, DataIsWithinFields, FrameIsWithinFields, header_spelling, spelling};
 
-use crate::datagram::{Content, Datagram, Eager, Frame, Header};
+use crate::datagram::{Content, Datagram, Header};
+use crate::frame::{ClearToSend, Data, Eager, Frame, RequestToSend};
 use crate::kinds::Kind;
 use crate::refused::Refused;
 use byteorder::{BigEndian, ByteOrder};
@@ -71,6 +72,50 @@ fn put_eager(out: &mut Vec<u8>, eager: &Eager)
     out.extend_from_slice(eager.elements).unwrap();
 }
 
+/// Appends an RTS, where there is room.
+fn put_request(out: &mut Vec<u8>, request: RequestToSend)
+    requires { vec_len out.old + 24 ≤ vec_capacity out.old }
+    ensures items { out.new.items ≡ out.old.items ++ request_spelling (request_text request) }
+    ensures width { RequestIsWithinFields (request_text request) }
+{
+    put_u8(out, 2);
+    put_u8(out, request.plane.code());
+    put_u8(out, request.basic.code());
+    put_u8(out, 0);
+    put_u32(out, request.tag);
+    put_u64(out, request.context);
+    put_u32(out, request.count);
+    put_u32(out, request.transfer);
+}
+
+/// Appends a CTS, where there is room.
+fn put_clear(out: &mut Vec<u8>, clear: ClearToSend)
+    requires { vec_len out.old + 8 ≤ vec_capacity out.old }
+    ensures items { out.new.items ≡ out.old.items ++ clear_spelling (clear_text clear) }
+    ensures width { ClearIsWithinFields (clear_text clear) }
+{
+    put_u8(out, 3);
+    put_u8(out, clear.clearance.code());
+    put_u8(out, 0);
+    put_u8(out, 0);
+    put_u32(out, clear.transfer);
+}
+
+/// Appends a DATA frame, where there is room.
+fn put_data(out: &mut Vec<u8>, part: &Data)
+    requires { vec_len out.old + 12 + length part.now.bytes.now ≤ vec_capacity out.old }
+    ensures items { out.new.items ≡ out.old.items ++ data_spelling (data_text part.now) }
+    ensures width { DataIsWithinFields (data_text part.now) }
+{
+    put_u8(out, 4);
+    put_u8(out, 0);
+    put_u8(out, 0);
+    put_u8(out, 0);
+    put_u32(out, part.transfer);
+    put_u32(out, part.offset);
+    out.extend_from_slice(part.bytes).unwrap();
+}
+
 /// Appends the header of a body of this kind and so many bytes, where there is room.
 fn put_header(out: &mut Vec<u8>, header: &Header, kind: Kind, body_len: u16)
     requires { vec_len out.old + 32 ≤ vec_capacity out.old }
@@ -92,14 +137,17 @@ fn put_header(out: &mut Vec<u8>, header: &Header, kind: Kind, body_len: u16)
 }
 
 /// Appends a frame, where there is room.
-#[tactic(auto, unfolding(crate::specs::Spelling::body_spelling))]
+#[tactic(auto, unfolding(crate::specs::Spelling::frame_spelling))]
 fn put_frame(out: &mut Vec<u8>, frame: Frame)
-    requires { vec_len out.old + length (body_spelling (frame_text frame)) ≤ vec_capacity out.old }
-    ensures items { out.new.items ≡ out.old.items ++ body_spelling (frame_text frame.entry) }
-    ensures width { BodyIsWithinFields (frame_text frame.entry) }
+    requires { vec_len out.old + length (frame_spelling (frame_text frame)) ≤ vec_capacity out.old }
+    ensures items { out.new.items ≡ out.old.items ++ frame_spelling (frame_text frame.entry) }
+    ensures width { FrameIsWithinFields (frame_text frame.entry) }
 {
     match frame {
         Frame::Eager(eager) => put_eager(out, &eager),
+        Frame::RequestToSend(request) => put_request(out, request),
+        Frame::ClearToSend(clear) => put_clear(out, clear),
+        Frame::Data(part) => put_data(out, &part),
     }
 }
 

@@ -3,7 +3,7 @@ use Rattle.std.proofs.Common.{◌≡◌, ◌==◌, ℕ, [], ◌∷◌, Bool, tru
 use Rattle.std.proofs.lemmas.Option.{same_Some}
 use Rattle.vocabulary.specs.declared.envelope.Source.{Source}
 use Rattle.vocabulary.specs.declared.envelope.Source.TheVariants.{Any, Rank, Null}
-use Rattle.datagram.specs.Spelling.{BodyText}
+use Rattle.datagram.specs.Spelling.{FrameText}
 use Rattle.datatypes.specs.Contents.{Contents}
 use Rattle.incarnation.specs.declared.place.Place.{Place}
 use Rattle.requests.specs.Regions.{sent_from}
@@ -12,7 +12,7 @@ use Rattle.rank_core.specs.declared.call.Call.TheVariants.{Isend, Irecv, Wait, T
 use Rattle.rank_core.specs.declared.refused.Refused.{Refused}
 use Rattle.rank_core.specs.Calls.{NeedsMemory, call_frame, call_rank}
 use Rattle.rank_core.specs.CoreState.{CoreState}
-use Rattle.rank_core.specs.Sending.{FrameFor, body_of, destination, frame_to, frame_unless, rank_to, rank_unless}
+use Rattle.rank_core.specs.Sending.{FrameFor, eager_frame, destination, frame_to, frame_unless, rank_to, rank_unless}
 use Rattle.sessions.specs.declared.refused.Refused as lower
 use Rattle.sessions.specs.Events.{event_limit}
 use Rattle.sessions.specs.SessionsState.{SessionsState}
@@ -21,7 +21,7 @@ use Rattle.engine.specs.Refusals.{fault_of_sessions}
 
 -- every frame to this rank meets this limit
 abbrev pub IsLimitTo : SessionsState → (rank : ℕ) → Option lower.Refused → Type 0
-IsLimitTo s rank limit = (b : BodyText) → limit ≡ event_limit s None (record { rank = rank; body = b } ∷ [])
+IsLimitTo s rank limit = (f : FrameText) → limit ≡ event_limit s None (record { rank = rank; frame = f } ∷ [])
 
 -- by whether the destination is the own rank
 met_unless : (s : SessionsState) (own : Bool) (to tag : ℕ) (m : Contents) (rank : ℕ) (limit : Option lower.Refused) →
@@ -30,7 +30,7 @@ met_unless : (s : SessionsState) (own : Bool) (to tag : ℕ) (m : Contents) (ran
 met_unless s true to tag m rank limit is met = absurd cc
 met_unless s false to tag m rank limit is met =
     let same : rank ≡ to = sym (same_Some to rank is) in
-    ap fault_of_sessions (subst (λ (r : ℕ). IsLimitTo s r limit) same met (body_of tag m))
+    ap fault_of_sessions (subst (λ (r : ℕ). IsLimitTo s r limit) same met (eager_frame tag m))
 
 -- by the destination
 met_to : (s : SessionsState) (p : Place) (t : Source) (g : Option ℕ) (m : Contents) (rank : ℕ) (limit : Option lower.Refused) →

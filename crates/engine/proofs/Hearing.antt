@@ -6,7 +6,7 @@ use Rattle.std.specs.Prelude.{OnOk, slice_index}
 use Rattle.vocabulary.specs.declared.endpoint.Endpoint.{Endpoint}
 use Rattle.datagram.specs.declared.datagram.Header.{Header}
 use Rattle.datagram.specs.declared.refused.Refused as reading
-use Rattle.datagram.specs.Spelling.{BodyText, EagerBody, AckBody, ResetBody, DatagramText}
+use Rattle.datagram.specs.Spelling.{BodyText, FrameBody, AckBody, ResetBody, DatagramText}
 use Rattle.datagram.specs.Reading.{datagram_of}
 use Rattle.incarnation.specs.declared.judgement.Judgement.{Judgement}
 use Rattle.incarnation.specs.declared.judgement.Judgement.TheVariants.{Current, Learn}
@@ -77,7 +77,7 @@ learnt known source there above =
 
 stale_knows : (body : BodyText) (s : SessionsState) (source : Endpoint) → Knows (stale source body) s source
 stale_knows AckBody s source = tt
-stale_knows (EagerBody t) s source = tt
+stale_knows (FrameBody f) s source = tt
 stale_knows ResetBody s source = tt
 
 judged_knows : (j : Result Judgement judging.Refused) (s : SessionsState) (d : DatagramText) → length s.known ≡ s.place.size →
@@ -146,7 +146,7 @@ said_tells (Err e) source lesson = tt
 
 stale_tells : (body : BodyText) (source : Endpoint) → ResetsTell (stale source body)
 stale_tells AckBody source = refl
-stale_tells (EagerBody t) source = refl
+stale_tells (FrameBody f) source = refl
 stale_tells ResetBody source = tt
 
 judged_tells : (j : Result Judgement judging.Refused) (s : SessionsState) (d : DatagramText) → ResetsTell (heard_by j s d)

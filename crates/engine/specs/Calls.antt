@@ -18,7 +18,7 @@ use Rattle.engine.specs.Refusals.{fault_of_sessions, first_fault}
 -- what the sessions are to send
 abbrev pub sendings_of : Option FrameFor → List Sending
 sendings_of None = []
-sendings_of (Some f) = record { rank = f.rank; body = f.body } ∷ []
+sendings_of (Some f) = record { rank = f.rank; frame = f.frame } ∷ []
 
 -- the sessions once the frame, if the call has one, is on its way
 abbrev pub after_frame : SessionsState → Option FrameFor → SessionsState

@@ -1,11 +1,11 @@
 -- What a datagram does to the engine: what is heard in it, both halves take in.
 use Rattle.std.specs.Prelude.{◌≡◌, ℕ, Bool, true, false, List, [], Option, Some, None, Result, Ok, Err, slice_index}
-use Rattle.datagram.specs.Spelling.{BodyText, DatagramText}
+use Rattle.datagram.specs.Spelling.{FrameText, DatagramText}
 use Rattle.datagram.specs.Reading.{datagram_of}
 use Rattle.rank_core.specs.declared.refused.Refused.{Refused}
 use Rattle.rank_core.specs.declared.refused.Refused.TheVariants as refusals
 use Rattle.rank_core.specs.Refusals.{IsRefusal}
-use Rattle.rank_core.specs.Hearing.{NewsText, frame_fault, after_news}
+use Rattle.rank_core.specs.Hearing.{NewsText, after_news, news_fault}
 use Rattle.sessions.specs.declared.refused.Refused as lower
 use Rattle.sessions.specs.declared.heard.Unheard.{Unheard}
 use Rattle.sessions.specs.SessionsState.{SessionsState}
@@ -17,10 +17,10 @@ use Rattle.engine.specs.Refusals.{of_sessions, fault_of_sessions, first_fault}
 -- WHAT IS HEARD
 
 -- the frame that is handed up
-abbrev pub frame_in : WordText → Option BodyText
+abbrev pub frame_in : WordText → Option FrameText
 frame_in (Acknowledges n) = None
 frame_in Repeats = None
-frame_in (Hands b) = Some b
+frame_in (Hands f) = Some f
 frame_in Nothing = None
 
 -- what of it concerns the core
@@ -32,12 +32,12 @@ abbrev pub says_nothing : Bool → WordText → Bool
 says_nothing true w = false
 says_nothing false (Acknowledges n) = false
 says_nothing false Repeats = false
-says_nothing false (Hands b) = false
+says_nothing false (Hands f) = false
 says_nothing false Nothing = true
 
 -- the first rule or limit that it meets: the core's rule first
 abbrev pub heard_fault : SessionsState → HeardText → Option Refused
-heard_fault s h = first_fault (frame_fault (frame_in h.word)) (fault_of_sessions (event_limit s (Some h) []))
+heard_fault s h = first_fault (news_fault (frame_in h.word)) (fault_of_sessions (event_limit s (Some h) []))
 
 -- both halves once they took it in
 abbrev pub after_heard : EngineState → HeardText → EngineState

@@ -77,8 +77,9 @@ impl Engine {
     /// Refused is the first that holds of: 21 to 25 and 30 (the bytes spell no datagram), 26 (another job), 27 (for
     /// another rank or a later incarnation of this one, or from no other rank of the job), 28 (from a former incarnation
     /// of its source), 29 (for a former incarnation of this rank: where the datagram is no reset itself, one reset goes
-    /// out to its source), 31 (a number outside the window), 30 (a message of a collective operation, for now), 13 and
-    /// 14. A refusal changes nothing, but for that reset; without memory for the reset it is 14.
+    /// out to its source), 31 (a number outside the window), 30 (a message of a collective operation or a frame of a
+    /// large message, for now), 13 and 14. A refusal changes nothing, but for that reset; without memory for the reset
+    /// it is 14.
     ///
     /// A datagram from a later incarnation of its source than the known one teaches it, before the datagram is
     /// handled. Both directions of the session start anew, so of a frame or an acknowledgement only number 0 is within

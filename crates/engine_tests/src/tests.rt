@@ -413,3 +413,61 @@ fn numbers_of_refusals(rt: HostRuntime) {
     }
     assert_eq!(rt; rank_of_two(rt.alloc(), 2, 0).err(), Some(Refused::Rank));
 }
+
+/// Rank 0 announces a message of 1,025 bytes with tag 3 to rank 1 as transfer 0, in frame 0 of job 1.
+const REQUEST: [u8; 56] = [
+    0x4d, 0x50, 0x55, 0x44, 1, 1, 0, 0, 0, 1, 0, 0, 0, 0, 0, 24, 0, 0, 0, 0, 0, 0, 0, 1, 0, 0, 0,
+    0, 0, 0, 0, 0, 2, 0, 5, 0, 0, 0, 0, 3, 0, 0, 0, 0, 0, 0, 0, 0, 0, 0, 4, 1, 0, 0, 0, 0,
+];
+
+/// Rank 0 asks rank 1 for the data of transfer 0, in frame 0 of job 1.
+const CLEAR: [u8; 40] = [
+    0x4d, 0x50, 0x55, 0x44, 1, 1, 0, 0, 0, 1, 0, 0, 0, 0, 0, 8, 0, 0, 0, 0, 0, 0, 0, 1, 0, 0, 0, 0,
+    0, 0, 0, 0, 3, 0, 0, 0, 0, 0, 0, 0,
+];
+
+/// Rank 0 sends the first byte of transfer 0 to rank 1, in frame 0 of job 1.
+const PART: [u8; 45] = [
+    0x4d, 0x50, 0x55, 0x44, 1, 1, 0, 0, 0, 1, 0, 0, 0, 0, 0, 13, 0, 0, 0, 0, 0, 0, 0, 1, 0, 0, 0,
+    0, 0, 0, 0, 0, 4, 0, 0, 0, 0, 0, 0, 0, 0, 0, 0, 0, 7,
+];
+
+/// How an engine refuses bytes that spell a datagram.
+fn number_of_unheard(engine: &mut Engine, bytes: &[u8]) -> Option<u8> {
+    let _datagram = datagram::read(bytes).ok()?;
+    engine.on_datagram(bytes).err().map(Refused::number)
+}
+
+/// How the frames of a large message are refused.
+fn refuse_parts(engine: &mut Engine) -> (Option<u8>, Option<u8>, Option<u8>) {
+    let request = number_of_unheard(engine, &REQUEST);
+    let clear = number_of_unheard(engine, &CLEAR);
+    (request, clear, number_of_unheard(engine, &PART))
+}
+
+/// How many datagrams go out where these frames are refused, and how a message under the same number goes through then.
+fn pass_after_refused(
+    alloc: Global,
+    sender: &mut Engine,
+    receiver: &mut Engine,
+) -> Option<(usize, bool, Option<u64>, bool)> {
+    if refuse_parts(receiver) != (Some(30), Some(30), Some(30)) {
+        return None;
+    }
+    let emitted = receiver.take_out().len();
+    let (blocked, count, idle) = pass_message(alloc, sender, receiver)?;
+    Some((emitted, blocked, count, idle))
+}
+
+fn refused_parts(alloc: Global) -> Option<(usize, bool, Option<u64>, bool)> {
+    let mut ranks = two_ranks(alloc, 0, 0)?;
+    match ranks.as_mut_slice() {
+        [sender, receiver] => pass_after_refused(alloc, sender, receiver),
+        _ => None,
+    }
+}
+
+#[test]
+fn frames_of_a_large_message_are_refused_and_change_nothing(rt: HostRuntime) {
+    assert_eq!(rt; refused_parts(rt.alloc()), Some((0, true, Some(1), true)));
+}

@@ -5,19 +5,19 @@ use Rattle.std.proofs.lemmas.Bool.{eqb-true, eqb-false}
 use Rattle.std.proofs.lemmas.List.{length-set}
 use Rattle.vocabulary.specs.declared.endpoint.Endpoint.{Endpoint}
 use Rattle.perfect_queues.proofs.ListLemmas.{get_set, get_set_other}
-use Rattle.proof_pure_network.specs.Frames.{Frame}
-use Rattle.proof_pure_network.proofs.JobLemmas.{All_append}
+use Rattle.datagram.specs.Spelling.{FrameText}
 use Rattle.sessions.specs.declared.peers.Peer.{Peer}
 use Rattle.sessions.specs.SessionsState.{SessionsState}
 use Rattle.sessions.specs.Peers.{peer_at, peer_or_new}
 use Rattle.proof_link_truth.specs.Events.{LeavesTrue, emptied}
-use Rattle.proof_link_truth.specs.Sessions.{SessionsTell, Links, PeerTells}
+use Rattle.proof_link_truth.specs.Links.{Links}
+use Rattle.proof_link_truth.specs.Sessions.{SessionsTell, PeerTells}
 use Rattle.proof_link_truth.specs.Told.{IsTold}
 use Rattle.proof_link_truth.specs.Truth.{AreTrue}
 use Rattle.proof_link_truth.specs.Wire.{at, place_of, wires}
 use Rattle.proof_link_truth.specs.Witness.{IsWitnessed}
 use Rattle.proof_link_truth.proofs.Growing.{Grows, LinksFit, told_more}
-use Rattle.proof_link_truth.proofs.Lists.{All_more, false_sym, set_each}
+use Rattle.proof_link_truth.proofs.Lists.{All_append, All_more, false_sym, set_each}
 
 -- the same session where nobody but another rank did something
 pub peer_beside : (n r x k : ℕ) (current : ℕ → ℕ) (own : Endpoint) (a b : Links) (p : Peer) → Grows r a b → (own.rank == r) ≡ false
@@ -25,7 +25,7 @@ pub peer_beside : (n r x k : ℕ) (current : ℕ → ℕ) (own : Endpoint) (a b 
 peer_beside n r x k current own a b p grows other tells = record {
   begun = tells.begun;
   sender = record {
-    kept = tells.sender.kept ∙ ap (λ (fs : List Frame). drop p.sender.lowest (wires n own (at x k) 0 fs)) (sym (grows.accepted own (at x k) other));
+    kept = tells.sender.kept ∙ ap (λ (fs : List FrameText). drop p.sender.lowest (wires n own (at x k) 0 fs)) (sym (grows.accepted own (at x k) other));
     below = omega (arith, tells.sender.below, grows.more own (at x k));
   };
   receiver = tells.receiver ∙ sym (grows.handed (at x k) own other);

@@ -1,5 +1,5 @@
 -- What a rank hears in a datagram of the world is true, and is heeded.
-use Rattle.std.proofs.Common.{◌≡◌, ℕ, ◌<◌, ◌≤◌, Bool, true, false, List, Option, Some, None, Result, Ok, Err, if◌then◌else◌, ◌==◌, nat_lt, slice_get, slice_index, refl, sym, ap, ◌∙◌, subst, arith}
+use Rattle.std.proofs.Common.{◌≡◌, ℕ, ◌≤◌, Bool, true, false, List, Some, Result, Ok, Err, if◌then◌else◌, nat_lt, slice_get, slice_index, refl, sym, ap, ◌∙◌, subst, arith}
 use Rattle.std.specs.Ordering.{nat_cmp}
 use Rattle.std.specs.declared.cmp.Ordering.{Ordering}
 use Rattle.std.specs.declared.cmp.Ordering.TheVariants.{Less, Equal, Greater}
@@ -7,7 +7,7 @@ use Rattle.std.proofs.lemmas.Cmp.{ranked}
 use Rattle.vocabulary.specs.declared.endpoint.Endpoint.{Endpoint}
 use Rattle.datagram.specs.declared.datagram.Header.{Header}
 use Rattle.datagram.specs.Reading.{datagram_of}
-use Rattle.datagram.specs.Spelling.{AckBody, BodyText, DatagramText, EagerBody, EagerText, ResetBody}
+use Rattle.datagram.specs.Spelling.{AckBody, BodyText, DatagramText, FrameBody, FrameText, ResetBody}
 use Rattle.incarnation.specs.declared.judgement.Judgement.{Judgement}
 use Rattle.incarnation.specs.declared.judgement.Judgement.TheVariants.{Current, Learn}
 use Rattle.incarnation.specs.declared.place.Place.{Place}
@@ -25,12 +25,13 @@ use Rattle.sessions.specs.Peers.{peer_at}
 use Rattle.sessions.specs.SessionsState.{SessionsState, knowledge}
 use Rattle.sessions.specs.Spellings.{header_to}
 use Rattle.proof_link_truth.specs.Events.{HearingIsTrue, HearsTruth, IsAt, IsFromDatagram, IsHeard, IsLesson, IsTrueWord, LeavesTrue, links_heard, links_heeded}
-use Rattle.proof_link_truth.specs.Sessions.{Links, PeerTells, SessionsTell}
+use Rattle.proof_link_truth.specs.Links.{Links}
+use Rattle.proof_link_truth.specs.Sessions.{PeerTells, SessionsTell}
 use Rattle.proof_link_truth.specs.Told.{IsTold}
 use Rattle.proof_link_truth.specs.Truth.{AreTrue}
 use Rattle.proof_link_truth.specs.Wire.{at, place_of, wire}
 use Rattle.proof_link_truth.specs.Witness.{IsAmong}
-use Rattle.proof_link_truth.proofs.Hearing.{Bears, Hears, heeded, heeds, hears, peer_of}
+use Rattle.proof_link_truth.proofs.Hearing.{Bears, Hears, heeded, hears, peer_of}
 use Rattle.proof_link_truth.proofs.Judging.{IsCurrent, IsLater, is_current, is_later, same_endpoint}
 use Rattle.proof_link_truth.proofs.Learning.{taught_peer}
 use Rattle.proof_link_truth.proofs.Lists.{All_get}
@@ -97,19 +98,14 @@ same_word x w is = ap (word_or w) is
 
 module _ (n : ℕ) (datagrams : List (ℕ × List ℕ)) (s d : Endpoint) (links : Links) (p : Peer) (w : WordText) where
   -- a frame, by its number
-  frame_bears : (q : ℕ) (t : EagerText) → SaysFrame n datagrams s d links q (EagerBody t) → p.receiver ≡ (links s d).handed → (o : Ordering) → o ≡ nat_cmp q p.receiver
-      → word_of_frame o (EagerBody t) ≡ Ok w → Bears n datagrams links s d w
+  frame_bears : (q : ℕ) (t : FrameText) → SaysFrame n datagrams s d links q t → p.receiver ≡ (links s d).handed → (o : Ordering) → o ≡ nat_cmp q p.receiver
+      → word_of_frame o t ≡ Ok w → Bears n datagrams links s d w
   frame_bears q t says receiver Less is h = subst (Bears n datagrams links s d) (same_word Repeats w h) tt
   frame_bears q t says receiver Equal is h =
       let handed : q ≡ (links s d).handed = ranked q p.receiver Equal is ∙ receiver in
-      subst (Bears n datagrams links s d) (same_word (Hands (EagerBody t)) w h) (record {
-        next = record {
-          frame = says.frame;
-          next = subst (λ (k : ℕ). slice_get (links s d).accepted k ≡ Some says.frame) handed says.there;
-          carried = says.carried;
-          body_is = says.body_is;
-        };
-        sent = subst (λ (k : ℕ). IsAmong datagrams (d.rank, wire n s d k says.frame)) handed says.sent;
+      subst (Bears n datagrams links s d) (same_word (Hands t) w h) (record {
+        next = record { next = subst (λ (k : ℕ). slice_get (links s d).accepted k ≡ Some t) handed says.there; carried = says.carried };
+        sent = subst (λ (k : ℕ). IsAmong datagrams (d.rank, wire n s d k t)) handed says.sent;
       })
   frame_bears q t says receiver Greater is h = absurd cc
 
@@ -120,7 +116,7 @@ module _ (n : ℕ) (datagrams : List (ℕ × List ℕ)) (s d : Endpoint) (links 
 
   -- what a true body says in a session that tells of its link
   word_bears : (q : ℕ) (b : BodyText) → Says n datagrams s d links q b → p.receiver ≡ (links s d).handed → word_of p q b ≡ Ok w → Bears n datagrams links s d w
-  word_bears q (EagerBody t) says receiver h = frame_bears q t says receiver (nat_cmp q p.receiver) refl h
+  word_bears q (FrameBody t) says receiver h = frame_bears q t says receiver (nat_cmp q p.receiver) refl h
   word_bears q AckBody says receiver h = ack_bears q says (nat_lt (out_end p.sender) q) h
   word_bears q ResetBody says receiver h = subst (Bears n datagrams links s d) (same_word Nothing w h) tt
 
@@ -128,7 +124,7 @@ module _ (n : ℕ) (datagrams : List (ℕ × List ℕ)) (s d : Endpoint) (links 
 bears_truth : (n : ℕ) (datagrams : List (ℕ × List ℕ)) (links : Links) (s d : Endpoint) (w : WordText) → Bears n datagrams links s d w → IsTrueWord links s d w
 bears_truth n datagrams links s d (Acknowledges number) bears = bears
 bears_truth n datagrams links s d Repeats bears = tt
-bears_truth n datagrams links s d (Hands body) bears = bears.next
+bears_truth n datagrams links s d (Hands frame) bears = bears.next
 bears_truth n datagrams links s d Nothing bears = tt
 
 -- ---- what its endpoints make of it
@@ -160,7 +156,7 @@ is_found s lesson (Err e) h is = absurd cc
 
 -- what isn't meant for the rank is not heard
 none_unmeant : (e : judging.Refused) (s : Endpoint) (b : BodyText) (h : HeardText) → unmeant {A = HeardText} e s b ≡ Ok h → ⊥
-none_unmeant judgings.StaleTarget s (EagerBody t) h is = absurd cc
+none_unmeant judgings.StaleTarget s (FrameBody t) h is = absurd cc
 none_unmeant judgings.StaleTarget s AckBody h is = absurd cc
 none_unmeant judgings.StaleTarget s ResetBody h is = absurd cc
 none_unmeant judgings.StaleSource s b h is = absurd cc

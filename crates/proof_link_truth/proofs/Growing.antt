@@ -5,15 +5,15 @@ use Rattle.std.proofs.lemmas.List.{length-append}
 use Rattle.vocabulary.specs.Endpoints.{is_same}
 use Rattle.vocabulary.specs.declared.endpoint.Endpoint.{Endpoint}
 use Rattle.perfect_queues.proofs.EndpointLemmas.{same_eq, same_refl}
-use Rattle.proof_pure_network.specs.Frames.{Frame}
-use Rattle.proof_pure_network.specs.Links.{Link, accept, handed_on, with_link}
-use Rattle.proof_pure_network.proofs.JobLemmas.{All_append}
+use Rattle.datagram.specs.Spelling.{FrameText}
 use Rattle.reliable_link.proofs.Places.{place_stays}
 use Rattle.sessions.specs.SessionsState.{SessionsState}
-use Rattle.proof_link_truth.specs.Sessions.{IsLink, Links, is_pair}
+use Rattle.proof_link_truth.specs.Links.{Link, Links, accept, handed_on, with_link}
+use Rattle.proof_link_truth.specs.Sessions.{IsLink, is_pair}
 use Rattle.proof_link_truth.specs.Told.{IsTold, Tells, TellsAck, TellsFrame, TellsReset}
 use Rattle.proof_link_truth.specs.Truth.{AreTrue}
-use Rattle.proof_link_truth.specs.Wire.{IsSent}
+use Rattle.proof_link_truth.specs.Wire.{CanBeSent}
+use Rattle.proof_link_truth.proofs.Lists.{All_append}
 
 -- a link is the changed one, or as it was
 pub link_cases : (P : Link → Type 0) (links : Links) (s d : Endpoint) (l : Link) (s' d' : Endpoint)
@@ -32,7 +32,7 @@ link_here links s d l = go (is_same s s) (is_same d d) (same_refl s) (same_refl 
     go t u ht hu = rw (ht, hu)
 
 -- what is accepted hands up nothing
-pub accepted_handed : (links : Links) (s d : Endpoint) (f : Frame) (s' d' : Endpoint) → (accept links s (d, f) s' d').handed ≡ (links s' d').handed
+pub accepted_handed : (links : Links) (s d : Endpoint) (f : FrameText) (s' d' : Endpoint) → (accept links s (d, f) s' d').handed ≡ (links s' d').handed
 accepted_handed links s d f s' d' =
     link_cases (λ l. l.handed ≡ (links s' d').handed) links s d (record { accepted = (links s d).accepted ++ f ∷ []; handed = (links s d).handed }) s' d'
     (λ es ed. rw (es, ed)) (λ h. refl)
@@ -48,7 +48,7 @@ pub record Grows (r : ℕ) (a b : Links) : Type 0 where
   pub accepted : (s d : Endpoint) → (s.rank == r) ≡ false → (b s d).accepted ≡ (a s d).accepted
   pub handed : (s d : Endpoint) → (d.rank == r) ≡ false → (b s d).handed ≡ (a s d).handed
   pub more : (s d : Endpoint) → (a s d).handed ≤ (b s d).handed
-  pub kept : (s d : Endpoint) (q : ℕ) (f : Frame) → slice_get (a s d).accepted q ≡ Some f → slice_get (b s d).accepted q ≡ Some f
+  pub kept : (s d : Endpoint) (q : ℕ) (f : FrameText) → slice_get (a s d).accepted q ≡ Some f → slice_get (b s d).accepted q ≡ Some f
 
 -- links that stay as they are
 pub grows_none : (r : ℕ) (a : Links) → Grows r a a
@@ -59,7 +59,7 @@ apart_ranks : (a b : Endpoint) → (a.rank == b.rank) ≡ false → a ≡ b → 
 apart_ranks a b h e = both_ways (a.rank == b.rank) h (eq-eqb a.rank b.rank (ap (λ (u : Endpoint). u.rank) e))
 
 -- a frame that is accepted
-pub accept_grows : (a : Links) (s d : Endpoint) (f : Frame) → Grows s.rank a (accept a s (d, f))
+pub accept_grows : (a : Links) (s d : Endpoint) (f : FrameText) → Grows s.rank a (accept a s (d, f))
 accept_grows a s d f =
     let longer : Link = record { accepted = (a s d).accepted ++ f ∷ []; handed = (a s d).handed } in
     record {
@@ -79,7 +79,7 @@ handed_grows a s d =
       handed = λ s' d' h. link_cases (λ l. l.handed ≡ (a s' d').handed) a s d further s' d' (λ es ed. absurd (apart_ranks d' d h ed)) (λ k. refl);
       more = λ s' d'. link_cases (λ l. (a s' d').handed ≤ l.handed) a s d further s' d'
           (λ es ed. subst (λ (x : Endpoint). (a x d').handed ≤ suc (a s d).handed) (sym es) (subst (λ (x : Endpoint). (a s x).handed ≤ suc (a s d).handed) (sym ed) (omega arith))) (λ k. omega arith);
-      kept = λ s' d' q g h. subst (λ (fs : List Frame). slice_get fs q ≡ Some g) (sym (handed_accepted a s d s' d')) h;
+      kept = λ s' d' q g h. subst (λ (fs : List FrameText). slice_get fs q ≡ Some g) (sym (handed_accepted a s d s' d')) h;
     }
 
 -- what was told stays true
@@ -116,12 +116,12 @@ told_later n a current later up t told = record {
 }
 
 -- each link is sound still once a frame that may be sent was accepted
-pub accept_sound : (a : Links) (s d : Endpoint) (f : Frame) → ((s' d' : Endpoint) → IsLink (a s' d')) → IsSent f → length (a s d).accepted + 1 < 2 ^ 64 → (s' d' : Endpoint) → IsLink (accept a s (d, f) s' d')
+pub accept_sound : (a : Links) (s d : Endpoint) (f : FrameText) → ((s' d' : Endpoint) → IsLink (a s' d')) → CanBeSent f → length (a s d).accepted + 1 < 2 ^ 64 → (s' d' : Endpoint) → IsLink (accept a s (d, f) s' d')
 accept_sound a s d f sound is_sent numbered s' d' =
     let one : length ((a s d).accepted ++ f ∷ []) ≡ length (a s d).accepted + 1 = length-append (a s d).accepted (f ∷ []) in
     let h : IsLink (a s d) = sound s d in
     link_cases IsLink a s d (record { accepted = (a s d).accepted ++ f ∷ []; handed = (a s d).handed }) s' d'
-    (λ es ed. record { reach = omega (arith, h.reach, one); sent = All_append IsSent (a s d).accepted (f ∷ []) h.sent (is_sent, tt); numbered = omega (arith, one, numbered) })
+    (λ es ed. record { reach = omega (arith, h.reach, one); sent = All_append CanBeSent (a s d).accepted (f ∷ []) h.sent (is_sent, tt); numbered = omega (arith, one, numbered) })
     (λ k. sound s' d')
 
 -- and once one that was accepted was handed up
@@ -133,7 +133,7 @@ handed_sound a s d sound within s' d' =
     (λ k. sound s' d')
 
 -- strangers send nothing still where a pair does
-pub accept_strangers : (n : ℕ) (a : Links) (s d : Endpoint) (f : Frame) → ((s' d' : Endpoint) → is_pair n s' d' ≡ false → (a s' d').accepted ≡ []) → is_pair n s d ≡ true
+pub accept_strangers : (n : ℕ) (a : Links) (s d : Endpoint) (f : FrameText) → ((s' d' : Endpoint) → is_pair n s' d' ≡ false → (a s' d').accepted ≡ []) → is_pair n s d ≡ true
     → (s' d' : Endpoint) → is_pair n s' d' ≡ false → (accept a s (d, f) s' d').accepted ≡ []
 accept_strangers n a s d f strangers pair s' d' no_pair =
     link_cases (λ l. l.accepted ≡ []) a s d (record { accepted = (a s d).accepted ++ f ∷ []; handed = (a s d).handed }) s' d'
@@ -163,7 +163,7 @@ links_fit n sessions datagrams links current true_now = record {
 }
 
 -- a frame that an endpoint which was there accepts
-pub accept_fits : (n : ℕ) (a : Links) (current : ℕ → ℕ) (s d : Endpoint) (f : Frame) → LinksFit n a current → IsSent f
+pub accept_fits : (n : ℕ) (a : Links) (current : ℕ → ℕ) (s d : Endpoint) (f : FrameText) → LinksFit n a current → CanBeSent f
     → length (a s d).accepted + 1 < 2 ^ 64 → is_pair n s d ≡ true → s.incarnation ≤ current s.rank → LinksFit n (accept a s (d, f)) current
 accept_fits n a current s d f fit is_sent numbered pair begun = record {
   sound = accept_sound a s d f fit.sound is_sent numbered;

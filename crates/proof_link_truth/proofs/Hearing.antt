@@ -1,13 +1,11 @@
 -- What a rank does with the word of an endpoint, once it knows that endpoint's incarnation.
-use Rattle.std.proofs.Common.{◌≡◌, ℕ, suc, ◌+◌, ◌<◌, ◌≤◌, Bool, false, List, [], ◌∷◌, ◌++◌, length, Some, ◌==◌, slice_get, slice_index, refl, sym, ap, ◌∙◌, subst, arith}
+use Rattle.std.proofs.Common.{◌≡◌, ℕ, suc, ◌+◌, ◌<◌, ◌≤◌, Bool, false, List, [], ◌∷◌, ◌++◌, length, ◌==◌, slice_index, refl, sym, ap, ◌∙◌, subst, arith}
 use Rattle.std.specs.List.{AllByRecursion}
 use Rattle.std.proofs.lemmas.Bool.{eqb-false}
 use Rattle.std.proofs.lemmas.Option.{slice_get_within}
 use Rattle.vocabulary.specs.declared.endpoint.Endpoint.{Endpoint}
-use Rattle.datagram.specs.Spelling.{BodyText}
+use Rattle.datagram.specs.Spelling.{FrameText}
 use Rattle.incarnation.specs.declared.place.Place.{Place}
-use Rattle.proof_pure_network.specs.Frames.{Frame}
-use Rattle.proof_pure_network.specs.Links.{Link, handed_on}
 use Rattle.reliable_link.specs.SenderState.{SenderState, after_ack, entered_on_ack}
 use Rattle.sessions.specs.declared.peers.Peer.{Peer}
 use Rattle.sessions.specs.Events.{answer_in, linked, taught}
@@ -16,7 +14,8 @@ use Rattle.sessions.specs.Peers.{frames_out, peer_at}
 use Rattle.sessions.specs.SessionsState.{SessionsState}
 use Rattle.sessions.specs.Spellings.{ack_bytes}
 use Rattle.proof_link_truth.specs.Events.{IsHeard, IsNext, LeavesTrue, links_heeded}
-use Rattle.proof_link_truth.specs.Sessions.{Links, PeerTells, SenderTells, SessionsTell}
+use Rattle.proof_link_truth.specs.Links.{Link, Links, handed_on}
+use Rattle.proof_link_truth.specs.Sessions.{PeerTells, SenderTells, SessionsTell}
 use Rattle.proof_link_truth.specs.Told.{IsTold, TellsAck}
 use Rattle.proof_link_truth.specs.Truth.{AreTrue}
 use Rattle.proof_link_truth.specs.Wire.{at, place_of, wire}
@@ -37,16 +36,16 @@ stays n r sessions datagrams links current e new true_now tells place_is known_i
     (sessions_stay n r current links e new tells place_is known_is peers_are) (links_fit n sessions datagrams links current true_now) told
     (all_witnessed n r sessions datagrams new.out links links current true_now (grows_none r links) (λ s d. refl))
 
--- the next frame of the link from s to d has this body, and was emitted
-pub record IsNextEmitted (n : ℕ) (datagrams : List (ℕ × List ℕ)) (links : Links) (s d : Endpoint) (body : BodyText) : Type 0 where
-  pub next : IsNext links s d body
-  pub sent : IsAmong datagrams (d.rank, wire n s d (links s d).handed next.frame)
+-- the next frame of the link from s to d is this, and it was emitted
+pub record IsNextEmitted (n : ℕ) (datagrams : List (ℕ × List ℕ)) (links : Links) (s d : Endpoint) (frame : FrameText) : Type 0 where
+  pub next : IsNext links s d frame
+  pub sent : IsAmong datagrams (d.rank, wire n s d (links s d).handed frame)
 
 -- what a word of s says to d of their links, and that its frame was emitted
 abbrev pub Bears : (n : ℕ) → (datagrams : List (ℕ × List ℕ)) → Links → (s d : Endpoint) → WordText → Type 0
 Bears n datagrams links s d (Acknowledges number) = number ≤ (links d s).handed
 Bears n datagrams links s d Repeats = Unit {0}
-Bears n datagrams links s d (Hands body) = IsNextEmitted n datagrams links s d body
+Bears n datagrams links s d (Hands frame) = IsNextEmitted n datagrams links s d frame
 Bears n datagrams links s d Nothing = Unit {0}
 
 -- the sessions once they heeded and answered a word
@@ -131,15 +130,15 @@ module _ (n r : ℕ) (s : Endpoint) (sessions : List SessionsState) (datagrams :
 
 -- it is handed up on its link, and acknowledged
 taken : (n r : ℕ) (s : Endpoint) (sessions : List SessionsState) (datagrams : List (ℕ × List ℕ)) (links : Links) (current : ℕ → ℕ)
-    (e : SessionsState) (body : BodyText) → Hears n r s sessions datagrams links current e → IsNextEmitted n datagrams links s (at r (current r)) body
-    → LeavesTrue n sessions datagrams r (heeds e s (Hands body)) (handed_on links s (at r (current r))) current
-taken n r s sessions datagrams links current e body c n_e =
+    (e : SessionsState) (frame : FrameText) → Hears n r s sessions datagrams links current e → IsNextEmitted n datagrams links s (at r (current r)) frame
+    → LeavesTrue n sessions datagrams r (heeds e s (Hands frame)) (handed_on links s (at r (current r))) current
+taken n r s sessions datagrams links current e frame c n_e =
     world_leaves n r sessions datagrams links after current new c.true_now (handed_grows links s own)
     (sessions_with n r s.rank current links after e new next c.tells c.begun.source c.begun.apart here beside refl refl refl)
     (handed_fits n links current s own (links_fit n sessions datagrams links current c.true_now) within c.begun.target_begun) told witnessed
   where
     new : SessionsState
-    new = heeds e s (Hands body)
+    new = heeds e s (Hands frame)
 
     own : Endpoint
     own = at r (current r)
@@ -152,9 +151,6 @@ taken n r s sessions datagrams links current e body c n_e =
 
     after : Links
     after = handed_on links s own
-
-    frame : Frame
-    frame = n_e.next.frame
 
     within : link.handed < length link.accepted
     within = slice_get_within link.accepted link.handed frame n_e.next.next
@@ -240,7 +236,7 @@ pub heeded : (n r : ℕ) (s : Endpoint) (sessions : List SessionsState) (datagra
     → LeavesTrue n sessions datagrams r (heeds e s w) (links_heeded links s (at r (current r)) w) current
 heeded n r s sessions datagrams links current e (Acknowledges k) c bears = acked n r s sessions datagrams links current e c k bears
 heeded n r s sessions datagrams links current e Repeats c bears = again n r s sessions datagrams links current e c
-heeded n r s sessions datagrams links current e (Hands body) c bears = taken n r s sessions datagrams links current e body c bears
+heeded n r s sessions datagrams links current e (Hands frame) c bears = taken n r s sessions datagrams links current e frame c bears
 heeded n r s sessions datagrams links current e Nothing c bears = nothing n r s sessions datagrams links current e c
 
 -- sessions that heard a word know its endpoint

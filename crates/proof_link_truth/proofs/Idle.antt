@@ -3,15 +3,15 @@ use Rattle.std.proofs.Common.{◌≡◌, ℕ, ◌-◌, ◌<◌, Bool, true, fals
 use Rattle.std.proofs.lemmas.Bool.{and_parts, ltb-true, not-true}
 use Rattle.std.proofs.lemmas.List.{drop_all, length-drop}
 use Rattle.vocabulary.specs.declared.endpoint.Endpoint.{Endpoint}
-use Rattle.proof_pure_network.specs.Frames.{Frame}
-use Rattle.proof_pure_network.specs.Links.{Link, in_flight}
+use Rattle.datagram.specs.Spelling.{FrameText}
 use Rattle.reliable_link.specs.declared.out_frame.OutFrame.{OutFrame}
 use Rattle.sessions.specs.declared.peers.Peer.{Peer}
 use Rattle.sessions.specs.Peers.{peer_at}
 use Rattle.sessions.specs.SessionsState.{SessionsState}
 use Rattle.incarnation.specs.declared.place.Place.{Place}
 use Rattle.proof_link_truth.specs.Events.{IdleIsStill}
-use Rattle.proof_link_truth.specs.Sessions.{SessionsTell, Links, PeerTells, SenderTells, bytes_kept, is_pair}
+use Rattle.proof_link_truth.specs.Links.{Link, Links, in_flight}
+use Rattle.proof_link_truth.specs.Sessions.{SessionsTell, PeerTells, SenderTells, bytes_kept, is_pair}
 use Rattle.proof_link_truth.specs.Wire.{at, wires}
 use Rattle.proof_link_truth.proofs.Lists.{false_sym, get_within}
 use Rattle.proof_link_truth.proofs.Wires.{wires_length}
@@ -57,7 +57,7 @@ pub idle_is_still : IdleIsStill
 idle_is_still n sessions datagrams links current true_now idle s d s_is d_is s_knows d_knows = go (is_pair n s d) refl
   where
     go : (t : Bool) → is_pair n s d ≡ t → in_flight (links s d) ≡ []
-    go false h = ap (λ (fs : List Frame). drop (links s d).handed fs) (true_now.strangers s d h) ∙ drop_all (links s d).handed [] (omega arith)
+    go false h = ap (λ (fs : List FrameText). drop (links s d).handed fs) (true_now.strangers s d h) ∙ drop_all (links s d).handed [] (omega arith)
     go true h =
         let pair : IsPair n s d = pair_is n s d h in
         let e = get_within sessions s.rank (omega (arith, pair.source, true_now.count)) in

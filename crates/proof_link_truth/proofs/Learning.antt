@@ -4,19 +4,20 @@ use Rattle.std.proofs.Common.{◌≡◌, ℕ, ◌<◌, ◌≤◌, Bool, true, fa
 use Rattle.std.proofs.lemmas.Bool.{eqb-false}
 use Rattle.std.proofs.lemmas.List.{get_or-set_other, get_or-set_same, length-set}
 use Rattle.vocabulary.specs.declared.endpoint.Endpoint.{Endpoint}
-use Rattle.proof_pure_network.specs.Frames.{Frame}
+use Rattle.datagram.specs.Spelling.{FrameText}
 use Rattle.sessions.specs.declared.peers.Peer.{Peer}
 use Rattle.sessions.specs.Events.{taught, taught_known, taught_peers}
 use Rattle.sessions.specs.Heard.{session_met}
 use Rattle.sessions.specs.Peers.{new_session, peer_at}
 use Rattle.sessions.specs.SessionsState.{SessionsState}
 use Rattle.proof_link_truth.specs.Events.{IsHeard, IsLesson}
-use Rattle.proof_link_truth.specs.Sessions.{Links, PeerTells, SessionsTell}
+use Rattle.proof_link_truth.specs.Links.{Links}
+use Rattle.proof_link_truth.specs.Sessions.{PeerTells, SessionsTell}
 use Rattle.proof_link_truth.specs.Wire.{at, wires}
 use Rattle.proof_link_truth.proofs.Changing.{IsKnown, peer_set, sessions_know}
 
 -- a sender that keeps nothing tells the truth of a link that accepted nothing
-none_tells : (n : ℕ) (s d : Endpoint) (accepted : List Frame) → accepted ≡ [] → [] ≡ wires n s d 0 accepted
+none_tells : (n : ℕ) (s d : Endpoint) (accepted : List FrameText) → accepted ≡ [] → [] ≡ wires n s d 0 accepted
 none_tells n s d accepted none = sym (ap (wires n s d 0) none)
 
 -- the new session with a later incarnation of a rank

@@ -1,11 +1,15 @@
 -- Lists of what holds, and what stands at a place.
-use Rattle.std.proofs.Common.{◌≡◌, ℕ, zero, suc, ◌<◌, Bool, true, false, List, [], ◌∷◌, length, Some, ◌==◌, slice_get, slice_set, refl, sym, ◌∙◌, subst, arith}
+use Rattle.std.proofs.Common.{◌≡◌, ℕ, zero, suc, ◌<◌, Bool, true, false, List, [], ◌∷◌, ◌++◌, length, Some, ◌==◌, slice_get, slice_set, refl, sym, ◌∙◌, subst, arith}
 use Rattle.std.specs.List.{AllByRecursion, flat_map}
 use Rattle.std.proofs.lemmas.Bool.{eqb-true, eqb-false, ne_eqb}
 use Rattle.std.proofs.lemmas.Option.{same_Some, slice_get_within}
 use Rattle.std.proofs.lemmas.List.{length-set}
 use Rattle.perfect_queues.proofs.ListLemmas.{get_set, get_set_other}
-use Rattle.proof_pure_network.proofs.JobLemmas.{All_append}
+
+-- what holds of each element of two lists holds of each of both
+pub All_append : {A : Type 0} (P : A → Type 0) (xs ys : List A) → AllByRecursion P xs → AllByRecursion P ys → AllByRecursion P (xs ++ ys)
+All_append P [] ys a b = b
+All_append P (x ∷ xs) ys a b = (a.0, All_append P xs ys a.1 b)
 
 -- what follows from what holds of each element holds of each
 pub All_more : {A : Type 0} (P Q : A → Type 0) (xs : List A) → ((x : A) → P x → Q x) → AllByRecursion P xs → AllByRecursion Q xs

@@ -4,12 +4,13 @@ use Rattle.std.proofs.lemmas.Bool.{eqb-false}
 use Rattle.std.proofs.lemmas.List.{get_or-replicate, get_or-set_other, length-replicate, length-set}
 use Rattle.std.proofs.lemmas.Option.{same_Some}
 use Rattle.vocabulary.specs.declared.endpoint.Endpoint.{Endpoint}
-use Rattle.proof_pure_network.specs.Frames.{Frame}
+use Rattle.datagram.specs.Spelling.{FrameText}
 use Rattle.sessions.specs.declared.peers.Peer.{Peer}
 use Rattle.sessions.specs.SessionsState.{SessionsState, opening}
 use Rattle.sessions.specs.Peers.{new_peer, peer_at}
 use Rattle.proof_link_truth.specs.Events.{OpeningIsTrue, no_links, opening_sessions}
-use Rattle.proof_link_truth.specs.Sessions.{SessionsTell, Links, PeerTells}
+use Rattle.proof_link_truth.specs.Links.{Links}
+use Rattle.proof_link_truth.specs.Sessions.{SessionsTell, PeerTells}
 use Rattle.proof_link_truth.specs.Wire.{at, place_of, wires}
 
 -- every session is a new one
@@ -31,7 +32,7 @@ pub record IsUnheard (own : Endpoint) (links : Links) : Type 0 where
 new_tells : (n x : ℕ) (current : ℕ → ℕ) (own : Endpoint) (links : Links) → IsUnheard own links → PeerTells n current own x 0 new_peer links
 new_tells n x current own links none = record {
   begun = omega arith;
-  sender = record { kept = sym (ap (λ (fs : List Frame). wires n own (at x 0) 0 fs) (none.accepted (at x 0))); below = omega arith };
+  sender = record { kept = sym (ap (λ (fs : List FrameText). wires n own (at x 0) 0 fs) (none.accepted (at x 0))); below = omega arith };
   receiver = sym (none.handed (at x 0));
   no_accepted = λ i above. none.accepted (at x i);
   no_handed = λ i above. none.handed (at x i);

@@ -1,22 +1,17 @@
 -- What is read from the bytes of frames, acknowledgements and resets.
-use Rattle.std.proofs.Common.{◌≡◌, ℕ, ◌*◌, ◌<◌, ◌≤◌, ◌^◌, List, length, Result, Ok, Err, refl, sym, ap, ◌∙◌, arith}
-use Rattle.vocabulary.specs.BasicTypes.{size_of}
-use Rattle.vocabulary.specs.declared.basic_type.BasicType.{BasicType}
+use Rattle.std.proofs.Common.{◌≡◌, ℕ, ◌<◌, ◌≤◌, ◌^◌, Result, Ok, Err, refl, sym, ap, ◌∙◌, arith}
 use Rattle.vocabulary.specs.declared.endpoint.Endpoint.{Endpoint}
-use Rattle.datatypes.specs.ContentLaws.{length-bytes_of, sizes}
-use Rattle.datatypes.specs.Contents.{bytes_of}
-use Rattle.datagram.specs.declared.datagram.Frame.TheVariants as frames
+use Rattle.datagram.specs.declared.frame.Frame.{Frame}
+use Rattle.datagram.specs.declared.frame.Frame.TheVariants as frames
 use Rattle.datagram.specs.declared.datagram.Content.{Content}
 use Rattle.datagram.specs.declared.datagram.Content.TheVariants as contents
 use Rattle.datagram.specs.declared.datagram.Datagram.{Datagram}
 use Rattle.datagram.specs.declared.refused.Refused as lower
 use Rattle.datagram.specs.Reading.{datagram_of}
-use Rattle.datagram.specs.Spelling.{AckBody, BodyText, DatagramFits, DatagramText, EagerBody, HeaderIsWithinFields, ResetBody, content_text, datagram_text, spelling}
+use Rattle.datagram.specs.Spelling.{AckBody, BodyText, ClearFrame, DataFrame, DatagramFits, DatagramText, EagerFrame, FrameBody, FrameText, HeaderIsWithinFields, RequestFrame, ResetBody, content_text, datagram_text, frame_text, spelling}
 use Rattle.datagram.proofs.Grammar.{is_only}
-use Rattle.sessions.specs.Spellings.{ack_bytes, reset_bytes}
-use Rattle.sessions.specs.Spellings.{header_to}
-use Rattle.proof_link_truth.specs.Wire.{IsSmall, place_of, text_of, wire}
-use Rattle.proof_pure_network.specs.Frames as net
+use Rattle.sessions.specs.Spellings.{ack_bytes, header_to, reset_bytes}
+use Rattle.proof_link_truth.specs.Wire.{CanBeSent, place_of, text_of, wire}
 
 -- two endpoints of n ranks whose numbers have the widths of a header
 pub record HaveWidths (n : ℕ) (s d : Endpoint) : Type 0 where
@@ -26,9 +21,18 @@ pub record HaveWidths (n : ℕ) (s d : Endpoint) : Type 0 where
   pub source_last : s.incarnation ≤ 65535
   pub target_last : d.incarnation ≤ 65535
 
+-- a frame that says this
+said_frame : (t : FrameText) → (f : Frame) × (frame_text f ≡ t)
+said_frame (EagerFrame e) =
+    (frames.Eager (record { plane = e.plane; basic = e.basic; tag = e.tag; context = e.context; count = e.count; elements = record { ref_ptr = (0, 0); now = e.elements } }), refl)
+said_frame (RequestFrame r) =
+    (frames.RequestToSend (record { plane = r.plane; basic = r.basic; tag = r.tag; context = r.context; count = r.count; transfer = r.transfer }), refl)
+said_frame (ClearFrame c) = (frames.ClearToSend (record { transfer = c.transfer; clearance = c.clearance }), refl)
+said_frame (DataFrame d) = (frames.Data (record { transfer = d.transfer; offset = d.offset; bytes = record { ref_ptr = (0, 0); now = d.bytes } }), refl)
+
 -- a content that says this
 said : (b : BodyText) → (c : Content) × (content_text c ≡ b)
-said (EagerBody e) = (contents.Frame (frames.Eager (record { plane = e.plane; basic = e.basic; tag = e.tag; context = e.context; count = e.count; elements = record { ref_ptr = (0, 0); now = e.elements } })), refl)
+said (FrameBody t) = let f = said_frame t in (contents.Frame f.0, ap FrameBody f.1)
 said AckBody = (contents.Ack, refl)
 said ResetBody = (contents.Reset, refl)
 
@@ -56,26 +60,12 @@ header_fits n s d q w numbered = record {
   sequence = numbered;
 }
 
--- a frame that may be sent has the widths and keeps the rules
-eager_fits : (n : ℕ) (s d : Endpoint) (q c tag : ℕ) (basic : BasicType) (values : List ℕ) → IsSmall c tag basic values → HaveWidths n s d → q < 2 ^ 64
-    → DatagramFits (text_of n s d q (net.Eager c tag basic values))
-eager_fits n s d q c tag basic values small w numbered =
-    let sized : length (bytes_of (size_of basic) values) ≡ length values * size_of basic = length-bytes_of (size_of basic) values in
-    let size : 0 < size_of basic = (sizes basic).positive in
-    let least : length values ≤ length values * size_of basic = grind arith in
-    record {
-      header = header_fits n s d q w numbered;
-      width = record { context = omega (arith, small.context_is); count = omega (arith, least, small.size) };
-      body = record { tag = small.tag_is; size = sized; limit = omega (arith, sized, small.size); plane = tt };
-      sequence = tt;
-    }
-
--- the bytes of a frame are read as the frame
-pub frame_is_read : (n : ℕ) (s d : Endpoint) (q c tag : ℕ) (basic : BasicType) (values : List ℕ) → IsSmall c tag basic values → HaveWidths n s d → q < 2 ^ 64
-    → datagram_of (wire n s d q (net.Eager c tag basic values)) ≡ Ok (text_of n s d q (net.Eager c tag basic values))
+-- the bytes of a frame that can be spelled are read as the frame
+pub frame_is_read : (n : ℕ) (s d : Endpoint) (q : ℕ) (f : FrameText) → CanBeSent f → HaveWidths n s d → q < 2 ^ 64
+    → datagram_of (wire n s d q f) ≡ Ok (text_of n s d q f)
 unfolding wire
-frame_is_read n s d q c tag basic values small w numbered =
-    spelled_is_read (text_of n s d q (net.Eager c tag basic values)) (eager_fits n s d q c tag basic values small w numbered)
+frame_is_read n s d q f can w numbered =
+    spelled_is_read (text_of n s d q f) (record { header = header_fits n s d q w numbered; width = can.width; body = can.fits; sequence = tt })
 
 -- what an acknowledgement says
 abbrev pub ack_text : (n : ℕ) (s d : Endpoint) (k : ℕ) → DatagramText

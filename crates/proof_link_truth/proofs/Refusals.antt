@@ -1,9 +1,8 @@
 -- A datagram of the world that isn't heard leaves the sessions as they were, but that a reset may go out.
-use Rattle.std.proofs.Common.{◌≡◌, ℕ, ◌<◌, Bool, true, false, List, [], ◌∷◌, ◌++◌, Option, Some, None, Result, Ok, Err, ◌==◌, refl, sym, ap, ◌∙◌, subst, arith, inl, inr, ◌⊎◌}
+use Rattle.std.proofs.Common.{◌≡◌, ℕ, ◌<◌, Bool, true, false, List, [], ◌∷◌, ◌++◌, Option, Some, None, Result, Ok, Err, ◌==◌, refl, sym, ap, ◌∙◌, subst, arith, inl, inr}
 use Rattle.std.specs.List.{AllByRecursion}
 use Rattle.vocabulary.specs.declared.endpoint.Endpoint.{Endpoint}
-use Rattle.datagram.specs.declared.datagram.Header.{Header}
-use Rattle.datagram.specs.Spelling.{AckBody, BodyText, DatagramText, EagerBody, ResetBody}
+use Rattle.datagram.specs.Spelling.{AckBody, BodyText, DatagramText, FrameBody, ResetBody}
 use Rattle.incarnation.specs.declared.judgement.Judgement.{Judgement}
 use Rattle.incarnation.specs.declared.judgement.Judgement.TheVariants.{Current, Learn}
 use Rattle.incarnation.specs.declared.place.Place.{Place}
@@ -16,12 +15,13 @@ use Rattle.sessions.specs.Events.{TurnedAway}
 use Rattle.sessions.specs.Heard.{HeardText, WordText, heard_by, said, session_met, unmeant, word_of}
 use Rattle.sessions.specs.Peers.{peer_at}
 use Rattle.sessions.specs.SessionsState.{SessionsState, knowledge}
-use Rattle.sessions.specs.Spellings.{header_to, reset_bytes}
+use Rattle.sessions.specs.Spellings.{reset_bytes}
 use Rattle.proof_link_truth.specs.Events.{IsAt, LeavesTrue, RefusalsAreTrue}
-use Rattle.proof_link_truth.specs.Sessions.{Links, SessionsTell}
+use Rattle.proof_link_truth.specs.Links.{Links}
+use Rattle.proof_link_truth.specs.Sessions.{SessionsTell}
 use Rattle.proof_link_truth.specs.Told.{IsTold, TellsReset}
 use Rattle.proof_link_truth.specs.Truth.{AreTrue}
-use Rattle.proof_link_truth.specs.Wire.{at, place_of}
+use Rattle.proof_link_truth.specs.Wire.{at}
 use Rattle.proof_link_truth.proofs.Datagrams.{IsComing, heard_read, is_coming}
 use Rattle.proof_link_truth.proofs.Hearing.{stays}
 use Rattle.proof_link_truth.proofs.Lists.{false_sym}
@@ -56,7 +56,7 @@ said_back s lesson (Err e) u is = subst (λ (x : Unheard). IsBack s x.reset) (sa
 
 -- what isn't meant for the rank
 unmeant_back : (e : judging.Refused) (s : Endpoint) (b : BodyText) (u : Unheard) → unmeant {A = HeardText} e s b ≡ Err u → IsBack s u.reset
-unmeant_back judgings.StaleTarget s (EagerBody t) u is = subst (λ (x : Unheard). IsBack s x.reset) (same_unheard _ u is) refl
+unmeant_back judgings.StaleTarget s (FrameBody t) u is = subst (λ (x : Unheard). IsBack s x.reset) (same_unheard _ u is) refl
 unmeant_back judgings.StaleTarget s AckBody u is = subst (λ (x : Unheard). IsBack s x.reset) (same_unheard _ u is) refl
 unmeant_back judgings.StaleTarget s ResetBody u is = subst (λ (x : Unheard). IsBack s x.reset) (same_unheard _ u is) tt
 unmeant_back judgings.StaleSource s b u is = subst (λ (x : Unheard). IsBack s x.reset) (same_unheard _ u is) tt

@@ -5,7 +5,8 @@ use Rattle.std.proofs.lemmas.List.{length-set}
 use Rattle.perfect_queues.specs.State.{with_number}
 use Rattle.sessions.specs.SessionsState.{SessionsState, opening}
 use Rattle.proof_link_truth.specs.Events.{RestartsAreTrue}
-use Rattle.proof_link_truth.specs.Sessions.{SessionsTell, Links}
+use Rattle.proof_link_truth.specs.Links.{Links}
+use Rattle.proof_link_truth.specs.Sessions.{SessionsTell}
 use Rattle.proof_link_truth.specs.Told.{IsTold}
 use Rattle.proof_link_truth.specs.Truth.{AreTrue}
 use Rattle.proof_link_truth.specs.Wire.{at, place_of}

@@ -6,15 +6,15 @@ use Rattle.std.proofs.lemmas.Bool.{cases_lt, leb-true}
 use Rattle.std.proofs.lemmas.List.{drop-append-le, drop-drop, length-drop, length-map}
 use Rattle.std.proofs.lemmas.Option.{slice_get-map}
 use Rattle.vocabulary.specs.declared.endpoint.Endpoint.{Endpoint}
+use Rattle.datagram.specs.Spelling.{FrameText}
 use Rattle.reliable_link.specs.declared.out_frame.OutFrame.{OutFrame}
 use Rattle.reliable_link.specs.SenderState.{SenderState, after_accept, after_ack, after_due, frame_at, next_number}
 use Rattle.reliable_link.proofs.KeptBytes.{bytes_after_accept, bytes_after_ack, bytes_after_due, lowest_after_due}
 use Rattle.reliable_link.proofs.Places.{place_in_drop}
 use Rattle.reliable_link.proofs.Senders.{is_heeded, is_passed}
 use Rattle.sessions.specs.Peers.{frame_out, frames_out}
-use Rattle.proof_pure_network.specs.Frames.{Frame}
-use Rattle.proof_pure_network.specs.Links.{Link}
-use Rattle.proof_link_truth.specs.Sessions.{Links, SenderTells}
+use Rattle.proof_link_truth.specs.Links.{Link, Links}
+use Rattle.proof_link_truth.specs.Sessions.{SenderTells}
 use Rattle.proof_link_truth.specs.Told.{IsTold, Tells, TellsFrame}
 use Rattle.proof_link_truth.specs.Wire.{wire, wires}
 use Rattle.proof_link_truth.proofs.Lists.{All_flat}
@@ -30,7 +30,7 @@ next_is n s d sender link tells reach =
     omega (arith, kept, reach, tells.below)
 
 -- a new frame, under the next number
-pub accept_tells : (n : ℕ) (s d : Endpoint) (sender : SenderState) (link : Link) (f : Frame) (bytes : List ℕ) → SenderTells n s d sender link → link.handed ≤ length link.accepted
+pub accept_tells : (n : ℕ) (s d : Endpoint) (sender : SenderState) (link : Link) (f : FrameText) (bytes : List ℕ) → SenderTells n s d sender link → link.handed ≤ length link.accepted
     → bytes ≡ wire n s d (length link.accepted) f → SenderTells n s d (after_accept sender bytes) (record link { accepted = link.accepted ++ f ∷ [] })
 accept_tells n s d sender link f bytes tells reach is =
     let within : sender.lowest ≤ length (wires n s d 0 link.accepted) = omega (arith, wires_length n s d 0 link.accepted, reach, tells.below) in

@@ -2,29 +2,27 @@
 use Rattle.std.proofs.Common.{◌≡◌, ℕ, ◌+◌, ◌<◌, ◌≤◌, ◌^◌, Bool, true, false, cond, ◌&&◌, not, nat_lt, List, [], ◌∷◌, ◌++◌, length, Option, Some, None, ◌==◌, slice_get, slice_index, slice_set, refl, sym, ap, ◌∙◌, subst, arith}
 use Rattle.std.specs.List.{AllByRecursion}
 use Rattle.std.proofs.lemmas.Bool.{eqb-false, leb-false, lt-ltb}
-use Rattle.std.proofs.lemmas.List.{append_assoc, length-set, set-set}
+use Rattle.std.proofs.lemmas.List.{append_assoc, set-set}
 use Rattle.std.proofs.lemmas.Option.{slice_get_within}
 use Rattle.vocabulary.specs.declared.endpoint.Endpoint.{Endpoint}
-use Rattle.perfect_queues.proofs.ListLemmas.{get_set}
-use Rattle.datagram.specs.Spelling.{BodyText}
+use Rattle.perfect_queues.proofs.ListLemmas.{get_last, get_set}
+use Rattle.datagram.specs.Spelling.{FrameText}
 use Rattle.incarnation.specs.declared.place.Place.{Place}
-use Rattle.proof_pure_network.specs.Frames.{Frame}
-use Rattle.proof_pure_network.specs.Links.{Link, accept, accept_all}
-use Rattle.proof_pure_network.proofs.JobLemmas.{push_at}
 use Rattle.reliable_link.specs.SenderState.{SenderState, after_accept, next_number}
 use Rattle.sessions.specs.declared.peers.Peer.{Peer}
 use Rattle.sessions.specs.declared.refused.Refused.{Refused}
 use Rattle.sessions.specs.declared.refused.Refused.TheVariants as refusals
-use Rattle.sessions.specs.Events.{Sending, after_event, after_heard, after_send, after_sends, is_worn_out, next_bytes, out_on_accept, sends_limit}
+use Rattle.sessions.specs.Events.{Sending, after_heard, after_send, after_sends, is_worn_out, next_bytes, out_on_accept, sends_limit}
 use Rattle.sessions.specs.Heard.{HeardText}
 use Rattle.sessions.specs.Peers.{peer_at}
 use Rattle.sessions.specs.SessionsState.{SessionsState, known_endpoint}
 use Rattle.sessions.specs.Spellings.{frame_bytes}
-use Rattle.proof_link_truth.specs.Events.{AreCarried, Carries, Comes, EventsAreTrue, IsAt, LeavesTrue, RestIsTrue, emptied, links_heard}
-use Rattle.proof_link_truth.specs.Sessions.{Links, PeerTells, SenderTells, SessionsTell, is_pair}
+use Rattle.proof_link_truth.specs.Events.{Comes, EventsAreTrue, IsAt, LeavesTrue, MaySend, MaySendAll, RestIsTrue, addressed, all_addressed, emptied, links_heard}
+use Rattle.proof_link_truth.specs.Links.{Link, Links, accept, accept_all}
+use Rattle.proof_link_truth.specs.Sessions.{PeerTells, SenderTells, SessionsTell, is_pair}
 use Rattle.proof_link_truth.specs.Told.{IsTold, TellsFrame}
 use Rattle.proof_link_truth.specs.Truth.{AreTrue}
-use Rattle.proof_link_truth.specs.Wire.{at, body_of, place_of, wire}
+use Rattle.proof_link_truth.specs.Wire.{at, place_of, wire}
 use Rattle.proof_link_truth.proofs.Changing.{sessions_with, world_leaves}
 use Rattle.proof_link_truth.proofs.Datagrams.{heard_leaves}
 use Rattle.proof_link_truth.proofs.Growing.{accept_fits, accept_grows, accepted_handed, link_cases, link_here, links_fit}
@@ -36,7 +34,7 @@ use Rattle.proof_link_truth.proofs.Witnesses.{all_witnessed}
 -- ---- one frame
 
 -- the bytes of a frame that is sent
-sent_bytes_are : (n : ℕ) (own target : Endpoint) (f : Frame) (k : ℕ) → frame_bytes (place_of n own) target (body_of f) k ≡ wire n own target k f
+sent_bytes_are : (n : ℕ) (own target : Endpoint) (f : FrameText) (k : ℕ) → frame_bytes (place_of n own) target f k ≡ wire n own target k f
 unfolding frame_bytes wire
 sent_bytes_are n own target f k = refl
 
@@ -56,12 +54,12 @@ sent_is_told n target links current bytes true told = (told, tt)
 sent_is_told n target links current bytes false told = tt
 
 -- the sessions of a sender, once a frame to one rank was accepted
-record IsAccepted (n : ℕ) (current : ℕ → ℕ) (own : Endpoint) (target k : ℕ) (links : Links) (f : Frame) (bytes : List ℕ) (p : Peer) : Type 0 where
+record IsAccepted (n : ℕ) (current : ℕ → ℕ) (own : Endpoint) (target k : ℕ) (links : Links) (f : FrameText) (bytes : List ℕ) (p : Peer) : Type 0 where
   here : PeerTells n current own target k (record { sender = after_accept p.sender bytes; receiver = p.receiver }) (accept links own (at target k, f))
   beside : (y j : ℕ) (o : Peer) → (y == target) ≡ false → PeerTells n current own y j o links → PeerTells n current own y j o (accept links own (at target k, f))
 
 -- it stands under its number
-is_accepted : (n : ℕ) (current : ℕ → ℕ) (own : Endpoint) (target k : ℕ) (links : Links) (f : Frame) (bytes : List ℕ) (p : Peer)
+is_accepted : (n : ℕ) (current : ℕ → ℕ) (own : Endpoint) (target k : ℕ) (links : Links) (f : FrameText) (bytes : List ℕ) (p : Peer)
     → PeerTells n current own target k p links → (links own (at target k)).handed ≤ length (links own (at target k)).accepted
     → bytes ≡ wire n own (at target k) (length (links own (at target k)).accepted) f → IsAccepted n current own target k links f bytes p
 is_accepted n current own target k links f bytes p tells reach bytes_are = record {
@@ -93,11 +91,11 @@ is_accepted n current own target k links f bytes p tells reach bytes_are = recor
     none_later y i other none =
         link_cases (λ l. l.accepted ≡ []) links own d longer own (at y i) (λ es ed. absurd (other ed)) (λ h. none)
 
--- a frame for the endpoint that is known is accepted by the link to it
-send_accepted : (n r : ℕ) (sessions : List SessionsState) (datagrams : List (ℕ × List ℕ)) (links : Links) (current : ℕ → ℕ) (old : SessionsState) (s : Sending) (f : Frame)
-    → AreTrue n sessions datagrams links current → IsAt sessions r old → Carries n r old.known s (known_endpoint old.known s.rank, f) → is_worn_out (peer_at old.peers s.rank).sender ≡ false
-    → LeavesTrue n sessions datagrams r (after_send old s) (accept links (at r (current r)) (known_endpoint old.known s.rank, f)) current
-send_accepted n r sessions datagrams links current old s f true_now stands c room =
+-- what is sent is accepted by the link to the known endpoint of its rank
+send_leaves : (n r : ℕ) (sessions : List SessionsState) (datagrams : List (ℕ × List ℕ)) (links : Links) (current : ℕ → ℕ) (old : SessionsState) (s : Sending)
+    → AreTrue n sessions datagrams links current → IsAt sessions r old → MaySend n r s → is_worn_out (peer_at old.peers s.rank).sender ≡ false
+    → LeavesTrue n sessions datagrams r (after_send old s) (accept links (at r (current r)) (addressed old.known s)) current
+send_leaves n r sessions datagrams links current old s true_now stands c room =
     world_leaves n r sessions datagrams links after current (after_send old s) true_now (accept_grows links own d f)
     (sessions_with n r s.rank current links after old (after_send old s) (record { sender = after_accept sender bytes; receiver = (peer_at old.peers s.rank).receiver }) tells c.there c.apart
     accepted.here accepted.beside refl refl refl)
@@ -110,6 +108,9 @@ send_accepted n r sessions datagrams links current old s f true_now stands c roo
 
     d : Endpoint
     d = known_endpoint old.known s.rank
+
+    f : FrameText
+    f = s.frame
 
     link : Link
     link = links own d
@@ -143,8 +144,7 @@ send_accepted n r sessions datagrams links current old s f true_now stands c roo
 
     bytes_are : bytes ≡ wire n own d (length link.accepted) f
     bytes_are =
-        ap (λ (p : Place). frame_bytes p d s.body (next_number sender)) tells.place
-        ∙ ap (λ (b : BodyText). frame_bytes (place_of n own) d b (next_number sender)) c.body_is
+        ap (λ (p : Place). frame_bytes p d f (next_number sender)) tells.place
         ∙ sent_bytes_are n own d f (next_number sender) ∙ ap (λ (j : ℕ). wire n own d j f) next_is_length
 
     numbered : length link.accepted + 1 < 2 ^ 64
@@ -160,17 +160,8 @@ send_accepted n r sessions datagrams links current old s f true_now stands c roo
     told = is_told n own d after current bytes
         (record { source = r_is; target = c.there; apart = apart; source_begun = omega arith; target_begun = peer.begun })
         (TellsFrame (length link.accepted) f
-        (ap (λ (l : Link). slice_get l.accepted (length link.accepted)) (link_here links own d (record link { accepted = link.accepted ++ f ∷ [] })) ∙ push_at link.accepted f)
+        (ap (λ (l : Link). slice_get l.accepted (length link.accepted)) (link_here links own d (record link { accepted = link.accepted ++ f ∷ [] })) ∙ get_last link.accepted f)
         bytes_are)
-
--- whatever is carried is accepted by the link to its target
-send_leaves : (n r : ℕ) (sessions : List SessionsState) (datagrams : List (ℕ × List ℕ)) (links : Links) (current : ℕ → ℕ) (old : SessionsState) (s : Sending) (d : Endpoint) (f : Frame)
-    → AreTrue n sessions datagrams links current → IsAt sessions r old → Carries n r old.known s (d, f) → is_worn_out (peer_at old.peers s.rank).sender ≡ false
-    → LeavesTrue n sessions datagrams r (after_send old s) (accept links (at r (current r)) (d, f)) current
-send_leaves n r sessions datagrams links current old s d f true_now stands c room =
-    subst (λ (x : Endpoint). LeavesTrue n sessions datagrams r (after_send old s) (accept links (at r (current r)) (x, f)) current) (sym c.target)
-    (send_accepted n r sessions datagrams links current old s f true_now stands
-    (record { there = c.there; apart = c.apart; target = refl; carried = c.carried; body_is = c.body_is }) room)
 
 -- ---- frames, one after the other
 
@@ -192,18 +183,17 @@ passed true o h = absurd cc
 
 -- each frame is accepted by its link
 sends_leave : (n r : ℕ) (sessions : List SessionsState) (datagrams : List (ℕ × List ℕ)) (links : Links) (current : ℕ → ℕ) (mid : SessionsState) (sendings : List Sending)
-    (frames : List (Endpoint × Frame)) → LeavesTrue n sessions datagrams r mid links current → r < length sessions → AreCarried n r mid.known sendings frames
-    → sends_limit mid sendings ≡ None → LeavesTrue n sessions datagrams r (after_sends mid sendings) (accept_all links (at r (current r)) frames) current
-sends_leave n r sessions datagrams links current mid [] [] leaves within carried limit = leaves
-sends_leave n r sessions datagrams links current mid [] (f ∷ fs) leaves within carried limit = absurd carried
-sends_leave n r sessions datagrams links current mid (s ∷ ss) [] leaves within carried limit = absurd carried
-sends_leave n r sessions datagrams links current mid (s ∷ ss) ((d, f) ∷ fs) leaves within carried limit =
+    → LeavesTrue n sessions datagrams r mid links current → r < length sessions → MaySendAll n r sendings
+    → sends_limit mid sendings ≡ None → LeavesTrue n sessions datagrams r (after_sends mid sendings) (accept_all links (at r (current r)) (all_addressed mid.known sendings)) current
+sends_leave n r sessions datagrams links current mid [] leaves within may limit = leaves
+sends_leave n r sessions datagrams links current mid (s ∷ ss) leaves within may limit =
     let room = passed (is_worn_out (peer_at mid.peers s.rank).sender) (sends_limit (after_send mid s) ss) limit in
-    sends_leave n r sessions datagrams (accept links (at r (current r)) (d, f)) current (after_send mid s) ss fs
-    (goes_on n r sessions datagrams (accept links (at r (current r)) (d, f)) current mid s
-    (send_leaves n r (slice_set sessions r (emptied mid)) (datagrams ++ mid.out) links current (emptied mid) s d f leaves
-    (record { there = get_set sessions r (emptied mid) within; out = refl }) carried.0 room.0))
-    within carried.1 room.1
+    let longer : Links = accept links (at r (current r)) (addressed mid.known s) in
+    sends_leave n r sessions datagrams longer current (after_send mid s) ss
+    (goes_on n r sessions datagrams longer current mid s
+    (send_leaves n r (slice_set sessions r (emptied mid)) (datagrams ++ mid.out) links current (emptied mid) s leaves
+    (record { there = get_set sessions r (emptied mid) within; out = refl }) may.0 room.0))
+    within may.1 room.1
 
 -- ---- an event
 
@@ -222,6 +212,6 @@ heeded_first n r sessions datagrams links current old (Some h) true_now stands c
 
 -- the law of events
 pub events_are_true : EventsAreTrue
-events_are_true n r sessions datagrams links current old heard sendings frames true_now stands comes carried limit =
-    sends_leave n r sessions datagrams (links_heard links (at r (current r)) heard) current (after_heard old heard) sendings frames
-    (heeded_first n r sessions datagrams links current old heard true_now stands comes) (slice_get_within sessions r old stands.there) carried limit
+events_are_true n r sessions datagrams links current old heard sendings true_now stands comes may limit =
+    sends_leave n r sessions datagrams (links_heard links (at r (current r)) heard) current (after_heard old heard) sendings
+    (heeded_first n r sessions datagrams links current old heard true_now stands comes) (slice_get_within sessions r old stands.there) may limit

@@ -4,7 +4,6 @@ use Rattle.std.specs.List.{AllByRecursion}
 use Rattle.std.proofs.lemmas.Bool.{eqb-true}
 use Rattle.std.proofs.lemmas.List.{length-map, nil_from_length}
 use Rattle.std.proofs.lemmas.Option.{slice_get_within}
-use Rattle.proof_pure_network.proofs.JobLemmas.{All_append}
 use Rattle.reliable_link.specs.declared.out_frame.OutFrame.{OutFrame}
 use Rattle.reliable_link.specs.SenderState.{after_due, due_at}
 use Rattle.reliable_link.proofs.KeptBytes.{bytes_after_due, bytes_of}
@@ -13,12 +12,13 @@ use Rattle.sessions.specs.SessionsState.{SessionsState}
 use Rattle.sessions.specs.Peers.{after_all_due, due_out, due_peer, frames_out, peer_at}
 use Rattle.sessions.specs.Ticks.{after_tick}
 use Rattle.proof_link_truth.specs.Events.{TicksAreTrue}
-use Rattle.proof_link_truth.specs.Sessions.{SessionsTell, Links, PeerTells}
+use Rattle.proof_link_truth.specs.Links.{Links}
+use Rattle.proof_link_truth.specs.Sessions.{SessionsTell, PeerTells}
 use Rattle.proof_link_truth.specs.Told.{IsTold}
 use Rattle.proof_link_truth.specs.Wire.{at}
 use Rattle.proof_link_truth.proofs.Changing.{world_leaves}
 use Rattle.proof_link_truth.proofs.Growing.{grows_none, links_fit}
-use Rattle.proof_link_truth.proofs.Lists.{false_sym}
+use Rattle.proof_link_truth.proofs.Lists.{All_append, false_sym}
 use Rattle.proof_link_truth.proofs.Witnesses.{all_witnessed}
 use Rattle.proof_link_truth.proofs.Senders.{due_tells, frames_are_told, none_out}
 

@@ -2,12 +2,12 @@
 use Rattle.std.proofs.Common.{◌≡◌, ℕ, suc, ◌<◌, Bool, true, false, nat_lt, List, [], ◌∷◌, ◌++◌, length, Some, slice_get, refl, sym, ap, ◌∙◌, subst, arith, inl, inr, ◌⊎◌}
 use Rattle.std.proofs.lemmas.Bool.{ltb-false, ltb-true}
 use Rattle.vocabulary.specs.declared.endpoint.Endpoint.{Endpoint}
+use Rattle.perfect_queues.proofs.ListLemmas.{get_last}
+use Rattle.datagram.specs.Spelling.{FrameText}
 use Rattle.sessions.specs.Spellings.{ack_bytes}
 use Rattle.sessions.specs.SessionsState.{SessionsState}
-use Rattle.proof_pure_network.specs.Frames.{Frame}
-use Rattle.proof_pure_network.specs.Links.{Link}
 use Rattle.reliable_link.proofs.Places.{place_stays}
-use Rattle.proof_link_truth.specs.Sessions.{Links}
+use Rattle.proof_link_truth.specs.Links.{Link, Links}
 use Rattle.proof_link_truth.specs.Truth.{AreTrue}
 use Rattle.proof_link_truth.specs.Wire.{place_of, wire}
 use Rattle.proof_link_truth.specs.Witness.{IsAmong, IsEmitted, IsWitnessed}
@@ -17,18 +17,13 @@ use Rattle.proof_link_truth.proofs.Growing.{Grows}
 pub among_more : (ds out : List (ℕ × List ℕ)) (t : ℕ × List ℕ) → IsAmong ds t → IsAmong (ds ++ out) t
 among_more ds out t a = record { place = a.place; there = place_stays ds out a.place t a.there }
 
--- what comes behind all others stands at their count
-get_last : (ds : List (ℕ × List ℕ)) (t : ℕ × List ℕ) → slice_get (ds ++ t ∷ []) (length ds) ≡ Some t
-get_last [] t = refl
-get_last (d ∷ ds) t = get_last ds t
-
 -- the one datagram that an event emitted
 pub among_last : (ds out : List (ℕ × List ℕ)) (t : ℕ × List ℕ) → out ≡ t ∷ [] → IsAmong (ds ++ out) t
 among_last ds out t is = record { place = length ds; there = ap (λ (x : List (ℕ × List ℕ)). slice_get (ds ++ x) (length ds)) is ∙ get_last ds t }
 
 -- a frame that was emitted, on a link that grew
 emitted_more : (n : ℕ) (ds out : List (ℕ × List ℕ)) (s d : Endpoint) (a b : Link) (number : ℕ)
-    → ((q : ℕ) (f : Frame) → slice_get a.accepted q ≡ Some f → slice_get b.accepted q ≡ Some f)
+    → ((q : ℕ) (f : FrameText) → slice_get a.accepted q ≡ Some f → slice_get b.accepted q ≡ Some f)
     → IsEmitted n ds s d a number → IsEmitted n (ds ++ out) s d b number
 emitted_more n ds out s d a b number kept e = record {
   frame = e.frame;
@@ -38,7 +33,7 @@ emitted_more n ds out s d a b number kept e = record {
 
 -- a link of which no more was handed up
 pub witnessed_more : (n : ℕ) (ds out : List (ℕ × List ℕ)) (s d : Endpoint) (a b : Link) → b.handed ≡ a.handed
-    → ((q : ℕ) (f : Frame) → slice_get a.accepted q ≡ Some f → slice_get b.accepted q ≡ Some f) → IsWitnessed n ds s d a → IsWitnessed n (ds ++ out) s d b
+    → ((q : ℕ) (f : FrameText) → slice_get a.accepted q ≡ Some f → slice_get b.accepted q ≡ Some f) → IsWitnessed n ds s d a → IsWitnessed n (ds ++ out) s d b
 witnessed_more n ds out s d a b same kept w = record {
   acknowledged = go w.acknowledged;
   frames = λ number lt. emitted_more n ds out s d a b number kept (w.frames number (omega (arith, lt, same)));

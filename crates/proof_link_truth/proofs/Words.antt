@@ -3,27 +3,25 @@ use Rattle.std.proofs.Common.{◌≡◌, ℕ, ◌<◌, ◌≤◌, ◌^◌, List,
 use Rattle.std.proofs.lemmas.Option.{slice_get_within}
 use Rattle.vocabulary.specs.declared.endpoint.Endpoint.{Endpoint}
 use Rattle.datagram.specs.Reading.{datagram_of}
-use Rattle.datagram.specs.Spelling.{AckBody, BodyText, DatagramText, EagerBody, ResetBody}
+use Rattle.datagram.specs.Spelling.{AckBody, BodyText, DatagramText, FrameBody, FrameText, ResetBody}
 use Rattle.sessions.specs.Spellings.{header_to}
-use Rattle.proof_pure_network.specs.Frames as net
-use Rattle.proof_link_truth.specs.Sessions.{IsLink, Links}
+use Rattle.proof_link_truth.specs.Links.{Links}
+use Rattle.proof_link_truth.specs.Sessions.{IsLink}
 use Rattle.proof_link_truth.specs.Told.{Tells, TellsAck, TellsFrame, TellsReset}
-use Rattle.proof_link_truth.specs.Wire.{IsSent, body_of, place_of, wire}
+use Rattle.proof_link_truth.specs.Wire.{CanBeSent, place_of, wire}
 use Rattle.proof_link_truth.specs.Witness.{IsAmong}
 use Rattle.proof_link_truth.proofs.Lists.{All_get}
 use Rattle.proof_link_truth.proofs.Reading.{HaveWidths, ack_is_read, frame_is_read, reset_is_read}
 
--- a frame that was accepted under this number, may be sent, and was emitted
-pub record SaysFrame (n : ℕ) (datagrams : List (ℕ × List ℕ)) (s d : Endpoint) (links : Links) (q : ℕ) (body : BodyText) : Type 0 where
-  pub frame : net.Frame
-  pub carried : IsSent frame
+-- this frame was accepted under this number, can be spelled, and was emitted
+pub record SaysFrame (n : ℕ) (datagrams : List (ℕ × List ℕ)) (s d : Endpoint) (links : Links) (q : ℕ) (frame : FrameText) : Type 0 where
   pub there : slice_get (links s d).accepted q ≡ Some frame
-  pub body_is : body ≡ body_of frame
+  pub carried : CanBeSent frame
   pub sent : IsAmong datagrams (d.rank, wire n s d q frame)
 
 -- what a body under a number says of the links
 abbrev pub Says : (n : ℕ) → (datagrams : List (ℕ × List ℕ)) → (s d : Endpoint) → Links → ℕ → BodyText → Type 0
-Says n datagrams s d links q (EagerBody t) = SaysFrame n datagrams s d links q (EagerBody t)
+Says n datagrams s d links q (FrameBody frame) = SaysFrame n datagrams s d links q frame
 Says n datagrams s d links q AckBody = q ≤ (links d s).handed
 Says n datagrams s d links q ResetBody = q ≡ 0
 
@@ -39,32 +37,23 @@ pub record IsWord (n : ℕ) (datagrams : List (ℕ × List ℕ)) (s d : Endpoint
   pub read : datagram_of bytes ≡ Ok (word n s d number body)
 
 -- a frame of a link
-frame_is_word : (n : ℕ) (datagrams : List (ℕ × List ℕ)) (s d : Endpoint) (links : Links) (bytes : List ℕ) (q : ℕ) → HaveWidths n s d → IsLink (links s d) → (f : net.Frame) → IsSent f
+frame_is_word : (n : ℕ) (datagrams : List (ℕ × List ℕ)) (s d : Endpoint) (links : Links) (bytes : List ℕ) (q : ℕ) (f : FrameText) → HaveWidths n s d → IsLink (links s d) → CanBeSent f
     → slice_get (links s d).accepted q ≡ Some f → bytes ≡ wire n s d q f → IsAmong datagrams (d.rank, bytes) → IsWord n datagrams s d links bytes
-frame_is_word n datagrams s d links bytes q w link (net.Eager context tag basic values) small there is emitted =
-    let below : q < length (links s d).accepted = slice_get_within (links s d).accepted q (net.Eager context tag basic values) there in
+frame_is_word n datagrams s d links bytes q f w link can there is emitted =
+    let below : q < length (links s d).accepted = slice_get_within (links s d).accepted q f there in
     let numbered : q < 2 ^ 64 = omega (arith, below, link.numbered) in
     record {
       number = q;
-      body = body_of (net.Eager context tag basic values);
-      says = record {
-        frame = net.Eager context tag basic values;
-        carried = small;
-        there = there;
-        body_is = refl;
-        sent = subst (λ (x : List ℕ). IsAmong datagrams (d.rank, x)) is emitted;
-      };
-      read = ap datagram_of is ∙ frame_is_read n s d q context tag basic values small w numbered;
+      body = FrameBody f;
+      says = record { there = there; carried = can; sent = subst (λ (x : List ℕ). IsAmong datagrams (d.rank, x)) is emitted };
+      read = ap datagram_of is ∙ frame_is_read n s d q f can w numbered;
     }
-frame_is_word n datagrams s d links bytes q w link (net.Rts context tag basic transfer count) never there is emitted = absurd never
-frame_is_word n datagrams s d links bytes q w link (net.Cts transfer wanted) never there is emitted = absurd never
-frame_is_word n datagrams s d links bytes q w link (net.Data transfer offset values) never there is emitted = absurd never
 
 -- whatever is told is a word
 pub told_is_word : (n : ℕ) (datagrams : List (ℕ × List ℕ)) (s d : Endpoint) (links : Links) (bytes : List ℕ) → HaveWidths n s d → ((a b : Endpoint) → IsLink (links a b))
     → Tells n s d links bytes → IsAmong datagrams (d.rank, bytes) → IsWord n datagrams s d links bytes
 told_is_word n datagrams s d links bytes w sound (TellsFrame number frame there is) emitted =
-    frame_is_word n datagrams s d links bytes number w (sound s d) frame (All_get IsSent (links s d).accepted number frame (sound s d).sent there) there is emitted
+    frame_is_word n datagrams s d links bytes number frame w (sound s d) (All_get CanBeSent (links s d).accepted number frame (sound s d).sent there) there is emitted
 told_is_word n datagrams s d links bytes w sound (TellsAck number there is) emitted =
     let link : IsLink (links d s) = sound d s in
     let numbered : number < 2 ^ 64 = omega (arith, there, link.reach, link.numbered) in

@@ -1,9 +1,10 @@
 -- What an event of a rank does to the links of its world.
-use Rattle.std.specs.Prelude.{◌≡◌, ℕ, zero, suc, ◌<◌, ◌≤◌, Bool, true, false, List, [], ◌∷◌, ◌++◌, Option, Some, None, Ok, Err, slice_get, slice_set, slice_index, ◌==◌}
+use Rattle.std.specs.Prelude.{◌≡◌, ℕ, zero, suc, ◌<◌, ◌≤◌, Bool, true, false, List, [], ◌∷◌, ◌++◌, Option, Some, None, Ok, Err, map, slice_get, slice_set, slice_index, ◌==◌}
+use Rattle.std.specs.List.{AllByRecursion}
 use Rattle.vocabulary.specs.declared.endpoint.Endpoint.{Endpoint}
 use Rattle.vocabulary.specs.Endpoints.{last_incarnation}
 use Rattle.perfect_queues.specs.State.{with_number}
-use Rattle.datagram.specs.Spelling.{BodyText}
+use Rattle.datagram.specs.Spelling.{FrameText}
 use Rattle.sessions.specs.declared.refused.Refused.{Refused}
 use Rattle.sessions.specs.declared.heard.Unheard.{Unheard}
 use Rattle.sessions.specs.Events.{Sending, TurnedAway, after_event, after_heard, sends_limit}
@@ -11,11 +12,9 @@ use Rattle.sessions.specs.Heard.{Acknowledges, Hands, HeardText, Nothing, Repeat
 use Rattle.sessions.specs.Peers.{IsIdlePeer, peer_at}
 use Rattle.sessions.specs.SessionsState.{SessionsState, known_endpoint, opening}
 use Rattle.sessions.specs.Ticks.{after_tick}
-use Rattle.proof_pure_network.specs.Frames.{Frame}
-use Rattle.proof_pure_network.specs.Links.{accept_all, handed_on, in_flight}
-use Rattle.proof_link_truth.specs.Sessions.{Links}
+use Rattle.proof_link_truth.specs.Links.{Links, accept_all, handed_on, in_flight}
 use Rattle.proof_link_truth.specs.Truth.{AreTrue}
-use Rattle.proof_link_truth.specs.Wire.{IsSent, at, body_of, place_of}
+use Rattle.proof_link_truth.specs.Wire.{CanBeSent, at, place_of}
 
 -- ---- the sessions of a world, rank by rank
 
@@ -68,18 +67,16 @@ pub record IsHeard (n r : ℕ) (current : ℕ → ℕ) (known : List ℕ) (s : E
   pub begun : s.incarnation ≤ current s.rank
   pub incarnation : IsLesson lesson (slice_index known s.rank) s.incarnation
 
--- the next frame that the link from s to d hands up has this body
-pub record IsNext (links : Links) (s d : Endpoint) (body : BodyText) : Type 0 where
-  pub frame : Frame
+-- the next frame that the link from s to d hands up is this
+pub record IsNext (links : Links) (s d : Endpoint) (frame : FrameText) : Type 0 where
   pub next : slice_get (links s d).accepted (links s d).handed ≡ Some frame
-  pub carried : IsSent frame
-  pub body_is : body ≡ body_of frame
+  pub carried : CanBeSent frame
 
 -- what a word of s says to d of their links
 abbrev pub IsTrueWord : Links → (s d : Endpoint) → WordText → Type 0
 IsTrueWord links s d (Acknowledges number) = number ≤ (links d s).handed
 IsTrueWord links s d Repeats = Unit {0}
-IsTrueWord links s d (Hands body) = IsNext links s d body
+IsTrueWord links s d (Hands frame) = IsNext links s d frame
 IsTrueWord links s d Nothing = Unit {0}
 
 -- who spoke was there, and what it said is true
@@ -97,21 +94,23 @@ HearingIsTrue =
 
 -- ---- what is sent
 
--- What the sessions at r send to a rank is this frame, to another rank at the incarnation at which it is known
-pub record Carries (n r : ℕ) (known : List ℕ) (sending : Sending) (frame : Endpoint × Frame) : Type 0 where
+-- what the sessions at r send goes to another rank of n, and can be spelled
+pub record MaySend (n r : ℕ) (sending : Sending) : Type 0 where
   pub there : sending.rank < n
   pub apart : (sending.rank == r) ≡ false
-  pub target : frame.0 ≡ known_endpoint known sending.rank
-  pub carried : IsSent frame.1
-  pub body_is : sending.body ≡ body_of frame.1
+  pub carried : CanBeSent sending.frame
 
--- each is, in their order
-abbrev pub AreCarried : (n r : ℕ) → (known : List ℕ) → List Sending → List (Endpoint × Frame) → Type 0
-AreCarried n r known [] [] = Unit {0}
-AreCarried n r known [] (frame ∷ frames) = ⊥
-AreCarried n r known (sending ∷ sendings) [] = ⊥
-AreCarried n r known (sending ∷ sendings) (frame ∷ frames) =
-    Carries n r known sending frame × AreCarried n r known sendings frames
+-- each is
+abbrev pub MaySendAll : (n r : ℕ) → List Sending → Type 0
+MaySendAll n r sendings = AllByRecursion (MaySend n r) sendings
+
+-- a frame with the endpoint that it goes to: its rank at the incarnation at which it is known
+abbrev pub addressed : (known : List ℕ) → Sending → Endpoint × FrameText
+addressed known sending = (known_endpoint known sending.rank, sending.frame)
+
+-- the same of each, in their order
+abbrev pub all_addressed : (known : List ℕ) → List Sending → List (Endpoint × FrameText)
+all_addressed known sendings = map (addressed known) sendings
 
 -- ---- an event: a word may be heard, and frames may be sent
 
@@ -124,7 +123,7 @@ Comes datagrams r old (Some h) = IsFromDatagram datagrams r old h
 abbrev pub links_heeded : Links → (s d : Endpoint) → WordText → Links
 links_heeded links s d (Acknowledges number) = links
 links_heeded links s d Repeats = links
-links_heeded links s d (Hands body) = handed_on links s d
+links_heeded links s d (Hands frame) = handed_on links s d
 links_heeded links s d Nothing = links
 
 -- the same, if anything was heard
@@ -132,15 +131,17 @@ abbrev pub links_heard : Links → (own : Endpoint) → Option HeardText → Lin
 links_heard links own None = links
 links_heard links own (Some h) = links_heeded links h.source own h.word
 
--- What is heard is handed up where it is a frame, and what is sent is accepted, unless a number would be the last one
+-- What is heard is handed up where it is a frame, and what is sent is accepted by the link to the known endpoint of its rank,
+-- unless a number would be the last one
 abbrev pub EventsAreTrue : Type 0
 EventsAreTrue =
     (n r : ℕ) (sessions : List SessionsState) (datagrams : List (ℕ × List ℕ)) (links : Links) (current : ℕ → ℕ)
-    (old : SessionsState) (heard : Option HeardText) (sendings : List Sending) (frames : List (Endpoint × Frame)) →
+    (old : SessionsState) (heard : Option HeardText) (sendings : List Sending) →
     AreTrue n sessions datagrams links current → IsAt sessions r old → Comes datagrams r old heard →
-    AreCarried n r (after_heard old heard).known sendings frames → sends_limit (after_heard old heard) sendings ≡ None →
+    MaySendAll n r sendings → sends_limit (after_heard old heard) sendings ≡ None →
     LeavesTrue n sessions datagrams r (after_event old heard sendings)
-    (accept_all (links_heard links (at r (current r)) heard) (at r (current r)) frames) current
+    (accept_all (links_heard links (at r (current r)) heard) (at r (current r)) (all_addressed (after_heard old heard).known sendings))
+    current
 
 -- ---- what changes no link
 

@@ -1,3 +1,4 @@
+pub mod Links
 pub mod Wire
 pub mod Sessions
 pub mod Told

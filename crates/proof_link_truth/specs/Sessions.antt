@@ -1,4 +1,4 @@
--- What the sessions of a rank hold of the links of the pure network.
+-- What the sessions of a rank hold of the links.
 use Rattle.std.specs.Prelude.{◌≡◌, ℕ, ◌<◌, ◌≤◌, ◌^◌, Bool, false, ◌&&◌, not, List, [], map, drop, length, ◌==◌, nat_lt, slice_index}
 use Rattle.std.specs.List.{AllByRecursion}
 use Rattle.vocabulary.specs.declared.endpoint.Endpoint.{Endpoint}
@@ -7,17 +7,14 @@ use Rattle.reliable_link.specs.SenderState.{SenderState}
 use Rattle.sessions.specs.declared.peers.Peer.{Peer}
 use Rattle.sessions.specs.SessionsState.{SessionsState}
 use Rattle.sessions.specs.Peers.{peer_at}
-use Rattle.proof_pure_network.specs.Links.{Link}
-use Rattle.proof_link_truth.specs.Wire.{IsSent, at, place_of, wires}
+use Rattle.proof_link_truth.specs.Links.{Link}
+pub use Rattle.proof_link_truth.specs.Links.{Links}
+use Rattle.proof_link_truth.specs.Wire.{CanBeSent, at, place_of, wires}
 
--- each direction between two endpoints
-abbrev pub Links : Type 0
-Links = Endpoint → Endpoint → Link
-
--- no more is handed up than was accepted, and each number has 64 bits
+-- no more is handed up than was accepted, each frame can be spelled, and each number has 64 bits
 pub record IsLink (link : Link) : Type 0 where
   pub reach : link.handed ≤ length link.accepted
-  pub sent : AllByRecursion IsSent link.accepted
+  pub sent : AllByRecursion CanBeSent link.accepted
   pub numbered : length link.accepted < 2 ^ 64
 
 -- the bytes of the frames that a sender keeps

@@ -1,16 +1,16 @@
 -- What a datagram tells of the links. It tells it now and ever after.
 use Rattle.std.specs.Prelude.{◌≡◌, ℕ, ◌<◌, ◌≤◌, false, List, Some, ◌==◌, slice_get}
 use Rattle.vocabulary.specs.declared.endpoint.Endpoint.{Endpoint}
+use Rattle.datagram.specs.Spelling.{FrameText}
 use Rattle.sessions.specs.Spellings.{ack_bytes, reset_bytes}
-use Rattle.proof_pure_network.specs.Frames.{Frame}
-use Rattle.proof_link_truth.specs.Sessions.{Links}
+use Rattle.proof_link_truth.specs.Links.{Links}
 use Rattle.proof_link_truth.specs.Wire.{place_of, wire}
 
 -- what these bytes tell to d of s
 pub data Tells (n : ℕ) (s d : Endpoint) (links : Links) (bytes : List ℕ) : Type 0 where
   -- the frame that was accepted under this number
   TellsFrame :
-      (number : ℕ) (frame : Frame) → slice_get (links s d).accepted number ≡ Some frame → bytes ≡ wire n s d number frame →
+      (number : ℕ) (frame : FrameText) → slice_get (links s d).accepted number ≡ Some frame → bytes ≡ wire n s d number frame →
       Tells n s d links bytes
   -- that so many were handed up
   TellsAck : (number : ℕ) → number ≤ (links d s).handed → bytes ≡ ack_bytes (place_of n s) d number → Tells n s d links bytes

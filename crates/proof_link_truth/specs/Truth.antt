@@ -4,7 +4,8 @@ use Rattle.std.specs.List.{AllByRecursion}
 use Rattle.vocabulary.specs.declared.endpoint.Endpoint.{Endpoint}
 use Rattle.vocabulary.specs.Endpoints.{last_incarnation}
 use Rattle.sessions.specs.SessionsState.{SessionsState}
-use Rattle.proof_link_truth.specs.Sessions.{SessionsTell, IsLink, Links, is_pair}
+use Rattle.proof_link_truth.specs.Links.{Links}
+use Rattle.proof_link_truth.specs.Sessions.{SessionsTell, IsLink, is_pair}
 use Rattle.proof_link_truth.specs.Told.{IsTold}
 use Rattle.proof_link_truth.specs.Witness.{IsWitnessed}
 

@@ -1,9 +1,9 @@
 -- What was emitted bears witness of what was handed up.
 use Rattle.std.specs.Prelude.{◌≡◌, ℕ, ◌<◌, ◌⊎◌, List, Some, slice_get}
 use Rattle.vocabulary.specs.declared.endpoint.Endpoint.{Endpoint}
+use Rattle.datagram.specs.Spelling.{FrameText}
 use Rattle.sessions.specs.Spellings.{ack_bytes}
-use Rattle.proof_pure_network.specs.Frames.{Frame}
-use Rattle.proof_pure_network.specs.Links.{Link}
+use Rattle.proof_link_truth.specs.Links.{Link}
 use Rattle.proof_link_truth.specs.Wire.{place_of, wire}
 
 -- these bytes were emitted to this rank
@@ -13,7 +13,7 @@ pub record IsAmong (datagrams : List (ℕ × List ℕ)) (t : ℕ × List ℕ) : 
 
 -- the frame that s accepted for d under a number was emitted
 pub record IsEmitted (n : ℕ) (datagrams : List (ℕ × List ℕ)) (s d : Endpoint) (link : Link) (number : ℕ) : Type 0 where
-  pub frame : Frame
+  pub frame : FrameText
   pub accepted : slice_get link.accepted number ≡ Some frame
   pub sent : IsAmong datagrams (d.rank, wire n s d number frame)
 

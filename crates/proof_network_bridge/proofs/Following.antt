@@ -5,6 +5,7 @@ use Rattle.std.proofs.lemmas.Option.{same_Some}
 use Rattle.perfect_queues.specs.Events.{Entry, Restarted, call_and_reply, told}
 use Rattle.perfect_queues.specs.Refusals.{fault}
 use Rattle.vocabulary.specs.declared.endpoint.Endpoint.{Endpoint}
+use Rattle.datagram.specs.Spelling.{FrameText}
 use Rattle.incarnation.specs.declared.place.Place.{Place}
 use Rattle.rank_core.specs.declared.call.Call.{Call}
 use Rattle.rank_core.specs.declared.call.Reply.{Reply}
@@ -21,19 +22,21 @@ use Rattle.proof_pure_network.specs.Core.{Core, new_core, view}
 use Rattle.proof_pure_network.specs.Engine.{called, core_ready, core_settled}
 use Rattle.proof_pure_network.specs.Frames.{Frame}
 use Rattle.proof_pure_network.specs.Held.{blank}
-use Rattle.proof_pure_network.specs.Links.{accept_all}
+use Rattle.proof_pure_network.specs.Links.{Link, accept_all}
 use Rattle.proof_pure_network.specs.Network.{Ask, Happening, Network, Restarts, happens, here, new_network, run}
 use Rattle.proof_engine_view.specs.Frames.{sent_by}
 use Rattle.proof_engine_view.specs.Seen.{call_seen, told_call, told_completion}
 use Rattle.proof_engine_view.specs.Shown.{IsShown}
 use Rattle.proof_engine_steps.specs.Steps.{CallsAreShown, IsCalled, OpeningIsShown}
-use Rattle.proof_link_truth.specs.Events.{EventsAreTrue, IsAt, LeavesTrue, OpeningIsTrue, RestartsAreTrue, TicksAreTrue, opening_sessions}
-use Rattle.proof_link_truth.specs.Sessions.{Links}
+use Rattle.proof_link_truth.specs.Events.{EventsAreTrue, IsAt, LeavesTrue, OpeningIsTrue, RestartsAreTrue, TicksAreTrue, all_addressed, no_links, opening_sessions}
+use Rattle.proof_link_truth.specs.Links as below
 use Rattle.proof_link_truth.specs.Truth.{AreTrue}
 use Rattle.proof_link_truth.specs.Wire.{at, place_of}
+use Rattle.proof_network_bridge.specs.Carried.{AreCarried}
 use Rattle.proof_network_bridge.specs.Following.{CallsFollow, LeavesFollowed, OpeningFollows, RestartsFollow, TicksFollow, next_place}
 use Rattle.proof_network_bridge.specs.Joined.{IsClean, IsFollowed, IsJoined, opening_engines, sessions_in}
-use Rattle.proof_network_bridge.proofs.Carrying.{call_carried}
+use Rattle.proof_network_bridge.proofs.Carried.{AreSent, accept_all_alike}
+use Rattle.proof_network_bridge.proofs.Carrying.{call_may_send, call_sent}
 use Rattle.proof_network_bridge.proofs.Halves.{answered, frame_event, frame_free, frame_keeps, leaves_engines, neither_fault, sessions_set, sessions_there}
 use Rattle.proof_network_bridge.proofs.Networks.{IsAfter, anew, asked, restarts, run_push}
 use Rattle.proof_network_bridge.proofs.Worlds.{IsHeld, clean_emptied, held_at, held_emptied, joined_after, joined_anew, joined_still, place_is}
@@ -72,7 +75,9 @@ opening_follows shows truth n few =
     record {
       happenings = [];
       joined = record {
-        links = subst (λ (ss : List SessionsState). AreTrue n ss [] new_network.link new_network.current) (sym (opening_halves n 0 n)) (truth n few);
+        carried = no_links;
+        links = subst (λ (ss : List SessionsState). AreTrue n ss [] no_links new_network.current) (sym (opening_halves n 0 n)) (truth n few);
+        alike = λ s d. record { accepted = tt; handed = refl };
         shown = λ r e is. (opening_is shows n r e is).held.shown;
         placed = λ r e is. (opening_is shows n r e is).held.placed;
         clean = λ r e is. (opening_is shows n r e is).clean;
@@ -84,19 +89,19 @@ opening_follows shows truth n few =
 -- ---- after an event
 
 -- a happening more
-pub followed_after : (n r : ℕ) (engines : List EngineState) (datagrams : List (ℕ × List ℕ)) (history entries : List Entry) (mid : EngineState) (h : Happening) (core : Core) (links : Links)
-    (f : IsFollowed n engines datagrams history) →
+pub followed_after : (n r : ℕ) (engines : List EngineState) (datagrams : List (ℕ × List ℕ)) (history entries : List Entry) (mid : EngineState) (h : Happening) (core : Core)
+    (carried : below.Links) (links : Endpoint → Endpoint → Link) (f : IsFollowed n engines datagrams history) →
     IsAfter (run n f.happenings new_network) (happens n (run n f.happenings new_network) h) (here (run n f.happenings new_network) r) core links entries →
-    LeavesTrue n (sessions_in engines) datagrams r mid.sessions links (run n f.happenings new_network).current → IsHeld mid core →
+    AreCarried carried links → LeavesTrue n (sessions_in engines) datagrams r mid.sessions carried (run n f.happenings new_network).current → IsHeld mid core →
     LeavesFollowed n engines datagrams r mid (history ++ entries)
-followed_after n r engines datagrams history entries mid h core links f a truth held =
+followed_after n r engines datagrams history entries mid h core carried links f a alike truth held =
     let w : Network = run n f.happenings new_network in
     let pushed : run n (f.happenings ++ h ∷ []) new_network ≡ happens n w h = run_push n f.happenings h new_network in
     record {
       happenings = f.happenings ++ h ∷ [];
       joined = subst (λ (w' : Network). IsJoined n (slice_set engines r (emptied mid)) (datagrams ++ mid.sessions.out) w') (sym pushed)
-          (joined_after n r engines datagrams (datagrams ++ mid.sessions.out) w (happens n w h) (emptied mid) core links entries f.joined a
-          (leaves_engines n r engines datagrams mid links w.current truth) (held_emptied mid core held) (clean_emptied mid));
+          (joined_after n r engines datagrams (datagrams ++ mid.sessions.out) w (happens n w h) (emptied mid) core carried links entries f.joined a alike
+          (leaves_engines n r engines datagrams mid carried w.current truth) (held_emptied mid core held) (clean_emptied mid));
       seen = ap (λ (w' : Network). w'.history) pushed ∙ a.history_is ∙ ap (λ (es : List Entry). es ++ entries) f.seen;
     }
 
@@ -116,14 +121,13 @@ held_beside old new core b h = record {
 -- nothing happens to the network
 pub followed_still : (n r : ℕ) (engines : List EngineState) (datagrams : List (ℕ × List ℕ)) (history : List Entry) (old mid : EngineState) (f : IsFollowed n engines datagrams history) →
     slice_get engines r ≡ Some old → IsBeside old mid →
-    LeavesTrue n (sessions_in engines) datagrams r mid.sessions (run n f.happenings new_network).link (run n f.happenings new_network).current →
-    LeavesFollowed n engines datagrams r mid history
+    LeavesTrue n (sessions_in engines) datagrams r mid.sessions f.joined.carried (run n f.happenings new_network).current → LeavesFollowed n engines datagrams r mid history
 followed_still n r engines datagrams history old mid f there beside truth =
     let w : Network = run n f.happenings new_network in
     let core : Core = w.core (here w r) in
     record {
       happenings = f.happenings;
-      joined = joined_still n r engines datagrams (datagrams ++ mid.sessions.out) w (emptied mid) f.joined (leaves_engines n r engines datagrams mid w.link w.current truth)
+      joined = joined_still n r engines datagrams (datagrams ++ mid.sessions.out) w (emptied mid) f.joined (leaves_engines n r engines datagrams mid f.joined.carried w.current truth)
           (held_emptied mid core (held_beside old mid core beside (held_at n r engines datagrams w old f.joined there))) (clean_emptied mid);
       seen = f.seen;
     }
@@ -131,7 +135,7 @@ followed_still n r engines datagrams history old mid f there beside truth =
 -- nor is a blocked call answered
 pub followed_unanswered : (n r : ℕ) (engines : List EngineState) (datagrams : List (ℕ × List ℕ)) (history : List Entry) (old mid : EngineState) (f : IsFollowed n engines datagrams history) →
     slice_get engines r ≡ Some old → IsBeside old mid →
-    LeavesTrue n (sessions_in engines) datagrams r mid.sessions (run n f.happenings new_network).link (run n f.happenings new_network).current →
+    LeavesTrue n (sessions_in engines) datagrams r mid.sessions f.joined.carried (run n f.happenings new_network).current →
     LeavesFollowed n engines datagrams r mid (history ++ told_completion old.sessions.place.endpoint mid.core.completion)
 followed_unanswered n r engines datagrams history old mid f there beside truth =
     let none : mid.core.completion ≡ None = ap (λ (c : CoreState). c.completion) beside.core ∙ (f.joined.clean r old there).completion in
@@ -165,7 +169,7 @@ answered_follows : CallsAreShown → EventsAreTrue → (n r : ℕ) (engines : Li
 answered_follows shows truth n r engines datagrams history old mid call reply f there within gives =
     subst (λ (es : List Entry). LeavesFollowed n engines datagrams r mid (history ++ es)) entries_are
     (followed_after n r engines datagrams history _ mid (Ask r (call_seen call)) (core_settled (called own core (call_seen call)).core)
-    (accept_all w.link own (called own core (call_seen call)).out) f (asked n r w (call_seen call) place.0 c.fit) leaves held)
+    (below.accept_all carried own texts) (accept_all w.link own (called own core (call_seen call)).out) f (asked n r w (call_seen call) place.0 c.fit) alike leaves held)
   where
     w : Network
     w = run n f.happenings new_network
@@ -181,6 +185,12 @@ answered_follows shows truth n r engines datagrams history old mid call reply f 
 
     frame : Option FrameFor
     frame = call_frame old.core call
+
+    carried : below.Links
+    carried = f.joined.carried
+
+    texts : List (Endpoint × FrameText)
+    texts = all_addressed known (sendings_of frame)
 
     place : (r < n) × (old.sessions.place ≡ place_of n (here w r))
     place = place_is n r engines datagrams w old f.joined there
@@ -201,13 +211,17 @@ answered_follows shows truth n r engines datagrams history old mid call reply f 
     sessions_are : mid.sessions ≡ after_event old.sessions None (sendings_of frame)
     sessions_are = gives.sessions ∙ frame_event old.sessions frame
 
-    sent : LeavesTrue n (sessions_in engines) datagrams r (after_event old.sessions None (sendings_of frame)) (accept_all w.link own (sent_by known frame)) w.current
-    sent = truth n r (sessions_in engines) datagrams w.link w.current old.sessions None (sendings_of frame) (sent_by known frame) f.joined.links
-        (is_at n r engines datagrams w old f.joined there) tt (call_carried n own known old.core call core_place within free.0) (frame_free old.sessions frame free.1)
+    sent : LeavesTrue n (sessions_in engines) datagrams r (after_event old.sessions None (sendings_of frame)) (below.accept_all carried own texts) w.current
+    sent = truth n r (sessions_in engines) datagrams carried w.current old.sessions None (sendings_of frame) f.joined.links (is_at n r engines datagrams w old f.joined there) tt
+        (call_may_send n own old.core call core_place free.0) (frame_free old.sessions frame free.1)
 
-    leaves : LeavesTrue n (sessions_in engines) datagrams r mid.sessions (accept_all w.link own (called own core (call_seen call)).out) w.current
-    leaves = subst (λ (out : List (Endpoint × Frame)). LeavesTrue n (sessions_in engines) datagrams r mid.sessions (accept_all w.link own out) w.current) (sym (c.sends within))
-        (subst (λ (s : SessionsState). LeavesTrue n (sessions_in engines) datagrams r s (accept_all w.link own (sent_by known frame)) w.current) (sym sessions_are) sent)
+    leaves : LeavesTrue n (sessions_in engines) datagrams r mid.sessions (below.accept_all carried own texts) w.current
+    leaves = subst (λ (s : SessionsState). LeavesTrue n (sessions_in engines) datagrams r s (below.accept_all carried own texts) w.current) (sym sessions_are) sent
+
+    -- what the sessions send stands for what the network's core gives
+    alike : AreCarried (below.accept_all carried own texts) (accept_all w.link own (called own core (call_seen call)).out)
+    alike = accept_all_alike carried w.link own texts (called own core (call_seen call)).out f.joined.alike
+        (subst (λ (out : List (Endpoint × Frame)). AreSent texts out) (sym (c.sends within)) (call_sent known old.core call))
 
     known_is : mid.sessions.known ≡ known
     known_is = ap (λ (s : SessionsState). s.known) gives.sessions ∙ (frame_keeps old.sessions frame).known
@@ -244,7 +258,7 @@ ticks_follow truth n r now engines datagrams history old mid f there gives =
     let w : Network = run n f.happenings new_network in
     subst (λ (e : EngineState). LeavesFollowed n engines datagrams r e (history ++ told_completion old.sessions.place.endpoint e.core.completion)) (sym gives.1)
     (followed_unanswered n r engines datagrams history old (after_tick old now) f there (record { core = refl; known = refl; place = refl })
-    (truth n r now (sessions_in engines) datagrams w.link w.current old.sessions f.joined.links (is_at n r engines datagrams w old f.joined there)))
+    (truth n r now (sessions_in engines) datagrams f.joined.carried w.current old.sessions f.joined.links (is_at n r engines datagrams w old f.joined there)))
 
 -- ---- a restart
 
@@ -256,20 +270,20 @@ restarted_at shows truth n r engines datagrams w old j there few =
     let next : Place = place_of n (at r (suc (w.current r))) in
     let new : IsNew (opening next) (new_core next.endpoint) = new_is shows next (place_is n r engines datagrams w old j there).0 in
     joined_anew n r engines datagrams w (opening next) j
-    (subst (λ (ss : List SessionsState). AreTrue n ss datagrams w.link (anew w r).current) (sym (sessions_set engines r (opening next)))
-    (truth n r (sessions_in engines) datagrams w.link w.current old.sessions j.links (sessions_there engines r old there) few)) new.held new.clean
+    (subst (λ (ss : List SessionsState). AreTrue n ss datagrams j.carried (anew w r).current) (sym (sessions_set engines r (opening next)))
+    (truth n r (sessions_in engines) datagrams j.carried w.current old.sessions j.links (sessions_there engines r old there) few)) new.held new.clean
 
 pub restarts_follow : OpeningIsShown → RestartsAreTrue → RestartsFollow
 restarts_follow shows truth n r engines datagrams history old f there few =
     let w : Network = run n f.happenings new_network in
     let place = place_is n r engines datagrams w old f.joined there in
     let incarnation_is : old.sessions.place.endpoint.incarnation ≡ w.current r = ap (λ (p : Place). p.endpoint.incarnation) place.1 in
-    let below : w.current r < 65535 = omega (arith, few, incarnation_is) in
-    let pushed : run n (f.happenings ++ Restarts r ∷ []) new_network ≡ anew w r = run_push n f.happenings (Restarts r) new_network ∙ restarts n r w place.0 below in
+    let room : w.current r < 65535 = omega (arith, few, incarnation_is) in
+    let pushed : run n (f.happenings ++ Restarts r ∷ []) new_network ≡ anew w r = run_push n f.happenings (Restarts r) new_network ∙ restarts n r w place.0 room in
     record {
       happenings = f.happenings ++ Restarts r ∷ [];
       joined = subst (λ (w' : Network). IsJoined n (slice_set engines r (opening (next_place old.sessions.place))) datagrams w') (sym pushed)
           (subst (λ (p : Place). IsJoined n (slice_set engines r (opening (next_place p))) datagrams (anew w r)) (sym place.1)
-          (restarted_at shows truth n r engines datagrams w old f.joined there below));
+          (restarted_at shows truth n r engines datagrams w old f.joined there room));
       seen = ap (λ (w' : Network). w'.history) pushed ∙ ap (λ (es : List Entry). es ++ Restarted r ∷ []) f.seen;
     }

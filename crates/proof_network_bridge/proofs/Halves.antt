@@ -20,7 +20,7 @@ use Rattle.engine.specs.EngineState.{EngineState, emptied}
 use Rattle.engine.specs.Refusals.{fault_of_sessions, first_fault}
 use Rattle.vocabulary.specs.declared.endpoint.Endpoint.{Endpoint}
 use Rattle.proof_link_truth.specs.Events.{LeavesTrue}
-use Rattle.proof_link_truth.specs.Sessions.{Links}
+use Rattle.proof_link_truth.specs.Links.{Links}
 use Rattle.proof_link_truth.specs.Truth.{AreTrue}
 use Rattle.proof_network_bridge.specs.Joined.{sessions_in}
 

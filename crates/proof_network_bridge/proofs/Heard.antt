@@ -4,10 +4,10 @@ use Rattle.std.specs.Prelude.{slice_get, slice_index}
 use Rattle.std.proofs.lemmas.Bool.{eqb-false, le-ltb, lt-ltb}
 use Rattle.perfect_queues.specs.Events.{Entry, told}
 use Rattle.vocabulary.specs.declared.endpoint.Endpoint.{Endpoint}
-use Rattle.datagram.specs.Spelling.{BodyText}
+use Rattle.datagram.specs.Spelling.{FrameText}
 use Rattle.incarnation.specs.declared.place.Place.{Place}
 use Rattle.rank_core.specs.CoreState.{CoreState}
-use Rattle.rank_core.specs.Hearing.{NewsText, after_news, frame_fault}
+use Rattle.rank_core.specs.Hearing.{NewsText, after_news, news_fault}
 use Rattle.sessions.specs.declared.heard.Unheard.{Unheard}
 use Rattle.sessions.specs.Events.{after_event, event_limit, taught_known}
 use Rattle.sessions.specs.Heard.{Acknowledges, Hands, HeardText, Nothing, Repeats, WordText, heard_of}
@@ -20,16 +20,18 @@ use Rattle.proof_pure_network.specs.Engine.{came, core_ready, core_settled, met}
 use Rattle.proof_pure_network.specs.Frames.{Frame}
 use Rattle.proof_pure_network.specs.Links.{accept_all, handed_on}
 use Rattle.proof_pure_network.specs.Network.{Network, Word, here, new_network, run}
-use Rattle.proof_engine_view.specs.Frames.{frame_heard, frame_seen, known_after}
+use Rattle.proof_engine_view.specs.Frames.{frame_heard, known_after}
 use Rattle.proof_engine_view.specs.Seen.{told_completion}
 use Rattle.proof_engine_view.specs.Shown.{IsShown}
 use Rattle.proof_engine_steps.specs.Steps.{IsFromOther, IsHeard, NewsAreShown, heard_by_core}
 use Rattle.proof_link_truth.specs.Events as below
 use Rattle.proof_link_truth.specs.Events.{EventsAreTrue, HearingIsTrue, HearsTruth, IsFromDatagram, IsLesson, IsNext, IsTrueWord, LeavesTrue, RefusalsAreTrue, RestIsTrue, links_heeded}
+use Rattle.proof_link_truth.specs.Links as lower
 use Rattle.proof_link_truth.specs.Wire.{place_of}
+use Rattle.proof_network_bridge.specs.Carried.{AreCarried}
 use Rattle.proof_network_bridge.specs.Following.{DatagramsFollow, LeavesFollowed, RefusalsFollow}
 use Rattle.proof_network_bridge.specs.Joined.{IsFollowed, IsJoined, sessions_in}
-use Rattle.proof_network_bridge.proofs.Carrying.{body_seen}
+use Rattle.proof_network_bridge.proofs.Carried.{IsMeant, handed_alike, next_alike}
 use Rattle.proof_network_bridge.proofs.Following.{followed_after, followed_still, is_at}
 use Rattle.proof_network_bridge.proofs.Halves.{Keeps, away_keeps, neither_fault}
 use Rattle.proof_network_bridge.proofs.Networks.{IsWord, heard, learnt}
@@ -75,11 +77,11 @@ is_from_other n r w old known news place h =
 -- ---- a word that is heard
 
 -- what a core hears of a word, with a frame or without
-abbrev news : Endpoint → (lesson : Bool) → Option BodyText → NewsText
+abbrev news : Endpoint → (lesson : Bool) → Option FrameText → NewsText
 news s lesson b = record { source = s; lesson = lesson; frame = b }
 
 -- the engine once it heard that, with these sessions
-abbrev after : EngineState → Endpoint → (lesson : Bool) → SessionsState → Option BodyText → EngineState
+abbrev after : EngineState → Endpoint → (lesson : Bool) → SessionsState → Option FrameText → EngineState
 after old s lesson t b = record { core = after_news old.core (news s lesson b); sessions = t }
 
 -- what its sessions know and where they stand then
@@ -88,7 +90,7 @@ record IsLearnt (old : EngineState) (s : Endpoint) (lesson : Bool) (t : Sessions
   place : t.place ≡ old.sessions.place
 
 -- it holds what the network's core holds
-held_after : (old : EngineState) (core : Core) (s : Endpoint) (lesson : Bool) (t : SessionsState) (b : Option BodyText) (x : Effect) → IsHeld old core →
+held_after : (old : EngineState) (core : Core) (s : Endpoint) (lesson : Bool) (t : SessionsState) (b : Option FrameText) (x : Effect) → IsHeld old core →
     heard_by_core core s (frame_heard b) ≡ x → IsHeard old.core old.sessions.known core (news s lesson b) → IsLearnt old s lesson t →
     IsHeld (after old s lesson t b) (core_settled x.core)
 held_after old core s lesson t b x held is h learnt_now = record {
@@ -98,7 +100,7 @@ held_after old core s lesson t b x held is h learnt_now = record {
 }
 
 -- what is seen of it
-told_after : (old : EngineState) (core : Core) (own : Endpoint) (s : Endpoint) (lesson : Bool) (t : SessionsState) (b : Option BodyText) (x : Effect) →
+told_after : (old : EngineState) (core : Core) (own : Endpoint) (s : Endpoint) (lesson : Bool) (t : SessionsState) (b : Option FrameText) (x : Effect) →
     old.core.place ≡ old.sessions.place → old.sessions.place.endpoint ≡ own → heard_by_core core s (frame_heard b) ≡ x → IsHeard old.core old.sessions.known core (news s lesson b) →
     told own None (core_ready x.core) ≡ told_completion old.sessions.place.endpoint (after_news old.core (news s lesson b)).completion
 told_after old core own s lesson t b x placed stands is h =
@@ -110,7 +112,7 @@ told_after old core own s lesson t b x placed stands is h =
 plainly : (n r : ℕ) (engines : List EngineState) (datagrams : List (ℕ × List ℕ)) (history : List Entry) (old : EngineState) (f : IsFollowed n engines datagrams history) →
     slice_get engines r ≡ Some old → (s : Endpoint) (lesson : Bool) (t : SessionsState) → IsWord n r (run n f.happenings new_network) s →
     IsHeard old.core old.sessions.known ((run n f.happenings new_network).core (here (run n f.happenings new_network) r)) (news s lesson None) → IsLearnt old s lesson t →
-    LeavesTrue n (sessions_in engines) datagrams r t (run n f.happenings new_network).link (run n f.happenings new_network).current →
+    LeavesTrue n (sessions_in engines) datagrams r t f.joined.carried (run n f.happenings new_network).current →
     LeavesFollowed n engines datagrams r (after old s lesson t None) (history ++ told_completion old.sessions.place.endpoint (after_news old.core (news s lesson None)).completion)
 plainly n r engines datagrams history old f there s lesson t word h learnt_now truth =
     let w : Network = run n f.happenings new_network in
@@ -119,16 +121,16 @@ plainly n r engines datagrams history old f there s lesson t word h learnt_now t
     let held : IsHeld old core = held_at n r engines datagrams w old f.joined there in
     let stands : old.sessions.place.endpoint ≡ own = ap (λ (p : Place). p.endpoint) (place_is n r engines datagrams w old f.joined there).1 in
     let effect : Effect = heard_by_core core s None in
-    let made = followed_after n r engines datagrams history _ (after old s lesson t None) (Word s r 0) (core_settled (met core s)) w.link f (learnt n r w s word) truth
+    let made = followed_after n r engines datagrams history _ (after old s lesson t None) (Word s r 0) (core_settled (met core s)) f.joined.carried w.link f (learnt n r w s word) f.joined.alike truth
     (held_after old core s lesson t None effect held refl h learnt_now) in
     subst (λ (es : List Entry). LeavesFollowed n engines datagrams r (after old s lesson t None) (history ++ es)) (told_after old core own s lesson t None effect held.placed stands refl h) made
 
 -- a word with the next frame of its link
 with_frame : (n r : ℕ) (engines : List EngineState) (datagrams : List (ℕ × List ℕ)) (history : List Entry) (old : EngineState) (f : IsFollowed n engines datagrams history) →
-    slice_get engines r ≡ Some old → (s : Endpoint) (lesson : Bool) (t : SessionsState) (b : BodyText) → IsNext (run n f.happenings new_network).link s (here (run n f.happenings new_network) r) b →
+    slice_get engines r ≡ Some old → (s : Endpoint) (lesson : Bool) (t : SessionsState) (b : FrameText) → IsNext f.joined.carried s (here (run n f.happenings new_network) r) b →
     IsWord n r (run n f.happenings new_network) s →
     IsHeard old.core old.sessions.known ((run n f.happenings new_network).core (here (run n f.happenings new_network) r)) (news s lesson (Some b)) → IsLearnt old s lesson t →
-    LeavesTrue n (sessions_in engines) datagrams r t (handed_on (run n f.happenings new_network).link s (here (run n f.happenings new_network) r)) (run n f.happenings new_network).current →
+    LeavesTrue n (sessions_in engines) datagrams r t (lower.handed_on f.joined.carried s (here (run n f.happenings new_network) r)) (run n f.happenings new_network).current →
     LeavesFollowed n engines datagrams r (after old s lesson t (Some b)) (history ++ told_completion old.sessions.place.endpoint (after_news old.core (news s lesson (Some b))).completion)
 with_frame n r engines datagrams history old f there s lesson t b next word h learnt_now truth =
     let w : Network = run n f.happenings new_network in
@@ -136,13 +138,14 @@ with_frame n r engines datagrams history old f there s lesson t b next word h le
     let core : Core = w.core own in
     let held : IsHeld old core = held_at n r engines datagrams w old f.joined there in
     let stands : old.sessions.place.endpoint ≡ own = ap (λ (p : Place). p.endpoint) (place_is n r engines datagrams w old f.joined there).1 in
-    let seen : frame_seen b ≡ Some next.frame = ap frame_seen next.body_is ∙ body_seen next.frame next.carried in
-    let effect : Effect = came (met core s) s next.frame in
-    let effect_is : heard_by_core core s (frame_heard (Some b)) ≡ effect = ap (heard_by_core core s) seen in
+    let meant : IsMeant (w.link s own).accepted (w.link s own).handed b = next_alike (f.joined.carried s own) (w.link s own) b (f.joined.alike s own) next.next in
+    let effect : Effect = came (met core s) s meant.frame in
+    let effect_is : heard_by_core core s (frame_heard (Some b)) ≡ effect = ap (heard_by_core core s) meant.stands in
     let silent : effect.out ≡ [] = ap (λ (e : Effect). e.out) (sym effect_is) ∙ h.sends in
-    let made = followed_after n r engines datagrams history _ (after old s lesson t (Some b)) (Word s r 1) (core_settled effect.core) (accept_all (handed_on w.link s own) own effect.out) f
-    (heard n r w s next.frame word next.next)
-    (subst (λ (out : List (Endpoint × Frame)). LeavesTrue n (sessions_in engines) datagrams r t (accept_all (handed_on w.link s own) own out) w.current) (sym silent) truth)
+    let made = followed_after n r engines datagrams history _ (after old s lesson t (Some b)) (Word s r 1) (core_settled effect.core) (lower.handed_on f.joined.carried s own)
+    (accept_all (handed_on w.link s own) own effect.out) f (heard n r w s meant.frame word meant.there)
+    (subst (λ (out : List (Endpoint × Frame)). AreCarried (lower.handed_on f.joined.carried s own) (accept_all (handed_on w.link s own) own out)) (sym silent)
+    (handed_alike f.joined.carried w.link s own f.joined.alike)) truth
     (held_after old core s lesson t (Some b) effect held effect_is h learnt_now) in
     subst (λ (es : List Entry). LeavesFollowed n engines datagrams r (after old s lesson t (Some b)) (history ++ es))
     (told_after old core own s lesson t (Some b) effect held.placed stands effect_is h) made
@@ -150,9 +153,9 @@ with_frame n r engines datagrams history old f there s lesson t b next word h le
 -- any word
 by_word : (n r : ℕ) (engines : List EngineState) (datagrams : List (ℕ × List ℕ)) (history : List Entry) (old : EngineState) (f : IsFollowed n engines datagrams history) →
     slice_get engines r ≡ Some old → (s : Endpoint) (lesson : Bool) (t : SessionsState) (x : WordText) →
-    IsTrueWord (run n f.happenings new_network).link s (here (run n f.happenings new_network) r) x → IsWord n r (run n f.happenings new_network) s →
+    IsTrueWord f.joined.carried s (here (run n f.happenings new_network) r) x → IsWord n r (run n f.happenings new_network) s →
     IsHeard old.core old.sessions.known ((run n f.happenings new_network).core (here (run n f.happenings new_network) r)) (news s lesson (frame_in x)) → IsLearnt old s lesson t →
-    LeavesTrue n (sessions_in engines) datagrams r t (links_heeded (run n f.happenings new_network).link s (here (run n f.happenings new_network) r) x) (run n f.happenings new_network).current →
+    LeavesTrue n (sessions_in engines) datagrams r t (links_heeded f.joined.carried s (here (run n f.happenings new_network) r) x) (run n f.happenings new_network).current →
     LeavesFollowed n engines datagrams r (after old s lesson t (frame_in x))
     (history ++ told_completion old.sessions.place.endpoint (after_news old.core (news s lesson (frame_in x))).completion)
 by_word n r engines datagrams history old f there s lesson t (Acknowledges number) says word h learnt_now truth = plainly n r engines datagrams history old f there s lesson t word h learnt_now truth
@@ -164,7 +167,7 @@ by_word n r engines datagrams history old f there s lesson t Nothing says word h
 
 -- what is heard in it is followed
 heard_follows : NewsAreShown → HearingIsTrue → EventsAreTrue → (n r : ℕ) (engines : List EngineState) (datagrams : List (ℕ × List ℕ)) (history : List Entry) (old : EngineState) (h : HeardText) →
-    (f : IsFollowed n engines datagrams history) → slice_get engines r ≡ Some old → IsFromDatagram datagrams r old.sessions h → frame_fault (frame_in h.word) ≡ None →
+    (f : IsFollowed n engines datagrams history) → slice_get engines r ≡ Some old → IsFromDatagram datagrams r old.sessions h → news_fault (frame_in h.word) ≡ None →
     LeavesFollowed n engines datagrams r (after_heard old h) (history ++ told_completion old.sessions.place.endpoint (after_heard old h).core.completion)
 heard_follows shows hearing events n r engines datagrams history old h f there comes fine =
     by_word n r engines datagrams history old f there h.source h.lesson (after_event old.sessions (Some h) []) h.word truth.word
@@ -172,7 +175,7 @@ heard_follows shows hearing events n r engines datagrams history old h f there c
     (shows old.core old.sessions.known (w.core (here w r)) (news_of h) (f.joined.shown r old there) (f.joined.clean r old there).completion
     (is_from_other n r w old.core old.sessions.known (news_of h) stands truth.heard) fine)
     (record { known = known_alike h.lesson old.sessions.known h.source; place = refl })
-    (events n r (sessions_in engines) datagrams w.link w.current old.sessions (Some h) [] [] f.joined.links here_is comes tt refl)
+    (events n r (sessions_in engines) datagrams f.joined.carried w.current old.sessions (Some h) [] f.joined.links here_is comes tt refl)
   where
     w : Network
     w = run n f.happenings new_network
@@ -180,8 +183,8 @@ heard_follows shows hearing events n r engines datagrams history old h f there c
     here_is : below.IsAt (sessions_in engines) r old.sessions
     here_is = is_at n r engines datagrams w old f.joined there
 
-    truth : HearsTruth n r w.current old.sessions w.link h
-    truth = hearing n r (sessions_in engines) datagrams w.link w.current old.sessions h f.joined.links here_is comes
+    truth : HearsTruth n r w.current old.sessions f.joined.carried h
+    truth = hearing n r (sessions_in engines) datagrams f.joined.carried w.current old.sessions h f.joined.links here_is comes
 
     stands : old.core.place ≡ place_of n (here w r)
     stands = f.joined.placed r old there ∙ (place_is n r engines datagrams w old f.joined there).1
@@ -192,7 +195,7 @@ datagrams_follow shows hearing events n r number bytes engines datagrams history
     go : (o : Result HeardText Unheard) → heard_of old.sessions bytes ≡ o → HearingGives o old (Ok tt) mid
         → LeavesFollowed n engines datagrams r mid (history ++ told_completion old.sessions.place.endpoint mid.core.completion)
     go (Ok h) is g =
-        let fine = neither_fault (frame_fault (frame_in h.word)) (fault_of_sessions (event_limit old.sessions (Some h) [])) g.0 in
+        let fine = neither_fault (news_fault (frame_in h.word)) (fault_of_sessions (event_limit old.sessions (Some h) [])) g.0 in
         subst (λ (e : EngineState). LeavesFollowed n engines datagrams r e (history ++ told_completion old.sessions.place.endpoint e.core.completion)) (sym g.1)
         (heard_follows shows hearing events n r engines datagrams history old h f there (record { number = number; bytes = bytes; there = emitted; hears = is }) fine.0)
     go (Err u) is g = absurd (let e = g.1 in cc)
@@ -212,8 +215,8 @@ refusals_follow rest refusals n r number bytes engines datagrams history old mid
     go (Ok h) is g =
         subst (λ (e : EngineState). LeavesFollowed n engines datagrams r e history) (sym g.2)
         (followed_still n r engines datagrams history old old f there (record { core = refl; known = refl; place = refl })
-        (rest n r (sessions_in engines) datagrams w.link w.current old.sessions f.joined.links here_is))
+        (rest n r (sessions_in engines) datagrams f.joined.carried w.current old.sessions f.joined.links here_is))
     go (Err u) is g =
         let keeps : Keeps old.sessions mid.sessions = away_keeps old.sessions mid.sessions u.reset u.refused g.0 g.3 in
         followed_still n r engines datagrams history old mid f there (record { core = g.2; known = keeps.known; place = keeps.place })
-        (refusals n r number bytes (sessions_in engines) datagrams w.link w.current old.sessions mid.sessions u g.0 f.joined.links here_is emitted is g.3)
+        (refusals n r number bytes (sessions_in engines) datagrams f.joined.carried w.current old.sessions mid.sessions u g.0 f.joined.links here_is emitted is g.3)

@@ -1,4 +1,5 @@
 pub mod Halves
+pub mod Carried
 pub mod Carrying
 pub mod Networks
 pub mod Worlds

@@ -27,6 +27,7 @@ use Rattle.proof_link_truth.specs.Events.{IdleIsStill, Knows}
 use Rattle.proof_link_truth.specs.Wire.{at}
 use Rattle.proof_network_bridge.specs.Following.{AreQuiet, FollowingIsRun}
 use Rattle.proof_network_bridge.specs.Joined.{IsJoined, sessions_in}
+use Rattle.proof_network_bridge.proofs.Carried.{none_in_flight}
 use Rattle.proof_network_bridge.proofs.Halves.{IsOf, answered, engine_there, frame_full, neither_fault}
 use Rattle.proof_network_bridge.proofs.Worlds.{place_is}
 
@@ -113,6 +114,7 @@ following_is_run idle faults room faultless n engines datagrams history f =
       takes = λ r e mid call reply there taken gives.
           takes_too faultless n r engines datagrams w e mid call reply _ f.joined there taken gives (m.faults e.sessions.place.endpoint (call_seen call));
       quiet = λ still. m.quiet (λ s d s_is d_is d_knows s_knows.
-          idle n (sessions_in engines) datagrams w.link w.current f.joined.links (quiet_below engines still) s d s_is d_is
-          (knows_too n engines datagrams w s d f.joined s_is s_knows) (knows_too n engines datagrams w d s f.joined d_is d_knows));
+          none_in_flight (f.joined.carried s d) (w.link s d) (f.joined.alike s d)
+          (idle n (sessions_in engines) datagrams f.joined.carried w.current f.joined.links (quiet_below engines still) s d s_is d_is
+          (knows_too n engines datagrams w s d f.joined s_is s_knows) (knows_too n engines datagrams w d s f.joined d_is d_knows)));
     }

@@ -13,12 +13,11 @@ use Rattle.proof_pure_network.specs.Core.{Core, view}
 use Rattle.proof_pure_network.specs.Engine.{called, came, core_ready, core_settled, met}
 use Rattle.proof_pure_network.specs.Frames.{Frame}
 use Rattle.proof_pure_network.specs.Held.{blank}
-use Rattle.proof_pure_network.specs.Links.{accept_all, handed_on}
+use Rattle.proof_pure_network.specs.Links.{Link, accept_all, handed_on}
 use Rattle.proof_pure_network.specs.Network.{Ask, Happening, Network, Restarts, Word, ask, call_at, hand_at, happens, hear_at, here, run, settle_at, with_core, word}
-use Rattle.proof_link_truth.specs.Sessions.{Links}
 
 -- the core of e is this, no other one changed, and this is more seen
-pub record IsAfter (w w' : Network) (e : Endpoint) (core : Core) (links : Links) (entries : List Entry) : Type 0 where
+pub record IsAfter (w w' : Network) (e : Endpoint) (core : Core) (links : Endpoint → Endpoint → Link) (entries : List Entry) : Type 0 where
   pub at : w'.core e ≡ core
   pub others : (x : Endpoint) → is_same x e ≡ false → w'.core x ≡ w.core x
   pub links_are : w'.link ≡ links

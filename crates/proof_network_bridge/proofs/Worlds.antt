@@ -10,12 +10,14 @@ use Rattle.vocabulary.specs.declared.endpoint.Endpoint.{Endpoint}
 use Rattle.perfect_queues.proofs.EndpointLemmas.{same_eq}
 use Rattle.engine.specs.EngineState.{EngineState, emptied}
 use Rattle.proof_pure_network.specs.Core.{Core, new_core}
+use Rattle.proof_pure_network.specs.Links.{Link}
 use Rattle.proof_pure_network.specs.Network.{Network, here}
 use Rattle.proof_pure_network.proofs.EventKept.{current_more}
 use Rattle.proof_engine_view.specs.Shown.{IsShown}
-use Rattle.proof_link_truth.specs.Sessions.{Links}
+use Rattle.proof_link_truth.specs.Links as below
 use Rattle.proof_link_truth.specs.Truth.{AreTrue}
 use Rattle.proof_link_truth.specs.Wire.{at, place_of}
+use Rattle.proof_network_bridge.specs.Carried.{AreCarried}
 use Rattle.proof_network_bridge.specs.Joined.{IsClean, IsJoined, sessions_in}
 use Rattle.proof_network_bridge.proofs.Halves.{sessions_there}
 use Rattle.proof_network_bridge.proofs.Networks.{IsAfter, anew, with_new, with_old}
@@ -94,13 +96,15 @@ pub clean_emptied : (e : EngineState) → IsClean (emptied e)
 clean_emptied e = record { out = refl; completion = refl }
 
 -- the world after an event at r is joined to the network after what happened there
-pub joined_after : (n r : ℕ) (engines : List EngineState) (datagrams datagrams' : List (ℕ × List ℕ)) (w w' : Network) (new : EngineState) (core : Core) (links : Links) (entries : List Entry) →
-    IsJoined n engines datagrams w → IsAfter w w' (here w r) core links entries → AreTrue n (sessions_in (slice_set engines r new)) datagrams' links w.current → IsHeld new core → IsClean new →
-    IsJoined n (slice_set engines r new) datagrams' w'
-joined_after n r engines datagrams datagrams' w w' new core links entries j a truth held clean =
+pub joined_after : (n r : ℕ) (engines : List EngineState) (datagrams datagrams' : List (ℕ × List ℕ)) (w w' : Network) (new : EngineState) (core : Core) (carried : below.Links)
+    (links : Endpoint → Endpoint → Link) (entries : List Entry) →
+    IsJoined n engines datagrams w → IsAfter w w' (here w r) core links entries → AreCarried carried links →
+    AreTrue n (sessions_in (slice_set engines r new)) datagrams' carried w.current → IsHeld new core → IsClean new → IsJoined n (slice_set engines r new) datagrams' w'
+joined_after n r engines datagrams datagrams' w w' new core carried links entries j a alike truth held clean =
     record {
-      links = subst (λ (current : ℕ → ℕ). AreTrue n (sessions_in (slice_set engines r new)) datagrams' w'.link current) (sym a.current_is)
-          (subst (λ (ls : Links). AreTrue n (sessions_in (slice_set engines r new)) datagrams' ls w.current) (sym a.links_are) truth);
+      carried = carried;
+      links = subst (λ (current : ℕ → ℕ). AreTrue n (sessions_in (slice_set engines r new)) datagrams' carried current) (sym a.current_is) truth;
+      alike = subst (λ (ls : Endpoint → Endpoint → Link). AreCarried carried ls) (sym a.links_are) alike;
       shown = λ x e is. (each x e is).shown;
       placed = λ x e is. (each x e is).placed;
       clean = λ x e is. elim (set_cases engines r new x e is) [
@@ -121,11 +125,13 @@ joined_after n r engines datagrams datagrams' w w' new core links entries j a tr
 
 -- an event that is nothing to the network
 pub joined_still : (n r : ℕ) (engines : List EngineState) (datagrams datagrams' : List (ℕ × List ℕ)) (w : Network) (new : EngineState) →
-    IsJoined n engines datagrams w → AreTrue n (sessions_in (slice_set engines r new)) datagrams' w.link w.current → IsHeld new (w.core (here w r)) → IsClean new →
+    (j : IsJoined n engines datagrams w) → AreTrue n (sessions_in (slice_set engines r new)) datagrams' j.carried w.current → IsHeld new (w.core (here w r)) → IsClean new →
     IsJoined n (slice_set engines r new) datagrams' w
 joined_still n r engines datagrams datagrams' w new j truth held clean =
     record {
+      carried = j.carried;
       links = truth;
+      alike = j.alike;
       shown = λ x e is. (each x e is).shown;
       placed = λ x e is. (each x e is).placed;
       clean = λ x e is. elim (set_cases engines r new x e is) [
@@ -143,11 +149,13 @@ joined_still n r engines datagrams datagrams' w new j truth held clean =
 
 -- a rank is started anew: its new engine shows the new core, and the other ranks' endpoints stay
 pub joined_anew : (n r : ℕ) (engines : List EngineState) (datagrams : List (ℕ × List ℕ)) (w : Network) (new : EngineState) →
-    IsJoined n engines datagrams w → AreTrue n (sessions_in (slice_set engines r new)) datagrams w.link (anew w r).current → IsHeld new (new_core (at r (suc (w.current r)))) → IsClean new →
+    (j : IsJoined n engines datagrams w) → AreTrue n (sessions_in (slice_set engines r new)) datagrams j.carried (anew w r).current → IsHeld new (new_core (at r (suc (w.current r)))) → IsClean new →
     IsJoined n (slice_set engines r new) datagrams (anew w r)
 joined_anew n r engines datagrams w new j truth held clean =
     record {
+      carried = j.carried;
       links = truth;
+      alike = j.alike;
       shown = λ x e is. (each x e is).shown;
       placed = λ x e is. (each x e is).placed;
       clean = λ x e is. elim (set_cases engines r new x e is) [

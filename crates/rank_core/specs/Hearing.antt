@@ -6,8 +6,8 @@ use Rattle.vocabulary.specs.BasicTypes.{size_of}
 use Rattle.datatypes.specs.Contents.{values_of}
 use Rattle.datagram.specs.declared.kinds.Plane.{Plane}
 use Rattle.datagram.specs.declared.kinds.Plane.TheVariants.{PointToPoint, Collective}
-use Rattle.datagram.specs.declared.datagram.Frame.{Frame}
-use Rattle.datagram.specs.Spelling.{EagerText, BodyText, EagerBody, AckBody, ResetBody, frame_text, BodyFits}
+use Rattle.datagram.specs.declared.frame.Frame.{Frame}
+use Rattle.datagram.specs.Spelling.{EagerText, FrameText, EagerFrame, RequestFrame, ClearFrame, DataFrame, frame_text, FrameFits}
 use Rattle.match_queues.specs.declared.envelope.Message.{Message}
 use Rattle.match_queues.specs.State.{after_drop, keys_naming}
 use Rattle.requests.specs.Table.{after_replaces}
@@ -25,10 +25,10 @@ use Rattle.rank_core.specs.Waiting.{woken}
 pub record NewsText : Type 0 where
   pub source : Endpoint
   pub lesson : Bool
-  pub frame : Option BodyText
+  pub frame : Option FrameText
 
 -- what a frame says, where there is one
-abbrev pub frame_option : Option Frame → Option BodyText
+abbrev pub frame_option : Option Frame → Option FrameText
 frame_option None = None
 frame_option (Some f) = Some (frame_text f)
 
@@ -37,9 +37,9 @@ abbrev pub news_text : News → NewsText
 news_text n = record { source = n.source; lesson = n.lesson; frame = frame_option n.frame }
 
 -- the rules of the format hold of the frame
-abbrev pub FrameFits : Option BodyText → Type 0
-FrameFits None = Unit {0}
-FrameFits (Some b) = BodyFits b
+abbrev pub HeardFits : Option FrameText → Type 0
+HeardFits None = Unit {0}
+HeardFits (Some f) = FrameFits f
 
 -- THE RULE
 
@@ -48,16 +48,17 @@ abbrev pub plane_fault : Plane → Option Refused
 plane_fault Collective = Some refusals.BadFrame
 plane_fault PointToPoint = None
 
--- the rule by which a frame isn't taken
-abbrev pub body_fault : BodyText → Option Refused
-body_fault (EagerBody t) = plane_fault t.plane
-body_fault AckBody = None
-body_fault ResetBody = None
+-- the rule by which a frame isn't taken; for now none of a large message is
+abbrev pub frame_fault : FrameText → Option Refused
+frame_fault (EagerFrame t) = plane_fault t.plane
+frame_fault (RequestFrame t) = Some refusals.BadFrame
+frame_fault (ClearFrame t) = Some refusals.BadFrame
+frame_fault (DataFrame t) = Some refusals.BadFrame
 
 -- and of the frame that was sent, if one was
-abbrev pub frame_fault : Option BodyText → Option Refused
-frame_fault None = None
-frame_fault (Some b) = body_fault b
+abbrev pub news_fault : Option FrameText → Option Refused
+news_fault None = None
+news_fault (Some f) = frame_fault f
 
 -- WHAT BECOMES OF IT
 
@@ -71,15 +72,16 @@ message_of s t = record {
 }
 
 -- the message that a frame is
-abbrev pub message_in : Endpoint → BodyText → Option Message
-message_in s (EagerBody t) = Some (message_of s t)
-message_in s AckBody = None
-message_in s ResetBody = None
+abbrev pub message_in : Endpoint → FrameText → Option Message
+message_in s (EagerFrame t) = Some (message_of s t)
+message_in s (RequestFrame t) = None
+message_in s (ClearFrame t) = None
+message_in s (DataFrame t) = None
 
 -- and of the frame that was sent, if one was
-abbrev pub message_from : Endpoint → Option BodyText → Option Message
+abbrev pub message_from : Endpoint → Option FrameText → Option Message
 message_from s None = None
-message_from s (Some b) = message_in s b
+message_from s (Some f) = message_in s f
 
 -- The rank was started anew: receives that name it end, their buffers as they were; messages from its former
 -- incarnations that were not received are dropped (MPI 3.1 has no restarts; this is our own)

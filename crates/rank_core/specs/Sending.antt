@@ -6,7 +6,7 @@ use Rattle.vocabulary.specs.declared.envelope.Source.{Source}
 use Rattle.vocabulary.specs.declared.envelope.Source.TheVariants.{Any, Rank, Null}
 use Rattle.datatypes.specs.Contents.{Contents, bytes_of}
 use Rattle.datagram.specs.declared.kinds.Plane.TheVariants.{PointToPoint}
-use Rattle.datagram.specs.Spelling.{BodyText, EagerBody, frame_text}
+use Rattle.datagram.specs.Spelling.{FrameText, EagerFrame, frame_text}
 use Rattle.match_queues.specs.declared.envelope.Message.{Message}
 use Rattle.match_queues.specs.Arrivals.{arrival_of}
 use Rattle.match_queues.specs.State.{after_arrival}
@@ -70,8 +70,8 @@ pub record IsSmall (tag : ℕ) (c : Contents) : Type 0 where
   pub tag_is : tag ≤ highest_tag
 
 -- the frame of these elements under this tag, on world, whose context is 0
-abbrev pub body_of : (tag : ℕ) → Contents → BodyText
-body_of tag c = EagerBody (record {
+abbrev pub eager_frame : (tag : ℕ) → Contents → FrameText
+eager_frame tag c = EagerFrame (record {
   plane = PointToPoint;
   basic = c.basic;
   tag = tag;
@@ -83,17 +83,17 @@ body_of tag c = EagerBody (record {
 -- a frame for a rank
 pub record FrameFor : Type 0 where
   pub rank : ℕ
-  pub body : BodyText
+  pub frame : FrameText
 
 -- what a value of the program says, where there is one
 abbrev pub addressed : Option Addressed → Option FrameFor
 addressed None = None
-addressed (Some a) = Some (record { rank = a.rank; body = frame_text a.frame })
+addressed (Some a) = Some (record { rank = a.rank; frame = frame_text a.frame })
 
 -- the frame that goes to another rank
 abbrev pub frame_unless : Bool → Destination → Contents → Option FrameFor
 frame_unless true d c = None
-frame_unless false d c = Some (record { rank = d.rank; body = body_of d.tag c })
+frame_unless false d c = Some (record { rank = d.rank; frame = eager_frame d.tag c })
 
 -- the frame with which these elements go to their destination, where it is another rank
 abbrev pub frame_to : Place → Option Destination → Contents → Option FrameFor

@@ -3,7 +3,7 @@
 ghost use Rattle.std.specs.Prelude.{◌≡◌, ◌<◌, Some, None, IfSome};
 ghost use Rattle.vocabulary.specs.BasicTypes.{size_of};
 ghost use Rattle.datatypes.specs.Contents.{AreWithin};
-ghost use Rattle.datagram.specs.Spelling.{frame_text, BodyFits};
+ghost use Rattle.datagram.specs.Spelling.{frame_text, FrameFits};
 ghost use Rattle.requests.specs.Lists.{named};
 ghost use Rattle.requests.specs.Regions.{sent_from};
 ghost use Rattle.requests.specs.declared.awaited.Awaited.TheVariants.{One};
@@ -150,7 +150,7 @@ impl Core {
         requires allowed { send_fault self.now.state.place send.now ≡ None }
         requires packed { IsPacked send.now prepared.now }
         ensures exact { addressed result ≡ frame_of self.now.state.place send.now }
-        ensures fits { IfSome result (λ a. BodyFits (frame_text a.frame)) }
+        ensures fits { IfSome result (λ a. FrameFits (frame_text a.frame)) }
         ensures there { IfSome result (λ a. a.rank < self.now.state.place.size) }
     {
         let elements = elements_of(send, prepared);
@@ -163,7 +163,7 @@ impl Core {
         requires allowed { call_fault self.now.state call.now ≡ None }
         requires ready { CanAnswer self.now call.now prepared.now }
         ensures exact { addressed result ≡ call_frame self.now.state call.now }
-        ensures fits { IfSome result (λ a. BodyFits (frame_text a.frame)) }
+        ensures fits { IfSome result (λ a. FrameFits (frame_text a.frame)) }
         ensures there { IfSome result (λ a. a.rank < self.now.state.place.size) }
     {
         match call {

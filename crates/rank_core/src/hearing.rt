@@ -1,10 +1,10 @@
 //! How a core takes in what is heard from another rank.
 
 ghost use Rattle.std.specs.Prelude.{◌≡◌, ◌<◌, ◌≤◌, true, IfOk, IfErr, OnOk, Some, None, is_some};
-ghost use Rattle.datagram.specs.Spelling.{frame_text, eager_text, BodyFits, EagerFits};
+ghost use Rattle.datagram.specs.Spelling.{eager_text, EagerFits};
 ghost use Rattle.rank_core.specs.Sending.{arrived};
 ghost use Rattle.rank_core.specs.Waiting.{woken};
-ghost use Rattle.rank_core.specs.Hearing.{NewsText, news_text, FrameFits, frame_option, body_fault, frame_fault, message_of, message_in, message_from, KeysFit, CanTake, taught, arrived_any, after_news, after_ready};
+ghost use Rattle.rank_core.specs.Hearing.{NewsText, news_text, HeardFits, frame_option, frame_fault, news_fault, message_of, message_in, message_from, KeysFit, CanTake, taught, arrived_any, after_news, after_ready};
 
 use crate::rank::Core;
 use crate::receiving::status_of;
@@ -59,13 +59,14 @@ fn message_from(
     source: Endpoint,
     frame: Option<Frame<'_>>,
 ) -> Result<Option<Message>, Refused>
-    requires { FrameFits (frame_option frame) }
+    requires { HeardFits (frame_option frame) }
     ensures ok { IfOk result (λ m. m ≡ message_from source (frame_option frame.entry)) }
     ensures err { IfErr result (λ e. e ≡ Refused.OutOfMemory) }
 {
     match frame {
         None => Ok(None),
         Some(Frame::Eager(eager)) => Ok(Some(message_of(alloc, source, &eager)?)),
+        Some(Frame::RequestToSend(_) | Frame::ClearToSend(_) | Frame::Data(_)) => Ok(None),
     }
 }
 
@@ -73,9 +74,10 @@ fn message_from(
 fn forget(_answer: Option<Answer>) {}
 
 impl Core {
-    /// The rule that news break: 30 (for now a message of a collective operation). It takes no memory.
+    /// The rule that news break: 30 (for now a message of a collective operation, or a frame of a large message). It
+    /// takes no memory.
     pub fn fault_of_news(&self, news: News<'_>) -> Option<Refused>
-        ensures { result ≡ frame_fault (frame_option news.entry.frame) }
+        ensures { result ≡ news_fault (frame_option news.entry.frame) }
     {
         match news.frame {
             None => None,
@@ -83,6 +85,9 @@ impl Core {
                 Plane::Collective => Some(Refused::BadFrame),
                 Plane::PointToPoint => None,
             },
+            Some(Frame::RequestToSend(_) | Frame::ClearToSend(_) | Frame::Data(_)) => {
+                Some(Refused::BadFrame)
+            }
         }
     }
 
@@ -117,7 +122,7 @@ impl Core {
     /// Makes ready what news that break no rule need, or finds that there is no memory (14). What the core holds stays as
     /// it is.
     pub fn prepare_news(&mut self, news: News<'_>) -> Result<Ready, Refused>
-        requires { FrameFits (frame_option news.frame) }
+        requires { HeardFits (frame_option news.frame) }
         ensures can { IfOk result (λ ready. CanTake self.new news.entry.source ready) }
         ensures means { IfOk result (λ ready.
             after_ready self.old.state news.entry.source ready ≡ after_news self.old.state (news_text news.entry)) }

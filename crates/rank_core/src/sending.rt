@@ -1,13 +1,13 @@
 //! What a send is: the first rule that it breaks, its frame, and its message to the own rank.
 
 ghost use Rattle.std.specs.Prelude.{◌≡◌, ◌<◌, Some, None, IfSome};
-ghost use Rattle.datagram.specs.Spelling.{frame_text, BodyFits};
+ghost use Rattle.datagram.specs.Spelling.{frame_text, FrameFits};
 ghost use Rattle.vocabulary.specs.BasicTypes.{size_of};
 ghost use Rattle.datatypes.specs.Contents.{AreWithin};
 ghost use Rattle.perfect_queues.specs.Refusals.{is_no_tag, is_no_target};
 ghost use Rattle.requests.specs.Regions.{sent_from};
 ghost use Rattle.rank_core.specs.Calls.{IsPacked};
-ghost use Rattle.rank_core.specs.Sending.{IsSmall, addressed, body_of, destination, frame_to, is_own, own_message, rank_to, send_fault};
+ghost use Rattle.rank_core.specs.Sending.{IsSmall, addressed, destination, eager_frame, frame_to, is_own, own_message, rank_to, send_fault};
 
 use crate::call::Send;
 use crate::prepared::Prepared;
@@ -116,10 +116,10 @@ pub(crate) fn rank_to(place: Place, destination: Option<Destination>) -> Option<
 }
 
 /// The frame of these elements under a tag, lent from them.
-fn body_of(tag: u32, elements: &Buffer) -> Frame<'_>
+fn eager_frame(tag: u32, elements: &Buffer) -> Frame<'_>
     requires { IsSmall tag elements.now }
-    ensures exact { frame_text result ≡ body_of tag elements.now }
-    ensures fits { BodyFits (frame_text result) }
+    ensures exact { frame_text result ≡ eager_frame tag elements.now }
+    ensures fits { FrameFits (frame_text result) }
 {
     Frame::Eager(Eager {
         plane: Plane::PointToPoint,
@@ -140,7 +140,7 @@ pub(crate) fn frame_to(
     requires small { IfSome destination (λ d. IsSmall d.tag elements.now) }
     requires there { IfSome destination (λ d. d.rank < place.size) }
     ensures exact { addressed result ≡ frame_to place destination elements.now }
-    ensures fits { IfSome result (λ a. BodyFits (frame_text a.frame)) }
+    ensures fits { IfSome result (λ a. FrameFits (frame_text a.frame)) }
     ensures there { IfSome result (λ a. a.rank < place.size) }
 {
     match destination {
@@ -150,7 +150,7 @@ pub(crate) fn frame_to(
             }
             Some(Addressed {
                 rank: destination.rank,
-                frame: body_of(destination.tag, elements),
+                frame: eager_frame(destination.tag, elements),
             })
         }
         None => None,

@@ -140,8 +140,8 @@ pub send_settled : (h : Option HeardText) (s : SessionsState) (f : Sending) → 
 send_settled h s f can =
     let b : List ℕ = bytes_ahead h s f in
     let number : number_at (peers_after h s.peers) f.rank ≡ number_at s.peers f.rank = settles_number h s.peers f.rank can in
-    let bytes : b ≡ frame_bytes s.place (known_endpoint (known_after h s.known) f.rank) f.body (number_at (peers_after h s.peers) f.rank) =
-    ap (frame_bytes s.place (known_endpoint (known_after h s.known) f.rank) f.body) (sym number) in
+    let bytes : b ≡ frame_bytes s.place (known_endpoint (known_after h s.known) f.rank) f.frame (number_at (peers_after h s.peers) f.rank) =
+    ap (frame_bytes s.place (known_endpoint (known_after h s.known) f.rank) f.frame) (sym number) in
     let made : List ℕ → SessionsState = λ c. record s {
       known = known_after h s.known;
       peers = slice_set (peers_after h s.peers) f.rank (kept_in (peer_at (peers_after h s.peers) f.rank) c);

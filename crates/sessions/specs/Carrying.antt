@@ -42,7 +42,7 @@ answered h s = record s { out = s.out ++ answers h s.place s.peers }
 
 -- the datagram that a frame will be once the lesson is learnt
 abbrev pub bytes_ahead : Option HeardText → SessionsState → Sending → List ℕ
-bytes_ahead h s f = frame_bytes s.place (known_endpoint (known_after h s.known) f.rank) f.body (next_number (peer_at s.peers f.rank).sender)
+bytes_ahead h s f = frame_bytes s.place (known_endpoint (known_after h s.known) f.rank) f.frame (next_number (peer_at s.peers f.rank).sender)
 
 -- the sender to a rank once the word is heeded
 abbrev pub sender_after : Option HeardText → List Peer → ℕ → SenderState

@@ -1,7 +1,7 @@
 -- What an event does to the sessions: the lesson, the link, and then the frames.
 use Rattle.std.specs.Prelude.{◌≡◌, ℕ, ◌+◌, ◌<◌, nat_le, nat_lt, max, ◌==◌, Bool, true, false, List, [], ◌∷◌, ◌++◌, map, length, Option, Some, None, if◌then◌else◌, slice_index, slice_set, ◌⊎◌}
 use Rattle.vocabulary.specs.declared.endpoint.Endpoint.{Endpoint}
-use Rattle.datagram.specs.Spelling.{BodyText, frame_text, BodyFits}
+use Rattle.datagram.specs.Spelling.{FrameText, frame_text, FrameFits}
 use Rattle.reliable_link.specs.SenderState.{SenderState, after_ack, after_accept, entered_on_ack, next_number}
 use Rattle.incarnation.specs.declared.place.Place.{Place}
 use Rattle.sessions.specs.declared.refused.Refused.{Refused}
@@ -35,14 +35,14 @@ taught lesson s e = record s { known = taught_known lesson s.known e; peers = ta
 abbrev pub heeded_by : WordText → List Peer → ℕ → List Peer
 heeded_by (Acknowledges n) peers rank = with_sender peers rank (after_ack (peer_at peers rank).sender n)
 heeded_by Repeats peers rank = peers
-heeded_by (Hands b) peers rank = with_receiver peers rank ((peer_at peers rank).receiver + 1)
+heeded_by (Hands f) peers rank = with_receiver peers rank ((peer_at peers rank).receiver + 1)
 heeded_by Nothing peers rank = peers
 
 -- what answers the word in its session: the acknowledgement, or the frames that come into the window
 abbrev pub answer_in : WordText → Place → Peer → Endpoint → List (ℕ × List ℕ)
 answer_in (Acknowledges n) place p e = frames_out e.rank p.sender (entered_on_ack p.sender n)
 answer_in Repeats place p e = (e.rank, ack_bytes place e p.receiver) ∷ []
-answer_in (Hands b) place p e = (e.rank, ack_bytes place e (p.receiver + 1)) ∷ []
+answer_in (Hands f) place p e = (e.rank, ack_bytes place e (p.receiver + 1)) ∷ []
 answer_in Nothing place p e = []
 
 -- the word is heeded, and this answers it
@@ -64,11 +64,11 @@ after_heard s (Some h) = linked (taught h.lesson s h.source) h.source h.word (an
 -- a frame for a rank
 pub record Sending : Type 0 where
   pub rank : ℕ
-  pub body : BodyText
+  pub frame : FrameText
 
 -- what a frame of the program says
 abbrev pub sending_text : Outgoing → Sending
-sending_text o = record { rank = o.target; body = frame_text o.frame }
+sending_text o = record { rank = o.target; frame = frame_text o.frame }
 
 -- the same of each
 abbrev pub sendings : List Outgoing → List Sending
@@ -77,7 +77,7 @@ sendings os = map sending_text os
 -- what may be sent
 pub record CanSend (place : Place) (f : Sending) : Type 0 where
   pub there : f.rank < place.size
-  pub fits : BodyFits f.body
+  pub fits : FrameFits f.frame
 
 -- no frame can be numbered any more
 abbrev pub is_worn_out : SenderState → Bool
@@ -89,7 +89,7 @@ out_on_accept s target bytes = if nat_lt (length s.frames) 64 then (target, byte
 
 -- the datagram of a frame: under the next number, to the incarnation at which the rank is known
 abbrev pub next_bytes : SessionsState → Sending → List ℕ
-next_bytes s f = frame_bytes s.place (known_endpoint s.known f.rank) f.body (next_number (peer_at s.peers f.rank).sender)
+next_bytes s f = frame_bytes s.place (known_endpoint s.known f.rank) f.frame (next_number (peer_at s.peers f.rank).sender)
 
 -- the session with its rank takes the frame over
 abbrev pub after_send : SessionsState → Sending → SessionsState
@@ -115,7 +115,7 @@ after_event s heard fs = after_sends (after_heard s heard) fs
 abbrev pub word_limit : WordText → Peer → Option Refused
 word_limit (Acknowledges n) p = None
 word_limit Repeats p = None
-word_limit (Hands b) p = if p.receiver == 18446744073709551615 then Some refusals.Limit else None
+word_limit (Hands f) p = if p.receiver == 18446744073709551615 then Some refusals.Limit else None
 word_limit Nothing p = None
 
 -- the same, if anything was heard
@@ -143,7 +143,7 @@ event_limit s heard fs = first_limit (heard_limit s heard) (sends_limit (after_h
 abbrev pub most_answers_to : WordText → ℕ
 most_answers_to (Acknowledges n) = 64
 most_answers_to Repeats = 1
-most_answers_to (Hands b) = 1
+most_answers_to (Hands f) = 1
 most_answers_to Nothing = 0
 
 -- the same, if anything was heard

@@ -5,7 +5,7 @@ use Rattle.std.specs.declared.cmp.Ordering.{Ordering}
 use Rattle.std.specs.declared.cmp.Ordering.TheVariants.{Less, Equal, Greater}
 use Rattle.vocabulary.specs.declared.endpoint.Endpoint.{Endpoint}
 use Rattle.datagram.specs.declared.refused.Refused as lower
-use Rattle.datagram.specs.Spelling.{BodyText, EagerBody, AckBody, ResetBody, DatagramText, frame_text, BodyFits}
+use Rattle.datagram.specs.Spelling.{FrameText, BodyText, FrameBody, AckBody, ResetBody, DatagramText, frame_text, FrameFits}
 use Rattle.datagram.specs.Reading.{datagram_of}
 use Rattle.reliable_link.specs.SenderState.{out_end}
 use Rattle.incarnation.specs.declared.judgement.Judgement.{Judgement}
@@ -28,7 +28,7 @@ use Rattle.sessions.specs.Peers.{peer_at, new_session}
 pub data WordText : Type 0 where
   Acknowledges : ℕ → WordText
   Repeats : WordText
-  Hands : BodyText → WordText
+  Hands : FrameText → WordText
   Nothing : WordText
 
 -- who spoke, whether its incarnation is new here, and what it said
@@ -63,10 +63,10 @@ session_met true p = new_session p
 session_met false p = p
 
 -- a frame by whether its number is below the next one, that one, or above
-abbrev pub word_of_frame : Ordering → BodyText → Result WordText Refused
-word_of_frame Less b = Ok Repeats
-word_of_frame Equal b = Ok (Hands b)
-word_of_frame Greater b = Err refusals.OutOfWindow
+abbrev pub word_of_frame : Ordering → FrameText → Result WordText Refused
+word_of_frame Less f = Ok Repeats
+word_of_frame Equal f = Ok (Hands f)
+word_of_frame Greater f = Err refusals.OutOfWindow
 
 -- an acknowledgement of a frame that never went out is out of the window
 abbrev pub word_of_ack : Peer → ℕ → Result WordText Refused
@@ -76,7 +76,7 @@ word_of_ack p n = if nat_lt (out_end p.sender) n then Err refusals.OutOfWindow e
 abbrev pub word_of : Peer → ℕ → BodyText → Result WordText Refused
 word_of p n AckBody = word_of_ack p n
 word_of p n ResetBody = Ok Nothing
-word_of p n (EagerBody t) = word_of_frame (nat_cmp n p.receiver) (EagerBody t)
+word_of p n (FrameBody f) = word_of_frame (nat_cmp n p.receiver) f
 
 -- ---- all of it
 
@@ -87,7 +87,7 @@ plainly e = Err (record { refused = e; reset = None })
 -- for a former incarnation of this rank: a reset is to go to the source, unless the datagram is one
 abbrev pub stale : {A : Type 0} → Endpoint → BodyText → Result A Unheard
 stale source AckBody = Err (record { refused = refusals.StaleTarget; reset = Some source })
-stale source (EagerBody t) = Err (record { refused = refusals.StaleTarget; reset = Some source })
+stale source (FrameBody f) = Err (record { refused = refusals.StaleTarget; reset = Some source })
 stale source ResetBody = Err (record { refused = refusals.StaleTarget; reset = None })
 
 -- the word, with who spoke
@@ -137,14 +137,14 @@ Says (Err e) said = said ≡ Err e
 abbrev pub WordFits : WordText → Type 0
 WordFits (Acknowledges n) = Unit {0}
 WordFits Repeats = Unit {0}
-WordFits (Hands b) = BodyFits b
+WordFits (Hands f) = FrameFits f
 WordFits Nothing = Unit {0}
 
 -- only frames that went out are acknowledged
 abbrev pub CanHeed : Peer → WordText → Type 0
 CanHeed p (Acknowledges n) = n ≤ out_end p.sender
 CanHeed p Repeats = Unit {0}
-CanHeed p (Hands b) = Unit {0}
+CanHeed p (Hands f) = Unit {0}
 CanHeed p Nothing = Unit {0}
 
 -- it comes from a rank of the job, and its word can be heeded in the session that it meets

@@ -2,7 +2,7 @@
 use Rattle.std.specs.Prelude.{ℕ, List}
 use Rattle.vocabulary.specs.declared.endpoint.Endpoint.{Endpoint}
 use Rattle.datagram.specs.declared.datagram.Header.{Header}
-use Rattle.datagram.specs.Spelling.{BodyText, AckBody, ResetBody, spelling}
+use Rattle.datagram.specs.Spelling.{FrameText, FrameBody, AckBody, ResetBody, spelling}
 use Rattle.incarnation.specs.declared.place.Place.{Place}
 
 -- the header of a datagram to an endpoint, under this number
@@ -18,5 +18,5 @@ unfoldable pub reset_bytes : Place → Endpoint → List ℕ
 reset_bytes p target = spelling (record { header = header_to p target 0; body = ResetBody })
 
 -- a frame for an endpoint, under a number of their session
-unfoldable pub frame_bytes : Place → Endpoint → BodyText → ℕ → List ℕ
-frame_bytes p target body n = spelling (record { header = header_to p target n; body = body })
+unfoldable pub frame_bytes : Place → Endpoint → FrameText → ℕ → List ℕ
+frame_bytes p target f n = spelling (record { header = header_to p target n; body = FrameBody f })

@@ -1,7 +1,7 @@
 //! The limit that an event meets: no last number is used.
 
 ghost use Rattle.std.specs.Prelude.{◌≡◌, ◌<◌, ◌≤◌, ◌+◌, ◌==◌, ◌∷◌, [], nat_le, All, None, Some, count_by, length, slice_get};
-ghost use Rattle.datagram.specs.Spelling.{BodyText};
+ghost use Rattle.datagram.specs.Spelling.{FrameText};
 ghost use Rattle.reliable_link.specs.SenderState.{next_number};
 ghost use Rattle.sessions.specs.Peers.{peer_at};
 ghost use Rattle.sessions.specs.Heard.{heard_option, CanHear};
@@ -110,7 +110,7 @@ impl Sessions {
     /// changes nothing, and takes no memory.
     pub fn limit_to(&self, rank: u16) -> Option<Refused>
         requires { rank < self.now.place.size }
-        ensures { (b : BodyText) → result ≡ event_limit self.now None (record { rank = rank; body = b } ∷ []) }
+        ensures { (f : FrameText) → result ≡ event_limit self.now None (record { rank = rank; frame = f } ∷ []) }
     {
         // The sessions show that there is one for each rank.
         let _peers = &self.peers;

@@ -1,7 +1,7 @@
 //! The datagrams that the sessions make.
 
 ghost use Rattle.std.specs.Prelude.{◌≡◌, IfOk, IfErr};
-ghost use Rattle.datagram.specs.Spelling.{datagram_text, content_text, frame_text, spelling, BodyFits, SequenceFits};
+ghost use Rattle.datagram.specs.Spelling.{datagram_text, content_text, frame_text, spelling, BodyFits, FrameFits, SequenceFits};
 ghost use Rattle.sessions.specs.Spellings.{header_to, ack_bytes, reset_bytes, frame_bytes};
 
 use crate::refused::Refused;
@@ -75,7 +75,7 @@ pub(crate) fn frame_bytes(
     frame: &Frame,
     number: u64,
 ) -> Result<Bytes, Refused>
-    requires { BodyFits (frame_text frame.now) }
+    requires { FrameFits (frame_text frame.now) }
     ensures ok { IfOk result (λ bytes. bytes ≡ frame_bytes place target (frame_text frame.now) number) }
     ensures err { IfErr result (λ e. e ≡ Refused.OutOfMemory) }
 {

@@ -9,4 +9,4 @@ mod limits;
 pub use basic_type::BasicType;
 pub use endpoint::Endpoint;
 pub use envelope::{Source, Status};
-pub use limits::{EAGER_LIMIT, HIGHEST_TAG, MOST_RANKS};
+pub use limits::{EAGER_LIMIT, HIGHEST_TAG, MOST_RANKS, SEND_LIMIT};

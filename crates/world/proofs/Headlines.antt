@@ -6,10 +6,10 @@ use Rattle.vocabulary.specs.declared.endpoint.Endpoint.{Endpoint}
 use Rattle.engine.specs.EngineState.{EngineState}
 use Rattle.sessions.specs.Peers.{peer_at}
 use Rattle.incarnation.specs.declared.place.Place.{Place}
-use Rattle.proof_pure_network.specs.Links.{Link}
 use Rattle.proof_pure_network.specs.Network.{Network, new_network, run}
 use Rattle.proof_link_truth.proofs.Lists.{false_sym}
 use Rattle.proof_link_truth.proofs.Senders.{next_is}
+use Rattle.proof_link_truth.specs.Links.{Link, Links}
 use Rattle.proof_link_truth.specs.Sessions.{SenderTells}
 use Rattle.proof_link_truth.specs.Wire.{at}
 use Rattle.proof_network_bridge.proofs.Closed.{following_is_run}
@@ -27,7 +27,7 @@ is_run_of_machine w s =
 pub sessions_are_true : (w : WorldState) → IsSound w.engines w.datagrams w.history → SessionsAreTrue w
 sessions_are_true w s =
     record {
-      links = (run (length w.engines) s.followed.happenings new_network).link;
+      links = s.followed.joined.carried;
       current = (run (length w.engines) s.followed.happenings new_network).current;
       truth = s.followed.joined.links;
     }
@@ -40,14 +40,15 @@ sessions_are_in_order engines datagrams history s r x e d there other apart know
     let j = s.followed.joined in
     let here : Endpoint = at r (w.current r) in
     let away : Endpoint = at x (w.current x) in
-    let link : Link = w.link here away in
+    let links : Links = j.carried in
+    let link : Link = links here away in
     let sends = (j.links.tells r e.sessions (sessions_there engines r e there)).peers x (slice_get_within engines x d other) apart in
     let gets = (j.links.tells x d.sessions (sessions_there engines x d other)).peers r (slice_get_within engines r e there) (false_sym x r apart) in
     let away_is : slice_index e.sessions.known x ≡ w.current x = knows ∙ ap (λ (p : Place). p.endpoint.incarnation) (j.links.tells x d.sessions (sessions_there engines x d other)).place in
     let here_is : slice_index d.sessions.known r ≡ w.current r = known ∙ ap (λ (p : Place). p.endpoint.incarnation) (j.links.tells r e.sessions (sessions_there engines r e there)).place in
     let sender : SenderTells n here away (peer_at e.sessions.peers x).sender link =
-    subst (λ (k : ℕ). SenderTells n here (at x k) (peer_at e.sessions.peers x).sender (w.link here (at x k))) away_is sends.sender in
-    let receiver : (peer_at d.sessions.peers r).receiver ≡ link.handed = gets.receiver ∙ ap (λ (k : ℕ). (w.link (at r k) away).handed) here_is in
+    subst (λ (k : ℕ). SenderTells n here (at x k) (peer_at e.sessions.peers x).sender (links here (at x k))) away_is sends.sender in
+    let receiver : (peer_at d.sessions.peers r).receiver ≡ link.handed = gets.receiver ∙ ap (λ (k : ℕ). (links (at r k) away).handed) here_is in
     let reach : link.handed ≤ length link.accepted = (j.links.sound here away).reach in
     let next_is_length = next_is n here away (peer_at e.sessions.peers x).sender link sender reach in
     record {

@@ -1,7 +1,7 @@
-ghost use Rattle.std.specs.Prelude.{◌≡◌, ◌<◌, length, All, []};
-ghost use Rattle.sessions.specs.Events.{CanSend, sendings};
+ghost use Rattle.std.specs.Prelude.{◌↔◌, IsTrue};
+ghost use Rattle.datagram.specs.Spelling.{frame_text, FrameFits};
 
-use datagram::{Eager, Frame, Plane};
+use datagram::{ClearToSend, Clearance, Data, Eager, Frame, Plane, RequestToSend};
 use sessions::*;
 use std::alloc::Global;
 use vocabulary::{BasicType, Endpoint};
@@ -65,6 +65,28 @@ fn take_in(sessions: &mut Sessions, bytes: &[u8]) -> Option<usize> {
     }
 }
 
+/// Whether a frame is within the format's limits.
+fn fits(frame: Frame<'_>) -> bool
+    ensures { IsTrue result ↔ FrameFits (frame_text frame.entry) }
+{
+    match frame {
+        Frame::Eager(eager) => eager.fits(),
+        Frame::RequestToSend(request) => request.fits(),
+        Frame::ClearToSend(_) => true,
+        Frame::Data(part) => part.fits(),
+    }
+}
+
+/// A frame goes to a rank.
+fn send_frame(sessions: &mut Sessions, target: u16, frame: Frame<'_>) -> bool {
+    if target >= sessions.place().size || !fits(frame) {
+        return false;
+    }
+    sessions
+        .carry_out(None, &[Outgoing { target, frame }])
+        .is_ok()
+}
+
 /// A frame of these bytes goes to a rank.
 fn send(sessions: &mut Sessions, target: u16, count: u32, elements: &[u8]) -> bool {
     let eager = Eager {
@@ -75,13 +97,7 @@ fn send(sessions: &mut Sessions, target: u16, count: u32, elements: &[u8]) -> bo
         count,
         elements,
     };
-    if target >= sessions.place().size || !eager.fits() {
-        return false;
-    }
-    let frame = Frame::Eager(eager);
-    sessions
-        .carry_out(None, &[Outgoing { target, frame }])
-        .is_ok()
+    send_frame(sessions, target, Frame::Eager(eager))
 }
 
 /// All that one has emitted comes to the other; so many frames are handed up there.
@@ -224,4 +240,87 @@ fn resent(alloc: Global) -> Option<(bool, usize, usize)> {
 #[test]
 fn an_unacknowledged_frame_goes_out_again_after_20_ms(rt: HostRuntime) {
     assert_eq!(rt; resent(rt.alloc()), Some((true, 0, 1)));
+}
+
+/// Rank 0 announces a message of 1,025 bytes with tag 5 to rank 1 as transfer 6, in frame 0 of job 1.
+const REQUEST: [u8; 56] = [
+    0x4d, 0x50, 0x55, 0x44, 1, 1, 0, 0, 0, 1, 0, 0, 0, 0, 0, 24, 0, 0, 0, 0, 0, 0, 0, 1, 0, 0, 0,
+    0, 0, 0, 0, 0, 2, 0, 9, 0, 0, 0, 0, 5, 0, 0, 0, 0, 0, 0, 0, 0, 0, 0, 4, 1, 0, 0, 0, 6,
+];
+
+/// Rank 0 tells rank 1 that the data of transfer 7 are not to come, in frame 0 of job 1.
+const CLEAR: [u8; 40] = [
+    0x4d, 0x50, 0x55, 0x44, 1, 1, 0, 0, 0, 1, 0, 0, 0, 0, 0, 8, 0, 0, 0, 0, 0, 0, 0, 1, 0, 0, 0, 0,
+    0, 0, 0, 0, 3, 1, 0, 0, 0, 0, 0, 7,
+];
+
+/// Rank 0 sends the bytes 1 and 2 of transfer 8 from offset 1,024 on to rank 1, in frame 0 of job 1.
+const PART: [u8; 46] = [
+    0x4d, 0x50, 0x55, 0x44, 1, 1, 0, 0, 0, 1, 0, 0, 0, 0, 0, 14, 0, 0, 0, 0, 0, 0, 0, 1, 0, 0, 0,
+    0, 0, 0, 0, 0, 4, 0, 0, 0, 0, 0, 0, 8, 0, 0, 4, 0, 1, 2,
+];
+
+/// The transfer of the frame of a large message that is handed up.
+fn transfer_of(word: Word<'_>) -> Option<u32> {
+    match word {
+        Word::Hands(Frame::RequestToSend(request)) => Some(request.transfer),
+        Word::Hands(Frame::ClearToSend(clear)) => Some(clear.transfer),
+        Word::Hands(Frame::Data(part)) => Some(part.transfer),
+        _ => None,
+    }
+}
+
+/// Whether a frame goes out to rank 1 as these bytes, and its transfer as it is handed up there.
+fn pass_frame(
+    ranks: &mut [Sessions],
+    frame: Frame<'_>,
+    bytes: &[u8],
+) -> Option<(bool, Option<u32>)> {
+    let [a, b] = ranks else {
+        return None;
+    };
+    if !send_frame(a, 1, frame) {
+        return None;
+    }
+    let emitted = a.take_out();
+    let (_, spelled) = emitted.first()?;
+    let heard = b.judge(spelled.as_slice()).ok()?;
+    Some((spelled.as_slice() == bytes, transfer_of(heard.word)))
+}
+
+fn passed(alloc: Global, frame: Frame<'_>, bytes: &[u8]) -> Option<(bool, Option<u32>)> {
+    let mut ranks = two_ranks(alloc, 0)?;
+    pass_frame(&mut ranks, frame, bytes)
+}
+
+#[test]
+fn an_announcement_is_handed_up(rt: HostRuntime) {
+    let frame = Frame::RequestToSend(RequestToSend {
+        plane: Plane::PointToPoint,
+        basic: BasicType::Byte,
+        tag: 5,
+        context: 0,
+        count: 1025,
+        transfer: 6,
+    });
+    assert_eq!(rt; passed(rt.alloc(), frame, &REQUEST), Some((true, Some(6))));
+}
+
+#[test]
+fn the_answer_to_an_announcement_is_handed_up(rt: HostRuntime) {
+    let frame = Frame::ClearToSend(ClearToSend {
+        transfer: 7,
+        clearance: Clearance::Drop,
+    });
+    assert_eq!(rt; passed(rt.alloc(), frame, &CLEAR), Some((true, Some(7))));
+}
+
+#[test]
+fn data_of_an_announced_message_are_handed_up(rt: HostRuntime) {
+    let frame = Frame::Data(Data {
+        transfer: 8,
+        offset: 1024,
+        bytes: &[1, 2],
+    });
+    assert_eq!(rt; passed(rt.alloc(), frame, &PART), Some((true, Some(8))));
 }

@@ -2,7 +2,7 @@ use Rattle.std.proofs.Common.{◌≡◌, ◌≤◌, ◌*◌, length, ap, ◌∙�
 use Rattle.vocabulary.specs.BasicTypes.{size_of}
 use Rattle.datatypes.specs.ContentLaws.{length-bytes_of}
 use Rattle.rank_core.proofs.Sends.{few_elements}
-use Rattle.rank_core.proofs.sending.body_of.Goals as goal
+use Rattle.rank_core.proofs.sending.eager_frame.Goals as goal
 
 pub returns-clause-fits : goal.returns-clause-fits
 returns-clause-fits c =

@@ -1,0 +1,9 @@
+//! Each call of the libraries below an engine's links on its happy path, and worked rows.
+#![tactic(auto)]
+
+#[cfg(test)]
+mod incarnation_tests;
+#[cfg(test)]
+mod reliable_link_tests;
+#[cfg(test)]
+mod sessions_tests;
