@@ -106,7 +106,7 @@ step m key (Waiting p) rs t = go (fits p (held_of m)) refl
     go true h = inr (0, 0, key, p, hit m key p rs h)
     go false h = miss m key p rs h t
 step m key (Collecting p h got) rs t = skip m key (Collecting p h got) rs refl refl t
-step m key (Offering d values) rs t = skip m key (Offering d values) rs refl refl t
+step m key (Offering d basic values) rs t = skip m key (Offering d basic values) rs refl refl t
 step m key (Over o) rs t = skip m key (Over o) rs refl refl t
 step m key Closed rs t = skip m key Closed rs refl refl t
 

@@ -140,5 +140,5 @@ named_same_outcome table rows t q h = subst (λ (key : ℕ). SayTheSame (rank.ou
         let g : (o : Outcome) × (progress_at table h.row.key q.serial ≡ Some (Finished o)) × (x ≡ outcome_seen o) = progress_over table rows q.serial h.row.key x t (here (Over x) e) in
         over_row rows q.serial h.row.key x (here (Over x) e) ∙ (ap Some g.2 ∙ ap (λ (o : Option Progress). option_map outcome_seen (rank.finished_with o)) (sym g.1))
     by_job (Collecting p m got) e s = absurd (subst (λ (j : Job). Stands (slot_at table h.row.key) q.serial j) e s)
-    by_job (Offering d values) e s = absurd (subst (λ (j : Job). Stands (slot_at table h.row.key) q.serial j) e s)
+    by_job (Offering d basic values) e s = absurd (subst (λ (j : Job). Stands (slot_at table h.row.key) q.serial j) e s)
     by_job Closed e s = absurd (h.unanswered e)

@@ -135,7 +135,7 @@ cancelled_rows (r ∷ rs) (suc k) key p x h alone = front r.job refl (cancelled_
         let one : posted.Receive = record { request = r.key; context = q.context; source = q.source; tag = q.tag } in
         taken_later one (posted_rows rs) key (λ same. still_open q r.job e (alone zero r (λ z. zero_apart k z) refl same)) ∙ ap (λ (ps : List posted.Receive). one ∷ ps) rest
     by_job (Collecting q m got) e rest = rest
-    by_job (Offering d values) e rest = rest
+    by_job (Offering d basic values) e rest = rest
     by_job (Over y) e rest = rest
     by_job Closed e rest = rest
 

@@ -45,10 +45,10 @@ posted_ended r i key (Collecting p h got) = go (names p.source r || is_former r 
         ◌≡◌ {A = List queued.Receive} [] (posted_job key (if b then Over (machine.Replaced (Some p.into.buffer.values)) else Collecting p h got))
     go true = refl
     go false = refl
-posted_ended r i key (Offering d values) = go (d.rank == r)
+posted_ended r i key (Offering d basic values) = go (d.rank == r)
   where
     go : (b : Bool) →
-        ◌≡◌ {A = List queued.Receive} [] (posted_job key (if b then Over (machine.Replaced None) else Offering d values))
+        ◌≡◌ {A = List queued.Receive} [] (posted_job key (if b then Over (machine.Replaced None) else Offering d basic values))
     go true = refl
     go false = refl
 posted_ended r i key (Over x) = refl
@@ -125,7 +125,7 @@ more_among r key own (Waiting p) ps h = go (names p.source r)
     go true = inr h
     go false = h
 more_among r key own (Collecting p m got) ps h = h
-more_among r key own (Offering d values) ps h = h
+more_among r key own (Offering d basic values) ps h = h
 more_among r key own (Over x) ps h = h
 more_among r key own Closed ps h = h
 
@@ -172,7 +172,7 @@ first_or_later r key x xs (Waiting p) is rest h = go (names p.source r) refl h
     go true named a = there named a
     go false named a = later_row x xs r key (rest a)
 first_or_later r key x xs (Collecting p m got) is rest h = later_row x xs r key (rest h)
-first_or_later r key x xs (Offering d values) is rest h = later_row x xs r key (rest h)
+first_or_later r key x xs (Offering d basic values) is rest h = later_row x xs r key (rest h)
 first_or_later r key x xs (Over o) is rest h = later_row x xs r key (rest h)
 first_or_later r key x xs Closed is rest h = later_row x xs r key (rest h)
 

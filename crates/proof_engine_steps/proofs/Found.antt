@@ -44,7 +44,7 @@ row_of table rows k key g t h = go (slot_at table key) refl h
 pub waiting_of : (b : Region) (j : Job) → Fits (Receiving b) j → (p : receives.Receive) × (j ≡ Waiting p)
 waiting_of b (Waiting p) f = (p, refl)
 waiting_of b (Collecting p h got) f = absurd f
-waiting_of b (Offering d values) f = absurd f
+waiting_of b (Offering d basic values) f = absurd f
 waiting_of b (Over x) f = absurd f
 waiting_of b Closed f = absurd f
 
@@ -52,7 +52,7 @@ waiting_of b Closed f = absurd f
 pub over_of : (o : Outcome) (j : Job) → Fits (Finished o) j → j ≡ Over (outcome_seen o)
 over_of o (Waiting p) f = absurd f
 over_of o (Collecting p h got) f = absurd f
-over_of o (Offering d values) f = absurd f
+over_of o (Offering d basic values) f = absurd f
 over_of o (Over x) f = ap Over f
 over_of o Closed f = absurd f
 

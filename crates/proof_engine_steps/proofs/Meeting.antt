@@ -45,9 +45,9 @@ ended_closed r i (Collecting p g got) h = go (names p.source r || is_former r i 
     go : (b : Bool) → (if b then Over (machine.Replaced (Some p.into.buffer.values)) else Collecting p g got) ≡ Closed → Collecting p g got ≡ Closed
     go true e = absurd cc
     go false e = e
-ended_closed r i (Offering d values) h = go (d.rank == r) h
+ended_closed r i (Offering d basic values) h = go (d.rank == r) h
   where
-    go : (b : Bool) → (if b then Over (machine.Replaced None) else Offering d values) ≡ Closed → Offering d values ≡ Closed
+    go : (b : Bool) → (if b then Over (machine.Replaced None) else Offering d basic values) ≡ Closed → Offering d basic values ≡ Closed
     go true e = absurd cc
     go false e = e
 ended_closed r i (Over x) h = h

@@ -4,11 +4,11 @@ use Rattle.vocabulary.specs.declared.endpoint.Endpoint.{Endpoint}
 use Rattle.perfect_queues.specs.Events.{told}
 use Rattle.datagram.specs.declared.kinds.Plane.{Plane}
 use Rattle.datagram.specs.declared.kinds.Plane.TheVariants.{PointToPoint, Collective}
-use Rattle.datagram.specs.Spelling.{EagerText, BodyText, EagerBody, AckBody, ResetBody}
+use Rattle.datagram.specs.Spelling.{EagerText, FrameText, EagerFrame, RequestFrame, ClearFrame, DataFrame}
 use Rattle.match_queues.specs.declared.envelope.Message.{Message}
 use Rattle.requests.specs.declared.awaited.Awaited.{Awaited}
 use Rattle.rank_core.specs.CoreState.{CoreState}
-use Rattle.rank_core.specs.Hearing.{NewsText, after_hearing, after_news, arrived_any, frame_fault, message_from, message_of, taught}
+use Rattle.rank_core.specs.Hearing.{NewsText, after_hearing, after_news, arrived_any, news_fault, message_from, message_of, taught}
 use Rattle.rank_core.specs.Sending as rank
 use Rattle.rank_core.specs.Waiting.{woken}
 use Rattle.proof_pure_network.specs.Core.{Core, Effect, effect}
@@ -34,20 +34,21 @@ with_message core s None = effect (network.met core s) []
 with_message core s (Some m) = arrived (network.met core s) (held_of m)
 
 -- an eager message, by its plane
-eager_same : (core : Core) (s : Endpoint) (t : EagerText) (plane : Plane) → t.plane ≡ plane → frame_fault (Some (EagerBody t)) ≡ None →
-    heard_by_core core s (frame_heard (Some (EagerBody t))) ≡ with_message core s (message_from s (Some (EagerBody t)))
+eager_same : (core : Core) (s : Endpoint) (t : EagerText) (plane : Plane) → t.plane ≡ plane → news_fault (Some (EagerFrame t)) ≡ None →
+    heard_by_core core s (frame_heard (Some (EagerFrame t))) ≡ with_message core s (message_from s (Some (EagerFrame t)))
 unfolding message_of
 eager_same core s t Collective is fine = absurd (grind (arith, is, fine))
 eager_same core s t PointToPoint is fine =
     ap (λ (p : Plane). heard_by_core core s (message_seen p t)) is
 
 -- a frame that is taken is that message
-frame_same : (core : Core) (s : Endpoint) (frame : Option BodyText) → frame_fault frame ≡ None →
+frame_same : (core : Core) (s : Endpoint) (frame : Option FrameText) → news_fault frame ≡ None →
     heard_by_core core s (frame_heard frame) ≡ with_message core s (message_from s frame)
 frame_same core s None fine = refl
-frame_same core s (Some AckBody) fine = refl
-frame_same core s (Some ResetBody) fine = refl
-frame_same core s (Some (EagerBody t)) fine = eager_same core s t t.plane refl fine
+frame_same core s (Some (RequestFrame t)) fine = absurd cc
+frame_same core s (Some (ClearFrame t)) fine = absurd cc
+frame_same core s (Some (DataFrame t)) fine = absurd cc
+frame_same core s (Some (EagerFrame t)) fine = eager_same core s t t.plane refl fine
 
 -- ---- before a blocked call is answered
 

@@ -3,6 +3,7 @@ use Rattle.std.proofs.Common.{◌≡◌, ℕ, ◌*◌, ◌≤◌, Bool, true, fa
 use Rattle.std.proofs.lemmas.Bool.{ltb-false, ltb-true}
 use Rattle.vocabulary.specs.BasicTypes.{size_of}
 use Rattle.perfect_queues.specs.Buffers.{data_of, differs_in_type, is_too_short}
+use Rattle.vocabulary.specs.Limits.{send_limit}
 use Rattle.perfect_queues.specs.Refusals as rules
 use Rattle.proof_pure_network.specs.Core.{Core, view}
 use Rattle.proof_pure_network.specs.Held.{blank}
@@ -38,7 +39,7 @@ send_fault_reason old core s x free fault = by_type differs refl fault
 
     -- the machine's rule on counts
     count : Bool
-    count = nat_lt rules.send_limit (length (data_of (handed_of s.from)) * size_of (handed_of s.from).buffer.basic) || is_too_short (handed_of s.from)
+    count = nat_lt send_limit (length (data_of (handed_of s.from)) * size_of (handed_of s.from).buffer.basic) || is_too_short (handed_of s.from)
 
     high : Bool
     high = rules.is_no_tag s.tag

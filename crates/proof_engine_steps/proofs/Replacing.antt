@@ -85,12 +85,12 @@ fits_replaced (Receiving b) r i (Waiting p) f named =
     subst (λ (x : Bool). Fits (replaced_progress (Receiving b)) (if x then Over (machine.Replaced (Some p.into.buffer.values)) else Waiting p)) (sym (named p refl))
     (ap (λ (h : Handed). machine.Replaced (Some h.buffer.values)) f.0 ∙ ap (λ (c : Contents). machine.Replaced (Some c.values)) (handed_buffer b))
 fits_replaced (Receiving b) r i (Collecting p h got) f named = absurd f
-fits_replaced (Receiving b) r i (Offering d values) f named = absurd f
+fits_replaced (Receiving b) r i (Offering d basic values) f named = absurd f
 fits_replaced (Receiving b) r i (Over x) f named = absurd f
 fits_replaced (Receiving b) r i Closed f named = absurd f
 fits_replaced (Finished o) r i (Waiting p) f named = absurd f
 fits_replaced (Finished o) r i (Collecting p h got) f named = absurd f
-fits_replaced (Finished o) r i (Offering d values) f named = absurd f
+fits_replaced (Finished o) r i (Offering d basic values) f named = absurd f
 fits_replaced (Finished o) r i (Over x) f named = f
 fits_replaced (Finished o) r i Closed f named = absurd f
 
@@ -100,12 +100,12 @@ fits_kept : (g : Progress) (r i : ℕ) (job : Job) → Fits g job →
 fits_kept (Receiving b) r i (Waiting p) f named =
     subst (λ (x : Bool). Fits (Receiving b) (if x then Over (machine.Replaced (Some p.into.buffer.values)) else Waiting p)) (sym (named p refl)) f
 fits_kept (Receiving b) r i (Collecting p h got) f named = absurd f
-fits_kept (Receiving b) r i (Offering d values) f named = absurd f
+fits_kept (Receiving b) r i (Offering d basic values) f named = absurd f
 fits_kept (Receiving b) r i (Over x) f named = absurd f
 fits_kept (Receiving b) r i Closed f named = absurd f
 fits_kept (Finished o) r i (Waiting p) f named = absurd f
 fits_kept (Finished o) r i (Collecting p h got) f named = absurd f
-fits_kept (Finished o) r i (Offering d values) f named = absurd f
+fits_kept (Finished o) r i (Offering d basic values) f named = absurd f
 fits_kept (Finished o) r i (Over x) f named = f
 fits_kept (Finished o) r i Closed f named = absurd f
 
@@ -186,7 +186,7 @@ stands_replaced slots rows r i k key (Waiting p) table at =
     go true h = h
     go false h = h
 stands_replaced slots rows r i k key (Collecting p h got) table at = absurd (table.stands k (record { key = key; job = Collecting p h got }) at)
-stands_replaced slots rows r i k key (Offering d values) table at = absurd (table.stands k (record { key = key; job = Offering d values }) at)
+stands_replaced slots rows r i k key (Offering d basic values) table at = absurd (table.stands k (record { key = key; job = Offering d basic values }) at)
 stands_replaced slots rows r i k key (Over x) table at = holds_replaced slots rows r i k key (Over x) table at (table.stands k (record { key = key; job = Over x }) at)
 stands_replaced slots rows r i k key Closed table at = tt
 

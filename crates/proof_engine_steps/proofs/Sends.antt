@@ -1,5 +1,5 @@
 -- A send of a rank to another one, or to the null process, is that of its core in the network.
-use Rattle.vocabulary.specs.Limits.{eager_limit}
+use Rattle.vocabulary.specs.Limits.{eager_limit, send_limit}
 use Rattle.std.proofs.Common.{◌≡◌, ℕ, ◌+◌, ◌*◌, ◌≤◌, Bool, true, false, List, [], ◌∷◌, ◌++◌, length, Option, Some, None, if◌then◌else◌, ◌==◌, ◌||◌, ap₂, nat_le, nat_lt, slice_index, refl, sym, ap, ◌∙◌, subst, arith, append-nil}
 use Rattle.std.proofs.lemmas.Bool.{and_left, le-leb, le-ltb, ltb-false, or_left}
 use Rattle.vocabulary.specs.BasicTypes.{size_of}
@@ -74,11 +74,11 @@ send_rules p s fine =
 
 -- so many bytes, in a buffer that is long enough or isn't, are as many as the machine allows
 pub send_count : (s : Send) (b : Bool) → byte_count s.from ≤ 1024 → is_too_short (handed_of s.from) ≡ b →
-    (nat_lt rules.send_limit (length (data_of (handed_of s.from)) * size_of (handed_of s.from).buffer.basic) || is_too_short (handed_of s.from)) ≡ b
+    (nat_lt send_limit (length (data_of (handed_of s.from)) * size_of (handed_of s.from).buffer.basic) || is_too_short (handed_of s.from)) ≡ b
 send_count s b few long =
     ap₂ (λ (x y : Bool). x || y)
-    (ap (λ (c : Contents). nat_lt rules.send_limit (length (data_of (handed_of s.from)) * size_of c.basic)) (handed_buffer s.from)
-    ∙ le-ltb rules.send_limit (byte_count s.from) (omega (arith, few))) long
+    (ap (λ (c : Contents). nat_lt send_limit (length (data_of (handed_of s.from)) * size_of c.basic)) (handed_buffer s.from)
+    ∙ le-ltb send_limit (byte_count s.from) (omega (arith, few))) long
 
 -- no rule of the machine is broken
 pub send_fit : (p : Place) (core : Core) (s : Send) → core.blocked ≡ None → KeepsRules p s →
@@ -86,7 +86,7 @@ pub send_fit : (p : Place) (core : Core) (s : Send) → core.blocked ≡ None �
 send_fit p core s free kept =
     fault_free p.size core (call_seen (calls.Isend s)) free ∙
     no_fault false false (differs_in_type (handed_of s.from))
-    (nat_lt rules.send_limit (length (data_of (handed_of s.from)) * size_of (handed_of s.from).buffer.basic) || is_too_short (handed_of s.from))
+    (nat_lt send_limit (length (data_of (handed_of s.from)) * size_of (handed_of s.from).buffer.basic) || is_too_short (handed_of s.from))
     (rules.is_no_tag s.tag) (rules.is_no_target p.size s.target)
     refl refl kept.one_type (send_count s false kept.few kept.long) kept.low kept.inside
 

@@ -96,7 +96,7 @@ standing_seen old known core q shown = go (progress_at old.slots q.key q.serial)
     by_job f e key (Over o) h s = absurd (foreign_of old.slots q key (Over o) e f s)
     by_job f e key Closed h s = at q.serial (Some (record { key = key; job = Closed })) (meant_own old q f) h
     by_job f e key (Collecting p m got) h s = absurd s
-    by_job f e key (Offering d values) h s = absurd s
+    by_job f e key (Offering d basic values) h s = absurd s
 
     own : is_foreign old.slots q ≡ false → progress_at old.slots q.key q.serial ≡ None → (o : Option Row) → slice_get shown.rows q.serial ≡ o → standing_at core (serial_meant old q) ≡ rules.Missing
     own f e None h = at q.serial None (meant_own old q f) h

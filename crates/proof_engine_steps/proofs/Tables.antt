@@ -33,7 +33,7 @@ set_is_set (x ∷ xs) (suc k) t s h = set_later x xs (slice_set xs k s) k s (set
 pub ended_or_held : (slot : Option Entry) (k : ℕ) (j : Job) → Stands slot k j → (j ≡ Closed) ⊎ Holds slot k j
 ended_or_held slot k (Waiting p) h = inr h
 ended_or_held slot k (Collecting p m got) h = absurd h
-ended_or_held slot k (Offering d values) h = absurd h
+ended_or_held slot k (Offering d basic values) h = absurd h
 ended_or_held slot k (Over x) h = inr h
 ended_or_held slot k Closed h = inl refl
 
@@ -62,8 +62,8 @@ fits_stands k g (Over x) f = record { entry = record { serial = k; progress = g 
 fits_stands k g Closed f = tt
 fits_stands k (Receiving b) (Collecting p h got) f = absurd f
 fits_stands k (Finished o) (Collecting p h got) f = absurd f
-fits_stands k (Receiving b) (Offering d values) f = absurd f
-fits_stands k (Finished o) (Offering d values) f = absurd f
+fits_stands k (Receiving b) (Offering d basic values) f = absurd f
+fits_stands k (Finished o) (Offering d basic values) f = absurd f
 
 -- it says the same
 pub says_some : (k : ℕ) (g : Progress) (j : Job) → Fits g j → Says (Some (record { serial = k; progress = g })) k j

@@ -63,7 +63,7 @@ length_without (q ∷ qs) rows = length_without qs (changed closed_row rows q.se
 closed_posts : (key : ℕ) (j : Job) → posted_job key (closed j) ≡ posted_job key j
 closed_posts key (Waiting p) = refl
 closed_posts key (Collecting p h got) = refl
-closed_posts key (Offering d values) = refl
+closed_posts key (Offering d basic values) = refl
 closed_posts key (Over x) = refl
 closed_posts key Closed = refl
 

@@ -6,7 +6,7 @@ use Rattle.rank_core.specs.declared.call.Call.{Call}
 use Rattle.rank_core.specs.declared.call.Reply.{Reply}
 use Rattle.rank_core.specs.Calls.{Answers, IsWithin, call_fault, call_frame}
 use Rattle.rank_core.specs.CoreState.{CoreState, opening}
-use Rattle.rank_core.specs.Hearing.{NewsText, after_news, frame_fault}
+use Rattle.rank_core.specs.Hearing.{NewsText, after_news, news_fault}
 use Rattle.vocabulary.specs.declared.endpoint.Endpoint.{Endpoint}
 use Rattle.perfect_queues.specs.Events.{call_and_reply, told}
 use Rattle.perfect_queues.specs.Refusals.{fault}
@@ -74,5 +74,5 @@ pub record IsHeard (old : CoreState) (known : List ℕ) (core : Core) (news : Ne
 abbrev pub NewsAreShown : Type 0
 NewsAreShown =
     (old : CoreState) (known : List ℕ) (core : Core) (news : NewsText) →
-    IsShown old known core → old.completion ≡ None → IsFromOther old known news → frame_fault news.frame ≡ None →
+    IsShown old known core → old.completion ≡ None → IsFromOther old known news → news_fault news.frame ≡ None →
     IsHeard old known core news

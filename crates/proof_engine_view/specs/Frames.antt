@@ -5,7 +5,7 @@ use Rattle.vocabulary.specs.declared.endpoint.Endpoint.{Endpoint}
 use Rattle.datatypes.specs.Contents.{values_of}
 use Rattle.datagram.specs.declared.kinds.Plane.{Plane}
 use Rattle.datagram.specs.declared.kinds.Plane.TheVariants.{PointToPoint, Collective}
-use Rattle.datagram.specs.Spelling.{EagerText, BodyText, EagerBody, AckBody, ResetBody}
+use Rattle.datagram.specs.Spelling.{EagerText, FrameText, EagerFrame, RequestFrame, ClearFrame, DataFrame}
 use Rattle.rank_core.specs.Sending.{FrameFor}
 use Rattle.proof_pure_network.specs.Frames.{Eager, Frame}
 
@@ -14,16 +14,17 @@ abbrev pub message_seen : Plane → EagerText → Option Frame
 message_seen PointToPoint t = Some (Eager t.context t.tag t.basic (values_of (size_of t.basic) t.elements))
 message_seen Collective t = None
 
--- the frame of the pure network that a body is: a message of the point-to-point plane; all else is none
-abbrev pub frame_seen : BodyText → Option Frame
-frame_seen (EagerBody t) = message_seen t.plane t
-frame_seen AckBody = None
-frame_seen ResetBody = None
+-- the frame of the pure network that a frame is: a message of the point-to-point plane; for now all else is none
+abbrev pub frame_seen : FrameText → Option Frame
+frame_seen (EagerFrame t) = message_seen t.plane t
+frame_seen (RequestFrame t) = None
+frame_seen (ClearFrame t) = None
+frame_seen (DataFrame t) = None
 
 -- the same, of the frame that came, if one did
-abbrev pub frame_heard : Option BodyText → Option Frame
+abbrev pub frame_heard : Option FrameText → Option Frame
 frame_heard None = None
-frame_heard (Some b) = frame_seen b
+frame_heard (Some f) = frame_seen f
 
 -- a frame to an endpoint, if it is one
 abbrev pub sent_as : Endpoint → Option Frame → List (Endpoint × Frame)
@@ -37,7 +38,7 @@ endpoint_of known rank = record { rank = rank; incarnation = slice_index known r
 -- the frame that a core gives to a link, if it gives one: to the incarnation at which its target is known
 abbrev pub sent_by : (known : List ℕ) → Option FrameFor → List (Endpoint × Frame)
 sent_by known None = []
-sent_by known (Some f) = sent_as (endpoint_of known f.rank) (frame_seen f.body)
+sent_by known (Some f) = sent_as (endpoint_of known f.rank) (frame_seen f.frame)
 
 -- what is known of the ranks once a lesson, if there is one, is learnt from an endpoint
 abbrev pub known_after : (lesson : Bool) → (known : List ℕ) → Endpoint → List ℕ

@@ -30,12 +30,12 @@ pub record IsOnWorld (p : Receive) : Type 0 where
 abbrev pub Fits : Progress → Job → Type 0
 Fits (Receiving r) (Waiting p) = (p.into ≡ handed_of r) × IsOnWorld p
 Fits (Receiving r) (Collecting p h got) = ⊥
-Fits (Receiving r) (Offering d values) = ⊥
+Fits (Receiving r) (Offering d basic values) = ⊥
 Fits (Receiving r) (Over x) = ⊥
 Fits (Receiving r) Closed = ⊥
 Fits (Finished o) (Waiting p) = ⊥
 Fits (Finished o) (Collecting p h got) = ⊥
-Fits (Finished o) (Offering d values) = ⊥
+Fits (Finished o) (Offering d basic values) = ⊥
 Fits (Finished o) (Over x) = x ≡ outcome_seen o
 Fits (Finished o) Closed = ⊥
 
@@ -52,7 +52,7 @@ Stands slot k (Waiting p) = Holds slot k (Waiting p)
 Stands slot k (Over o) = Holds slot k (Over o)
 Stands slot k Closed = Unit {0}
 Stands slot k (Collecting p h got) = ⊥
-Stands slot k (Offering d values) = ⊥
+Stands slot k (Offering d basic values) = ⊥
 
 -- a slot's entry is that of a row
 pub record IsRow (rows : List Row) (key : ℕ) (t : Entry) : Type 0 where
@@ -70,7 +70,7 @@ pub record IsTable (slots : List (Option Entry)) (rows : List Row) : Type 0 wher
 abbrev pub posted_job : (key : ℕ) → Job → List posted.Receive
 posted_job key (Waiting p) = record { request = key; context = p.context; source = p.source; tag = p.tag } ∷ []
 posted_job key (Collecting p h got) = []
-posted_job key (Offering d values) = []
+posted_job key (Offering d basic values) = []
 posted_job key (Over o) = []
 posted_job key Closed = []
 

@@ -7,6 +7,7 @@ use Rattle.perfect_queues.specs.Completions.{Answer, One, completion}
 use Rattle.vocabulary.specs.Endpoints.{is_former, is_same}
 use Rattle.perfect_queues.specs.Outcomes.{Outcome, Received, Replaced, Sent, outcome}
 use Rattle.perfect_queues.specs.Receives.{Receive, has_room, names}
+use Rattle.vocabulary.specs.declared.basic_type.BasicType.{BasicType}
 use Rattle.vocabulary.specs.declared.endpoint.Endpoint.{Endpoint}
 use Rattle.vocabulary.specs.declared.envelope.Source.{Source}
 use Rattle.vocabulary.specs.declared.envelope.Source.TheVariants.{Any, Null, Rank}
@@ -28,27 +29,27 @@ use Rattle.proof_pure_network.proofs.Tokens.{Fits, answers, brings, count, count
 
 -- SENDS THAT ARE NOT OVER
 
-abbrev pub Offers : Core → ℕ → Endpoint → List ℕ → Type 0
-Offers core k d values = slice_get core.jobs k ≡ Some (Offering d values)
+abbrev pub Offers : Core → ℕ → Endpoint → BasicType → List ℕ → Type 0
+Offers core k d basic values = slice_get core.jobs k ≡ Some (Offering d basic values)
 
 abbrev pub OffersBack : Core → Core → Type 0
-OffersBack core core' = (k : ℕ) (d : Endpoint) (values : List ℕ) → Offers core' k d values → Offers core k d values
+OffersBack core core' = (k : ℕ) (d : Endpoint) (basic : BasicType) (values : List ℕ) → Offers core' k d basic values → Offers core k d basic values
 
 pub back_fewer : (core core' : Core) → Fewer core.jobs core'.jobs → OffersBack core core'
-back_fewer core core' f k d values h = f k (Offering d values) tt h
+back_fewer core core' f k d basic values h = f k (Offering d basic values) tt h
 
-no_offer : (p : Receive) (h : Held) (b : Body) (d : Endpoint) (values : List ℕ) → matched_job p h b ≡ Offering d values → ⊥
-no_offer p h (Whole vs) d values e = absurd (grind arith)
-no_offer p h (Part k n) d values e = go (has_room p h.basic n) e
+no_offer : (p : Receive) (h : Held) (b : Body) (d : Endpoint) (basic : BasicType) (values : List ℕ) → matched_job p h b ≡ Offering d basic values → ⊥
+no_offer p h (Whole vs) d basic values e = absurd (grind arith)
+no_offer p h (Part k n) d basic values e = go (has_room p h.basic n) e
   where
-    go : (t : Bool) → matched_part p h n t ≡ Offering d values → ⊥
+    go : (t : Bool) → matched_part p h n t ≡ Offering d basic values → ⊥
     go true x = absurd (grind arith)
     go false x = absurd (grind arith)
 
-more_offer : (p : Receive) (h : Held) (got : List ℕ) (d : Endpoint) (values : List ℕ) → with_more p h got ≡ Offering d values → ⊥
-more_offer p h got d values e = go (length got == count_of h.body) e
+more_offer : (p : Receive) (h : Held) (got : List ℕ) (d : Endpoint) (basic : BasicType) (values : List ℕ) → with_more p h got ≡ Offering d basic values → ⊥
+more_offer p h got d basic values e = go (length got == count_of h.body) e
   where
-    go : (t : Bool) → (if t then Over (outcome p (full h got)) else Collecting p h got) ≡ Offering d values → ⊥
+    go : (t : Bool) → (if t then Over (outcome p (full h got)) else Collecting p h got) ≡ Offering d basic values → ⊥
     go true x = absurd (grind arith)
     go false x = absurd (grind arith)
 
@@ -56,20 +57,20 @@ arrived_back : (core : Core) (h : Held) → OffersBack core (arrived core h).cor
 arrived_back core h = go (oldest_posted h core.jobs)
   where
     go : (o : Option (ℕ × Receive)) → OffersBack core (arrived_at core h o).core
-    go None = λ k d values x. x
-    go (Some t) = λ k d values x. ⊎_elim (λ a. a) (λ a. absurd (no_offer t.1 h h.body d values a.1)) (set_split core.jobs t.0 (matched_job t.1 h h.body) k (Offering d values) x)
+    go None = λ k d basic values x. x
+    go (Some t) = λ k d basic values x. ⊎_elim (λ a. a) (λ a. absurd (no_offer t.1 h h.body d basic values a.1)) (set_split core.jobs t.0 (matched_job t.1 h h.body) k (Offering d basic values) x)
 
 answered_back : (core : Core) (s : Endpoint) (k : ℕ) (w : Bool) (o : Option Job) → OffersBack core (answered core s k w o).core
-answered_back core s k w None = λ i d values x. x
-answered_back core s k w (Some (Waiting p)) = λ i d values x. x
-answered_back core s k w (Some (Collecting p h got)) = λ i d values x. x
-answered_back core s k w (Some (Over o)) = λ i d values x. x
-answered_back core s k w (Some Closed) = λ i d values x. x
-answered_back core s k w (Some (Offering y vs)) = go (is_same y s)
+answered_back core s k w None = λ i d basic values x. x
+answered_back core s k w (Some (Waiting p)) = λ i d basic values x. x
+answered_back core s k w (Some (Collecting p h got)) = λ i d basic values x. x
+answered_back core s k w (Some (Over o)) = λ i d basic values x. x
+answered_back core s k w (Some Closed) = λ i d basic values x. x
+answered_back core s k w (Some (Offering y basic vs)) = go (is_same y s)
   where
-    go : (t : Bool) → OffersBack core (if t then effect (with_jobs core (slice_set core.jobs k (Over Sent))) (wanted_data y k vs w) else effect core []).core
+    go : (t : Bool) → OffersBack core (if t then effect (with_jobs core (slice_set core.jobs k (Over Sent))) (wanted_data y k basic vs w) else effect core []).core
     go true = back_fewer core (with_jobs core (slice_set core.jobs k (Over Sent))) (fewer_set core.jobs k Sent)
-    go false = λ i d values x. x
+    go false = λ i d basic values x. x
 
 pub came_back : (core : Core) (s : Endpoint) (f : Frame) → OffersBack core (came core s f).core
 came_back core s (Eager c tag basic values) = arrived_back core (record { sender = s; context = c; tag = tag; basic = basic; body = Whole values })
@@ -78,16 +79,16 @@ came_back core s (Cts k w) = answered_back core s k w (slice_get core.jobs k)
 came_back core s (Data k o vs) = go (collecting s k core.jobs)
   where
     go : (t : Option (ℕ × Job)) → OffersBack core (collected core o vs t)
-    go None = λ i d values x. x
-    go (Some (j, Waiting p)) = λ i d values x. x
-    go (Some (j, Offering y us)) = λ i d values x. x
-    go (Some (j, Over u)) = λ i d values x. x
-    go (Some (j, Closed)) = λ i d values x. x
+    go None = λ i d basic values x. x
+    go (Some (j, Waiting p)) = λ i d basic values x. x
+    go (Some (j, Offering y basic us)) = λ i d basic values x. x
+    go (Some (j, Over u)) = λ i d basic values x. x
+    go (Some (j, Closed)) = λ i d basic values x. x
     go (Some (j, Collecting p h got)) = at (length got == o)
       where
         at : (t : Bool) → OffersBack core (if t then with_jobs core (slice_set core.jobs j (with_more p h (got ++ vs))) else core)
-        at true = λ i d values x. ⊎_elim (λ a. a) (λ a. absurd (more_offer p h (got ++ vs) d values a.1)) (set_split core.jobs j (with_more p h (got ++ vs)) i (Offering d values) x)
-        at false = λ i d values x. x
+        at true = λ i d basic values x. ⊎_elim (λ a. a) (λ a. absurd (more_offer p h (got ++ vs) d basic values a.1)) (set_split core.jobs j (with_more p h (got ++ vs)) i (Offering d basic values) x)
+        at false = λ i d basic values x. x
 
 -- the receiver's answer ends the send
 pub get_set : (js : List Job) (k : ℕ) (x y : Job) → slice_get js k ≡ Some x → slice_get (slice_set js k y) k ≡ Some y
@@ -95,51 +96,51 @@ get_set [] k x y h = absurd (grind arith)
 get_set (z ∷ js) zero x y h = refl
 get_set (z ∷ js) (suc k) x y h = get_set js k x y h
 
-answered_ends : (core : Core) (d : Endpoint) (k : ℕ) (w : Bool) (values : List ℕ) → Offers (answered core d k w (slice_get core.jobs k)).core k d values → ⊥
-answered_ends core d k w values h = go (slice_get core.jobs k) refl h (answered_back core d k w (slice_get core.jobs k) k d values h)
+answered_ends : (core : Core) (d : Endpoint) (k : ℕ) (w : Bool) (basic : BasicType) (values : List ℕ) → Offers (answered core d k w (slice_get core.jobs k)).core k d basic values → ⊥
+answered_ends core d k w basic values h = go (slice_get core.jobs k) refl h (answered_back core d k w (slice_get core.jobs k) k d basic values h)
   where
-    bad : (j : Job) → slice_get core.jobs k ≡ Some j → slice_get core.jobs k ≡ Some (Offering d values) → j ≡ Offering d values
-    bad j x y = same_Some j (Offering d values) (sym x ∙ y)
+    bad : (j : Job) → slice_get core.jobs k ≡ Some j → slice_get core.jobs k ≡ Some (Offering d basic values) → j ≡ Offering d basic values
+    bad j x y = same_Some j (Offering d basic values) (sym x ∙ y)
 
-    go : (o : Option Job) → slice_get core.jobs k ≡ o → Offers (answered core d k w o).core k d values → Offers core k d values → ⊥
-    go None x h b = let n : None ≡ Some (Offering d values) = sym x ∙ b in absurd (grind arith)
-    go (Some (Waiting p)) x h b = let n : Waiting p ≡ Offering d values = bad (Waiting p) x b in absurd (grind arith)
-    go (Some (Collecting p u got)) x h b = let n : Collecting p u got ≡ Offering d values = bad (Collecting p u got) x b in absurd (grind arith)
-    go (Some (Over o)) x h b = let n : Over o ≡ Offering d values = bad (Over o) x b in absurd (grind arith)
-    go (Some Closed) x h b = let n : Closed ≡ Offering d values = bad Closed x b in absurd (grind arith)
-    go (Some (Offering y vs)) x h b = at (is_same y d) refl h
+    go : (o : Option Job) → slice_get core.jobs k ≡ o → Offers (answered core d k w o).core k d basic values → Offers core k d basic values → ⊥
+    go None x h b = let n : None ≡ Some (Offering d basic values) = sym x ∙ b in absurd (grind arith)
+    go (Some (Waiting p)) x h b = let n : Waiting p ≡ Offering d basic values = bad (Waiting p) x b in absurd (grind arith)
+    go (Some (Collecting p u got)) x h b = let n : Collecting p u got ≡ Offering d basic values = bad (Collecting p u got) x b in absurd (grind arith)
+    go (Some (Over o)) x h b = let n : Over o ≡ Offering d basic values = bad (Over o) x b in absurd (grind arith)
+    go (Some Closed) x h b = let n : Closed ≡ Offering d basic values = bad Closed x b in absurd (grind arith)
+    go (Some (Offering y kind vs)) x h b = at (is_same y d) refl h
       where
-        at : (t : Bool) → is_same y d ≡ t → Offers (if t then effect (with_jobs core (slice_set core.jobs k (Over Sent))) (wanted_data y k vs w) else effect core []).core k d values → ⊥
-        at true q h = let n : Over Sent ≡ Offering d values = same_Some (Over Sent) (Offering d values) (sym (get_set core.jobs k (Offering y vs) (Over Sent) x) ∙ h) in absurd (grind arith)
+        at : (t : Bool) → is_same y d ≡ t → Offers (if t then effect (with_jobs core (slice_set core.jobs k (Over Sent))) (wanted_data y k kind vs w) else effect core []).core k d basic values → ⊥
+        at true q h = let n : Over Sent ≡ Offering d basic values = same_Some (Over Sent) (Offering d basic values) (sym (get_set core.jobs k (Offering y kind vs) (Over Sent) x) ∙ h) in absurd (grind arith)
         at false q h =
-            let n : Offering y vs ≡ Offering d values = bad (Offering y vs) x b in
+            let n : Offering y kind vs ≡ Offering d basic values = bad (Offering y kind vs) x b in
             let m : y ≡ d = grind arith in
             let r : is_same y d ≡ true = subst (λ (z : Endpoint). is_same y z ≡ true) m (same_refl y) in
             absurd (grind arith)
 
-pub came_ends : (core : Core) (a d : Endpoint) (f : Frame) (k : ℕ) (values : List ℕ) → one (is_same a d && is_cts k f) ≡ 1 → Offers (came core a f).core k d values → ⊥
-came_ends core a d (Eager c tag basic vs) k values o h = bad (is_same a d) o
+pub came_ends : (core : Core) (a d : Endpoint) (f : Frame) (k : ℕ) (basic : BasicType) (values : List ℕ) → one (is_same a d && is_cts k f) ≡ 1 → Offers (came core a f).core k d basic values → ⊥
+came_ends core a d (Eager c tag kind vs) k basic values o h = bad (is_same a d) o
   where
     bad : (t : Bool) → one (t && false) ≡ 1 → ⊥
     bad true x = absurd (omega arith)
     bad false x = absurd (omega arith)
-came_ends core a d (Rts c tag basic j n) k values o h = bad (is_same a d) o
+came_ends core a d (Rts c tag kind j n) k basic values o h = bad (is_same a d) o
   where
     bad : (t : Bool) → one (t && false) ≡ 1 → ⊥
     bad true x = absurd (omega arith)
     bad false x = absurd (omega arith)
-came_ends core a d (Data j p vs) k values o h = bad (is_same a d) o
+came_ends core a d (Data j p vs) k basic values o h = bad (is_same a d) o
   where
     bad : (t : Bool) → one (t && false) ≡ 1 → ⊥
     bad true x = absurd (omega arith)
     bad false x = absurd (omega arith)
-came_ends core a d (Cts j w) k values o h = go (is_same a d) refl (k == j) refl o
+came_ends core a d (Cts j w) k basic values o h = go (is_same a d) refl (k == j) refl o
   where
     go : (t : Bool) → is_same a d ≡ t → (u : Bool) → (k == j) ≡ u → one (t && u) ≡ 1 → ⊥
     go true p true q x =
         let ad : a ≡ d = same_eq a d p in
         let kj : k ≡ j = eqb-true k j q in
-        answered_ends core d k w values (subst (λ (z : Endpoint). Offers (answered core z k w (slice_get core.jobs k)).core k d values) ad (subst (λ (i : ℕ). Offers (answered core a i w (slice_get core.jobs i)).core k d values) (sym kj) h))
+        answered_ends core d k w basic values (subst (λ (z : Endpoint). Offers (answered core z k w (slice_get core.jobs k)).core k d basic values) ad (subst (λ (i : ℕ). Offers (answered core a i w (slice_get core.jobs i)).core k d basic values) (sym kj) h))
     go true p false q x = absurd (omega arith)
     go false p u q x = absurd (omega arith)
 
@@ -149,34 +150,34 @@ pub record NewOffer (e : Endpoint) (core : Core) (out : List (Endpoint × Frame)
   pub other : is_same d e ≡ false
   pub sends : envelopes d k out ≡ 1
 
-push_back : (core : Core) (j : Job) → ((d : Endpoint) (values : List ℕ) → j ≡ Offering d values → ⊥) → OffersBack core (with_jobs core (core.jobs ++ j ∷ []))
-push_back core j isnt k d values h = ⊎_elim (λ a. a) (λ a. absurd (isnt d values a.1)) (push_split core.jobs j k (Offering d values) h)
+push_back : (core : Core) (j : Job) → ((d : Endpoint) (basic : BasicType) (values : List ℕ) → j ≡ Offering d basic values → ⊥) → OffersBack core (with_jobs core (core.jobs ++ j ∷ []))
+push_back core j isnt k d basic values h = ⊎_elim (λ a. a) (λ a. absurd (isnt d basic values a.1)) (push_split core.jobs j k (Offering d basic values) h)
 
-over_offer : (o : Outcome) (d : Endpoint) (values : List ℕ) → Over o ≡ Offering d values → ⊥
-over_offer o d values x = absurd (grind arith)
+over_offer : (o : Outcome) (d : Endpoint) (basic : BasicType) (values : List ℕ) → Over o ≡ Offering d basic values → ⊥
+over_offer o d basic values x = absurd (grind arith)
 
 posted_back : (core : Core) (p : Receive) → OffersBack core (posted core p).core
 posted_back core p = go (found p core.held)
   where
     go : (o : Option (List Held × Held × List Held)) → OffersBack core (posted_at core p o).core
-    go None = push_back core (Waiting p) (λ d values x. absurd (grind arith))
-    go (Some t) = λ k d values h. ⊎_elim (λ a. a) (λ a. absurd (no_offer p t.1 t.1.body d values a.1)) (push_split core.jobs (matched_job p t.1 t.1.body) k (Offering d values) h)
+    go None = push_back core (Waiting p) (λ d basic values x. absurd (grind arith))
+    go (Some t) = λ k d basic values h. ⊎_elim (λ a. a) (λ a. absurd (no_offer p t.1 t.1.body d basic values a.1)) (push_split core.jobs (matched_job p t.1 t.1.body) k (Offering d basic values) h)
 
-pub called_offers : (e : Endpoint) (core : Core) (c : Call) (k : ℕ) (d : Endpoint) (values : List ℕ) → Offers (called e core c).core k d values → Offers core k d values ⊎ NewOffer e core (called e core c).out k d
-called_offers e core (Isend c Any tag from) k d values h = inl (push_back core (Over Sent) (over_offer Sent) k d values h)
-called_offers e core (Isend c Null tag from) k d values h = inl (push_back core (Over Sent) (over_offer Sent) k d values h)
-called_offers e core (Isend c (Rank to) None from) k d values h = inl (push_back core (Over Sent) (over_offer Sent) k d values h)
-called_offers e core (Isend c (Rank to) (Some tag) from) k d values h = go (is_same y e) refl (is_eager e y from.buffer.basic (data_of from)) h
+pub called_offers : (e : Endpoint) (core : Core) (c : Call) (k : ℕ) (d : Endpoint) (basic : BasicType) (values : List ℕ) → Offers (called e core c).core k d basic values → Offers core k d basic values ⊎ NewOffer e core (called e core c).out k d
+called_offers e core (Isend c Any tag from) k d basic values h = inl (push_back core (Over Sent) (over_offer Sent) k d basic values h)
+called_offers e core (Isend c Null tag from) k d basic values h = inl (push_back core (Over Sent) (over_offer Sent) k d basic values h)
+called_offers e core (Isend c (Rank to) None from) k d basic values h = inl (push_back core (Over Sent) (over_offer Sent) k d basic values h)
+called_offers e core (Isend c (Rank to) (Some tag) from) k d basic values h = go (is_same y e) refl (is_eager e y from.buffer.basic (data_of from)) h
   where
     y : Endpoint
     y = receiver core.known to
 
-    go : (own : Bool) → is_same y e ≡ own → (small : Bool) → Offers (sends e core y own c tag from.buffer.basic (data_of from) small).core k d values → Offers core k d values ⊎ NewOffer e core (sends e core y own c tag from.buffer.basic (data_of from) small).out k d
-    go true q small h = inl (push_back core (Over Sent) (over_offer Sent) k d values (arrived_back (pushed_over core) (own_message e c tag from.buffer.basic (data_of from)) k d values h))
-    go false q true h = inl (push_back core (Over Sent) (over_offer Sent) k d values h)
-    go false q false h = ⊎_elim (λ a. inl a) (λ a. inr (new' a.0 (to_of a.1))) (push_split core.jobs (Offering y (data_of from)) k (Offering d values) h)
+    go : (own : Bool) → is_same y e ≡ own → (small : Bool) → Offers (sends e core y own c tag from.buffer.basic (data_of from) small).core k d basic values → Offers core k d basic values ⊎ NewOffer e core (sends e core y own c tag from.buffer.basic (data_of from) small).out k d
+    go true q small h = inl (push_back core (Over Sent) (over_offer Sent) k d basic values (arrived_back (pushed_over core) (own_message e c tag from.buffer.basic (data_of from)) k d basic values h))
+    go false q true h = inl (push_back core (Over Sent) (over_offer Sent) k d basic values h)
+    go false q false h = ⊎_elim (λ a. inl a) (λ a. inr (new' a.0 (to_of a.1))) (push_split core.jobs (Offering y from.buffer.basic (data_of from)) k (Offering d basic values) h)
       where
-        to_of : Offering y (data_of from) ≡ Offering d values → y ≡ d
+        to_of : Offering y from.buffer.basic (data_of from) ≡ Offering d basic values → y ≡ d
         to_of x = grind arith
 
         one_sent : (i : ℕ) → i ≡ length core.jobs → count (is_rts i) (Rts c tag from.buffer.basic (length core.jobs) (length (data_of from)) ∷ []) ≡ 1
@@ -185,47 +186,47 @@ called_offers e core (Isend c (Rank to) (Some tag) from) k d values h = go (is_s
         new' : k ≡ length core.jobs → y ≡ d → NewOffer e core ((y, Rts c tag from.buffer.basic (length core.jobs) (length (data_of from))) ∷ []) k d
         new' i x = subst (λ (z : Endpoint). NewOffer e core ((y, Rts c tag from.buffer.basic (length core.jobs) (length (data_of from))) ∷ []) k z) x
             (record { knows = refl; other = q; sends = subst (λ (t : Bool). count (is_rts k) (if t then Rts c tag from.buffer.basic (length core.jobs) (length (data_of from)) ∷ [] else []) ≡ 1) (sym (same_refl y)) (one_sent k i) })
-called_offers e core (Irecv p) k d values h = inl (go p.source h)
+called_offers e core (Irecv p) k d basic values h = inl (go p.source h)
   where
-    go : (src : Source) → Offers (receives core p src).core k d values → Offers core k d values
-    go Null h = push_back core (Over (Received (record { source = Null; tag = None; count = 0 }) p.into.buffer.values)) (over_offer (Received (record { source = Null; tag = None; count = 0 }) p.into.buffer.values)) k d values h
-    go Any h = posted_back core p k d values h
-    go (Rank r) h = posted_back core p k d values h
-called_offers e core (Wait a) k d values h = inl h
-called_offers e core (Test r) k d values h = inl (go (completion (over_at core.jobs) (One r)) h)
+    go : (src : Source) → Offers (receives core p src).core k d basic values → Offers core k d basic values
+    go Null h = push_back core (Over (Received (record { source = Null; tag = None; count = 0 }) p.into.buffer.values)) (over_offer (Received (record { source = Null; tag = None; count = 0 }) p.into.buffer.values)) k d basic values h
+    go Any h = posted_back core p k d basic values h
+    go (Rank r) h = posted_back core p k d basic values h
+called_offers e core (Wait a) k d basic values h = inl h
+called_offers e core (Test r) k d basic values h = inl (go (completion (over_at core.jobs) (One r)) h)
   where
-    go : (o : Option (Answer × List ℕ)) → Offers (core_tested core o) k d values → Offers core k d values
+    go : (o : Option (Answer × List ℕ)) → Offers (core_tested core o) k d basic values → Offers core k d basic values
     go None h = h
-    go (Some t) h = back_fewer core (core_used core t.1) (fewer_used core.jobs t.1) k d values h
-called_offers e core (Cancel None) k d values h = inl h
-called_offers e core (Cancel (Some i)) k d values h = inl (back_fewer core (core_cancels core (Some i)) (fewer_dropped core.jobs i) k d values h)
+    go (Some t) h = back_fewer core (core_used core t.1) (fewer_used core.jobs t.1) k d basic values h
+called_offers e core (Cancel None) k d basic values h = inl h
+called_offers e core (Cancel (Some i)) k d basic values h = inl (back_fewer core (core_cancels core (Some i)) (fewer_dropped core.jobs i) k d basic values h)
 
 -- a rank that is learnt is named by no send that is left
-offer_only : (t : Bool) (o : Outcome) (j : Job) (d : Endpoint) (values : List ℕ) → (if t then Over o else j) ≡ Offering d values → (t ≡ false) × (j ≡ Offering d values)
-offer_only true o j d values e = absurd (over_offer o d values e)
-offer_only false o j d values e = (refl, e)
+offer_only : (t : Bool) (o : Outcome) (j : Job) (d : Endpoint) (basic : BasicType) (values : List ℕ) → (if t then Over o else j) ≡ Offering d basic values → (t ≡ false) × (j ≡ Offering d basic values)
+offer_only true o j d basic values e = absurd (over_offer o d basic values e)
+offer_only false o j d basic values e = (refl, e)
 
-left_over : (r i : ℕ) (j : Job) (d : Endpoint) (values : List ℕ) → ended r i j ≡ Offering d values → (d.rank == r) ≡ false
-left_over r i (Waiting p) d values e = let n : Waiting p ≡ Offering d values = (offer_only (names p.source r) (Replaced (Some p.into.buffer.values)) (Waiting p) d values e).1 in absurd (grind arith)
-left_over r i (Collecting p u got) d values e = let n : Collecting p u got ≡ Offering d values = (offer_only (names p.source r || is_former r i u.sender) (Replaced (Some p.into.buffer.values)) (Collecting p u got) d values e).1 in absurd (grind arith)
-left_over r i (Offering x vs) d values e =
-    let q = offer_only (x.rank == r) (Replaced None) (Offering x vs) d values e in
-    let n : Offering x vs ≡ Offering d values = q.1 in
+left_over : (r i : ℕ) (j : Job) (d : Endpoint) (basic : BasicType) (values : List ℕ) → ended r i j ≡ Offering d basic values → (d.rank == r) ≡ false
+left_over r i (Waiting p) d basic values e = let n : Waiting p ≡ Offering d basic values = (offer_only (names p.source r) (Replaced (Some p.into.buffer.values)) (Waiting p) d basic values e).1 in absurd (grind arith)
+left_over r i (Collecting p u got) d basic values e = let n : Collecting p u got ≡ Offering d basic values = (offer_only (names p.source r || is_former r i u.sender) (Replaced (Some p.into.buffer.values)) (Collecting p u got) d basic values e).1 in absurd (grind arith)
+left_over r i (Offering x kind vs) d basic values e =
+    let q = offer_only (x.rank == r) (Replaced None) (Offering x kind vs) d basic values e in
+    let n : Offering x kind vs ≡ Offering d basic values = q.1 in
     let m : x ≡ d = grind arith in
     subst (λ (z : Endpoint). (z.rank == r) ≡ false) m q.0
-left_over r i (Over o) d values e = absurd (over_offer o d values e)
-left_over r i Closed d values e = absurd (grind arith)
+left_over r i (Over o) d basic values e = absurd (over_offer o d basic values e)
+left_over r i Closed d basic values e = absurd (grind arith)
 
-left_at : (r i : ℕ) (js : List Job) (k : ℕ) (d : Endpoint) (values : List ℕ) → slice_get (map (ended r i) js) k ≡ Some (Offering d values) → (d.rank == r) ≡ false
-left_at r i [] k d values h = absurd (grind arith)
-left_at r i (j ∷ js) zero d values h = left_over r i j d values (same_Some (ended r i j) (Offering d values) h)
-left_at r i (j ∷ js) (suc k) d values h = left_at r i js k d values h
+left_at : (r i : ℕ) (js : List Job) (k : ℕ) (d : Endpoint) (basic : BasicType) (values : List ℕ) → slice_get (map (ended r i) js) k ≡ Some (Offering d basic values) → (d.rank == r) ≡ false
+left_at r i [] k d basic values h = absurd (grind arith)
+left_at r i (j ∷ js) zero d basic values h = left_over r i j d basic values (same_Some (ended r i j) (Offering d basic values) h)
+left_at r i (j ∷ js) (suc k) d basic values h = left_at r i js k d basic values h
 
-pub met_names : (core : Core) (a : Endpoint) (k : ℕ) (d : Endpoint) (values : List ℕ) → core.known d.rank ≡ d.incarnation → Offers (met core a) k d values → (met core a).known d.rank ≡ d.incarnation
-met_names core a k d values old h = go (nat_lt (core.known a.rank) a.incarnation) h
+pub met_names : (core : Core) (a : Endpoint) (k : ℕ) (d : Endpoint) (basic : BasicType) (values : List ℕ) → core.known d.rank ≡ d.incarnation → Offers (met core a) k d basic values → (met core a).known d.rank ≡ d.incarnation
+met_names core a k d basic values old h = go (nat_lt (core.known a.rank) a.incarnation) h
   where
-    go : (t : Bool) → Offers (if t then learned core a.rank a.incarnation else core) k d values → (if t then learned core a.rank a.incarnation else core).known d.rank ≡ d.incarnation
-    go true h = rw (left_at a.rank a.incarnation core.jobs k d values h) old
+    go : (t : Bool) → Offers (if t then learned core a.rank a.incarnation else core) k d basic values → (if t then learned core a.rank a.incarnation else core).known d.rank ≡ d.incarnation
+    go true h = rw (left_at a.rank a.incarnation core.jobs k d basic values h) old
     go false h = old
 
 pub met_back : (core : Core) (a : Endpoint) → OffersBack core (met core a)
@@ -233,7 +234,7 @@ met_back core a = go (nat_lt (core.known a.rank) a.incarnation)
   where
     go : (t : Bool) → OffersBack core (if t then learned core a.rank a.incarnation else core)
     go true = back_fewer core (learned core a.rank a.incarnation) (fewer_ended a.rank a.incarnation core.jobs)
-    go false = λ k d values x. x
+    go false = λ k d basic values x. x
 
 -- what came from an endpoint that is not stale is still held
 kept_parts : (r i : ℕ) (s : Endpoint) (k : ℕ) (hs : List Held) → is_former r i s ≡ false → count (is_part_from s k) (filter (λ h. not (is_former r i h.sender)) hs) ≡ count (is_part_from s k) hs

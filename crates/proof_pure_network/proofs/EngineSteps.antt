@@ -225,7 +225,7 @@ collect_steps V e core s k o values piece honest = go (collecting s k core.jobs)
     go : (t : Option (ℕ × Job)) → collecting s k core.jobs ≡ t → Steps (view V core) (view V (collected core o values t))
     go None x = still
     go (Some (j, Waiting p)) x = still
-    go (Some (j, Offering d vs)) x = still
+    go (Some (j, Offering d basic vs)) x = still
     go (Some (j, Over u)) x = still
     go (Some (j, Closed)) x = still
     go (Some (j, Collecting p h got)) x = at (length got == o) refl

@@ -14,6 +14,7 @@ use Rattle.perfect_queues.specs.Receives.{Receive, names}
 use Rattle.perfect_queues.specs.Requests.{Finished, Matched, Posted, Request, Sending, cancelled_request, learnt_request, used_up}
 use Rattle.perfect_queues.specs.State.{Local, with_message, with_request}
 use Rattle.perfect_queues.specs.Steps.{Finish, FinishSend, Learn, Match, Step, after_step, after_steps}
+use Rattle.vocabulary.specs.declared.basic_type.BasicType.{BasicType}
 use Rattle.vocabulary.specs.declared.endpoint.Endpoint.{Endpoint}
 use Rattle.vocabulary.specs.declared.envelope.Source.{Source}
 use Rattle.vocabulary.specs.declared.envelope.Source.TheVariants.{Any, Null, Rank}
@@ -25,7 +26,7 @@ use Rattle.proof_pure_network.specs.Frames.{Cts, Data, Eager, Frame, IsNoMessage
 use Rattle.proof_pure_network.specs.Held.{Body, Held, Part, Whole, fill}
 use Rattle.proof_pure_network.specs.Jobs.{Closed, Collecting, Job, Offering, Over, Waiting, closed, collecting, dropped, ended, oldest_posted, over_at, request_of}
 use Rattle.proof_pure_network.specs.Matching.{answer, arrived, arrived_at, found, posted, posted_at, receives}
-use Rattle.proof_pure_network.specs.Transfers.{answered, collected, data_frames, wanted_data, pieces}
+use Rattle.proof_pure_network.specs.Transfers.{answered, collected, data_frames, wanted_data, cut}
 use Rattle.proof_pure_network.proofs.EngineSteps.{IsOwn, Steps, arrive_steps, collect_steps, none_steps, post_steps, same_local}
 use Rattle.proof_pure_network.proofs.HonestValues.{HonestCore, IsHonest, IsHonestHeld}
 use Rattle.proof_pure_network.proofs.JobLemmas.{all_changed_map, changed_map, closed_gone, dropped_cancelled, finished_same, ready_core, request_at}
@@ -56,7 +57,7 @@ isend_steps V e core c (Rank to) (Some tag) from quiet = go (is_same d e) refl (
     go true a true b = rw (a, b) own
     go true a false b = rw (a, b) own
     go false a true b = rw (a, b) (none_steps (with_request (view V core) (Finished Sent)) (view V next) (push_view V core (Over Sent)))
-    go false a false b = rw (a, b) (none_steps (with_request (view V core) (Sending d)) (view V (with_jobs core (core.jobs ++ Offering d (data_of from) ∷ []))) (push_view V core (Offering d (data_of from))))
+    go false a false b = rw (a, b) (none_steps (with_request (view V core) (Sending d)) (view V (with_jobs core (core.jobs ++ Offering d from.buffer.basic (data_of from) ∷ []))) (push_view V core (Offering d from.buffer.basic (data_of from))))
 
 pub receive_steps : (V : Values) (core : Core) (p : Receive) (src : Source) → AllByRecursion (IsHonestHeld V) core.held → NoneFits core → Steps (with_request (view V core) (receive_request src p)) (view V (receives core p src).core)
 receive_steps V core p Null honest quiet = none_steps (with_request (view V core) (receive_request Null p)) (view V (receives core p Null).core) (push_view V core (Over (Received (record { source = Null; tag = None; count = 0 }) p.into.buffer.values)))
@@ -118,9 +119,9 @@ pub data_none : (d : Endpoint) (k : ℕ) (ps : List (ℕ × List ℕ)) → AllBy
 data_none d k [] = tt
 data_none d k (p ∷ ps) = (tt, data_none d k ps)
 
-pub wanted_none : (d : Endpoint) (k : ℕ) (values : List ℕ) (w : Bool) → AllByRecursion IsNoMessage (wanted_data d k values w)
-wanted_none d k values true = data_none d k (pieces (length values) 127 0 values)
-wanted_none d k values false = tt
+pub wanted_none : (d : Endpoint) (k : ℕ) (basic : BasicType) (values : List ℕ) (w : Bool) → AllByRecursion IsNoMessage (wanted_data d k basic values w)
+wanted_none d k basic values true = data_none d k (cut basic values)
+wanted_none d k basic values false = tt
 
 pub answered_out : (core : Core) (s : Endpoint) (k : ℕ) (w : Bool) (o : Option Job) → AllByRecursion IsNoMessage (answered core s k w o).out
 answered_out core s k w None = tt
@@ -128,10 +129,10 @@ answered_out core s k w (Some (Waiting p)) = tt
 answered_out core s k w (Some (Collecting p h got)) = tt
 answered_out core s k w (Some (Over o)) = tt
 answered_out core s k w (Some Closed) = tt
-answered_out core s k w (Some (Offering d values)) = go (is_same d s)
+answered_out core s k w (Some (Offering d basic values)) = go (is_same d s)
   where
-    go : (t : Bool) → AllByRecursion IsNoMessage (if t then effect (with_jobs core (slice_set core.jobs k (Over Sent))) (wanted_data d k values w) else effect core []).out
-    go true = wanted_none d k values w
+    go : (t : Bool) → AllByRecursion IsNoMessage (if t then effect (with_jobs core (slice_set core.jobs k (Over Sent))) (wanted_data d k basic values w) else effect core []).out
+    go true = wanted_none d k basic values w
     go false = tt
 
 pub isend_out : (V : Values) (e : Endpoint) (core : Core) (c : ℕ) (to : Source) (tag : Option ℕ) (from : Handed) → (called e core (Isend c to tag from)).out ≡ linked e (message_sent e (view V core) (Isend c to tag from))
@@ -193,20 +194,20 @@ answer_work V e core s k w = go (slice_get core.jobs k) refl
     go (Some (Collecting p h got)) x = still
     go (Some (Over o)) x = still
     go (Some Closed) x = still
-    go (Some (Offering d values)) x = at (is_same d s) refl
+    go (Some (Offering d basic values)) x = at (is_same d s) refl
       where
         res : Bool → Effect
-        res t = if t then effect (with_jobs core (slice_set core.jobs k (Over Sent))) (wanted_data d k values w) else effect core []
+        res t = if t then effect (with_jobs core (slice_set core.jobs k (Over Sent))) (wanted_data d k basic values w) else effect core []
 
-        at : (t : Bool) → is_same d s ≡ t → Work V e (view V core) (Came s (Cts k w)) (view V (if t then effect (with_jobs core (slice_set core.jobs k (Over Sent))) (wanted_data d k values w) else effect core []).core) (if t then effect (with_jobs core (slice_set core.jobs k (Over Sent))) (wanted_data d k values w) else effect core []).out
+        at : (t : Bool) → is_same d s ≡ t → Work V e (view V core) (Came s (Cts k w)) (view V (if t then effect (with_jobs core (slice_set core.jobs k (Over Sent))) (wanted_data d k basic values w) else effect core []).core) (if t then effect (with_jobs core (slice_set core.jobs k (Over Sent))) (wanted_data d k basic values w) else effect core []).out
         at false y = still
         at true y =
             record {
               steps = FinishSend k s ∷ [];
-              allowed = (request_at V core.jobs k (Offering d values) x ∙ ap (λ (z : Endpoint). Some (Sending z)) (same_eq d s y), tt);
+              allowed = (request_at V core.jobs k (Offering d basic values) x ∙ ap (λ (z : Endpoint). Some (Sending z)) (same_eq d s y), tt);
               by = ((w, refl), tt);
               leaves = same_local (view V (with_jobs core (slice_set core.jobs k (Over Sent)))) (after_steps (view V core) (FinishSend k s ∷ [])) (map-set (request_of V) core.jobs k (Over Sent)) refl refl (λ a b. refl);
-              gives = wanted_none d k values w;
+              gives = wanted_none d k basic values w;
             }
 
 pub came_work : (V : Values) (e : Endpoint) (core : Core) (s : Endpoint) (f : Frame) → IsHonest V s f → HonestCore V e core → NoneFits core → Work V e (view V core) (Came s f) (view V (came core s f).core) (came core s f).out
@@ -260,7 +261,7 @@ test_same V false o j x e = e
 pub ended_learnt : (V : Values) (r i : ℕ) (j : Job) → request_of V (ended r i j) ≡ learnt_request r i (request_of V j)
 ended_learnt V r i (Waiting p) = test_same V (names p.source r) (Replaced (Some p.into.buffer.values)) (Waiting p) (Posted p) refl
 ended_learnt V r i (Collecting p h got) = test_same V (names p.source r || is_former r i h.sender) (Replaced (Some p.into.buffer.values)) (Collecting p h got) (Matched p (fill V h)) refl
-ended_learnt V r i (Offering d values) = test_same V (d.rank == r) (Replaced None) (Offering d values) (Sending d) refl
+ended_learnt V r i (Offering d basic values) = test_same V (d.rank == r) (Replaced None) (Offering d basic values) (Sending d) refl
 ended_learnt V r i (Over o) = refl
 ended_learnt V r i Closed = refl
 

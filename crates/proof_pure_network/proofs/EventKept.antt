@@ -231,7 +231,7 @@ pub outcome_standing : (V : Values) (o : Option Job) → standing (option_map (r
 outcome_standing V None = refl
 outcome_standing V (Some (Waiting p)) = refl
 outcome_standing V (Some (Collecting p h got)) = refl
-outcome_standing V (Some (Offering d values)) = refl
+outcome_standing V (Some (Offering d basic values)) = refl
 outcome_standing V (Some (Over o)) = refl
 outcome_standing V (Some Closed) = refl
 

@@ -47,7 +47,7 @@ count_once t (z ∷ xs) (suc i) (suc j) x y c h k p q = ap suc (count_once t xs 
 over_or_live : (s : Endpoint) (k : ℕ) (y : Job) → (one (is_collecting s k y) ≡ 0) ⊎ IsLive y
 over_or_live s k (Waiting p) = inl refl
 over_or_live s k (Collecting p u got) = inr tt
-over_or_live s k (Offering d values) = inl refl
+over_or_live s k (Offering d basic values) = inl refl
 over_or_live s k (Over o) = inl refl
 over_or_live s k Closed = inl refl
 
@@ -103,9 +103,9 @@ pub pieces_go_on : (fuel m o : ℕ) (values : List ℕ) → GoOn o (o + length v
 pieces_go_on fuel m o [] = omega arith
 pieces_go_on zero m o (x ∷ xs) = (refl, refl)
 pieces_go_on (suc fuel) m o (x ∷ xs) =
-    let first : List ℕ = take (suc m) (x ∷ xs) in
-    let rest : List ℕ = drop (suc m) (x ∷ xs) in
-    let all : length (first ++ rest) ≡ length (x ∷ xs) = ap length (take-append-drop (suc m) (x ∷ xs)) in
+    let first : List ℕ = take m (x ∷ xs) in
+    let rest : List ℕ = drop m (x ∷ xs) in
+    let all : length (first ++ rest) ≡ length (x ∷ xs) = ap length (take-append-drop m (x ∷ xs)) in
     let ends : (o + length first) + length rest ≡ o + length (x ∷ xs) = omega (arith, all, length-append first rest) in
     (refl, subst (λ (n : ℕ). GoOn (o + length first) n (lengths (pieces fuel m (o + length first) rest))) ends (pieces_go_on fuel m (o + length first) rest))
 
@@ -132,14 +132,22 @@ pub yes_count : (k : ℕ) (fs : List Frame) → count (is_yes k) fs ≤ count (i
 yes_count k [] = omega arith
 yes_count k (f ∷ fs) = omega (arith, yes_one k f, yes_count k fs)
 
--- what the sender will send once such an answer comes
+-- what the sender will send once such an answer comes, in one piece
 abbrev pub promise : ℕ → List ℕ → List (ℕ × ℕ)
 promise zero values = []
-promise (suc n) values = lengths (pieces (length values) 127 0 values)
+promise (suc n) values = (0, length values) ∷ []
 
-pub promise_some : (n : ℕ) (values : List ℕ) → 1 ≤ n → promise n values ≡ lengths (pieces (length values) 127 0 values)
+pub promise_some : (n : ℕ) (values : List ℕ) → 1 ≤ n → promise n values ≡ (0, length values) ∷ []
 promise_some zero values h = absurd (omega arith)
 promise_some (suc n) values h = refl
+
+-- what goes on in one piece goes on in several
+pub in_pieces : (fuel m : ℕ) (values : List ℕ) (o n : ℕ) (ps : List (ℕ × ℕ)) → GoOn o n (ps ++ (0, length values) ∷ []) → GoOn o n (ps ++ lengths (pieces fuel m 0 values))
+in_pieces fuel m values o n [] h =
+    let ends : 0 + length values ≡ n = ap (λ (x : ℕ). x + length values) h.0 ∙ h.1 in
+    subst (λ (x : ℕ). GoOn x n (lengths (pieces fuel m 0 values))) h.0
+    (subst (λ (x : ℕ). GoOn 0 x (lengths (pieces fuel m 0 values))) ends (pieces_go_on fuel m 0 values))
+in_pieces fuel m values o n (p ∷ ps) h = (h.0, in_pieces fuel m values (o + p.1) n ps h.1)
 
 -- WHAT DATA FRAMES CARRY
 

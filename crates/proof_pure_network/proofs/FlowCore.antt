@@ -71,7 +71,7 @@ own_part s k h values = one_false (is_same h.sender s)
 sends_collects : (s : Endpoint) (k : ℕ) (e : Endpoint) (core : Core) (d : Endpoint) (own : Bool) (c tag : ℕ) (basic : BasicType) (values : List ℕ) (small : Bool) → collects s k (sends e core d own c tag basic values small).core + parts s k (sends e core d own c tag basic values small).core ≤ collects s k core + parts s k core
 sends_collects s k e core d true c tag basic values small = omega (arith, arrived_collects s k (pushed_over core) (own_message e c tag basic values), own_part s k (own_message e c tag basic values) values, push_over_collects s k core Sent)
 sends_collects s k e core d false c tag basic values true = omega (arith, push_over_collects s k core Sent)
-sends_collects s k e core d false c tag basic values false = omega (arith, count_append (is_collecting s k) core.jobs (Offering d values ∷ []))
+sends_collects s k e core d false c tag basic values false = omega (arith, count_append (is_collecting s k) core.jobs (Offering d basic values ∷ []))
 
 pub called_collects : (s : Endpoint) (k : ℕ) (e : Endpoint) (core : Core) (c : Call) → collects s k (called e core c).core + parts s k (called e core c).core ≤ collects s k core + parts s k core
 called_collects s k e core (Isend c Any tag from) = omega (arith, push_over_collects s k core Sent)
@@ -101,7 +101,7 @@ collected_collects s k core a i o values = go (collecting a i core.jobs) refl
     go : (t : Option (ℕ × Job)) → collecting a i core.jobs ≡ t → collects s k (collected core o values t) ≤ collects s k core
     go None x = omega arith
     go (Some (j, Waiting p)) x = omega arith
-    go (Some (j, Offering d vs)) x = omega arith
+    go (Some (j, Offering d basic vs)) x = omega arith
     go (Some (j, Over u)) x = omega arith
     go (Some (j, Closed)) x = omega arith
     go (Some (j, Collecting p h got)) x = at (length got == o)
@@ -119,9 +119,9 @@ answered_collects s k core a j w (Some (Waiting p)) = omega arith
 answered_collects s k core a j w (Some (Collecting p h got)) = omega arith
 answered_collects s k core a j w (Some (Over o)) = omega arith
 answered_collects s k core a j w (Some Closed) = omega arith
-answered_collects s k core a j w (Some (Offering d values)) = go (is_same d a)
+answered_collects s k core a j w (Some (Offering d basic values)) = go (is_same d a)
   where
-    go : (t : Bool) → collects s k (if t then effect (with_jobs core (slice_set core.jobs j (Over Sent))) (wanted_data d j values w) else effect core []).core ≤ collects s k core
+    go : (t : Bool) → collects s k (if t then effect (with_jobs core (slice_set core.jobs j (Over Sent))) (wanted_data d j basic values w) else effect core []).core ≤ collects s k core
     go true = count_fewer s k core.jobs (slice_set core.jobs j (Over Sent)) (fewer_set core.jobs j Sent)
     go false = omega arith
 
@@ -131,9 +131,9 @@ answered_held core a j w (Some (Waiting p)) = refl
 answered_held core a j w (Some (Collecting p h got)) = refl
 answered_held core a j w (Some (Over o)) = refl
 answered_held core a j w (Some Closed) = refl
-answered_held core a j w (Some (Offering d values)) = go (is_same d a)
+answered_held core a j w (Some (Offering d basic values)) = go (is_same d a)
   where
-    go : (t : Bool) → (if t then effect (with_jobs core (slice_set core.jobs j (Over Sent))) (wanted_data d j values w) else effect core []).core.held ≡ core.held
+    go : (t : Bool) → (if t then effect (with_jobs core (slice_set core.jobs j (Over Sent))) (wanted_data d j basic values w) else effect core []).core.held ≡ core.held
     go true = refl
     go false = refl
 
@@ -208,7 +208,7 @@ called_since s k e core (Isend c (Rank to) (Some tag) from) j p u got x i = go (
     go : (own small : Bool) → slice_get (sends e core y own c tag from.buffer.basic (data_of from) small).core.jobs j ≡ Some (Collecting p u got) → CollectsSince s k core j p u got (sends e core y own c tag from.buffer.basic (data_of from) small).out
     go true small x = ⊎_elim (λ a. inl (pushed_since core.jobs Sent j p u got a)) (λ a. inr a) (arrived_since s k (pushed_over core) (own_message e c tag from.buffer.basic (data_of from)) j p u got x i)
     go false true x = inl (pushed_since core.jobs Sent j p u got x)
-    go false false x = ⊎_elim (λ a. inl a) (λ a. absurd (let n : Offering y (data_of from) ≡ Collecting p u got = a.1 in grind arith)) (push_split core.jobs (Offering y (data_of from)) j (Collecting p u got) x)
+    go false false x = ⊎_elim (λ a. inl a) (λ a. absurd (let n : Offering y from.buffer.basic (data_of from) ≡ Collecting p u got = a.1 in grind arith)) (push_split core.jobs (Offering y from.buffer.basic (data_of from)) j (Collecting p u got) x)
 called_since s k e core (Irecv q) j p u got x i = go q.source x
   where
     go : (src : Source) → slice_get (receives core q src).core.jobs j ≡ Some (Collecting p u got) → CollectsSince s k core j p u got (receives core q src).out
@@ -230,9 +230,9 @@ answered_fewer core a j w (Some (Waiting p)) = λ i x live h. h
 answered_fewer core a j w (Some (Collecting p h got)) = λ i x live h'. h'
 answered_fewer core a j w (Some (Over o)) = λ i x live h. h
 answered_fewer core a j w (Some Closed) = λ i x live h. h
-answered_fewer core a j w (Some (Offering d values)) = go (is_same d a)
+answered_fewer core a j w (Some (Offering d basic values)) = go (is_same d a)
   where
-    go : (t : Bool) → Fewer core.jobs (if t then effect (with_jobs core (slice_set core.jobs j (Over Sent))) (wanted_data d j values w) else effect core []).core.jobs
+    go : (t : Bool) → Fewer core.jobs (if t then effect (with_jobs core (slice_set core.jobs j (Over Sent))) (wanted_data d j basic values w) else effect core []).core.jobs
     go true = fewer_set core.jobs j Sent
     go false = λ i x live h. h
 

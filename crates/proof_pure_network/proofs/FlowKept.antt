@@ -5,6 +5,7 @@ use Rattle.perfect_queues.specs.Calls.{Call}
 use Rattle.vocabulary.specs.Endpoints.{is_same}
 use Rattle.perfect_queues.specs.Events.{Entry}
 use Rattle.perfect_queues.specs.Receives.{Receive}
+use Rattle.vocabulary.specs.declared.basic_type.BasicType.{BasicType}
 use Rattle.vocabulary.specs.declared.endpoint.Endpoint.{Endpoint}
 use Rattle.perfect_queues.proofs.EndpointLemmas.{same_eq, same_refl}
 use Rattle.proof_pure_network.specs.Core.{Core}
@@ -75,14 +76,14 @@ call_flows V w e c sane honest flows = changed_flows V w e core' (accept_all w.l
         (from_more V e d k (w.core e) core' (w.core d) (in_flight (w.link e d)) (in_flight (w.link d e)) (in_flight (w.link d e)) out (flows.pairs e d apart k) (λ l. sane.fresh e d apart k l)
         (omega (arith, called_length e (w.core e) c)) (called_envelopes d k e (w.core e) c) (called_flow d k e (w.core e) c) refl refl
         (let q : core'.known d.rank ≡ (w.core e).known d.rank = ap (λ (f : ℕ → ℕ). f d.rank) (called_known e (w.core e) c) in omega (arith, q))
-        (λ values g o. called_keeps e (w.core e) c k d values o) (λ x. called_sends d k e (w.core e) c x))
+        (λ basic values g o. called_keeps e (w.core e) c k d basic values o) (λ x. called_sends d k e (w.core e) c x))
       where
         apart : is_same e d ≡ false
         apart = same_sym e d ∙ h
 
 -- where the links are as they were
 still_flows : (V : Values) (w : Network) (e : Endpoint) (core' : Core) → Sane V w → HonestJobs V e core'.jobs → Fewer (w.core e).jobs core'.jobs → ((s : Endpoint) (k : ℕ) → parts s k core' ≤ parts s k (w.core e)) → length core'.jobs ≡ length (w.core e).jobs →
-    ((r : ℕ) → (w.core e).known r ≤ core'.known r) → ((d : Endpoint) (k : ℕ) (values : List ℕ) → core'.known d.rank ≤ d.incarnation → Offers (w.core e) k d values → Offers core' k d values) → (history : List Entry) → Flows V w → Flows V (record w { core = with_core w.core e core'; history = history })
+    ((r : ℕ) → (w.core e).known r ≤ core'.known r) → ((d : Endpoint) (k : ℕ) (basic : BasicType) (values : List ℕ) → core'.known d.rank ≤ d.incarnation → Offers (w.core e) k d basic values → Offers core' k d basic values) → (history : List Entry) → Flows V w → Flows V (record w { core = with_core w.core e core'; history = history })
 still_flows V w e core' sane honest fewer less len knows keeps history flows =
     changed_flows V w e core' w.link flows
     (λ s h k. to_less V s e k (w.core s) (w.core e) core' (in_flight (w.link s e)) (in_flight (w.link e s)) (flows.pairs s e h k) honest (λ l. sane.fresh s e h k l) fewer (less s k))
@@ -90,20 +91,20 @@ still_flows V w e core' sane honest fewer less len knows keeps history flows =
     (let apart : is_same e d ≡ false = same_sym e d ∙ h in
     flowing_at V e d k core' (w.core d) (in_flight (w.link e d) ++ []) (in_flight (w.link e d)) (in_flight (w.link d e)) (in_flight (w.link d e)) (append-nil (in_flight (w.link e d))) refl
     (from_more V e d k (w.core e) core' (w.core d) (in_flight (w.link e d)) (in_flight (w.link d e)) (in_flight (w.link d e)) [] (flows.pairs e d apart k) (λ l. sane.fresh e d apart k l)
-    (omega (arith, len)) (inl refl) refl refl refl (knows d.rank) (λ values g o. keeps d k values g o) (λ x. absurd (omega (arith, x))))))
+    (omega (arith, len)) (inl refl) refl refl refl (knows d.rank) (λ basic values g o. keeps d k basic values g o) (λ x. absurd (omega (arith, x))))))
     (λ x y hx hy. refl) (λ k. omega (arith, less e k, count_fewer e k (w.core e).jobs core'.jobs fewer)) history w.log
 
 pub hear_flows : (V : Values) (w : Network) (e a : Endpoint) → Sane V w → Due w → HonestJobs V e (met (w.core e) a).jobs → Flows V w → Flows V (hear_at w e a)
 hear_flows V w e a sane due honest flows =
     still_flows V w e (met (w.core e) a) sane honest (met_fewer (w.core e) a) (λ s k. met_parts s k (w.core e) a) (met_length (w.core e) a) (met_grows (w.core e) a)
-    (λ d k values g o. met_keeps (w.core e) a k d values (due.named e k d values o).0 g o) w.history flows
+    (λ d k basic values g o. met_keeps (w.core e) a k d basic values (due.named e k d basic values o).0 g o) w.history flows
 
 pub settle_flows : (V : Values) (w : Network) (e : Endpoint) (history : List Entry) → Sane V w → HonestJobs V e (core_settled (w.core e)).jobs → Flows V w → Flows V (record w { core = with_core w.core e (core_settled (w.core e)); history = history })
 settle_flows V w e history sane honest flows =
     still_flows V w e (core_settled (w.core e)) sane honest (fewer_settled (w.core e))
     (λ s k. (let p : parts s k (core_settled (w.core e)) ≡ parts s k (w.core e) = ap (count (is_part_from s k)) (settled_held (w.core e)) in omega (arith, p))) (settled_length (w.core e))
     (λ r. (let q : (core_settled (w.core e)).known r ≡ (w.core e).known r = ap (λ (f : ℕ → ℕ). f r) (settled_known (w.core e)) in omega (arith, q)))
-    (λ d k values g o. settled_keeps (w.core e) k d values o) history flows
+    (λ d k basic values g o. settled_keeps (w.core e) k d basic values o) history flows
 
 -- A FRAME IS HANDED UP
 
@@ -244,7 +245,7 @@ hand_flows V w e a f apart next sane honest flows = changed_flows V w e core' (a
             (omega (arith, came_length (w.core e) a f)) (inl env) (came_flow_other d k (w.core e) a f q)
             (omega (arith, taken_count (is_cts k) w.link a e d f next, c0)) (omega (arith, taken_count (is_yes k) w.link a e d f next, no_yes (is_same a d) k f q))
             (let r : core'.known d.rank ≡ (w.core e).known d.rank = ap (λ (g : ℕ → ℕ). g d.rank) known in omega (arith, r))
-            (λ values g o. came_keeps (w.core e) a f k d values q o) (λ x. absurd (omega (arith, x, env)))
+            (λ basic values g o. came_keeps (w.core e) a f k d basic values q o) (λ x. absurd (omega (arith, x, env)))
         go true q = answer (cts_is k f p.1)
           where
             p : (is_same a d ≡ true) × (is_cts k f ≡ true)

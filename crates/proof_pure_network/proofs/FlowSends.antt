@@ -9,6 +9,7 @@ use Rattle.vocabulary.specs.Endpoints.{is_same}
 use Rattle.perfect_queues.specs.Outcomes.{Received, Sent}
 use Rattle.perfect_queues.specs.Receives.{Receive, has_room}
 use Rattle.perfect_queues.specs.Requests.{all_changed, changed}
+use Rattle.vocabulary.specs.declared.basic_type.BasicType.{BasicType}
 use Rattle.vocabulary.specs.declared.endpoint.Endpoint.{Endpoint}
 use Rattle.vocabulary.specs.declared.envelope.Source.{Source}
 use Rattle.vocabulary.specs.declared.envelope.Source.TheVariants.{Any, Null, Rank}
@@ -20,7 +21,7 @@ use Rattle.proof_pure_network.specs.Frames.{Cts, Data, Eager, Frame, Rts}
 use Rattle.proof_pure_network.specs.Held.{Body, Held, Part, Whole}
 use Rattle.proof_pure_network.specs.Jobs.{Closed, Collecting, Job, Offering, Over, Waiting, closed, collecting, dropped, ended, matched_job, oldest_posted, over_at, with_more}
 use Rattle.proof_pure_network.specs.Matching.{answer, arrived, arrived_at, found, posted, posted_at, receives}
-use Rattle.proof_pure_network.specs.Transfers.{answered, collected, wanted_data, pieces}
+use Rattle.proof_pure_network.specs.Transfers.{answered, collected, wanted_data, cut}
 use Rattle.proof_pure_network.proofs.Due.{Offers}
 use Rattle.proof_pure_network.proofs.EngineSteps.{Collects, some_collecting}
 use Rattle.proof_pure_network.proofs.Flow.{flow, flow_of_data, flow_of_other, lengths, none_to, piece_of}
@@ -94,13 +95,13 @@ came_flow d k core a (Cts j w) n = absurd n
 came_flow d k core a (Data j o values) n = refl
 
 -- the answer to another transfer, or of another endpoint, brings no data of this one
-data_of_other : (x d : Endpoint) (k j : ℕ) (values : List ℕ) (w : Bool) → (k == j) ≡ false → flow k (frames_to x (wanted_data d j values w)) ≡ []
-data_of_other x d k j values true h = flow_of_other x d k j (pieces (length values) 127 0 values) h
-data_of_other x d k j values false h = refl
+data_of_other : (x d : Endpoint) (k j : ℕ) (basic : BasicType) (values : List ℕ) (w : Bool) → (k == j) ≡ false → flow k (frames_to x (wanted_data d j basic values w)) ≡ []
+data_of_other x d k j basic values true h = flow_of_other x d k j (cut basic values) h
+data_of_other x d k j basic values false h = refl
 
-data_to_other : (x d : Endpoint) (k j : ℕ) (values : List ℕ) (w : Bool) → is_same x d ≡ false → flow k (frames_to x (wanted_data d j values w)) ≡ []
-data_to_other x d k j values true h = ap (flow k) (none_to x d j (pieces (length values) 127 0 values) h)
-data_to_other x d k j values false h = refl
+data_to_other : (x d : Endpoint) (k j : ℕ) (basic : BasicType) (values : List ℕ) (w : Bool) → is_same x d ≡ false → flow k (frames_to x (wanted_data d j basic values w)) ≡ []
+data_to_other x d k j basic values true h = ap (flow k) (none_to x d j (cut basic values) h)
+data_to_other x d k j basic values false h = refl
 
 pub answered_flow_other : (d : Endpoint) (k : ℕ) (core : Core) (a : Endpoint) (j : ℕ) (w : Bool) (o : Option Job) → (is_same a d && (k == j)) ≡ false → flow k (frames_to d (answered core a j w o).out) ≡ []
 answered_flow_other d k core a j w None h = refl
@@ -108,29 +109,29 @@ answered_flow_other d k core a j w (Some (Waiting p)) h = refl
 answered_flow_other d k core a j w (Some (Collecting p u got)) h = refl
 answered_flow_other d k core a j w (Some (Over o)) h = refl
 answered_flow_other d k core a j w (Some Closed) h = refl
-answered_flow_other d k core a j w (Some (Offering y values)) h = go (is_same y a) refl
+answered_flow_other d k core a j w (Some (Offering y basic values)) h = go (is_same y a) refl
   where
-    go : (t : Bool) → is_same y a ≡ t → flow k (frames_to d (if t then effect (with_jobs core (slice_set core.jobs j (Over Sent))) (wanted_data y j values w) else effect core []).out) ≡ []
+    go : (t : Bool) → is_same y a ≡ t → flow k (frames_to d (if t then effect (with_jobs core (slice_set core.jobs j (Over Sent))) (wanted_data y j basic values w) else effect core []).out) ≡ []
     go false q = refl
     go true q = at (is_same d y) refl (k == j) refl
       where
         ya : y ≡ a
         ya = same_eq y a q
 
-        at : (t : Bool) → is_same d y ≡ t → (u : Bool) → (k == j) ≡ u → flow k (frames_to d (wanted_data y j values w)) ≡ []
-        at false p u r = data_to_other d y k j values w p
-        at true p false r = data_of_other d y k j values w r
+        at : (t : Bool) → is_same d y ≡ t → (u : Bool) → (k == j) ≡ u → flow k (frames_to d (wanted_data y j basic values w)) ≡ []
+        at false p u r = data_to_other d y k j basic values w p
+        at true p false r = data_of_other d y k j basic values w r
         at true p true r =
             let x : is_same a d ≡ true = subst (λ (z : Endpoint). is_same z d ≡ true) ya (same_sym y d ∙ p) in
             let b : (is_same a d && (k == j)) ≡ true = rw (x, r) refl in
             absurd (let n : true ≡ false = sym b ∙ h in grind arith)
 
 -- the answer to an open send brings its data, if they are wanted
-pub answered_flow : (d : Endpoint) (k : ℕ) (core : Core) (values : List ℕ) (w : Bool) → Offers core k d values → flow k (frames_to d (answered core d k w (slice_get core.jobs k)).out) ≡ (if w then lengths (pieces (length values) 127 0 values) else [])
-answered_flow d k core values w h = rw h (rw (same_refl d) (go w))
+pub answered_flow : (d : Endpoint) (k : ℕ) (core : Core) (basic : BasicType) (values : List ℕ) (w : Bool) → Offers core k d basic values → flow k (frames_to d (answered core d k w (slice_get core.jobs k)).out) ≡ (if w then lengths (cut basic values) else [])
+answered_flow d k core basic values w h = rw h (rw (same_refl d) (go w))
   where
-    go : (t : Bool) → flow k (frames_to d (wanted_data d k values t)) ≡ (if t then lengths (pieces (length values) 127 0 values) else [])
-    go true = flow_of_data d k (pieces (length values) 127 0 values)
+    go : (t : Bool) → flow k (frames_to d (wanted_data d k basic values t)) ≡ (if t then lengths (cut basic values) else [])
+    go true = flow_of_data d k (cut basic values)
     go false = refl
 
 -- OPEN SENDS STAY
@@ -144,90 +145,90 @@ get_push (z ∷ xs) (suc k) x y h = get_push xs k x y h
 get_beside : {A : Type 0} (xs : List A) (i k : ℕ) (x y r : A) → slice_get xs i ≡ Some y → slice_get xs k ≡ Some x → (y ≡ x → ⊥) → slice_get (slice_set xs i r) k ≡ Some x
 get_beside xs i k x y r p q ne = get_set_other xs i k r (λ e. ne (same_Some y x (sym p ∙ (ap (slice_get xs) e ∙ q)))) ∙ q
 
-arrived_keeps : (core : Core) (h : Held) (k : ℕ) (d : Endpoint) (values : List ℕ) → Offers core k d values → Offers (arrived core h).core k d values
-arrived_keeps core h k d values x = go (oldest_posted h core.jobs) refl
+arrived_keeps : (core : Core) (h : Held) (k : ℕ) (d : Endpoint) (basic : BasicType) (values : List ℕ) → Offers core k d basic values → Offers (arrived core h).core k d basic values
+arrived_keeps core h k d basic values x = go (oldest_posted h core.jobs) refl
   where
-    go : (o : Option (ℕ × Receive)) → oldest_posted h core.jobs ≡ o → Offers (arrived_at core h o).core k d values
+    go : (o : Option (ℕ × Receive)) → oldest_posted h core.jobs ≡ o → Offers (arrived_at core h o).core k d basic values
     go None e = x
     go (Some t) e =
         let o : Oldest h core.jobs t.0 t.1 = some_posted h core.jobs t.0 t.1 e in
-        get_beside core.jobs t.0 k (Offering d values) (Waiting t.1) (matched_job t.1 h h.body) o.stands x (λ n. grind arith)
+        get_beside core.jobs t.0 k (Offering d basic values) (Waiting t.1) (matched_job t.1 h h.body) o.stands x (λ n. grind arith)
 
-posted_keeps : (core : Core) (p : Receive) (k : ℕ) (d : Endpoint) (values : List ℕ) → Offers core k d values → Offers (posted core p).core k d values
-posted_keeps core p k d values x = go (found p core.held)
+posted_keeps : (core : Core) (p : Receive) (k : ℕ) (d : Endpoint) (basic : BasicType) (values : List ℕ) → Offers core k d basic values → Offers (posted core p).core k d basic values
+posted_keeps core p k d basic values x = go (found p core.held)
   where
-    go : (o : Option (List Held × Held × List Held)) → Offers (posted_at core p o).core k d values
-    go None = get_push core.jobs k (Offering d values) (Waiting p) x
-    go (Some t) = get_push core.jobs k (Offering d values) (matched_job p t.1 t.1.body) x
+    go : (o : Option (List Held × Held × List Held)) → Offers (posted_at core p o).core k d basic values
+    go None = get_push core.jobs k (Offering d basic values) (Waiting p) x
+    go (Some t) = get_push core.jobs k (Offering d basic values) (matched_job p t.1 t.1.body) x
 
-changed_keeps : (g : Job → Job) (d : Endpoint) (values : List ℕ) → g (Offering d values) ≡ Offering d values → (js : List Job) (i k : ℕ) → slice_get js k ≡ Some (Offering d values) → slice_get (changed g js i) k ≡ Some (Offering d values)
-changed_keeps g d values e [] i k x = x
-changed_keeps g d values e (j ∷ js) zero zero x = let q : j ≡ Offering d values = same_Some j (Offering d values) x in ap (λ (y : Job). Some (g y)) q ∙ ap (λ (y : Job). Some y) e
-changed_keeps g d values e (j ∷ js) zero (suc k) x = x
-changed_keeps g d values e (j ∷ js) (suc i) zero x = x
-changed_keeps g d values e (j ∷ js) (suc i) (suc k) x = changed_keeps g d values e js i k x
+changed_keeps : (g : Job → Job) (d : Endpoint) (basic : BasicType) (values : List ℕ) → g (Offering d basic values) ≡ Offering d basic values → (js : List Job) (i k : ℕ) → slice_get js k ≡ Some (Offering d basic values) → slice_get (changed g js i) k ≡ Some (Offering d basic values)
+changed_keeps g d basic values e [] i k x = x
+changed_keeps g d basic values e (j ∷ js) zero zero x = let q : j ≡ Offering d basic values = same_Some j (Offering d basic values) x in ap (λ (y : Job). Some (g y)) q ∙ ap (λ (y : Job). Some y) e
+changed_keeps g d basic values e (j ∷ js) zero (suc k) x = x
+changed_keeps g d basic values e (j ∷ js) (suc i) zero x = x
+changed_keeps g d basic values e (j ∷ js) (suc i) (suc k) x = changed_keeps g d basic values e js i k x
 
-all_changed_keeps : (g : Job → Job) (d : Endpoint) (values : List ℕ) → g (Offering d values) ≡ Offering d values → (is : List ℕ) (js : List Job) (k : ℕ) → slice_get js k ≡ Some (Offering d values) → slice_get (all_changed g js is) k ≡ Some (Offering d values)
-all_changed_keeps g d values e [] js k x = x
-all_changed_keeps g d values e (i ∷ is) js k x = all_changed_keeps g d values e is (changed g js i) k (changed_keeps g d values e js i k x)
+all_changed_keeps : (g : Job → Job) (d : Endpoint) (basic : BasicType) (values : List ℕ) → g (Offering d basic values) ≡ Offering d basic values → (is : List ℕ) (js : List Job) (k : ℕ) → slice_get js k ≡ Some (Offering d basic values) → slice_get (all_changed g js is) k ≡ Some (Offering d basic values)
+all_changed_keeps g d basic values e [] js k x = x
+all_changed_keeps g d basic values e (i ∷ is) js k x = all_changed_keeps g d basic values e is (changed g js i) k (changed_keeps g d basic values e js i k x)
 
-pub called_keeps : (e : Endpoint) (core : Core) (c : Call) (k : ℕ) (d : Endpoint) (values : List ℕ) → Offers core k d values → Offers (called e core c).core k d values
-called_keeps e core (Isend c Any tag from) k d values x = get_push core.jobs k (Offering d values) (Over Sent) x
-called_keeps e core (Isend c Null tag from) k d values x = get_push core.jobs k (Offering d values) (Over Sent) x
-called_keeps e core (Isend c (Rank to) None from) k d values x = get_push core.jobs k (Offering d values) (Over Sent) x
-called_keeps e core (Isend c (Rank to) (Some tag) from) k d values x = go (is_same y e) (is_eager e y from.buffer.basic (data_of from))
+pub called_keeps : (e : Endpoint) (core : Core) (c : Call) (k : ℕ) (d : Endpoint) (basic : BasicType) (values : List ℕ) → Offers core k d basic values → Offers (called e core c).core k d basic values
+called_keeps e core (Isend c Any tag from) k d basic values x = get_push core.jobs k (Offering d basic values) (Over Sent) x
+called_keeps e core (Isend c Null tag from) k d basic values x = get_push core.jobs k (Offering d basic values) (Over Sent) x
+called_keeps e core (Isend c (Rank to) None from) k d basic values x = get_push core.jobs k (Offering d basic values) (Over Sent) x
+called_keeps e core (Isend c (Rank to) (Some tag) from) k d basic values x = go (is_same y e) (is_eager e y from.buffer.basic (data_of from))
   where
     y : Endpoint
     y = receiver core.known to
 
-    go : (own small : Bool) → Offers (sends e core y own c tag from.buffer.basic (data_of from) small).core k d values
-    go true small = arrived_keeps (pushed_over core) (own_message e c tag from.buffer.basic (data_of from)) k d values (get_push core.jobs k (Offering d values) (Over Sent) x)
-    go false true = get_push core.jobs k (Offering d values) (Over Sent) x
-    go false false = get_push core.jobs k (Offering d values) (Offering y (data_of from)) x
-called_keeps e core (Irecv p) k d values x = go p.source
+    go : (own small : Bool) → Offers (sends e core y own c tag from.buffer.basic (data_of from) small).core k d basic values
+    go true small = arrived_keeps (pushed_over core) (own_message e c tag from.buffer.basic (data_of from)) k d basic values (get_push core.jobs k (Offering d basic values) (Over Sent) x)
+    go false true = get_push core.jobs k (Offering d basic values) (Over Sent) x
+    go false false = get_push core.jobs k (Offering d basic values) (Offering y from.buffer.basic (data_of from)) x
+called_keeps e core (Irecv p) k d basic values x = go p.source
   where
-    go : (src : Source) → Offers (receives core p src).core k d values
-    go Null = get_push core.jobs k (Offering d values) (Over (Received (record { source = Null; tag = None; count = 0 }) p.into.buffer.values)) x
-    go Any = posted_keeps core p k d values x
-    go (Rank r) = posted_keeps core p k d values x
-called_keeps e core (Wait a) k d values x = x
-called_keeps e core (Test r) k d values x = go (completion (over_at core.jobs) (One r))
+    go : (src : Source) → Offers (receives core p src).core k d basic values
+    go Null = get_push core.jobs k (Offering d basic values) (Over (Received (record { source = Null; tag = None; count = 0 }) p.into.buffer.values)) x
+    go Any = posted_keeps core p k d basic values x
+    go (Rank r) = posted_keeps core p k d basic values x
+called_keeps e core (Wait a) k d basic values x = x
+called_keeps e core (Test r) k d basic values x = go (completion (over_at core.jobs) (One r))
   where
-    go : (o : Option (Answer × List ℕ)) → Offers (core_tested core o) k d values
+    go : (o : Option (Answer × List ℕ)) → Offers (core_tested core o) k d basic values
     go None = x
-    go (Some t) = all_changed_keeps closed d values refl t.1 core.jobs k x
-called_keeps e core (Cancel None) k d values x = x
-called_keeps e core (Cancel (Some i)) k d values x = changed_keeps dropped d values refl core.jobs i k x
+    go (Some t) = all_changed_keeps closed d basic values refl t.1 core.jobs k x
+called_keeps e core (Cancel None) k d basic values x = x
+called_keeps e core (Cancel (Some i)) k d basic values x = changed_keeps dropped d basic values refl core.jobs i k x
 
-answered_keeps : (core : Core) (a : Endpoint) (j : ℕ) (w : Bool) (k : ℕ) (d : Endpoint) (values : List ℕ) → (is_same a d && (k == j)) ≡ false → (o : Option Job) → slice_get core.jobs j ≡ o → Offers core k d values → Offers (answered core a j w o).core k d values
-answered_keeps core a j w k d values h None e x = x
-answered_keeps core a j w k d values h (Some (Waiting p)) e x = x
-answered_keeps core a j w k d values h (Some (Collecting p u got)) e x = x
-answered_keeps core a j w k d values h (Some (Over o)) e x = x
-answered_keeps core a j w k d values h (Some Closed) e x = x
-answered_keeps core a j w k d values h (Some (Offering y vs)) e x = go (is_same y a) refl
+answered_keeps : (core : Core) (a : Endpoint) (j : ℕ) (w : Bool) (k : ℕ) (d : Endpoint) (basic : BasicType) (values : List ℕ) → (is_same a d && (k == j)) ≡ false → (o : Option Job) → slice_get core.jobs j ≡ o → Offers core k d basic values → Offers (answered core a j w o).core k d basic values
+answered_keeps core a j w k d basic values h None e x = x
+answered_keeps core a j w k d basic values h (Some (Waiting p)) e x = x
+answered_keeps core a j w k d basic values h (Some (Collecting p u got)) e x = x
+answered_keeps core a j w k d basic values h (Some (Over o)) e x = x
+answered_keeps core a j w k d basic values h (Some Closed) e x = x
+answered_keeps core a j w k d basic values h (Some (Offering y kind vs)) e x = go (is_same y a) refl
   where
-    go : (t : Bool) → is_same y a ≡ t → Offers (if t then effect (with_jobs core (slice_set core.jobs j (Over Sent))) (wanted_data y j vs w) else effect core []).core k d values
+    go : (t : Bool) → is_same y a ≡ t → Offers (if t then effect (with_jobs core (slice_set core.jobs j (Over Sent))) (wanted_data y j kind vs w) else effect core []).core k d basic values
     go false q = x
     go true q = at (k == j) refl
       where
-        at : (u : Bool) → (k == j) ≡ u → Offers (with_jobs core (slice_set core.jobs j (Over Sent))) k d values
+        at : (u : Bool) → (k == j) ≡ u → Offers (with_jobs core (slice_set core.jobs j (Over Sent))) k d basic values
         at false r = get_set_other core.jobs j k (Over Sent) (λ n. eqb-false k j r (sym n)) ∙ x
         at true r =
             let kj : k ≡ j = eqb-true k j r in
-            let n : Offering y vs ≡ Offering d values = same_Some (Offering y vs) (Offering d values) (sym e ∙ (ap (slice_get core.jobs) (sym kj) ∙ x)) in
+            let n : Offering y kind vs ≡ Offering d basic values = same_Some (Offering y kind vs) (Offering d basic values) (sym e ∙ (ap (slice_get core.jobs) (sym kj) ∙ x)) in
             let yd : y ≡ d = grind arith in
             let ad : is_same a d ≡ true = subst (λ (z : Endpoint). is_same a z ≡ true) yd (same_sym a y ∙ q) in
             let b : (is_same a d && (k == j)) ≡ true = rw (ad, r) refl in
             absurd (let t : true ≡ false = sym b ∙ h in grind arith)
 
-collected_keeps : (core : Core) (a : Endpoint) (i o : ℕ) (vs : List ℕ) (k : ℕ) (d : Endpoint) (values : List ℕ) → Offers core k d values → Offers (collected core o vs (collecting a i core.jobs)) k d values
-collected_keeps core a i o vs k d values x = go (collecting a i core.jobs) refl
+collected_keeps : (core : Core) (a : Endpoint) (i o : ℕ) (vs : List ℕ) (k : ℕ) (d : Endpoint) (basic : BasicType) (values : List ℕ) → Offers core k d basic values → Offers (collected core o vs (collecting a i core.jobs)) k d basic values
+collected_keeps core a i o vs k d basic values x = go (collecting a i core.jobs) refl
   where
-    go : (t : Option (ℕ × Job)) → collecting a i core.jobs ≡ t → Offers (collected core o vs t) k d values
+    go : (t : Option (ℕ × Job)) → collecting a i core.jobs ≡ t → Offers (collected core o vs t) k d basic values
     go None e = x
     go (Some (j, Waiting p)) e = x
-    go (Some (j, Offering y us)) e = x
+    go (Some (j, Offering y basic us)) e = x
     go (Some (j, Over u)) e = x
     go (Some (j, Closed)) e = x
     go (Some (j, Collecting p h got)) e = at (length got == o)
@@ -235,50 +236,50 @@ collected_keeps core a i o vs k d values x = go (collecting a i core.jobs) refl
         c : Collects a i core.jobs (j, Collecting p h got)
         c = some_collecting a i core.jobs (j, Collecting p h got) e
 
-        at : (t : Bool) → Offers (if t then with_jobs core (slice_set core.jobs j (with_more p h (got ++ vs))) else core) k d values
-        at true = get_beside core.jobs j k (Offering d values) (Collecting p h got) (with_more p h (got ++ vs)) c.stands x (λ n. grind arith)
+        at : (t : Bool) → Offers (if t then with_jobs core (slice_set core.jobs j (with_more p h (got ++ vs))) else core) k d basic values
+        at true = get_beside core.jobs j k (Offering d basic values) (Collecting p h got) (with_more p h (got ++ vs)) c.stands x (λ n. grind arith)
         at false = x
 
-pub came_keeps : (core : Core) (a : Endpoint) (f : Frame) (k : ℕ) (d : Endpoint) (values : List ℕ) → (is_same a d && is_cts k f) ≡ false → Offers core k d values → Offers (came core a f).core k d values
-came_keeps core a (Eager c tag basic vs) k d values h x = arrived_keeps core (record { sender = a; context = c; tag = tag; basic = basic; body = Whole vs }) k d values x
-came_keeps core a (Rts c tag basic j n) k d values h x = arrived_keeps core (record { sender = a; context = c; tag = tag; basic = basic; body = Part j n }) k d values x
-came_keeps core a (Cts j w) k d values h x = answered_keeps core a j w k d values h (slice_get core.jobs j) refl x
-came_keeps core a (Data j o vs) k d values h x = collected_keeps core a j o vs k d values x
+pub came_keeps : (core : Core) (a : Endpoint) (f : Frame) (k : ℕ) (d : Endpoint) (basic : BasicType) (values : List ℕ) → (is_same a d && is_cts k f) ≡ false → Offers core k d basic values → Offers (came core a f).core k d basic values
+came_keeps core a (Eager c tag kind vs) k d basic values h x = arrived_keeps core (record { sender = a; context = c; tag = tag; basic = kind; body = Whole vs }) k d basic values x
+came_keeps core a (Rts c tag kind j n) k d basic values h x = arrived_keeps core (record { sender = a; context = c; tag = tag; basic = kind; body = Part j n }) k d basic values x
+came_keeps core a (Cts j w) k d basic values h x = answered_keeps core a j w k d basic values h (slice_get core.jobs j) refl x
+came_keeps core a (Data j o vs) k d basic values h x = collected_keeps core a j o vs k d basic values x
 
-map_keeps : (r i : ℕ) (d : Endpoint) (values : List ℕ) → (d.rank == r) ≡ false → (js : List Job) (k : ℕ) → slice_get js k ≡ Some (Offering d values) → slice_get (map (ended r i) js) k ≡ Some (Offering d values)
-map_keeps r i d values h [] k x = absurd (grind arith)
-map_keeps r i d values h (j ∷ js) zero x =
-    let q : j ≡ Offering d values = same_Some j (Offering d values) x in
+map_keeps : (r i : ℕ) (d : Endpoint) (basic : BasicType) (values : List ℕ) → (d.rank == r) ≡ false → (js : List Job) (k : ℕ) → slice_get js k ≡ Some (Offering d basic values) → slice_get (map (ended r i) js) k ≡ Some (Offering d basic values)
+map_keeps r i d basic values h [] k x = absurd (grind arith)
+map_keeps r i d basic values h (j ∷ js) zero x =
+    let q : j ≡ Offering d basic values = same_Some j (Offering d basic values) x in
     ap (λ (y : Job). Some (ended r i y)) q ∙ rw h refl
-map_keeps r i d values h (j ∷ js) (suc k) x = map_keeps r i d values h js k x
+map_keeps r i d basic values h (j ∷ js) (suc k) x = map_keeps r i d basic values h js k x
 
 -- an endpoint that learns no follower of d keeps its sends to d
-pub met_keeps : (core : Core) (a : Endpoint) (k : ℕ) (d : Endpoint) (values : List ℕ) → core.known d.rank ≡ d.incarnation → (met core a).known d.rank ≤ d.incarnation → Offers core k d values → Offers (met core a) k d values
-met_keeps core a k d values named le x = go (nat_lt (core.known a.rank) a.incarnation) refl le
+pub met_keeps : (core : Core) (a : Endpoint) (k : ℕ) (d : Endpoint) (basic : BasicType) (values : List ℕ) → core.known d.rank ≡ d.incarnation → (met core a).known d.rank ≤ d.incarnation → Offers core k d basic values → Offers (met core a) k d basic values
+met_keeps core a k d basic values named le x = go (nat_lt (core.known a.rank) a.incarnation) refl le
   where
-    go : (t : Bool) → nat_lt (core.known a.rank) a.incarnation ≡ t → (if t then learned core a.rank a.incarnation else core).known d.rank ≤ d.incarnation → Offers (if t then learned core a.rank a.incarnation else core) k d values
+    go : (t : Bool) → nat_lt (core.known a.rank) a.incarnation ≡ t → (if t then learned core a.rank a.incarnation else core).known d.rank ≤ d.incarnation → Offers (if t then learned core a.rank a.incarnation else core) k d basic values
     go false h le = x
     go true h le = at (d.rank == a.rank) refl le
       where
         lt : core.known a.rank < a.incarnation
         lt = ltb-true (core.known a.rank) a.incarnation h
 
-        at : (u : Bool) → (d.rank == a.rank) ≡ u → (if u then a.incarnation else core.known d.rank) ≤ d.incarnation → Offers (learned core a.rank a.incarnation) k d values
-        at false q le = map_keeps a.rank a.incarnation d values q core.jobs k x
+        at : (u : Bool) → (d.rank == a.rank) ≡ u → (if u then a.incarnation else core.known d.rank) ≤ d.incarnation → Offers (learned core a.rank a.incarnation) k d basic values
+        at false q le = map_keeps a.rank a.incarnation d basic values q core.jobs k x
         at true q le =
             let e : core.known d.rank ≡ core.known a.rank = ap core.known (eqb-true d.rank a.rank q) in
             absurd (omega (arith, e, named, lt))
 
-pub settled_keeps : (core : Core) (k : ℕ) (d : Endpoint) (values : List ℕ) → Offers core k d values → Offers (core_settled core) k d values
-settled_keeps core k d values x = go (core_ready core)
+pub settled_keeps : (core : Core) (k : ℕ) (d : Endpoint) (basic : BasicType) (values : List ℕ) → Offers core k d basic values → Offers (core_settled core) k d basic values
+settled_keeps core k d basic values x = go (core_ready core)
   where
-    go : (o : Option (Answer × List ℕ)) → Offers (core_settled_by core o) k d values
+    go : (o : Option (Answer × List ℕ)) → Offers (core_settled_by core o) k d basic values
     go None = x
-    go (Some t) = all_changed_keeps closed d values refl t.1 core.jobs k x
+    go (Some t) = all_changed_keeps closed d basic values refl t.1 core.jobs k x
 
 -- AN ENVELOPE THAT GOES OUT IS OF AN OPEN SEND
 
-pub called_sends : (d : Endpoint) (k : ℕ) (e : Endpoint) (core : Core) (c : Call) → 1 ≤ envelopes d k (called e core c).out → (values : List ℕ) × Offers (called e core c).core k d values
+pub called_sends : (d : Endpoint) (k : ℕ) (e : Endpoint) (core : Core) (c : Call) → 1 ≤ envelopes d k (called e core c).out → (basic : BasicType) × (values : List ℕ) × Offers (called e core c).core k d basic values
 called_sends d k e core (Isend c Any tag from) h = absurd (omega arith)
 called_sends d k e core (Isend c Null tag from) h = absurd (omega arith)
 called_sends d k e core (Isend c (Rank to) None from) h = absurd (omega arith)
@@ -291,15 +292,15 @@ called_sends d k e core (Isend c (Rank to) (Some tag) from) h = go (is_same y e)
     none_sent true x = absurd (omega arith)
     none_sent false x = absurd (omega arith)
 
-    one_sent : (t : Bool) → is_same d y ≡ t → (u : Bool) → (k == length core.jobs) ≡ u → 1 ≤ count (is_rts k) (if t then Rts c tag from.buffer.basic (length core.jobs) (length (data_of from)) ∷ [] else []) → (vs : List ℕ) × (slice_get (core.jobs ++ Offering y (data_of from) ∷ []) k ≡ Some (Offering d vs))
+    one_sent : (t : Bool) → is_same d y ≡ t → (u : Bool) → (k == length core.jobs) ≡ u → 1 ≤ count (is_rts k) (if t then Rts c tag from.buffer.basic (length core.jobs) (length (data_of from)) ∷ [] else []) → (basic : BasicType) × (vs : List ℕ) × (slice_get (core.jobs ++ Offering y from.buffer.basic (data_of from) ∷ []) k ≡ Some (Offering d basic vs))
     one_sent false p u q x = absurd (omega arith)
     one_sent true p false q x = absurd (let z : one (k == length core.jobs) ≡ 0 = ap one q in omega arith)
     one_sent true p true q x =
         let kl : k ≡ length core.jobs = eqb-true k (length core.jobs) q in
         let dy : d ≡ y = same_eq d y p in
-        ((data_of from), ap (slice_get (core.jobs ++ Offering y (data_of from) ∷ [])) kl ∙ (get_last core.jobs (Offering y (data_of from)) ∙ ap (λ (z : Endpoint). Some (Offering z (data_of from))) (sym dy)))
+        (from.buffer.basic, data_of from, ap (slice_get (core.jobs ++ Offering y from.buffer.basic (data_of from) ∷ [])) kl ∙ (get_last core.jobs (Offering y from.buffer.basic (data_of from)) ∙ ap (λ (z : Endpoint). Some (Offering z from.buffer.basic (data_of from))) (sym dy)))
 
-    go : (own small : Bool) → 1 ≤ envelopes d k (sends e core y own c tag from.buffer.basic (data_of from) small).out → (vs : List ℕ) × Offers (sends e core y own c tag from.buffer.basic (data_of from) small).core k d vs
+    go : (own small : Bool) → 1 ≤ envelopes d k (sends e core y own c tag from.buffer.basic (data_of from) small).out → (basic : BasicType) × (vs : List ℕ) × Offers (sends e core y own c tag from.buffer.basic (data_of from) small).core k d basic vs
     go true small x = absurd (let z : envelopes d k (arrived (pushed_over core) (own_message e c tag from.buffer.basic (data_of from))).out ≡ 0 = arrived_envelopes d k (pushed_over core) (own_message e c tag from.buffer.basic (data_of from)) in omega arith)
     go false true x = absurd (none_sent (is_same d y) x)
     go false false x = one_sent (is_same d y) refl (k == length core.jobs) refl x

@@ -6,6 +6,7 @@ use Rattle.std.proofs.lemmas.Option.{same_Some, slice_get_within}
 use Rattle.vocabulary.specs.Endpoints.{is_same}
 use Rattle.perfect_queues.specs.Outcomes.{outcome}
 use Rattle.perfect_queues.specs.Receives.{Receive}
+use Rattle.vocabulary.specs.declared.basic_type.BasicType.{BasicType}
 use Rattle.vocabulary.specs.declared.endpoint.Endpoint.{Endpoint}
 use Rattle.perfect_queues.proofs.EndpointLemmas.{same_refl}
 use Rattle.perfect_queues.proofs.ListLemmas.{get_set}
@@ -14,10 +15,10 @@ use Rattle.proof_pure_network.specs.Engine.{sends}
 use Rattle.proof_pure_network.specs.Frames.{Cts, Data, Frame, Values}
 use Rattle.proof_pure_network.specs.Held.{Body, Held, Part, Whole, count_of, full, is_part}
 use Rattle.proof_pure_network.specs.Jobs.{Closed, Collecting, Job, Offering, Over, Waiting, collecting, is_collecting, with_more}
-use Rattle.proof_pure_network.specs.Transfers.{answered, collected, pieces}
+use Rattle.proof_pure_network.specs.Transfers.{answered, collected, cut, piece_values}
 use Rattle.proof_pure_network.proofs.Due.{Offers}
 use Rattle.proof_pure_network.proofs.EngineSteps.{Collects, collecting_parts, part_values, some_collecting}
-use Rattle.proof_pure_network.proofs.Flow.{GoOn, count_at, count_fewer, count_once, flow, flow_append, is_yes, lengths, piece_of, pieces_go_on, promise, promise_some, yes_count}
+use Rattle.proof_pure_network.proofs.Flow.{GoOn, count_at, count_fewer, count_once, flow, flow_append, in_pieces, is_yes, lengths, piece_of, promise, promise_some, yes_count}
 use Rattle.proof_pure_network.proofs.FlowCore.{CollectsSince, collected_collects, collects}
 use Rattle.proof_pure_network.proofs.FlowSends.{answered_flow}
 use Rattle.proof_pure_network.proofs.Honest.{set_split}
@@ -37,7 +38,7 @@ pub record Flowing (V : Values) (s d : Endpoint) (k : ℕ) (from to : Core) (fs 
   -- no data come before the answer
   pub none : 1 ≤ tok s k to fs gs → flow k fs ≡ []
   -- until the answer comes, the send is open, unless a follower of d was learnt
-  pub offered : 1 ≤ tok s k to fs gs → from.known d.rank ≤ d.incarnation → (values : List ℕ) × Offers from k d values
+  pub offered : 1 ≤ tok s k to fs gs → from.known d.rank ≤ d.incarnation → (basic : BasicType) × (values : List ℕ) × Offers from k d basic values
   pub goes_on : (j : ℕ) (p : Receive) (h : Held) (got : List ℕ) → slice_get to.jobs j ≡ Some (Collecting p h got) → is_collecting s k (Collecting p h got) ≡ true → from.known d.rank ≤ d.incarnation →
       GoOn (length got) (count_of h.body) (flow k fs ++ promise (count (is_yes k) gs) (V s k))
 
@@ -93,13 +94,11 @@ to_more V s d k from to to' fs fs' gs out F honest z c t fl since =
         new' a =
             let some : 1 ≤ count (is_yes k) (frames_to s out) = a.1 in
             let nothing : flow k fs ≡ [] = F.none (omega (arith, some, yes_count k (frames_to s out), t)) in
-            let pr : promise (count (is_yes k) gs + count (is_yes k) (frames_to s out)) (V s k) ≡ lengths (pieces (length (V s k)) 127 0 (V s k)) = promise_some (count (is_yes k) gs + count (is_yes k) (frames_to s out)) (V s k) (omega (arith, some)) in
+            let pr : promise (count (is_yes k) gs + count (is_yes k) (frames_to s out)) (V s k) ≡ (0, length (V s k)) ∷ [] = promise_some (count (is_yes k) gs + count (is_yes k) (frames_to s out)) (V s k) (omega (arith, some)) in
             let n : length (V s k) ≡ count_of u.body = sym (counted V d s k j p u got (honest j (Collecting p u got) x) i) in
-            let whole : GoOn 0 (length (V s k)) (lengths (pieces (length (V s k)) 127 0 (V s k))) = subst (λ (m : ℕ). GoOn 0 m (lengths (pieces (length (V s k)) 127 0 (V s k)))) (omega arith) (pieces_go_on (length (V s k)) 127 0 (V s k)) in
             subst (λ (ps : List (ℕ × ℕ)). GoOn (length got) (count_of u.body) (ps ++ promise (count (is_yes k) gs + count (is_yes k) (frames_to s out)) (V s k))) (sym nothing)
             (subst (λ (ps : List (ℕ × ℕ)). GoOn (length got) (count_of u.body) ps) (sym pr)
-            (subst (λ (l : List ℕ). GoOn (length l) (count_of u.body) (lengths (pieces (length (V s k)) 127 0 (V s k)))) (sym a.0)
-            (subst (λ (m : ℕ). GoOn 0 m (lengths (pieces (length (V s k)) 127 0 (V s k)))) n whole)))
+            (subst (λ (l : List ℕ). GoOn (length l) (count_of u.body) ((0, length (V s k)) ∷ [])) (sym a.0) (refl, (let z : length {A = ℕ} [] + length (V s k) ≡ length (V s k) = omega arith in z ∙ n))))
 
 -- where nothing goes out
 pub to_less : (V : Values) (s d : Endpoint) (k : ℕ) (from to to' : Core) (fs gs : List Frame) → Flowing V s d k from to fs gs → HonestJobs V d to'.jobs → (length from.jobs ≤ k → tok s k to fs gs ≡ 0) →
@@ -110,7 +109,7 @@ to_less V s d k from to to' fs gs F honest z fewer le =
 
 -- DATA COME
 
-nil_right : {A : Type 0} (xs ys : List A) → xs ++ ys ≡ [] → ys ≡ []
+pub nil_right : {A : Type 0} (xs ys : List A) → xs ++ ys ≡ [] → ys ≡ []
 nil_right [] ys h = h
 nil_right (x ∷ xs) ys h = absurd (grind arith)
 
@@ -157,7 +156,7 @@ to_data_same V s d k o values from to fs gs F =
     go : (j : ℕ) (p : Receive) (u : Held) (got : List ℕ) → is_collecting s k (Collecting p u got) ≡ true → from.known d.rank ≤ d.incarnation → (t : Option (ℕ × Job)) → collecting s k to.jobs ≡ t → slice_get (collected to o values t).jobs j ≡ Some (Collecting p u got) → GoOn (length got) (count_of u.body) (flow k fs ++ promise (count (is_yes k) gs) (V s k))
     go j p u got i g None e x = absurd (none_collecting s k to.jobs j (Collecting p u got) e x i)
     go j p u got i g (Some (n, Waiting q)) e x = absurd (let c : false ≡ true = (some_collecting s k to.jobs (n, Waiting q) e).collects in grind arith)
-    go j p u got i g (Some (n, Offering y vs)) e x = absurd (let c : false ≡ true = (some_collecting s k to.jobs (n, Offering y vs) e).collects in grind arith)
+    go j p u got i g (Some (n, Offering y basic vs)) e x = absurd (let c : false ≡ true = (some_collecting s k to.jobs (n, Offering y basic vs) e).collects in grind arith)
     go j p u got i g (Some (n, Over q)) e x = absurd (let c : false ≡ true = (some_collecting s k to.jobs (n, Over q) e).collects in grind arith)
     go j p u got i g (Some (n, Closed)) e x = absurd (let c : false ≡ true = (some_collecting s k to.jobs (n, Closed) e).collects in grind arith)
     go j p u got i g (Some (n, Collecting q h had)) e x = at (length had == o) refl x
@@ -199,7 +198,7 @@ data_beside s k to a i o values ne j p u got x c = go (collecting a i to.jobs) r
     go : (t : Option (ℕ × Job)) → collecting a i to.jobs ≡ t → slice_get (collected to o values t).jobs j ≡ Some (Collecting p u got) → slice_get to.jobs j ≡ Some (Collecting p u got)
     go None e x = x
     go (Some (n, Waiting q)) e x = x
-    go (Some (n, Offering y vs)) e x = x
+    go (Some (n, Offering y basic vs)) e x = x
     go (Some (n, Over q)) e x = x
     go (Some (n, Closed)) e x = x
     go (Some (n, Collecting q h had)) e x = at (length had == o) x
@@ -226,14 +225,14 @@ data_beside s k to a i o values ne j p u got x c = go (collecting a i to.jobs) r
 
 pub from_more : (V : Values) (s d : Endpoint) (k : ℕ) (from from' to : Core) (fs gs gs' : List Frame) (out : List (Endpoint × Frame)) → Flowing V s d k from to fs gs → (length from.jobs ≤ k → tok s k to fs gs ≡ 0) →
     length from.jobs ≤ length from'.jobs → IsNext (envelopes d k out) k (length from.jobs) (length from'.jobs) → flow k (frames_to d out) ≡ [] → count (is_cts k) gs' ≡ count (is_cts k) gs → count (is_yes k) gs' ≡ count (is_yes k) gs →
-    from.known d.rank ≤ from'.known d.rank → ((values : List ℕ) → from'.known d.rank ≤ d.incarnation → Offers from k d values → Offers from' k d values) → (1 ≤ envelopes d k out → (values : List ℕ) × Offers from' k d values) →
+    from.known d.rank ≤ from'.known d.rank → ((basic : BasicType) (values : List ℕ) → from'.known d.rank ≤ d.incarnation → Offers from k d basic values → Offers from' k d basic values) → (1 ≤ envelopes d k out → (basic : BasicType) × (values : List ℕ) × Offers from' k d basic values) →
     Flowing V s d k from' to (fs ++ frames_to d out) gs'
 from_more V s d k from from' to fs gs gs' out F z len next fl cts wants knows keeps sends =
     record {
       once = (let o : collects s k to + parts s k to + count (is_rts k) fs ≤ 1 = F.once in ⊎_elim (λ a. omega (arith, o, a, rts)) (λ a. (let l : length from.jobs ≤ k = at_last a.1 in let q0 : collects s k to ≡ 0 = (F.fresh l).0 in omega (arith, q0, z l, a.0, rts))) next);
       fresh = λ l. (let q = F.fresh (omega (arith, l, len)) in (q.0, same_flow ∙ q.1));
       none = λ h. same_flow ∙ ⊎_elim (λ a. F.none (omega (arith, h, a, rts, cts))) (λ a. (F.fresh (at_last a.1)).1) next;
-      offered = λ h g. ⊎_elim (λ a. (let o = F.offered (omega (arith, h, a, rts, cts)) (omega (arith, g, knows)) in (o.0, keeps o.0 g o.1))) (λ a. sends (let b : envelopes d k out ≡ 1 = a.0 in omega (arith, b))) next;
+      offered = λ h g. ⊎_elim (λ a. (let o = F.offered (omega (arith, h, a, rts, cts)) (omega (arith, g, knows)) in (o.0, o.1, keeps o.0 o.1 g o.2))) (λ a. sends (let b : envelopes d k out ≡ 1 = a.0 in omega (arith, b))) next;
       goes_on = λ j p u got x i g. subst (λ (ps : List (ℕ × ℕ)). GoOn (length got) (count_of u.body) (ps ++ promise (count (is_yes k) gs') (V s k))) (sym same_flow)
           (subst (λ (n : ℕ). GoOn (length got) (count_of u.body) (flow k fs ++ promise n (V s k))) (sym wants) (F.goes_on j p u got x i (omega (arith, g, knows))));
     }
@@ -274,34 +273,35 @@ from_answered V s d k w from to fs gs F honest at_most z known len env =
 
     goes : (j : ℕ) (p : Receive) (h : Held) (got : List ℕ) → slice_get to.jobs j ≡ Some (Collecting p h got) → is_collecting s k (Collecting p h got) ≡ true → (answered from d k w (slice_get from.jobs k)).core.known d.rank ≤ d.incarnation →
         GoOn (length got) (count_of h.body) (flow k (fs ++ frames_to d out) ++ promise (count (is_yes k) gs) (V s k))
-    goes j p u got x i g = subst (λ (ps : List (ℕ × ℕ)). GoOn (length got) (count_of u.body) ps) (sym (same w o.1 out_flow)) old
+    goes j p u got x i g = same w (answered_flow d k from o.0 o.1 w o.2) (F.goes_on j p u got x i g')
       where
         g' : from.known d.rank ≤ d.incarnation
         g' = subst (λ (f : ℕ → ℕ). f d.rank ≤ d.incarnation) known g
 
-        o : (values : List ℕ) × Offers from k d values
+        o : (basic : BasicType) × (values : List ℕ) × Offers from k d basic values
         o = F.offered (omega (arith, mine)) g'
 
-        is : o.0 ≡ V s k
-        is = honest k (Offering d o.0) o.1
+        is : o.1 ≡ V s k
+        is = honest k (Offering d o.0 o.1) o.2
 
-        old : GoOn (length got) (count_of u.body) (flow k fs ++ promise (count (is_yes k) (Cts k w ∷ gs)) (V s k))
-        old = F.goes_on j p u got x i g'
-
-        out_flow : flow k (frames_to d out) ≡ (if w then lengths (pieces (length o.0) 127 0 o.0) else [])
-        out_flow = answered_flow d k from o.0 w o.1
-
-        same : (t : Bool) → Offers from k d o.0 → flow k (frames_to d out) ≡ (if t then lengths (pieces (length o.0) 127 0 o.0) else []) →
-            flow k (fs ++ frames_to d out) ++ promise (count (is_yes k) gs) (V s k) ≡ flow k fs ++ promise (one ((k == k) && t) + count (is_yes k) gs) (V s k)
-        same true y e =
+        same : (t : Bool) → flow k (frames_to d out) ≡ (if t then lengths (cut o.0 o.1) else []) →
+            GoOn (length got) (count_of u.body) (flow k fs ++ promise (one ((k == k) && t) + count (is_yes k) gs) (V s k)) →
+            GoOn (length got) (count_of u.body) (flow k (fs ++ frames_to d out) ++ promise (count (is_yes k) gs) (V s k))
+        same true e old =
             let n : one ((k == k) && true) ≡ 1 = ap (λ (b : Bool). one (b && true)) (eq-eqb k k refl) in
-            let pr : promise (one ((k == k) && true) + count (is_yes k) gs) (V s k) ≡ lengths (pieces (length (V s k)) 127 0 (V s k)) = promise_some (one ((k == k) && true) + count (is_yes k) gs) (V s k) (omega (arith, n)) in
+            let pr : promise (one ((k == k) && true) + count (is_yes k) gs) (V s k) ≡ (0, length (V s k)) ∷ [] = promise_some (one ((k == k) && true) + count (is_yes k) gs) (V s k) (omega (arith, n)) in
             let em : promise (count (is_yes k) gs) (V s k) ≡ [] = ap (λ (m : ℕ). promise m (V s k)) no_yes in
-            let fl : flow k (frames_to d out) ≡ lengths (pieces (length (V s k)) 127 0 (V s k)) = e ∙ ap (λ (vs : List ℕ). lengths (pieces (length vs) 127 0 vs)) is in
+            let fl : flow k (frames_to d out) ≡ lengths (cut o.0 (V s k)) = e ∙ ap (λ (vs : List ℕ). lengths (cut o.0 vs)) is in
+            let now : flow k (fs ++ frames_to d out) ++ promise (count (is_yes k) gs) (V s k) ≡ flow k fs ++ lengths (cut o.0 (V s k)) =
             ap (λ (ps : List (ℕ × ℕ)). flow k (fs ++ frames_to d out) ++ ps) em
-            ∙ (append-nil (flow k (fs ++ frames_to d out)) ∙ (flow_append k fs (frames_to d out) ∙ (ap (λ (ps : List (ℕ × ℕ)). flow k fs ++ ps) fl ∙ ap (λ (ps : List (ℕ × ℕ)). flow k fs ++ ps) (sym pr))))
-        same false y e =
+            ∙ (append-nil (flow k (fs ++ frames_to d out)) ∙ (flow_append k fs (frames_to d out) ∙ ap (λ (ps : List (ℕ × ℕ)). flow k fs ++ ps) fl)) in
+            subst (λ (ps : List (ℕ × ℕ)). GoOn (length got) (count_of u.body) ps) (sym now)
+            (in_pieces (length (V s k)) (piece_values o.0) (V s k) (length got) (count_of u.body) (flow k fs)
+            (subst (λ (ps : List (ℕ × ℕ)). GoOn (length got) (count_of u.body) (flow k fs ++ ps)) pr old))
+        same false e old =
             let m : one ((k == k) && false) ≡ 0 = ap (λ (b : Bool). one (b && false)) (eq-eqb k k refl) in
             let n : one ((k == k) && false) + count (is_yes k) gs ≡ count (is_yes k) gs = omega (arith, m) in
+            let now : flow k (fs ++ frames_to d out) ++ promise (count (is_yes k) gs) (V s k) ≡ flow k fs ++ promise (one ((k == k) && false) + count (is_yes k) gs) (V s k) =
             ap (λ (ps : List (ℕ × ℕ)). ps ++ promise (count (is_yes k) gs) (V s k)) (flow_append k fs (frames_to d out) ∙ (ap (λ (ps : List (ℕ × ℕ)). flow k fs ++ ps) e ∙ append-nil (flow k fs)))
-            ∙ ap (λ (m : ℕ). flow k fs ++ promise m (V s k)) (sym n)
+            ∙ ap (λ (m : ℕ). flow k fs ++ promise m (V s k)) (sym n) in
+            subst (λ (ps : List (ℕ × ℕ)). GoOn (length got) (count_of u.body) ps) (sym now) old

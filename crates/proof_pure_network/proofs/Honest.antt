@@ -19,7 +19,7 @@ use Rattle.proof_pure_network.specs.Frames.{Cts, Data, Eager, Frame, Rts, Values
 use Rattle.proof_pure_network.specs.Held.{Body, Held, Part, Whole, body_values, count_of, full}
 use Rattle.proof_pure_network.specs.Jobs.{Closed, Collecting, Job, Offering, Over, Waiting, collecting, ended, matched_job, matched_part, oldest_posted, over_at, with_more}
 use Rattle.proof_pure_network.specs.Matching.{answer, arrived, arrived_at, found, posted, posted_at, receives}
-use Rattle.proof_pure_network.specs.Transfers.{answered, collected, data_frames, wanted_data, pieces}
+use Rattle.proof_pure_network.specs.Transfers.{answered, collected, data_frames, wanted_data, cut, piece_values, pieces}
 use Rattle.proof_pure_network.proofs.EngineSteps.{Collects, collecting_parts, part_values, some_collecting}
 use Rattle.proof_pure_network.proofs.HonestValues.{Begin, HonestCore, HonestJobs, IsHonest, IsHonestHeld, IsHonestJob, IsInParts, IsPiece, begin_more}
 use Rattle.proof_pure_network.proofs.JobLemmas.{All_append, All_filter, All_left, All_right, Fewer, fewer_dropped, fewer_ended, fewer_set, fewer_settled, fewer_used, settled_held}
@@ -49,7 +49,7 @@ honest_set V e js i r new' old k x h = ⊎_elim (λ a. old k x a) (λ a. subst (
 pub honest_fewer : (V : Values) (e : Endpoint) (js js' : List Job) → Fewer js js' → HonestJobs V e js → HonestJobs V e js'
 honest_fewer V e js js' f old k (Waiting p) h = tt
 honest_fewer V e js js' f old k (Collecting p x got) h = old k (Collecting p x got) (f k (Collecting p x got) tt h)
-honest_fewer V e js js' f old k (Offering d values) h = old k (Offering d values) (f k (Offering d values) tt h)
+honest_fewer V e js js' f old k (Offering d basic values) h = old k (Offering d basic values) (f k (Offering d basic values) tt h)
 honest_fewer V e js js' f old k (Over o) h = tt
 honest_fewer V e js js' f old k Closed h = tt
 
@@ -106,7 +106,7 @@ called_honest V e core (Isend c (Rank to) (Some tag) from) is hc = go (is_same (
     go : (own small : Bool) → HonestCore V e (sends e core (receiver core.known to) own c tag from.buffer.basic (data_of from) small).core
     go true small = arrived_honest V e (pushed_over core) (own_message e c tag from.buffer.basic (data_of from)) (refl, tt) (push_over V e core Sent hc)
     go false true = push_over V e core Sent hc
-    go false false = record { held = hc.held; jobs = honest_push V e core.jobs (Offering (receiver core.known to) (data_of from)) is hc.jobs }
+    go false false = record { held = hc.held; jobs = honest_push V e core.jobs (Offering (receiver core.known to) from.buffer.basic (data_of from)) is hc.jobs }
 called_honest V e core (Irecv p) is hc = go p.source
   where
     go : (src : Source) → HonestCore V e (receives core p src).core
@@ -143,7 +143,7 @@ collected_honest V e core s k o values piece hc = go (collecting s k core.jobs) 
     go : (t : Option (ℕ × Job)) → collecting s k core.jobs ≡ t → HonestCore V e (collected core o values t)
     go None x = hc
     go (Some (j, Waiting p)) x = hc
-    go (Some (j, Offering d vs)) x = hc
+    go (Some (j, Offering d basic vs)) x = hc
     go (Some (j, Over u)) x = hc
     go (Some (j, Closed)) x = hc
     go (Some (j, Collecting p h got)) x = at (length got == o) refl
@@ -177,9 +177,9 @@ came_honest V e core s (Cts k w) honest hc = go (slice_get core.jobs k)
     go (Some (Collecting p h got)) = hc
     go (Some (Over o)) = hc
     go (Some Closed) = hc
-    go (Some (Offering d values)) = at (is_same d s)
+    go (Some (Offering d basic values)) = at (is_same d s)
       where
-        at : (t : Bool) → HonestCore V e (if t then effect (with_jobs core (slice_set core.jobs k (Over Sent))) (wanted_data d k values w) else effect core []).core
+        at : (t : Bool) → HonestCore V e (if t then effect (with_jobs core (slice_set core.jobs k (Over Sent))) (wanted_data d k basic values w) else effect core []).core
         at true = record { held = hc.held; jobs = honest_fewer V e core.jobs (slice_set core.jobs k (Over Sent)) (fewer_set core.jobs k Sent) hc.jobs }
         at false = hc
 
@@ -250,21 +250,21 @@ pieces_are whole before zero m o (x ∷ xs) l e = ((before, [], l, ap (λ (ys : 
 pieces_are whole before (suc fuel) m o (x ∷ xs) l e = ((before, rest, l, all ∙ e), pieces_are whole (before ++ first) fuel m (o + length first) rest (length-append before first ∙ ap (λ (i : ℕ). i + length first) l) (append_assoc before first rest ∙ (all ∙ e)))
   where
     first : List ℕ
-    first = take (suc m) (x ∷ xs)
+    first = take m (x ∷ xs)
 
     rest : List ℕ
-    rest = drop (suc m) (x ∷ xs)
+    rest = drop m (x ∷ xs)
 
     all : before ++ (first ++ rest) ≡ before ++ (x ∷ xs)
-    all = ap (λ (ys : List ℕ). before ++ ys) (take-append-drop (suc m) (x ∷ xs))
+    all = ap (λ (ys : List ℕ). before ++ ys) (take-append-drop m (x ∷ xs))
 
 data_out : (V : Values) (e d : Endpoint) (k : ℕ) (ps : List (ℕ × List ℕ)) → ArePieces (V e k) ps → HonestOut V e (data_frames d k ps)
 data_out V e d k [] a = tt
 data_out V e d k (p ∷ ps) a = (a.0, data_out V e d k ps a.1)
 
-of_out : (V : Values) (e d : Endpoint) (k : ℕ) (values : List ℕ) (w : Bool) → values ≡ V e k → HonestOut V e (wanted_data d k values w)
-of_out V e d k values true h = data_out V e d k (pieces (length values) 127 0 values) (pieces_are (V e k) [] (length values) 127 0 values refl h)
-of_out V e d k values false h = tt
+of_out : (V : Values) (e d : Endpoint) (k : ℕ) (basic : BasicType) (values : List ℕ) (w : Bool) → values ≡ V e k → HonestOut V e (wanted_data d k basic values w)
+of_out V e d k basic values true h = data_out V e d k (cut basic values) (pieces_are (V e k) [] (length values) (piece_values basic) 0 values refl h)
+of_out V e d k basic values false h = tt
 
 pub came_out : (V : Values) (e : Endpoint) (core : Core) (s : Endpoint) (f : Frame) → HonestCore V e core → HonestOut V e (came core s f).out
 came_out V e core s (Eager c tag basic values) hc = arrived_out V e core (record { sender = s; context = c; tag = tag; basic = basic; body = Whole values })
@@ -278,8 +278,8 @@ came_out V e core s (Cts k w) hc = go (slice_get core.jobs k) refl
     go (Some (Collecting p h got)) x = tt
     go (Some (Over o)) x = tt
     go (Some Closed) x = tt
-    go (Some (Offering d values)) x = at (is_same d s)
+    go (Some (Offering d basic values)) x = at (is_same d s)
       where
-        at : (t : Bool) → HonestOut V e (if t then effect (with_jobs core (slice_set core.jobs k (Over Sent))) (wanted_data d k values w) else effect core []).out
-        at true = of_out V e d k values w (hc.jobs k (Offering d values) x)
+        at : (t : Bool) → HonestOut V e (if t then effect (with_jobs core (slice_set core.jobs k (Over Sent))) (wanted_data d k basic values w) else effect core []).out
+        at true = of_out V e d k basic values w (hc.jobs k (Offering d basic values) x)
         at false = tt

@@ -42,7 +42,7 @@ IsHonest V s (Data k o values) = IsPiece (V s k) o values
 abbrev pub IsHonestJob : Values → Endpoint → ℕ → Job → Type 0
 IsHonestJob V e k (Waiting p) = Unit {0}
 IsHonestJob V e k (Collecting p h got) = IsHonestHeld V h × Begin (body_values V h.sender h.body) got × IsInParts h.body × (length got < count_of h.body)
-IsHonestJob V e k (Offering d values) = values ≡ V e k
+IsHonestJob V e k (Offering d basic values) = values ≡ V e k
 IsHonestJob V e k (Over o) = Unit {0}
 IsHonestJob V e k Closed = Unit {0}
 

@@ -7,6 +7,7 @@ use Rattle.perfect_queues.specs.Calls.{Call}
 use Rattle.vocabulary.specs.Endpoints.{is_same}
 use Rattle.perfect_queues.specs.Runs.{after_run}
 use Rattle.perfect_queues.specs.State.{Local, opening, with_local}
+use Rattle.vocabulary.specs.declared.basic_type.BasicType.{BasicType}
 use Rattle.vocabulary.specs.declared.endpoint.Endpoint.{Endpoint}
 use Rattle.perfect_queues.proofs.EndpointLemmas.{same_eq}
 use Rattle.proof_pure_network.specs.Core.{Core, NoneFits, new_core, view}
@@ -58,8 +59,8 @@ views V w x = view V (w.core x)
 
 -- a large send that is not over names another endpoint that it knows, and its token is there unless it is stale there
 pub record Due (w : Network) : Type 0 where
-  pub named : (x : Endpoint) (k : ℕ) (d : Endpoint) (values : List ℕ) → Offers (w.core x) k d values → ((w.core x).known d.rank ≡ d.incarnation) × (is_same d x ≡ false)
-  pub offered : (s d : Endpoint) → is_same s d ≡ false → (k : ℕ) (values : List ℕ) → is_stale (w.core d).known s ≡ false → Offers (w.core s) k d values → 1 ≤ token w.core w.link s d k
+  pub named : (x : Endpoint) (k : ℕ) (d : Endpoint) (basic : BasicType) (values : List ℕ) → Offers (w.core x) k d basic values → ((w.core x).known d.rank ≡ d.incarnation) × (is_same d x ≡ false)
+  pub offered : (s d : Endpoint) → is_same s d ≡ false → (k : ℕ) (basic : BasicType) (values : List ℕ) → is_stale (w.core d).known s ≡ false → Offers (w.core s) k d basic values → 1 ≤ token w.core w.link s d k
 
 -- each endpoint knows itself and those whose messages it holds, and has sent nothing to one that it does not know
 pub record Spoken (w : Network) : Type 0 where

@@ -67,7 +67,7 @@ pub job_posted : (V : Values) (o : Option Job) (q : Receive) → option_map (req
 job_posted V None q h = absurd (grind arith)
 job_posted V (Some (Waiting p)) q h = let e : p ≡ q = grind arith in ap (λ (x : Receive). Some (Waiting x)) e
 job_posted V (Some (Collecting p g got)) q h = absurd (grind arith)
-job_posted V (Some (Offering d values)) q h = absurd (grind arith)
+job_posted V (Some (Offering d basic values)) q h = absurd (grind arith)
 job_posted V (Some (Over o)) q h = absurd (grind arith)
 job_posted V (Some Closed) q h = absurd (grind arith)
 
@@ -81,7 +81,7 @@ pub option_outcome : (V : Values) (o : Option Job) → outcome_of (option_map (r
 option_outcome V None = refl
 option_outcome V (Some (Waiting p)) = refl
 option_outcome V (Some (Collecting p g got)) = refl
-option_outcome V (Some (Offering d values)) = refl
+option_outcome V (Some (Offering d basic values)) = refl
 option_outcome V (Some (Over o)) = refl
 option_outcome V (Some Closed) = refl
 
@@ -106,21 +106,21 @@ all_changed_map V f g e (k ∷ ks) js = all_changed_map V f g e ks (changed g js
 pub closed_gone : (V : Values) (j : Job) → request_of V (closed j) ≡ used_up (request_of V j)
 closed_gone V (Waiting p) = refl
 closed_gone V (Collecting p h got) = refl
-closed_gone V (Offering d values) = refl
+closed_gone V (Offering d basic values) = refl
 closed_gone V (Over o) = refl
 closed_gone V Closed = refl
 
 pub dropped_cancelled : (V : Values) (j : Job) → request_of V (dropped j) ≡ cancelled_request (request_of V j)
 dropped_cancelled V (Waiting p) = refl
 dropped_cancelled V (Collecting p h got) = refl
-dropped_cancelled V (Offering d values) = refl
+dropped_cancelled V (Offering d basic values) = refl
 dropped_cancelled V (Over o) = refl
 dropped_cancelled V Closed = refl
 
 abbrev pub IsLive : Job → Type 0
 IsLive (Waiting p) = Unit {0}
 IsLive (Collecting p h got) = Unit {0}
-IsLive (Offering d values) = Unit {0}
+IsLive (Offering d basic values) = Unit {0}
 IsLive (Over o) = ⊥
 IsLive Closed = ⊥
 
@@ -154,14 +154,14 @@ fewer_map g e (y ∷ js) (suc j) x l h = fewer_map g e js j x l h
 pub closed_ends : (y x : Job) → IsLive x → closed y ≡ x → y ≡ x
 closed_ends (Waiting p) x l h = h
 closed_ends (Collecting p m got) x l h = h
-closed_ends (Offering d values) x l h = h
+closed_ends (Offering d basic values) x l h = h
 closed_ends (Over o) x l h = absurd (subst IsLive (sym h) l)
 closed_ends Closed x l h = h
 
 pub dropped_ends : (y x : Job) → IsLive x → dropped y ≡ x → y ≡ x
 dropped_ends (Waiting p) x l h = absurd (subst IsLive (sym h) l)
 dropped_ends (Collecting p m got) x l h = h
-dropped_ends (Offering d values) x l h = h
+dropped_ends (Offering d basic values) x l h = h
 dropped_ends (Over o) x l h = h
 dropped_ends Closed x l h = h
 
@@ -172,7 +172,7 @@ by_test false o y x l h = h
 pub ended_ends : (r i : ℕ) (y x : Job) → IsLive x → ended r i y ≡ x → y ≡ x
 ended_ends r i (Waiting p) x l h = by_test (names p.source r) (Replaced (Some p.into.buffer.values)) (Waiting p) x l h
 ended_ends r i (Collecting p m got) x l h = by_test (names p.source r || is_former r i m.sender) (Replaced (Some p.into.buffer.values)) (Collecting p m got) x l h
-ended_ends r i (Offering d values) x l h = by_test (d.rank == r) (Replaced None) (Offering d values) x l h
+ended_ends r i (Offering d basic values) x l h = by_test (d.rank == r) (Replaced None) (Offering d basic values) x l h
 ended_ends r i (Over o) x l h = h
 ended_ends r i Closed x l h = h
 

@@ -69,9 +69,9 @@ came_known core a (Cts k w) = go (slice_get core.jobs k)
     go (Some (Collecting p h got)) = refl
     go (Some (Over o)) = refl
     go (Some Closed) = refl
-    go (Some (Offering d values)) = at (is_same d a)
+    go (Some (Offering d basic values)) = at (is_same d a)
       where
-        at : (t : Bool) → (if t then effect (with_jobs core (slice_set core.jobs k (Over Sent))) (wanted_data d k values w) else effect core []).core.known ≡ core.known
+        at : (t : Bool) → (if t then effect (with_jobs core (slice_set core.jobs k (Over Sent))) (wanted_data d k basic values w) else effect core []).core.known ≡ core.known
         at true = refl
         at false = refl
 came_known core a (Data k o values) = go (collecting a k core.jobs)
@@ -79,7 +79,7 @@ came_known core a (Data k o values) = go (collecting a k core.jobs)
     go : (t : Option (ℕ × Job)) → (collected core o values t).known ≡ core.known
     go None = refl
     go (Some (j, Waiting p)) = refl
-    go (Some (j, Offering d vs)) = refl
+    go (Some (j, Offering d basic vs)) = refl
     go (Some (j, Over u)) = refl
     go (Some (j, Closed)) = refl
     go (Some (j, Collecting p h got)) = at (length got == o)

@@ -26,3 +26,10 @@ pub mod FlowCore
 pub mod FlowSends
 pub mod Flowing
 pub mod FlowKept
+pub mod Announced
+pub mod AnnouncedKept
+pub mod LinksGrow
+pub mod Pieces
+pub mod AnnouncedAs
+pub mod AgreeKept
+pub mod TransferLaws

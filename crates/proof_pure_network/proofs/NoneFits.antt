@@ -65,7 +65,7 @@ receives_quiet core p (Rank r) quiet = posted_quiet core p quiet
 pub sends_quiet : (e : Endpoint) (core : Core) (d : Endpoint) (own : Bool) (c tag : ℕ) (basic : BasicType) (values : List ℕ) (small : Bool) → NoneFits core → NoneFits (sends e core d own c tag basic values small).core
 sends_quiet e core d true c tag basic values small quiet = arrived_quiet (pushed_over core) (own_message e c tag basic values) (push_quiet core (Over Sent) (over_isnt Sent) quiet)
 sends_quiet e core d false c tag basic values true quiet = push_quiet core (Over Sent) (over_isnt Sent) quiet
-sends_quiet e core d false c tag basic values false quiet = push_quiet core (Offering d values) (λ p x. absurd (grind arith)) quiet
+sends_quiet e core d false c tag basic values false quiet = push_quiet core (Offering d basic values) (λ p x. absurd (grind arith)) quiet
 
 pub called_quiet : (e : Endpoint) (core : Core) (c : Call) → NoneFits core → NoneFits (called e core c).core
 called_quiet e core (Isend c Any tag from) quiet = push_quiet core (Over Sent) (over_isnt Sent) quiet
@@ -88,9 +88,9 @@ answered_quiet core s k w (Some (Waiting p)) quiet = quiet
 answered_quiet core s k w (Some (Collecting p h got)) quiet = quiet
 answered_quiet core s k w (Some (Over o)) quiet = quiet
 answered_quiet core s k w (Some Closed) quiet = quiet
-answered_quiet core s k w (Some (Offering d values)) quiet = go (is_same d s)
+answered_quiet core s k w (Some (Offering d basic values)) quiet = go (is_same d s)
   where
-    go : (t : Bool) → NoneFits (if t then effect (with_jobs core (slice_set core.jobs k (Over Sent))) (wanted_data d k values w) else effect core []).core
+    go : (t : Bool) → NoneFits (if t then effect (with_jobs core (slice_set core.jobs k (Over Sent))) (wanted_data d k basic values w) else effect core []).core
     go true = fewer_quiet core (with_jobs core (slice_set core.jobs k (Over Sent))) (fewer_set core.jobs k Sent) refl quiet
     go false = quiet
 
@@ -104,7 +104,7 @@ more_isnt p h got q e = go (length got == count_of h.body) e
 pub collected_quiet : (core : Core) (o : ℕ) (values : List ℕ) (t : Option (ℕ × Job)) → NoneFits core → NoneFits (collected core o values t)
 collected_quiet core o values None quiet = quiet
 collected_quiet core o values (Some (j, Waiting p)) quiet = quiet
-collected_quiet core o values (Some (j, Offering d vs)) quiet = quiet
+collected_quiet core o values (Some (j, Offering d basic vs)) quiet = quiet
 collected_quiet core o values (Some (j, Over u)) quiet = quiet
 collected_quiet core o values (Some (j, Closed)) quiet = quiet
 collected_quiet core o values (Some (j, Collecting p h got)) quiet = go (length got == o)

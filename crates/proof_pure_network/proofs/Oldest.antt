@@ -22,7 +22,7 @@ takes_none m (Waiting p) h q e = go (fits p m) refl
     go true u = let n : Some p ≡ None = rw u at h in absurd (grind arith)
     go false u = subst (λ (x : Receive). fits x m ≡ false) same_p u
 takes_none m (Collecting p n got) h q e = absurd (grind arith)
-takes_none m (Offering d values) h q e = absurd (grind arith)
+takes_none m (Offering d basic values) h q e = absurd (grind arith)
 takes_none m (Over o) h q e = absurd (grind arith)
 takes_none m Closed h q e = absurd (grind arith)
 
@@ -36,7 +36,7 @@ takes_some m (Waiting q) p h = go (fits q m) refl
         (ap Waiting e, subst (λ (x : Receive). fits x m ≡ true) e u)
     go false u = let n : None ≡ Some p = rw u at h in absurd (grind arith)
 takes_some m (Collecting q n got) p h = absurd (grind arith)
-takes_some m (Offering d values) p h = absurd (grind arith)
+takes_some m (Offering d basic values) p h = absurd (grind arith)
 takes_some m (Over o) p h = absurd (grind arith)
 takes_some m Closed p h = absurd (grind arith)
 

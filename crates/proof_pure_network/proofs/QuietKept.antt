@@ -10,6 +10,7 @@ use Rattle.perfect_queues.specs.Receives.{Receive, accepts}
 use Rattle.perfect_queues.specs.Requests.{Matched, Posted, Request, Sending}
 use Rattle.perfect_queues.specs.Runs.{after_run}
 use Rattle.perfect_queues.specs.State.{State, opening}
+use Rattle.vocabulary.specs.declared.basic_type.BasicType.{BasicType}
 use Rattle.vocabulary.specs.declared.endpoint.Endpoint.{Endpoint}
 use Rattle.perfect_queues.proofs.EndpointLemmas.{same_eq, same_refl}
 use Rattle.proof_pure_network.specs.Core.{is_of, view}
@@ -33,11 +34,11 @@ use Rattle.proof_pure_network.proofs.Simulation.{Sim, fault_same, is_stale}
 use Rattle.proof_pure_network.proofs.Tokens.{count, is_cts, is_part_from, is_rts, one, parts, same_sym}
 
 -- a request that the machine has as sending is a job that offers
-pub job_sending : (V : Values) (o : Option Job) (d : Endpoint) → option_map (request_of V) o ≡ Some (Sending d) → (values : List ℕ) × (o ≡ Some (Offering d values))
+pub job_sending : (V : Values) (o : Option Job) (d : Endpoint) → option_map (request_of V) o ≡ Some (Sending d) → (basic : BasicType) × (values : List ℕ) × (o ≡ Some (Offering d basic values))
 job_sending V None d h = absurd (grind arith)
 job_sending V (Some (Waiting p)) d h = absurd (grind arith)
 job_sending V (Some (Collecting p g got)) d h = absurd (grind arith)
-job_sending V (Some (Offering x values)) d h = let e : x ≡ d = grind arith in (values, ap (λ (y : Endpoint). Some (Offering y values)) e)
+job_sending V (Some (Offering x basic values)) d h = let e : x ≡ d = grind arith in (basic, values, ap (λ (y : Endpoint). Some (Offering y basic values)) e)
 job_sending V (Some (Over o)) d h = absurd (grind arith)
 job_sending V (Some Closed) d h = absurd (grind arith)
 
@@ -50,7 +51,7 @@ job_matched V (Some (Collecting q h got)) p m e =
     let a : q ≡ p = grind arith in
     let b : fill V h ≡ m = cc in
     (h, got, ap (λ (x : Receive). Some (Collecting x h got)) a, b)
-job_matched V (Some (Offering x values)) p m e = absurd (grind arith)
+job_matched V (Some (Offering x basic values)) p m e = absurd (grind arith)
 job_matched V (Some (Over o)) p m e = absurd (grind arith)
 job_matched V (Some Closed) p m e = absurd (grind arith)
 
@@ -178,7 +179,7 @@ quiet_rest V w st k idle e s are = record { nothing_fits = fits; receives_are_fi
                 omega (arith, ends, short)
             at (suc y) r =
                 let open_send = F.offered (omega (arith, r, yes_count t.0 (in_flight (w.link e s)))) no_follower in
-                let knows = (k.due.named s t.0 e open_send.0 open_send.1).0 in
+                let knows = (k.due.named s t.0 e open_send.0 open_send.1 open_send.2).0 in
                 let none : count (is_yes t.0) (in_flight (w.link e s)) ≡ 0 = ap (count (is_yes t.0)) (idle e s ee ss knows kk) in
                 omega (arith, r, none)
 
@@ -186,9 +187,9 @@ quiet_rest V w st k idle e s are = record { nothing_fits = fits; receives_are_fi
     finished i h matched =
         let of : slice_get (map (request_of V) (w.core s).jobs) i ≡ Some (Sending e) = subst (λ (rs : List Request). slice_get rs i ≡ Some (Sending e)) (k.joined.each s).requests h in
         let o = job_sending V (slice_get (w.core s).jobs i) e (sym (slice_get-map (request_of V) (w.core s).jobs i) ∙ of) in
-        let nm = k.due.named s i e o.0 o.1 in
+        let nm = k.due.named s i e o.0 o.1 o.2 in
         let live : is_stale (w.core e).known s ≡ false = le-ltb s.incarnation ((w.core e).known s.rank) (omega (arith, kk)) in
-        let t : 1 ≤ token w.core w.link s e i = k.due.offered s e (same_sym s e ∙ nm.1) i o.0 live o.1 in
+        let t : 1 ≤ token w.core w.link s e i = k.due.offered s e (same_sym s e ∙ nm.1) i o.0 o.1 live o.2 in
         let r : count (is_rts i) (in_flight (w.link s e)) ≡ 0 = ap (count (is_rts i)) idle_in in
         let c : count (is_cts i) (in_flight (w.link e s)) ≡ 0 = ap (count (is_cts i)) (idle e s ee ss nm.0 kk) in
         let p : parts s i (w.core e) ≡ 0 = held_stands V s i (w.core e).held (λ x. subst (λ (ms : List Message). AllByRecursion (λ m. m.request ≢ Some i) ms) (queue x) (matched x)) in

@@ -93,7 +93,7 @@ pub new_kept : (n : ℕ) (V : Values) → Kept n V new_network
 new_kept n V =
     record {
       sane = record { none_fits = λ x j q e. tt; known = known; unborn = λ x late. refl; unsent = λ x d late. refl; logs = λ x. refl; fits = λ x y. omega arith; cores = λ x. record { held = tt; jobs = λ k j h. absurd (grind arith) }; frames = λ s d. tt; once = λ s d apart k. omega arith; fresh = λ s d apart k l. omega arith };
-      due = record { named = λ x k d values h. absurd (grind arith); offered = λ s d apart k values live h. absurd (grind arith) };
+      due = record { named = λ x k d basic values h. absurd (grind arith); offered = λ s d apart k basic values live h. absurd (grind arith) };
       flows = record {
         pairs = λ s d apart k. record { once = omega arith; fresh = λ l. (refl, refl); none = λ h. refl; offered = λ h g. absurd (omega arith); goes_on = λ j p u got x i g. absurd (grind arith) };
         own = λ x k. omega arith;

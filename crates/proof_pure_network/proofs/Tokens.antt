@@ -20,7 +20,7 @@ use Rattle.proof_pure_network.specs.Held.{Body, Held, Part, Whole, is_part}
 use Rattle.proof_pure_network.specs.Jobs.{Closed, Collecting, Job, Offering, Over, Waiting, closed, collecting, dropped, ended, matched_job, oldest_posted, over_at, with_more}
 use Rattle.proof_pure_network.specs.Links.{Link, accept, accept_all, in_flight}
 use Rattle.proof_pure_network.specs.Matching.{answer, arrived, arrived_at, found, posted, posted_at, receives}
-use Rattle.proof_pure_network.specs.Transfers.{answered, collected, data_frames, wanted_data, pieces}
+use Rattle.proof_pure_network.specs.Transfers.{answered, collected, data_frames, wanted_data, cut}
 use Rattle.proof_pure_network.proofs.Oldest.{First, some_found}
 
 abbrev pub one : Bool → ℕ
@@ -202,9 +202,9 @@ data_answers s k d j (p ∷ ps) = go (is_same s d) (data_answers s k d j ps)
     go true h = omega (arith, h)
     go false h = h
 
-of_answers : (s : Endpoint) (k : ℕ) (d : Endpoint) (j : ℕ) (values : List ℕ) (w : Bool) → answers s k (wanted_data d j values w) ≡ 0
-of_answers s k d j values true = data_answers s k d j (pieces (length values) 127 0 values)
-of_answers s k d j values false = refl
+of_answers : (s : Endpoint) (k : ℕ) (d : Endpoint) (j : ℕ) (basic : BasicType) (values : List ℕ) (w : Bool) → answers s k (wanted_data d j basic values w) ≡ 0
+of_answers s k d j basic values true = data_answers s k d j (cut basic values)
+of_answers s k d j basic values false = refl
 
 answered_parts : (s : Endpoint) (k : ℕ) (core : Core) (a : Endpoint) (j : ℕ) (w : Bool) (o : Option Job) → parts s k (answered core a j w o).core + answers s k (answered core a j w o).out ≡ parts s k core + brings s k a (Cts j w)
 answered_parts s k core a j w None = omega (arith, one_false (is_same a s))
@@ -212,16 +212,16 @@ answered_parts s k core a j w (Some (Waiting p)) = omega (arith, one_false (is_s
 answered_parts s k core a j w (Some (Collecting p h got)) = omega (arith, one_false (is_same a s))
 answered_parts s k core a j w (Some (Over o)) = omega (arith, one_false (is_same a s))
 answered_parts s k core a j w (Some Closed) = omega (arith, one_false (is_same a s))
-answered_parts s k core a j w (Some (Offering d values)) = go (is_same d a)
+answered_parts s k core a j w (Some (Offering d basic values)) = go (is_same d a)
   where
-    go : (t : Bool) → parts s k (if t then effect (with_jobs core (slice_set core.jobs j (Over Sent))) (wanted_data d j values w) else effect core []).core + answers s k (if t then effect (with_jobs core (slice_set core.jobs j (Over Sent))) (wanted_data d j values w) else effect core []).out ≡ parts s k core + brings s k a (Cts j w)
-    go true = omega (arith, one_false (is_same a s), of_answers s k d j values w)
+    go : (t : Bool) → parts s k (if t then effect (with_jobs core (slice_set core.jobs j (Over Sent))) (wanted_data d j basic values w) else effect core []).core + answers s k (if t then effect (with_jobs core (slice_set core.jobs j (Over Sent))) (wanted_data d j basic values w) else effect core []).out ≡ parts s k core + brings s k a (Cts j w)
+    go true = omega (arith, one_false (is_same a s), of_answers s k d j basic values w)
     go false = omega (arith, one_false (is_same a s))
 
 pub collected_held : (core : Core) (o : ℕ) (values : List ℕ) (t : Option (ℕ × Job)) → (collected core o values t).held ≡ core.held
 collected_held core o values None = refl
 collected_held core o values (Some (j, Waiting p)) = refl
-collected_held core o values (Some (j, Offering d vs)) = refl
+collected_held core o values (Some (j, Offering d basic vs)) = refl
 collected_held core o values (Some (j, Over u)) = refl
 collected_held core o values (Some (j, Closed)) = refl
 collected_held core o values (Some (j, Collecting p h got)) = go (length got == o)
@@ -294,7 +294,7 @@ called_length e core (Isend c (Rank to) (Some tag) from) = go (is_same (receiver
     go : (own small : Bool) → length (sends e core (receiver core.known to) own c tag from.buffer.basic (data_of from) small).core.jobs ≡ length core.jobs + 1
     go true small = arrived_length (pushed_over core) (own_message e c tag from.buffer.basic (data_of from)) ∙ length_push core.jobs (Over Sent)
     go false true = length_push core.jobs (Over Sent)
-    go false false = length_push core.jobs (Offering (receiver core.known to) (data_of from))
+    go false false = length_push core.jobs (Offering (receiver core.known to) from.buffer.basic (data_of from))
 called_length e core (Irecv p) = go p.source
   where
     go : (src : Source) → length (receives core p src).core.jobs ≡ length core.jobs + 1
@@ -321,9 +321,9 @@ came_length core a (Cts k w) = go (slice_get core.jobs k)
     go (Some (Collecting p h got)) = refl
     go (Some (Over o)) = refl
     go (Some Closed) = refl
-    go (Some (Offering d values)) = at (is_same d a)
+    go (Some (Offering d basic values)) = at (is_same d a)
       where
-        at : (t : Bool) → length (if t then effect (with_jobs core (slice_set core.jobs k (Over Sent))) (wanted_data d k values w) else effect core []).core.jobs ≡ length core.jobs
+        at : (t : Bool) → length (if t then effect (with_jobs core (slice_set core.jobs k (Over Sent))) (wanted_data d k basic values w) else effect core []).core.jobs ≡ length core.jobs
         at true = length-set core.jobs k (Over Sent)
         at false = refl
 came_length core a (Data k o values) = go (collecting a k core.jobs)
@@ -331,7 +331,7 @@ came_length core a (Data k o values) = go (collecting a k core.jobs)
     go : (t : Option (ℕ × Job)) → length (collected core o values t).jobs ≡ length core.jobs
     go None = refl
     go (Some (j, Waiting p)) = refl
-    go (Some (j, Offering d vs)) = refl
+    go (Some (j, Offering d basic vs)) = refl
     go (Some (j, Over u)) = refl
     go (Some (j, Closed)) = refl
     go (Some (j, Collecting p h got)) = at (length got == o)
@@ -402,10 +402,10 @@ called_envelopes d k e core (Isend c (Rank to) (Some tag) from) = go (is_same x 
     small' true = refl
     small' false = refl
 
-    big : (t u : Bool) → (k == length core.jobs) ≡ u → IsNext (count (is_rts k) (if t then Rts c tag from.buffer.basic (length core.jobs) (length (data_of from)) ∷ [] else [])) k (length core.jobs) (length (core.jobs ++ Offering x (data_of from) ∷ []))
+    big : (t u : Bool) → (k == length core.jobs) ≡ u → IsNext (count (is_rts k) (if t then Rts c tag from.buffer.basic (length core.jobs) (length (data_of from)) ∷ [] else [])) k (length core.jobs) (length (core.jobs ++ Offering x from.buffer.basic (data_of from) ∷ []))
     big false u h = inl refl
     big true false h = inl (rw h refl)
-    big true true h = inr (rw h refl, eqb-true k (length core.jobs) h, length_push core.jobs (Offering x (data_of from)))
+    big true true h = inr (rw h refl, eqb-true k (length core.jobs) h, length_push core.jobs (Offering x from.buffer.basic (data_of from)))
 
     go : (own small : Bool) → IsNext (envelopes d k (sends e core x own c tag from.buffer.basic (data_of from) small).out) k (length core.jobs) (length (sends e core x own c tag from.buffer.basic (data_of from) small).core.jobs)
     go true small = inl (arrived_envelopes d k (pushed_over core) (own_message e c tag from.buffer.basic (data_of from)))
@@ -426,9 +426,9 @@ came_envelopes d k core a (Rts c tag basic j n) = arrived_envelopes d k core (re
 came_envelopes d k core a (Data j o values) = refl
 came_envelopes d k core a (Cts j w) = go (slice_get core.jobs j)
   where
-    of : (x : Endpoint) (values : List ℕ) (w : Bool) → envelopes d k (wanted_data x j values w) ≡ 0
-    of x values true = data_envelopes d k x j (pieces (length values) 127 0 values)
-    of x values false = refl
+    of : (x : Endpoint) (basic : BasicType) (values : List ℕ) (w : Bool) → envelopes d k (wanted_data x j basic values w) ≡ 0
+    of x basic values true = data_envelopes d k x j (cut basic values)
+    of x basic values false = refl
 
     go : (o : Option Job) → envelopes d k (answered core a j w o).out ≡ 0
     go None = refl
@@ -436,8 +436,8 @@ came_envelopes d k core a (Cts j w) = go (slice_get core.jobs j)
     go (Some (Collecting p h got)) = refl
     go (Some (Over o)) = refl
     go (Some Closed) = refl
-    go (Some (Offering x values)) = at (is_same x a)
+    go (Some (Offering x basic values)) = at (is_same x a)
       where
-        at : (t : Bool) → envelopes d k (if t then effect (with_jobs core (slice_set core.jobs j (Over Sent))) (wanted_data x j values w) else effect core []).out ≡ 0
-        at true = of x values w
+        at : (t : Bool) → envelopes d k (if t then effect (with_jobs core (slice_set core.jobs j (Over Sent))) (wanted_data x j basic values w) else effect core []).out ≡ 0
+        at true = of x basic values w
         at false = refl

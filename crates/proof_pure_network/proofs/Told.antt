@@ -7,6 +7,7 @@ use Rattle.perfect_queues.specs.Completions.{Answer, One, completion}
 use Rattle.vocabulary.specs.Endpoints.{is_former, is_same}
 use Rattle.perfect_queues.specs.Outcomes.{Sent}
 use Rattle.perfect_queues.specs.Receives.{Receive}
+use Rattle.vocabulary.specs.declared.basic_type.BasicType.{BasicType}
 use Rattle.vocabulary.specs.declared.endpoint.Endpoint.{Endpoint}
 use Rattle.vocabulary.specs.declared.envelope.Source.{Source}
 use Rattle.vocabulary.specs.declared.envelope.Source.TheVariants.{Any, Null, Rank}
@@ -18,7 +19,7 @@ use Rattle.proof_pure_network.specs.Held.{Body, Held, Part, Whole}
 use Rattle.proof_pure_network.specs.Jobs.{Closed, Collecting, Job, Offering, Over, Waiting, collecting, oldest_posted, over_at, with_more}
 use Rattle.proof_pure_network.specs.Links.{Link, accept, accept_all, handed_on}
 use Rattle.proof_pure_network.specs.Matching.{answer, arrived, arrived_at, found, posted, posted_at, receives}
-use Rattle.proof_pure_network.specs.Transfers.{answered, collected, data_frames, wanted_data, pieces}
+use Rattle.proof_pure_network.specs.Transfers.{answered, collected, data_frames, wanted_data, cut}
 use Rattle.proof_pure_network.proofs.JobLemmas.{All_append, All_filter, All_left, All_right}
 use Rattle.proof_pure_network.proofs.Oldest.{First, some_found}
 
@@ -94,9 +95,9 @@ data_told : (g : ℕ → ℕ) (d : Endpoint) (k : ℕ) (ps : List (ℕ × List �
 data_told g d k [] h = tt
 data_told g d k (p ∷ ps) h = (h, data_told g d k ps h)
 
-of_told : (g : ℕ → ℕ) (d : Endpoint) (k : ℕ) (values : List ℕ) (w : Bool) → IsKnown g d → Told g (wanted_data d k values w)
-of_told g d k values true h = data_told g d k (pieces (length values) 127 0 values) h
-of_told g d k values false h = tt
+of_told : (g : ℕ → ℕ) (d : Endpoint) (k : ℕ) (basic : BasicType) (values : List ℕ) (w : Bool) → IsKnown g d → Told g (wanted_data d k basic values w)
+of_told g d k basic values true h = data_told g d k (cut basic values) h
+of_told g d k basic values false h = tt
 
 pub came_speaks : (core : Core) (a : Endpoint) (f : Frame) → IsKnown core.known a → HeldKnown core.known core.held → Speaks core.known (came core a f)
 came_speaks core a (Eager c tag basic values) h old = arrived_speaks core.known core (record { sender = a; context = c; tag = tag; basic = basic; body = Whole values }) h old
@@ -112,11 +113,11 @@ came_speaks core a (Cts k w) h old = go (slice_get core.jobs k)
     go (Some (Collecting p u got)) = still
     go (Some (Over o)) = still
     go (Some Closed) = still
-    go (Some (Offering d values)) = at (is_same d a) refl
+    go (Some (Offering d basic values)) = at (is_same d a) refl
       where
-        at : (t : Bool) → is_same d a ≡ t → Speaks core.known (if t then effect (with_jobs core (slice_set core.jobs k (Over Sent))) (wanted_data d k values w) else effect core [])
+        at : (t : Bool) → is_same d a ≡ t → Speaks core.known (if t then effect (with_jobs core (slice_set core.jobs k (Over Sent))) (wanted_data d k basic values w) else effect core [])
         at false x = still
-        at true x = record { held = old; told = of_told core.known d k values w (subst (λ (z : Endpoint). IsKnown core.known z) (sym (same_eq d a x)) h) }
+        at true x = record { held = old; told = of_told core.known d k basic values w (subst (λ (z : Endpoint). IsKnown core.known z) (sym (same_eq d a x)) h) }
 came_speaks core a (Data k o values) h old = go (collecting a k core.jobs)
   where
     still : Speaks core.known (effect core [])
@@ -125,7 +126,7 @@ came_speaks core a (Data k o values) h old = go (collecting a k core.jobs)
     go : (t : Option (ℕ × Job)) → Speaks core.known (effect (collected core o values t) [])
     go None = still
     go (Some (j, Waiting p)) = still
-    go (Some (j, Offering d vs)) = still
+    go (Some (j, Offering d basic vs)) = still
     go (Some (j, Over u)) = still
     go (Some (j, Closed)) = still
     go (Some (j, Collecting p u got)) = at (length got == o)

@@ -32,7 +32,7 @@ abbrev pub sends : Endpoint → Core → Endpoint → Bool → (context tag : �
 sends e core d true c tag basic values eager = arrived (pushed_over core) (own_message e c tag basic values)
 sends e core d false c tag basic values true = effect (pushed_over core) ((d, Eager c tag basic values) ∷ [])
 sends e core d false c tag basic values false =
-    effect (with_jobs core (core.jobs ++ Offering d values ∷ [])) ((d, Rts c tag basic (length core.jobs) (length values)) ∷ [])
+    effect (with_jobs core (core.jobs ++ Offering d basic values ∷ [])) ((d, Rts c tag basic (length core.jobs) (length values)) ∷ [])
 
 -- a send to a rank, at the incarnation that is known; one to the null process is over at once (MPI 3.1, 3.11), and a
 -- wildcard, which is refused, is said to do no more

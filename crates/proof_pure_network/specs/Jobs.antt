@@ -4,16 +4,17 @@ use Rattle.vocabulary.specs.Endpoints.{is_former, is_same}
 use Rattle.perfect_queues.specs.Outcomes.{Cancelled, Outcome, Replaced, outcome, status_by, unfit}
 use Rattle.perfect_queues.specs.Receives.{Receive, has_room, names}
 use Rattle.perfect_queues.specs.Requests.{Finished, Gone, Matched, Posted, Request, Sending}
+use Rattle.vocabulary.specs.declared.basic_type.BasicType.{BasicType}
 use Rattle.vocabulary.specs.declared.endpoint.Endpoint.{Endpoint}
 use Rattle.proof_pure_network.specs.Frames.{Values}
 use Rattle.proof_pure_network.specs.Held.{Body, Held, Part, Whole, count_of, fill, fits, full, is_part}
 
 -- the engine's side of a request: a receive that waits, or that collects and has the first values; a send that offers
--- its values; one that is over; and one whose outcome was answered
+-- its values, which are of one basic type; one that is over; and one whose outcome was answered
 pub data Job : Type 0 where
   Waiting : Receive → Job
   Collecting : Receive → Held → List ℕ → Job
-  Offering : Endpoint → List ℕ → Job
+  Offering : Endpoint → BasicType → List ℕ → Job
   Over : Outcome → Job
   Closed : Job
 
@@ -21,7 +22,7 @@ pub data Job : Type 0 where
 abbrev pub request_of : Values → Job → Request
 request_of V (Waiting p) = Posted p
 request_of V (Collecting p h got) = Matched p (fill V h)
-request_of V (Offering d values) = Sending d
+request_of V (Offering d basic values) = Sending d
 request_of V (Over o) = Finished o
 request_of V Closed = Gone
 
@@ -29,7 +30,7 @@ request_of V Closed = Gone
 abbrev pub takes : Held → Job → Option Receive
 takes h (Waiting p) = if fits p h then Some p else None
 takes h (Collecting p g got) = None
-takes h (Offering d values) = None
+takes h (Offering d basic values) = None
 takes h (Over o) = None
 takes h Closed = None
 
@@ -68,14 +69,14 @@ abbrev pub closed : Job → Job
 closed (Over o) = Closed
 closed (Waiting p) = Waiting p
 closed (Collecting p h got) = Collecting p h got
-closed (Offering d values) = Offering d values
+closed (Offering d basic values) = Offering d basic values
 closed Closed = Closed
 
 -- only a receive that waits is cancelled (MPI 3.1, 3.8.4)
 abbrev pub dropped : Job → Job
 dropped (Waiting p) = Over (Cancelled p.into.buffer.values)
 dropped (Collecting p h got) = Collecting p h got
-dropped (Offering d values) = Offering d values
+dropped (Offering d basic values) = Offering d basic values
 dropped (Over o) = Over o
 dropped Closed = Closed
 
@@ -83,7 +84,7 @@ dropped Closed = Closed
 abbrev pub is_collecting : Endpoint → ℕ → Job → Bool
 is_collecting s k (Collecting p h got) = is_same h.sender s && is_part k h.body
 is_collecting s k (Waiting p) = false
-is_collecting s k (Offering d values) = false
+is_collecting s k (Offering d basic values) = false
 is_collecting s k (Over o) = false
 is_collecting s k Closed = false
 
@@ -103,6 +104,6 @@ abbrev pub ended : ℕ → ℕ → Job → Job
 ended r i (Waiting p) = if names p.source r then Over (Replaced (Some p.into.buffer.values)) else Waiting p
 ended r i (Collecting p h got) =
     if names p.source r || is_former r i h.sender then Over (Replaced (Some p.into.buffer.values)) else Collecting p h got
-ended r i (Offering d values) = if d.rank == r then Over (Replaced None) else Offering d values
+ended r i (Offering d basic values) = if d.rank == r then Over (Replaced None) else Offering d basic values
 ended r i (Over o) = Over o
 ended r i Closed = Closed

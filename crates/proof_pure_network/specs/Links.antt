@@ -1,5 +1,5 @@
 -- What the links between endpoints hold.
-use Rattle.std.specs.Prelude.{ℕ, suc, ◌&&◌, List, [], ◌∷◌, ◌++◌, drop, if◌then◌else◌}
+use Rattle.std.specs.Prelude.{ℕ, suc, ◌&&◌, List, [], ◌∷◌, ◌++◌, drop, take, if◌then◌else◌}
 use Rattle.vocabulary.specs.Endpoints.{is_same}
 use Rattle.vocabulary.specs.declared.endpoint.Endpoint.{Endpoint}
 use Rattle.proof_pure_network.specs.Frames.{Frame}
@@ -12,6 +12,10 @@ pub record Link : Type 0 where
 -- what was accepted and isn't handed up yet
 abbrev pub in_flight : Link → List Frame
 in_flight link = drop link.handed link.accepted
+
+-- what was handed up
+abbrev pub handed_up : Link → List Frame
+handed_up link = take link.handed link.accepted
 
 -- links where the one from s to d is changed
 abbrev pub with_link : (Endpoint → Endpoint → Link) → Endpoint → Endpoint → Link → Endpoint → Endpoint → Link

@@ -2,6 +2,7 @@
 
 ghost use Rattle.std.specs.Prelude.{◌≡◌, ℕ, List};
 ghost use Rattle.perfect_queues.specs.Example.{received_once};
+ghost use Rattle.proof_pure_network.specs.Announced.{TransfersStand};
 ghost use Rattle.proof_pure_network.specs.Example.{late_and_repeated};
 ghost use Rattle.proof_pure_network.specs.Network.{Happening, run, new_network, IsRunOfMachine};
 
@@ -20,6 +21,16 @@ pub fn histories_are_runs()
     ensures example { (run 2 late_and_repeated new_network).history ≡ received_once }
 {}
 
+/// States that on each link of the pure network no large message is announced twice, and that whatever speaks of one speaks
+/// of one that was announced, with its type and count: an answer, data under way, what its receiver holds or collects, and
+/// what its sender offers. So the number of a transfer is the place of its announcement on its link. It does nothing when it
+/// is called.
+///
+/// MPI 3.1, 3.4 leaves open how a standard send goes; that a large message is announced first is this project's own.
+pub fn transfers_are_announced()
+    ensures { (n : ℕ) (happenings : List Happening) → TransfersStand (run n happenings new_network) }
+{}
+
 #[cfg(test)]
 mod tests {
     use super::*;
@@ -27,5 +38,6 @@ mod tests {
     #[test]
     fn theorem_returns() {
         histories_are_runs();
+        transfers_are_announced();
     }
 }
