@@ -1,0 +1,5 @@
+pub mod Steps
+pub mod Firsts
+pub mod PieceLaws
+pub mod CourseLaws
+pub mod OfferLaws

@@ -1,0 +1,9 @@
+pub mod Pieces
+pub mod Offers
+pub mod Collecting
+pub mod Collected
+pub mod State
+pub mod WholePieces
+pub mod Events
+pub mod Courses
+pub mod Answered

@@ -1,0 +1,146 @@
+//! A message that comes in pieces.
+
+ghost use Rattle.std.specs.Prelude.{◌≡◌, ◌+◌, ◌*◌, ◌≤◌, ◌++◌, [], length, IfOk};
+ghost use Rattle.vocabulary.specs.BasicTypes.{size_of};
+ghost use Rattle.rendezvous.specs.Collecting.{Collecting, beginning, is_from, takes, is_whole, with_piece};
+ghost use Rattle.rendezvous.specs.Collected.{collected_of};
+
+use crate::piece::PIECE_BYTES;
+use crate::refused::OutOfMemory;
+use datatypes::Buffer;
+use std::alloc::Global;
+use std::marker::Model;
+use vocabulary::BasicType;
+
+/// A message for which this rank asked, and of whose data so much has come.
+#[derive(Debug, Drop)]
+pub struct Collection {
+    source: u16,
+    transfer: u32,
+    request: usize,
+    basic: BasicType,
+    total: usize,
+    bytes: Vec<u8>,
+}
+
+impl Model for Collection {
+    ghost use Rattle.std.specs.Prelude.{◌≡◌, ◌≤◌, ◌%◌, length, vec_capacity};
+    ghost use Rattle.vocabulary.specs.BasicTypes.{size_of};
+    ghost use Rattle.rendezvous.specs.Collecting.{Collecting, IsBounded};
+
+    ghost Value = { Collecting };
+
+    ghost view = { λ c. record {
+      source = c.source;
+      transfer = c.transfer;
+      request = c.request;
+      basic = c.basic;
+      total = c.total;
+      bytes = c.bytes.items;
+    } };
+
+    ghost invariant = { λ c. IsBounded c.basic c.total c.bytes.items (vec_capacity c.bytes) };
+}
+
+/// A message whose data have all come.
+#[derive(Debug, Drop)]
+pub struct Collected {
+    /// The key of the request that waited for it, in the rank's table of requests.
+    pub request: usize,
+    /// Its elements.
+    pub elements: Buffer,
+}
+
+impl Collection {
+    /// A message of so many elements that a rank announced, of which nothing has come. The memory for all its data is
+    /// taken now; it fails for want of memory alone. A message of no elements is over at its match: here no piece of it
+    /// is ever due.
+    pub fn new(
+        alloc: Global,
+        source: u16,
+        transfer: u32,
+        request: usize,
+        basic: BasicType,
+        count: usize,
+    ) -> Result<Collection, OutOfMemory>
+        ensures { IfOk result (λ collection. collection ≡ beginning source transfer request basic count) }
+    {
+        let Some(total) = count.checked_mul(usize::from(basic.size())) else {
+            return Err(OutOfMemory {});
+        };
+        let Ok(bytes) = Vec::with_capacity(alloc, total) else {
+            return Err(OutOfMemory {});
+        };
+        Ok(Collection {
+            source,
+            transfer,
+            request,
+            basic,
+            total,
+            bytes,
+        })
+    }
+
+    /// The rank from which it comes.
+    pub fn source(&self) -> u16
+        ensures { result ≡ self.now.source }
+    {
+        self.source
+    }
+
+    /// The key of the request that waits for it, in the rank's table of requests.
+    pub fn request(&self) -> usize
+        ensures { result ≡ self.now.request }
+    {
+        self.request
+    }
+
+    /// Whether it is the transfer from the rank that has this number.
+    pub fn is_from(&self, source: u16, transfer: u32) -> bool
+        ensures { result ≡ is_from source transfer self.now }
+    {
+        self.source == source && self.transfer == transfer
+    }
+
+    /// Whether these bytes are the next piece: they stand where the data end so far, and are as many as are due.
+    pub fn takes(&self, offset: u32, bytes: &[u8]) -> bool
+        ensures { result ≡ takes self.now offset bytes.now }
+    {
+        let due = (self.total - self.bytes.len()).min(PIECE_BYTES);
+        !bytes.is_empty() && offset as usize == self.bytes.len() && bytes.len() == due
+    }
+
+    /// Whether all data have come.
+    pub fn is_whole(&self) -> bool
+        ensures { result ≡ is_whole self.now }
+    {
+        self.bytes.len() == self.total
+    }
+
+    /// Takes the next piece, for which there is room.
+    pub(crate) fn push(&mut self, bytes: &[u8])
+        requires { length self.old.bytes + length bytes.now ≤ self.old.total }
+        ensures { self.new ≡ with_piece self.old bytes.now }
+    {
+        self.bytes.extend_from_slice(bytes).unwrap();
+    }
+
+    /// The message, all of whose data have come. It takes no memory.
+    pub(crate) fn into_collected(self) -> Collected
+        requires { length self.bytes ≡ self.total }
+        ensures { result ≡ collected_of self }
+    {
+        let Collection {
+            source: _,
+            transfer: _,
+            request,
+            basic,
+            total: _,
+            bytes,
+        } = self;
+        Collected {
+            request,
+            elements: Buffer::from_bytes(basic, bytes),
+        }
+    }
+}

@@ -1,0 +1,62 @@
+//! The pieces in which data go.
+
+ghost use Rattle.std.specs.Prelude.{◌≡◌, IfOk, IfSome, map, ◌<◌};
+ghost use Rattle.vocabulary.specs.BasicTypes.{size_of};
+ghost use Rattle.datatypes.specs.Contents.{bytes_of};
+ghost use Rattle.rendezvous.specs.Pieces.{piece_at, pieces_of, piece_count, piece_bytes};
+
+use crate::refused::OutOfMemory;
+use datatypes::Buffer;
+use std::alloc::Global;
+
+/// So many bytes go in one piece; the last one of a message may have fewer.
+pub const PIECE_BYTES: usize = 1024;
+
+/// A piece of a message's data.
+#[derive(Clone, Copy, Debug)]
+pub struct Piece<'a> {
+    /// How many bytes of the data stand before it.
+    pub offset: u32,
+    /// Its bytes: 1 to 1,024.
+    pub bytes: &'a [u8],
+}
+
+/// The piece with this number, from 0; none where its place has more than 32 bits.
+fn piece_at(contents: &[u8], number: usize) -> Option<Piece<'_>>
+    requires { number < piece_count piece_bytes contents.now }
+    ensures { IfSome result (λ p. (p.offset, p.bytes.now) ≡ piece_at piece_bytes contents.now number) }
+{
+    let start = number * PIECE_BYTES;
+    let Ok(offset) = u32::try_from(start) else {
+        return None;
+    };
+    let (_, rest) = contents.split_at(start);
+    let (bytes, _) = rest.split_at(rest.len().min(PIECE_BYTES));
+    Some(Piece { offset, bytes })
+}
+
+/// The pieces of these bytes, in order.
+fn cut(alloc: Global, contents: &[u8]) -> Result<Vec<Piece<'_>>, OutOfMemory>
+    ensures { IfOk result (λ pieces. map (λ p. (p.offset, p.bytes.now)) pieces.items ≡ pieces_of contents.now) }
+{
+    let count = contents.len().div_ceil(PIECE_BYTES);
+    let Ok(mut pieces) = Vec::with_capacity(alloc, count) else {
+        return Err(OutOfMemory {});
+    };
+    for number in 0..count {
+        let Some(piece) = piece_at(contents, number) else {
+            return Err(OutOfMemory {});
+        };
+        pieces.push_reserved(piece);
+    }
+    Ok(pieces)
+}
+
+/// The data of these elements in pieces of 1,024 bytes, in order, the last one of 1 to 1,024 bytes; they are lent. It fails for
+/// want of memory; data of more than 4 GiB, which no message has, count as that.
+pub fn pieces(alloc: Global, elements: &Buffer) -> Result<Vec<Piece<'_>>, OutOfMemory>
+    ensures { IfOk result (λ pieces. map (λ p. (p.offset, p.bytes.now)) pieces.items
+        ≡ pieces_of (bytes_of (size_of elements.now.basic) elements.now.values)) }
+{
+    cut(alloc, elements.as_bytes())
+}

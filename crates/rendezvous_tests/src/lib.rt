@@ -1,0 +1,5 @@
+//! Messages that go in pieces: each call of the library on its happy path, and what is refused.
+#![tactic(auto)]
+
+#[cfg(test)]
+mod transfers_tests;
