@@ -4,12 +4,13 @@ use Rattle.std.specs.Prelude.{codes}
 use Rattle.std.specs.Str.{bytes_eq}
 use Rattle.std.proofs.lemmas.Bool.{leb-true, le-leb}
 use Rattle.statements.specs.declared.action.Action.{Action}
-use Rattle.statements.specs.Grammar.{Word}
-use Rattle.statements.specs.Numbers.{number_or, number_up_to}
-use Rattle.statements.specs.Results.{◌>>=◌}
-use Rattle.statements.specs.Reading.{first, ended, rank_of, action_of}
-use Rattle.statements.proofs.WordLaws.{bind_ok, made, same_word, if_some, capped_takes, capped_again, bounded_takes, bounded_again}
-use Rattle.statements.proofs.FieldLaws.{rank_takes, rank_again}
+use Rattle.line_words.specs.Grammar.{Word}
+use Rattle.line_words.specs.Numbers.{number_or, number_up_to}
+use Rattle.line_words.specs.Results.{◌>>=◌}
+use Rattle.statements.specs.Reading.{action_of}
+use Rattle.line_words.specs.Fields.{first, ended, rank_of}
+use Rattle.line_words.proofs.WordLaws.{bind_ok, made, same_word, if_some, capped_takes, capped_again, bounded_takes, bounded_again}
+use Rattle.line_words.proofs.FieldLaws.{rank_takes, rank_again}
 use Rattle.statements.proofs.ActionLaws.{action_takes, action_again}
 use Rattle.event_files.specs.declared.verb.Verb.{Verb}
 use Rattle.event_files.specs.declared.verb.Verb.TheVariants as verbs

@@ -1,13 +1,13 @@
 -- Files of events: reading and the grammar agree.
 use Rattle.std.proofs.Common.{◌≡◌, ℕ, ◌+◌, List, [], ◌∷◌, Option, Some, None, Result, Ok, Err, refl, sym, ap, subst, ◌∙◌, inl, inr}
-use Rattle.statements.specs.declared.fault.ParseError.{ParseError}
-use Rattle.statements.specs.declared.fault.ParseError.TheVariants as errors
-use Rattle.statements.specs.Grammar.{Word}
-use Rattle.statements.specs.Lines.{lines_of, line_of, numbered, lines_from}
-use Rattle.statements.specs.Results.{GivesLines}
-use Rattle.statements.specs.Texts.{LineSays}
-use Rattle.statements.proofs.WordLaws.{bind_ok, made}
-use Rattle.statements.proofs.LineLaws.{Agree, line_skipped, line_said, line_again, line_faulty, lines_take, lines_again, lines_fault}
+use Rattle.line_words.specs.declared.fault.ParseError.{ParseError}
+use Rattle.line_words.specs.declared.fault.ParseError.TheVariants as errors
+use Rattle.line_words.specs.Grammar.{Word}
+use Rattle.line_words.specs.Lines.{lines_of, line_of, numbered, lines_from}
+use Rattle.line_words.specs.Results.{GivesLines}
+use Rattle.line_words.specs.Texts.{LineSays}
+use Rattle.line_words.proofs.WordLaws.{bind_ok, made}
+use Rattle.line_words.proofs.LineLaws.{Agree, line_skipped, line_said, line_again, line_faulty, lines_take, lines_again, lines_fault}
 use Rattle.event_files.specs.declared.file.Statement.{Statement}
 use Rattle.event_files.specs.declared.file.Line.{Line}
 use Rattle.event_files.specs.declared.file.EventFile.{EventFile}

@@ -1,13 +1,13 @@
 -- The lines before `world N`, as a loop reads them.
 use Rattle.std.proofs.Common.{◌≡◌, ℕ, zero, suc, ◌+◌, ◌<◌, ◌≤◌, List, [], ◌∷◌, ◌++◌, length, get_or, drop, Option, Some, None, Err, refl, sym, ap, subst, ◌∙◌, arith}
 use Rattle.std.specs.Borrow.{Bor}
-use Rattle.statements.specs.declared.fault.LineError.{LineError}
-use Rattle.statements.specs.declared.fault.LineError.TheVariants as errors
-use Rattle.statements.specs.Results.{Fails}
-use Rattle.statements.specs.Lines.{line_of, with_front, lines_from}
-use Rattle.statements.proofs.LineSteps.{no_lines, line_made, line_faulty, line_skipped, line_read as takes_line}
+use Rattle.line_words.specs.declared.fault.LineError.{LineError}
+use Rattle.line_words.specs.declared.fault.LineError.TheVariants as errors
+use Rattle.line_words.specs.Results.{Fails}
+use Rattle.line_words.specs.Lines.{line_of, with_front, lines_from}
+use Rattle.line_words.proofs.LineSteps.{no_lines, line_made, line_faulty, line_skipped, line_read as takes_line}
 use Rattle.std.proofs.lemmas.List.{at_drop_more}
-use Rattle.statements.proofs.Lists.{shown, shown_all}
+use Rattle.line_words.proofs.Lists.{shown, shown_all}
 use Rattle.event_files.specs.declared.file.Line.{Line}
 use Rattle.event_files.specs.declared.file.Statement.{Statement}
 use Rattle.event_files.proofs.FileLaws.{read_line}

@@ -2,8 +2,8 @@
 use Rattle.std.proofs.Common.{◌≡◌, ℕ, false, Some, None, refl}
 use Rattle.std.specs.Prelude.{codes}
 use Rattle.std.specs.Str.{bytes_eq}
-use Rattle.statements.specs.Grammar.{Word, IsNumeral}
-use Rattle.statements.proofs.WordLaws.{Yields, step, yielded, same_word, no_letters}
+use Rattle.line_words.specs.Grammar.{Word, IsNumeral}
+use Rattle.line_words.proofs.WordLaws.{Yields, step, yielded, same_word, no_letters}
 use Rattle.event_files.specs.declared.verb.Verb.{Verb}
 use Rattle.event_files.specs.declared.verb.Verb.TheVariants as verbs
 use Rattle.event_files.specs.Reading.{verb_of}

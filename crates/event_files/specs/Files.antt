@@ -1,10 +1,10 @@
 -- What a file of events says: `world N`, and behind it the lines that ask for something, each with its number.
 use Rattle.std.specs.Prelude.{◌≡◌, ◌⊎◌, ℕ, ◌+◌, List, [], ◌∷◌, Result, Ok, Err}
-use Rattle.statements.specs.declared.fault.ParseError.{ParseError}
-use Rattle.statements.specs.declared.fault.ParseError.TheVariants as errors
-use Rattle.statements.specs.Grammar.{Word}
-use Rattle.statements.specs.Lines.{lines_of}
-use Rattle.statements.specs.Texts.{LineSays, LinesSay, IsFaulty, IsFirstFault}
+use Rattle.line_words.specs.declared.fault.ParseError.{ParseError}
+use Rattle.line_words.specs.declared.fault.ParseError.TheVariants as errors
+use Rattle.line_words.specs.Grammar.{Word}
+use Rattle.line_words.specs.Lines.{lines_of}
+use Rattle.line_words.specs.Texts.{LineSays, LinesSay, IsFaulty, IsFirstFault}
 use Rattle.event_files.specs.declared.file.Line.{Line}
 use Rattle.event_files.specs.declared.file.EventFile.{EventFile}
 use Rattle.event_files.specs.Grammar.{SpellsStatement, IsWorld}

@@ -1,6 +1,7 @@
 -- The grammar of files of events: which words ask for what.
 use Rattle.std.specs.Prelude.{◌≡◌, ◌⊎◌, ℕ, ◌+◌, ◌*◌, ◌<◌, ◌≤◌, List, [], ◌∷◌, codes}
-use Rattle.statements.specs.Grammar.{Word, IsNumeral, IsCapped, Spells}
+use Rattle.statements.specs.Grammar.{Spells}
+use Rattle.line_words.specs.Grammar.{Word, IsNumeral, IsCapped}
 use Rattle.event_files.specs.declared.file.Statement.{Statement}
 use Rattle.event_files.specs.declared.file.Statement.TheVariants as statements
 

@@ -1,10 +1,11 @@
 -- Reading the words of a line of a file of events.
 use Rattle.std.specs.Prelude.{ℕ, ◌+◌, ◌-◌, ◌*◌, nat_le, ◌&&◌, List, [], ◌∷◌, codes, Option, Some, None, if◌then◌else◌}
 use Rattle.std.specs.Str.{bytes_eq}
-use Rattle.statements.specs.Grammar.{Word}
-use Rattle.statements.specs.Numbers.{number_or, number_up_to}
-use Rattle.statements.specs.Results.{◌>>=◌}
-use Rattle.statements.specs.Reading.{first, ended, rank_of, action_of}
+use Rattle.line_words.specs.Grammar.{Word}
+use Rattle.line_words.specs.Numbers.{number_or, number_up_to}
+use Rattle.line_words.specs.Results.{◌>>=◌}
+use Rattle.statements.specs.Reading.{action_of}
+use Rattle.line_words.specs.Fields.{first, ended, rank_of}
 use Rattle.event_files.specs.declared.verb.Verb.{Verb}
 use Rattle.event_files.specs.declared.verb.Verb.TheVariants as verbs
 use Rattle.event_files.specs.declared.file.Statement.{Statement}

@@ -1,8 +1,8 @@
 -- Reading a file of events: its start, and what stands behind it.
 use Rattle.std.specs.Prelude.{◌≡◌, ℕ, ◌+◌, ◌≤◌, List, [], ◌∷◌, length, drop, Option, Some, None, Result, Ok, Err}
-use Rattle.statements.specs.declared.fault.ParseError.{ParseError}
-use Rattle.statements.specs.Lines.{line_of, lines_from}
-use Rattle.statements.specs.Results.{LineFails}
+use Rattle.line_words.specs.declared.fault.ParseError.{ParseError}
+use Rattle.line_words.specs.Lines.{line_of, lines_from}
+use Rattle.line_words.specs.Results.{LineFails}
 use Rattle.event_files.specs.declared.file.Line.{Line}
 use Rattle.event_files.specs.declared.file.EventFile.{EventFile}
 use Rattle.event_files.specs.Reading.{size_of, line_read}

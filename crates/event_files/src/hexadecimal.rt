@@ -1,11 +1,11 @@
 //! Bytes in hexadecimal digits.
 
 ghost use Rattle.std.specs.Prelude.{◌≡◌, ◌<◌, IfSome, IfOk};
-ghost use Rattle.statements.specs.Results.{Gives};
+ghost use Rattle.line_words.specs.Results.{Gives};
 ghost use Rattle.event_files.specs.Reading.{digit_of, bytes_of};
 
 use datagram::Bytes;
-use statements::{LineError, required};
+use line_words::{LineError, required};
 use std::alloc::Global;
 
 /// The value of a lower-case hexadecimal digit.

@@ -10,8 +10,9 @@ mod reading;
 mod verb;
 
 pub use file::{EventFile, Line, Lines, Statement};
+pub use line_words::{Name, ParseError};
 pub use parsing::parse;
 pub use statements::{
-    Action, Blocks, BufferLine, Communicator, LayoutForm, LayoutLine, Name, OldLayout, ParseError,
-    Receiving, Requested, RequestedList, Sending, Stripes, Through,
+    Action, Blocks, BufferLine, Communicator, LayoutForm, LayoutLine, OldLayout, Receiving,
+    Requested, RequestedList, Sending, Stripes, Through,
 };

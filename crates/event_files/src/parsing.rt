@@ -1,8 +1,8 @@
 //! Reading a file of events.
 
 ghost use Rattle.std.specs.Prelude.{◌≡◌, ◌≤◌, ◌+◌, ◌∷◌, List, ℕ, length, drop, map, OnOk, IfErr};
-ghost use Rattle.statements.specs.Lines.{line_of, lines_from, with_front, lines_of};
-ghost use Rattle.statements.specs.Results.{Gives, GivesLines, LineFails};
+ghost use Rattle.line_words.specs.Lines.{line_of, lines_from, with_front, lines_of};
+ghost use Rattle.line_words.specs.Results.{Gives, GivesLines, LineFails};
 ghost use Rattle.event_files.specs.Reading.{statement_of, size_of, line_read};
 ghost use Rattle.event_files.specs.Files.{Answers, IsAnsweredBy, FileSays};
 ghost use Rattle.event_files.specs.Starts.{file_from, StartGives};
@@ -10,11 +10,11 @@ ghost use Rattle.event_files.specs.declared.file.EventFile.{EventFile};
 
 use crate::file::{EventFile, Line, Lines, Statement};
 use crate::reading::{size_of, statement_of};
-use statements::{LineError, ParseError, lines_of, said_in};
+use line_words::{LineError, ParseError, lines_of, said_in};
 use std::alloc::Global;
 
 /// What a line asks for, if it isn't skipped.
-#[tactic(auto, unfolding(statements::specs::Lines::line_of))]
+#[tactic(auto, unfolding(line_words::specs::Lines::line_of))]
 fn statement_in(alloc: Global, line: &[u8]) -> Result<Option<Statement>, LineError>
     ensures { Gives (λ x. x) result (line_of statement_of line.now) }
 {
@@ -25,7 +25,7 @@ fn statement_in(alloc: Global, line: &[u8]) -> Result<Option<Statement>, LineErr
 }
 
 /// How many ranks a line asks for, if it isn't skipped.
-#[tactic(auto, unfolding(statements::specs::Lines::line_of))]
+#[tactic(auto, unfolding(line_words::specs::Lines::line_of))]
 fn size_in(alloc: Global, line: &[u8]) -> Result<Option<u16>, LineError>
     ensures { Gives (λ x. x) result (line_of size_of line.now) }
 {

@@ -1,15 +1,14 @@
 //! What a line asks for, by its words.
 
 ghost use Rattle.std.specs.Prelude.{◌≡◌, ◌≤◌, IfOk};
-ghost use Rattle.statements.specs.Results.{Gives};
+ghost use Rattle.line_words.specs.Results.{Gives};
 ghost use Rattle.event_files.specs.Reading.{delivery_of, tick_of, stray_of, restart_of, act_of, statement_of, size_of};
 
 use crate::file::Statement;
 use crate::hexadecimal::bytes_of;
 use crate::verb::{Verb, verb_of};
-use statements::{
-    LineError, Word, action_of, ended, first, is, number_or, number_up_to, rank_of, required,
-};
+use line_words::{LineError, Word, ended, first, is, number_or, number_up_to, rank_of, required};
+use statements::action_of;
 use std::alloc::Global;
 
 /// `D`

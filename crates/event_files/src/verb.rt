@@ -3,7 +3,7 @@
 ghost use Rattle.std.specs.Prelude.{◌≡◌};
 ghost use Rattle.event_files.specs.Reading.{verb_of};
 
-use statements::is;
+use line_words::is;
 
 /// The event that a line asks for, by its first word.
 #[derive(Clone, Copy, Debug, PartialEq, Eq)]

@@ -5,6 +5,7 @@ ghost use Rattle.rank_drive.specs.Exchanges.{FailsWith};
 ghost use Rattle.rank_drive.specs.Drives.{Drives};
 
 use crate::clock::Clock;
+use crate::listening::LONGEST;
 use crate::rounds::{Ended, Round, make_round};
 use crate::runner::Runner;
 use crate::standing::{Stage, Standing};
@@ -35,6 +36,7 @@ pub fn drive<R: Wait, P: Runner, T: Transport, C: Clock>(
         engine.new runner.new transport.new clock.new }
     ensures failures { FailsWith result (T.failed transport.old) (T.failed transport.new) }
 {
+    let mut buffer = [0u8; LONGEST];
     let start = clock.now();
     let mut standing = Standing {
         stage: Stage::Ready(None),
@@ -43,7 +45,16 @@ pub fn drive<R: Wait, P: Runner, T: Transport, C: Clock>(
     };
     for _ in rt.forever() {
         let now = clock.now();
-        match make_round(rt, engine, runner, standing, patience, transport, now) {
+        match make_round(
+            rt,
+            engine,
+            runner,
+            standing,
+            patience,
+            transport,
+            &mut buffer,
+            now,
+        ) {
             Ok(Round::On(next)) => standing = next,
             Ok(Round::Last(ended)) => return Ok(ended),
             Err(_) => return Err(TransportFault),

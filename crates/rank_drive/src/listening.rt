@@ -23,23 +23,23 @@ pub struct Heard {
     pub accepted: bool,
 }
 
-/// Takes in all datagrams that are there. One that the engine refuses is dropped.
+/// Takes in all datagrams that are there, each through the buffer. One that the engine refuses is dropped.
 pub(crate) fn listen<R: Wait, T: Transport>(
     rt: &R,
     engine: &mut Engine,
     transport: &mut T,
+    buffer: &mut [u8],
 ) -> Result<Heard, TransportFault>
     requires { T.failed transport.old + 1 < 2 ^ 64 }
     ensures exact { ListensTo T.passed engine.old transport.old result engine.new transport.new }
     ensures failures { FailsWith result (T.failed transport.old) (T.failed transport.new) }
 {
-    let mut buffer = [0u8; LONGEST];
     let mut heard = Heard {
         any: false,
         accepted: false,
     };
     for _ in rt.forever() {
-        let Ok(found) = transport.receive(&mut buffer) else {
+        let Ok(found) = transport.receive(buffer) else {
             return Err(TransportFault);
         };
         let Some(len) = found else {

@@ -1,7 +1,7 @@
 //! A transport and a clock in memory.
 
-ghost use Rattle.std.specs.Prelude.{◌≡◌, ◌+◌, ◌<◌, ◌≤◌, ◌^◌, [], ◌∷◌, ◌++◌, length, take, OnOk, OnErr};
-ghost use Rattle.rank_drive.specs.declared.exchange.Exchange.TheVariants.{Failed};
+ghost use Rattle.std.specs.Prelude.{◌≡◌, ◌+◌, ◌<◌, ◌≤◌, ◌^◌, min, [], ◌∷◌, ◌++◌, length, take, OnOk, OnErr};
+ghost use Rattle.rank_drive.specs.Memories.{HasFailed, HasPassed};
 
 use crate::clock::Clock;
 use crate::exchange::Exchange;
@@ -29,14 +29,21 @@ impl Model for Memory {
 
     ghost Value = { MemoryState };
 
-    ghost view = { λ m. record { log = m.log.items ++ replicate m.failures Failed; failed = m.failures } };
+    ghost view = { λ m. record {
+      log = m.log.items ++ replicate m.failures Failed;
+      failed = m.failures;
+      waiting = m.waiting.items;
+      calls = m.calls_left;
+    } };
 
     ghost invariant = { λ m. 0 < m.calls_left → m.failures ≡ 0 };
 }
 
 /// Copies as many bytes as fit to the front of the buffer, and answers how many.
 fn put(buffer: &mut [u8], bytes: &[u8]) -> usize
-    ensures { result ≤ length buffer.new }
+    ensures count { result ≡ min (length buffer.old) (length bytes.now) }
+    ensures within { result ≤ length buffer.new }
+    ensures copied { take result buffer.new ≡ take result bytes.now }
 {
     let len = buffer.len().min(bytes.len());
     buffer[..len].copy_from_slice(&bytes[..len]);
@@ -46,7 +53,7 @@ fn put(buffer: &mut [u8], bytes: &[u8]) -> usize
 impl Memory {
     /// A transport that gives these datagrams, in order, and of whose calls so many succeed.
     pub fn new(alloc: Global, waiting: VecDeque<Bytes>, calls: u64) -> Memory
-        ensures { result ≡ record { log = []; failed = 0 } }
+        ensures { result ≡ record { log = []; failed = 0; waiting = waiting.items; calls = calls } }
     {
         Memory {
             alloc,
@@ -61,7 +68,7 @@ impl Memory {
     #[tactic(auto, using(crate::specs::MemoryLaws::one_more))]
     fn fail(&mut self) -> TransportFault
         requires { self.old.failed + 1 < 2 ^ 64 }
-        ensures { self.new ≡ record { log = self.old.log ++ Failed ∷ []; failed = self.old.failed + 1 } }
+        ensures { HasFailed self.old self.new }
     {
         self.calls_left = 0;
         self.failures += 1;
@@ -71,8 +78,8 @@ impl Memory {
     /// This passes, or a fault.
     fn pass(&mut self, exchange: Exchange) -> Result<(), TransportFault>
         requires { self.old.failed + 1 < 2 ^ 64 }
-        ensures ok { OnOk result (self.new ≡ record { log = self.old.log ++ exchange ∷ []; failed = self.old.failed }) }
-        ensures err { OnErr result (self.new ≡ record { log = self.old.log ++ Failed ∷ []; failed = self.old.failed + 1 }) }
+        ensures ok { OnOk result (HasPassed self.old exchange self.new) }
+        ensures err { OnErr result (HasFailed self.old self.new) }
     {
         if self.calls_left == 0 {
             return Err(self.fail());
@@ -87,8 +94,8 @@ impl Memory {
     /// A copy of these bytes passes, or a fault.
     fn pass_copy(&mut self, bytes: &[u8]) -> Result<(), TransportFault>
         requires { self.old.failed + 1 < 2 ^ 64 }
-        ensures ok { OnOk result (self.new ≡ record { log = self.old.log ++ Exchange.Received bytes.now ∷ []; failed = self.old.failed }) }
-        ensures err { OnErr result (self.new ≡ record { log = self.old.log ++ Failed ∷ []; failed = self.old.failed + 1 }) }
+        ensures ok { OnOk result (HasPassed self.old (Exchange.Received bytes.now) self.new) }
+        ensures err { OnErr result (HasFailed self.old self.new) }
     {
         match Bytes::from_slice(self.alloc, bytes) {
             Ok(copy) => self.pass(Exchange::Received(copy)),
@@ -99,14 +106,15 @@ impl Memory {
 
 impl Transport for Memory {
     ghost use Rattle.std.specs.Prelude.{◌≡◌, ◌++◌};
-    ghost use Rattle.rank_drive.specs.MemoryLaws.{nothing_more, two_steps};
+    ghost use Rattle.rank_drive.specs.Memories.{Comes};
+    ghost use Rattle.rank_drive.specs.MemoryLaws.{comes_joined, none_came, nothing_more, two_steps};
 
-    ghost passed = { λ s xs t. t.log ≡ s.log ++ xs };
+    ghost passed = { λ s xs t. (t.log ≡ s.log ++ xs) × Comes s.waiting xs t.waiting };
 
     ghost failed = { λ m. m.failed };
 
     fn receive(&mut self, buffer: &mut [u8]) -> Result<Option<usize>, TransportFault> {
-        let Some(bytes) = self.waiting.pop_front() else {
+        let Some(bytes) = self.waiting.front() else {
             return match self.pass(Exchange::Nothing) {
                 Ok(_) => Ok(None),
                 Err(_) => Err(TransportFault),
@@ -114,7 +122,10 @@ impl Transport for Memory {
         };
         let len = put(buffer, bytes.as_slice());
         match self.pass_copy(&buffer[..len]) {
-            Ok(_) => Ok(Some(len)),
+            Ok(_) => {
+                let _ = self.waiting.pop_front();
+                Ok(Some(len))
+            }
             Err(_) => Err(TransportFault),
         }
     }
@@ -145,12 +156,12 @@ impl Transport for Memory {
         self.failures
     }
 
-    ghost none = { λ t. nothing_more t.log };
+    ghost none = { λ t. (nothing_more t.log, none_came t.waiting) };
 
-    ghost joined = { λ s t u xs ys p q. two_steps s.log t.log u.log xs ys p q };
+    ghost joined = { λ s t u xs ys p q. (two_steps s.log t.log u.log xs ys p.0 q.0, comes_joined s.waiting t.waiting u.waiting xs ys p.1 q.1) };
 }
 
-/// A clock that rises by a millisecond at each reading.
+/// A clock that rises by a millisecond at each reading, and stands still once 64 bits hold no later one.
 #[derive(Clone, Copy, Debug, PartialEq, Eq)]
 pub struct Rising {
     /// The time that it told last.
@@ -159,8 +170,9 @@ pub struct Rising {
 
 impl Clock for Rising {
     ghost use Rattle.std.specs.Prelude.{◌≡◌};
+    ghost use Rattle.rank_drive.specs.Memories.{later};
 
-    ghost told = { λ s now t. now ≡ t.time };
+    ghost told = { λ s now t. (now ≡ later s.time) × (now ≡ t.time) };
 
     fn now(&mut self) -> u64 {
         self.time = self.time.saturating_add(1);

@@ -3,7 +3,7 @@
 ghost use Rattle.std.specs.Prelude.{◌≡◌, ◌+◌, ◌-◌, ◌<◌, ◌^◌, if◌then◌else◌};
 ghost use Rattle.rank_drive.specs.declared.standing.Standing.{Standing};
 ghost use Rattle.rank_drive.specs.Exchanges.{FailsWith, waited};
-ghost use Rattle.rank_drive.specs.Drives.{RoundGives, ending, patience_ends, standing_after};
+ghost use Rattle.rank_drive.specs.Drives.{RoundGives, ending, patience_ends, standing_after, status_of};
 
 use crate::runner::Runner;
 use crate::standing::{Stage, Standing, Turned};
@@ -37,8 +37,10 @@ pub enum Round {
 }
 
 impl Ended {
-    /// The status of the rank's program.
-    pub fn status(self) -> u8 {
+    /// The status of the rank's program: its runner's, or 4 where its patience ended.
+    pub fn status(self) -> u8
+        ensures { result ≡ status_of self }
+    {
         match self {
             Ended::Runner(status, _) => status,
             Ended::Patience => 4,
@@ -126,6 +128,7 @@ pub(crate) fn make_round<R: Wait, P: Runner, T: Transport>(
     standing: Standing,
     patience: u64,
     transport: &mut T,
+    buffer: &mut [u8],
     now: u64,
 ) -> Result<Round, TransportFault>
     requires { T.failed transport.old + 1 < 2 ^ 64 }
@@ -135,7 +138,7 @@ pub(crate) fn make_round<R: Wait, P: Runner, T: Transport>(
     ensures failures { FailsWith result (T.failed transport.old) (T.failed transport.new) }
 {
     let (heard, moved) = (standing.heard, standing.moved);
-    let Ok(turned) = turn(rt, engine, runner, standing.stage, transport, now) else {
+    let Ok(turned) = turn(rt, engine, runner, standing.stage, transport, buffer, now) else {
         return Err(TransportFault);
     };
     let next = standing_after(heard, moved, now, turned);

@@ -77,6 +77,7 @@ pub(crate) fn turn<R: Wait, P: Runner, T: Transport>(
     runner: &mut P,
     stage: Stage,
     transport: &mut T,
+    buffer: &mut [u8],
     now: u64,
 ) -> Result<Turned, TransportFault>
     requires { T.failed transport.old + 1 < 2 ^ 64 }
@@ -85,7 +86,7 @@ pub(crate) fn turn<R: Wait, P: Runner, T: Transport>(
     ensures failures { FailsWith result (T.failed transport.old) (T.failed transport.new) }
 {
     let _ = engine.tick(now);
-    let Ok(heard) = listen(rt, engine, transport) else {
+    let Ok(heard) = listen(rt, engine, transport, buffer) else {
         return Err(TransportFault);
     };
     let completion = engine.take_completion();

@@ -3,7 +3,7 @@ use Rattle.std.specs.Prelude.{◌≡◌, ℕ, Bool, true, false, Option, Some, N
 use Rattle.std.specs.Global.{Vec}
 use Rattle.layouts.specs.Layouts.{Shape}
 use Rattle.datatypes.specs.Contents.{Contents}
-use Rattle.derived_types.specs.Layouts.{contiguous_offsets, indexed_offsets, is_beyond, vector_offsets}
+use Rattle.derived_types.specs.Layouts.{is_beyond}
 use Rattle.datatypes.specs.Transfers.{whole_copies}
 use Rattle.requests.specs.declared.region.Places.{Places}
 use Rattle.requests.specs.declared.region.Places.TheVariants as places
@@ -14,15 +14,12 @@ use Rattle.answer_texts.specs.Answers.{count_text, status_text}
 use Rattle.statements.specs.declared.action.Action.{Action}
 use Rattle.statements.specs.declared.action.Action.TheVariants as actions
 use Rattle.statements.specs.declared.action.BufferLine.{BufferLine}
-use Rattle.statements.specs.declared.action.Communicator.{Communicator}
-use Rattle.statements.specs.declared.action.Communicator.TheVariants as communicators
+use Rattle.statements.specs.Meanings.{is_world, offsets_made}
 use Rattle.statements.specs.declared.action.Requested.{Requested}
 use Rattle.statements.specs.declared.action.Requested.TheVariants as requested
 use Rattle.statements.specs.declared.action.Receiving.{Receiving}
 use Rattle.statements.specs.declared.action.Sending.{Sending}
 use Rattle.statements.specs.declared.action.Through.{Through}
-use Rattle.statements.specs.declared.layout_line.LayoutForm.{LayoutForm}
-use Rattle.statements.specs.declared.layout_line.LayoutForm.TheVariants as forms
 use Rattle.statements.specs.declared.layout_line.LayoutLine.{LayoutLine}
 use Rattle.statements.specs.declared.layout_line.OldLayout.{OldLayout}
 use Rattle.statements.specs.declared.layout_line.OldLayout.TheVariants as olds
@@ -54,12 +51,6 @@ makes_call call doing s = (Some (steps.Call call), record s { doing = doing })
 abbrev pub prints : List ℕ → NamesState → Acts
 prints line s = (Some (steps.Print line), s)
 
--- there is no other communicator than `world` yet
-abbrev pub is_world : Communicator → Bool
-is_world communicators.World = true
-is_world communicators.Own = false
-is_world (communicators.Named name) = false
-
 -- `buf`: a buffer that is lent can't be set
 abbrev pub sets : ℕ → BufferLine → NamesState → Acts
 sets number line s = if is_lent s line.name then stops number s else (None, with_buffer s line.name (Some line.value))
@@ -70,12 +61,6 @@ sets number line s = if is_lent s line.name then stops number s else (None, with
 abbrev pub old_layout : NamesState → OldLayout → Option Shape
 old_layout s (olds.Basic basic) = Some (record { basic = basic; offsets = 0 ∷ [] })
 old_layout s (olds.Named name) = value_at s.layouts name
-
--- the offsets of what is made of it
-abbrev pub offsets_made : LayoutForm → List ℕ → List ℕ
-offsets_made (forms.Contiguous count) offsets = contiguous_offsets count offsets
-offsets_made (forms.Vector stripes) offsets = vector_offsets stripes.count stripes.blocklength stripes.stride offsets
-offsets_made (forms.Indexed blocks) offsets = indexed_offsets blocks offsets
 
 -- a layout that passes no limit is set; else the number of the limit is printed, 13, and nothing is set
 abbrev pub sets_layout_unless : Bool → List ℕ → Shape → NamesState → Acts

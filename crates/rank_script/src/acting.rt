@@ -1,10 +1,9 @@
 //! What a line of a script asks of its rank.
 
 ghost use Rattle.std.specs.Prelude.{◌≡◌, IfOk, Some};
-ghost use Rattle.derived_types.specs.Layouts.{LayoutGives};
 ghost use Rattle.rank_script.specs.NamesState.{here};
 ghost use Rattle.rank_script.specs.Tables.{value_at};
-ghost use Rattle.rank_script.specs.Acting.{acts, acts_on, AreListed, Begins, cancels_for, is_world, offsets_made, old_layout, places_named, prints_count, prints_elements, LendGives, receives, request_named, requests_named, sends, sets, sets_layout, starting, states, tests_for, waiting, waits_for, waits_for_several};
+ghost use Rattle.rank_script.specs.Acting.{acts, acts_on, AreListed, Begins, cancels_for, old_layout, places_named, prints_count, prints_elements, LendGives, receives, request_named, requests_named, sends, sets, sets_layout, starting, states, tests_for, waiting, waits_for, waits_for_several};
 
 use crate::names::{Doing, Names, Stage, free};
 use crate::table::place_of;
@@ -14,8 +13,8 @@ use engine::{Call, Places, Receive, Region, Request, RequestList, Send};
 use rank_drive::Step;
 use script_files::{RankLine, Statement};
 use statements::{
-    Action, BufferLine, Communicator, LayoutForm, LayoutLine, Name, OldLayout, Receiving,
-    Requested, RequestedList, Sending, Through,
+    Action, BufferLine, LayoutLine, Name, OldLayout, Receiving, Requested, RequestedList, Sending,
+    Through,
 };
 use std::alloc::{AllocError, Global};
 
@@ -24,17 +23,6 @@ fn stop(number: usize) -> Step
     ensures { result ≡ Step.End 1 (Some number) }
 {
     Step::End(1, Some(number))
-}
-
-/// There is no other communicator than `world` yet.
-fn is_world(communicator: &Communicator) -> bool
-    ensures { result ≡ is_world communicator.now }
-{
-    match communicator {
-        Communicator::World => true,
-        Communicator::Own => false,
-        Communicator::Named(_) => false,
-    }
 }
 
 /// What the answer to the start of an operation is for.
@@ -62,19 +50,6 @@ fn waiting(requested: Requested) -> Doing
         request,
         buffer: None,
         several: None,
-    }
-}
-
-/// What is made of a layout in this form.
-fn layout_made(alloc: Global, form: &LayoutForm, old: &Layout) -> Result<Layout, Refusal>
-    ensures { LayoutGives old.now.basic (offsets_made form.now old.now.offsets) result }
-{
-    match form {
-        LayoutForm::Contiguous(count) => old.contiguous(alloc, *count),
-        LayoutForm::Vector(stripes) => {
-            old.vector(alloc, stripes.count, stripes.blocklength, stripes.stride)
-        }
-        LayoutForm::Indexed(blocks) => old.indexed(alloc, blocks.as_slice()),
     }
 }
 
@@ -128,7 +103,7 @@ impl Names {
         let Some(old) = self.old_layout(&made_of)? else {
             return Ok(Some(stop(number)));
         };
-        match layout_made(self.alloc, &form, &old) {
+        match form.layout_made(self.alloc, &old) {
             Ok(layout) => {
                 self.set_layout(name, layout)?;
                 Ok(None)
@@ -160,7 +135,7 @@ impl Names {
     ) -> Result<Option<Step>, AllocError>
         ensures { IfOk result (λ step. sends number stage request sending self.old ≡ (step, self.new)) }
     {
-        if !is_world(&sending.communicator) {
+        if !sending.communicator.is_world() {
             return Ok(Some(stop(number)));
         }
         let Some(places) = self.places_named(&sending.through)? else {
@@ -186,7 +161,7 @@ impl Names {
     ) -> Result<Option<Step>, AllocError>
         ensures { IfOk result (λ step. receives number stage request receiving self.old ≡ (step, self.new)) }
     {
-        if !is_world(&receiving.communicator) {
+        if !receiving.communicator.is_world() {
             return Ok(Some(stop(number)));
         }
         let Some(places) = self.places_named(&receiving.through)? else {

@@ -74,6 +74,20 @@ fn a_rank_alone_ends_by_its_patience(rt: HostRuntime) {
     assert_eq!(rt; Ended::Patience.status(), 4);
 }
 
+/// Whether, of two waits over a transport in memory of whose calls one succeeds, just the first one succeeds.
+fn second_wait_fails(alloc: Global) -> bool {
+    let mut memory = Memory::new(alloc, VecDeque::new(alloc), 1);
+    let Ok(_) = memory.wait(5) else {
+        return false;
+    };
+    memory.wait(5).is_err()
+}
+
+#[test]
+fn a_wait_in_memory_is_one_of_its_calls(rt: HostRuntime) {
+    assert!(rt; second_wait_fails(rt.alloc()));
+}
+
 fn assert_fault<R: Wait + Abort>(rt: &R, alloc: Global, at: u64) {
     let shown = run_pair(rt, alloc, at, true).map(|(ended, _, _, calls, failures)| (
         ended, calls, failures,

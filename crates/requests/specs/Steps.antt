@@ -1,5 +1,5 @@
 -- What the steps of the table and of the completing calls look at.
-use Rattle.std.specs.Prelude.{◌≡◌, ℕ, not, Bool, true, false, List, Option, Some, None, is_some, slice_set}
+use Rattle.std.specs.Prelude.{◌≡◌, ℕ, not, Bool, true, false, List, Option, Some, None, is_some, slice_index_or, slice_set}
 use Rattle.std.specs.List.{list_all, list_any}
 use Rattle.requests.specs.declared.table.Entry.{Entry}
 use Rattle.requests.specs.declared.table.Progress.{Progress}
@@ -60,4 +60,4 @@ EndsBy old q (Some o) (Some given) new = (given ≡ o) × (new.slots ≡ slice_s
 -- a place at which a request is unfinished, or there is none
 abbrev pub FindsUnfinished : List (Option Entry) → List (Option Request) → Option ℕ → Type 0
 FindsUnfinished slots rs None = list_any (is_unfinished slots) rs ≡ false
-FindsUnfinished slots rs (Some place) = list_any (is_unfinished slots) rs ≡ true
+FindsUnfinished slots rs (Some place) = is_unfinished slots (slice_index_or rs place None) ≡ true

@@ -2,11 +2,13 @@
 use Rattle.std.proofs.Common.{◌≡◌, ◌≢◌, List, [], ◌∷◌, Option, Some, None, refl, sym, ap, subst, ◌∙◌}
 use Rattle.std.specs.Prelude.{codes}
 use Rattle.statements.specs.declared.action.Action.{Action}
-use Rattle.statements.specs.Grammar.{Word, Spells}
-use Rattle.statements.specs.Results.{◌>>=◌}
-use Rattle.statements.specs.Reading.{first, ended, name_of, action_of, sending_of, receiving_of}
-use Rattle.statements.proofs.WordLaws.{bind_ok, made}
-use Rattle.statements.proofs.FieldLaws.{named_takes, named_again}
+use Rattle.statements.specs.Grammar.{Spells}
+use Rattle.line_words.specs.Grammar.{Word}
+use Rattle.line_words.specs.Results.{◌>>=◌}
+use Rattle.statements.specs.Reading.{action_of, sending_of, receiving_of}
+use Rattle.line_words.specs.Fields.{first, ended, name_of}
+use Rattle.line_words.proofs.WordLaws.{bind_ok, made}
+use Rattle.line_words.proofs.FieldLaws.{named_takes, named_again}
 use Rattle.statements.proofs.ActionLaws.{sending_takes, sending_again, receiving_takes, receiving_again, action_takes, action_again}
 use Rattle.script_files.specs.declared.verb.Verb.{Verb}
 use Rattle.script_files.specs.declared.verb.Verb.TheVariants as verbs

@@ -5,14 +5,14 @@ use Rattle.std.specs.List.{position}
 use Rattle.std.specs.Str.{bytes_eq}
 use Rattle.std.proofs.lemmas.Bool.{eqb-true, false≢true}
 use Rattle.std.proofs.lemmas.List.{nil_from_length}
-use Rattle.statements.specs.Grammar.{Word, StandFor}
-use Rattle.statements.specs.Numbers.{number_or}
-use Rattle.statements.specs.Results.{◌>>=◌}
-use Rattle.statements.specs.Reading.{rank_of, each}
-use Rattle.statements.proofs.WordLaws.{bind_ok, made, same_word, other_word, capped_takes, capped_again, no_letters}
-use Rattle.statements.proofs.FieldLaws.{rank_takes, rank_again}
-use Rattle.statements.proofs.EachLaws.{all_take, all_again}
-use Rattle.statements.proofs.MarkLaws.{mark_here, digits_plain, no_place, a_place, take_front, drop_front}
+use Rattle.line_words.specs.Grammar.{Word, StandFor}
+use Rattle.line_words.specs.Numbers.{number_or}
+use Rattle.line_words.specs.Results.{◌>>=◌}
+use Rattle.line_words.specs.Fields.{rank_of, each}
+use Rattle.line_words.proofs.WordLaws.{bind_ok, made, same_word, other_word, capped_takes, capped_again, no_letters}
+use Rattle.line_words.proofs.FieldLaws.{rank_takes, rank_again}
+use Rattle.line_words.proofs.EachLaws.{all_take, all_again}
+use Rattle.line_words.proofs.MarkLaws.{mark_here, digits_plain, no_place, a_place, take_front, drop_front}
 use Rattle.script_files.specs.declared.audience.Member.{Member}
 use Rattle.script_files.specs.declared.audience.Audience.{Audience}
 use Rattle.script_files.specs.declared.audience.Audience.TheVariants as audiences

@@ -1,13 +1,13 @@
 -- Scripts: reading and the grammar agree.
 use Rattle.std.proofs.Common.{◌≡◌, ℕ, List, Some, Result, Ok, Err, refl, sym, ap, ◌∙◌}
-use Rattle.statements.specs.declared.fault.ParseError.{ParseError}
-use Rattle.statements.specs.declared.fault.ParseError.TheVariants as errors
-use Rattle.statements.specs.Grammar.{Word}
-use Rattle.statements.specs.Lines.{lines_of, lines_from}
-use Rattle.statements.specs.Results.{GivesLines}
-use Rattle.statements.specs.Texts.{LinesSay}
-use Rattle.statements.proofs.WordLaws.{bind_ok, made}
-use Rattle.statements.proofs.LineLaws.{Agree, lines_take, lines_again, lines_fault}
+use Rattle.line_words.specs.declared.fault.ParseError.{ParseError}
+use Rattle.line_words.specs.declared.fault.ParseError.TheVariants as errors
+use Rattle.line_words.specs.Grammar.{Word}
+use Rattle.line_words.specs.Lines.{lines_of, lines_from}
+use Rattle.line_words.specs.Results.{GivesLines}
+use Rattle.line_words.specs.Texts.{LinesSay}
+use Rattle.line_words.proofs.WordLaws.{bind_ok, made}
+use Rattle.line_words.proofs.LineLaws.{Agree, lines_take, lines_again, lines_fault}
 use Rattle.script_files.specs.declared.script.Item.{Item}
 use Rattle.script_files.specs.declared.script.Line.{Line}
 use Rattle.script_files.specs.declared.script.Script.{Script}

@@ -1,11 +1,11 @@
 -- The lines of a script, as loops go over them.
 use Rattle.std.proofs.Common.{map, ◌≡◌, ℕ, ◌+◌, Bool, true, List, [], ◌∷◌, ◌++◌, Option, Some, None, Err, refl, sym, ap, subst, ◌∙◌, append_assoc}
 use Rattle.std.proofs.lemmas.List.{append-nil}
-use Rattle.statements.specs.declared.fault.LineError.{LineError}
-use Rattle.statements.specs.declared.fault.LineError.TheVariants as errors
-use Rattle.statements.specs.Results.{Fails}
-use Rattle.statements.specs.Lines.{line_of, with_front, lines_from}
-use Rattle.statements.proofs.LineSteps.{line_made, line_faulty, line_skipped, line_read as takes_line}
+use Rattle.line_words.specs.declared.fault.LineError.{LineError}
+use Rattle.line_words.specs.declared.fault.LineError.TheVariants as errors
+use Rattle.line_words.specs.Results.{Fails}
+use Rattle.line_words.specs.Lines.{line_of, with_front, lines_from}
+use Rattle.line_words.proofs.LineSteps.{line_made, line_faulty, line_skipped, line_read as takes_line}
 use Rattle.script_files.specs.declared.script.Item.{Item}
 use Rattle.script_files.specs.declared.script.Item.TheVariants as items
 use Rattle.script_files.specs.declared.script.Line.{Line}

@@ -3,8 +3,9 @@ use Rattle.std.proofs.Common.{◌≡◌, List, ◌∷◌, Some, None, refl}
 use Rattle.std.specs.Prelude.{codes}
 use Rattle.std.specs.Str.{bytes_eq}
 use Rattle.statements.specs.declared.action.Action.{Action}
-use Rattle.statements.specs.Grammar.{Word, Spells}
-use Rattle.statements.proofs.WordLaws.{Yields, step, yielded, same_word}
+use Rattle.statements.specs.Grammar.{Spells}
+use Rattle.line_words.specs.Grammar.{Word}
+use Rattle.line_words.proofs.WordLaws.{Yields, step, yielded, same_word}
 use Rattle.statements.proofs.ActionLaws.{begins}
 use Rattle.script_files.specs.declared.verb.Verb.{Verb}
 use Rattle.script_files.specs.declared.verb.Verb.TheVariants as verbs

@@ -1,6 +1,7 @@
 -- The grammar of scripts: which words say what.
 use Rattle.std.specs.Prelude.{◌≡◌, ◌≢◌, ℕ, List, [], ◌∷◌, ◌++◌, codes, Option, Some, None}
-use Rattle.statements.specs.Grammar.{Word, NamesIt, IsCapped, StandFor, IsSending, IsReceiving, Spells}
+use Rattle.statements.specs.Grammar.{IsSending, IsReceiving, Spells}
+use Rattle.line_words.specs.Grammar.{Word, NamesIt, IsCapped, StandFor}
 use Rattle.script_files.specs.declared.audience.Member.{Member}
 use Rattle.script_files.specs.declared.audience.Audience.{Audience}
 use Rattle.script_files.specs.declared.audience.Audience.TheVariants as audiences

@@ -2,10 +2,11 @@
 use Rattle.std.specs.Prelude.{ℕ, ◌==◌, Bool, ◌&&◌, List, [], ◌∷◌, length, take, drop, codes, Option, Some, None, if◌then◌else◌}
 use Rattle.std.specs.List.{position}
 use Rattle.std.specs.Str.{bytes_eq}
-use Rattle.statements.specs.Grammar.{Word}
-use Rattle.statements.specs.Numbers.{number_or}
-use Rattle.statements.specs.Results.{◌>>=◌}
-use Rattle.statements.specs.Reading.{first, ended, name_of, rank_of, each, one, action_of, sending_of, receiving_of}
+use Rattle.line_words.specs.Grammar.{Word}
+use Rattle.line_words.specs.Numbers.{number_or}
+use Rattle.line_words.specs.Results.{◌>>=◌}
+use Rattle.statements.specs.Reading.{action_of, sending_of, receiving_of}
+use Rattle.line_words.specs.Fields.{first, ended, name_of, rank_of, each, one}
 use Rattle.script_files.specs.declared.verb.Verb.{Verb}
 use Rattle.script_files.specs.declared.verb.Verb.TheVariants as verbs
 use Rattle.script_files.specs.declared.audience.Member.{Member}

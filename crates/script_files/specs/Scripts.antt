@@ -1,10 +1,10 @@
 -- What a script says: its lines that aren't skipped, each with its number.
 use Rattle.std.specs.Prelude.{◌≡◌, ℕ, List, Result, Ok, Err}
-use Rattle.statements.specs.declared.fault.ParseError.{ParseError}
-use Rattle.statements.specs.declared.fault.ParseError.TheVariants as errors
-use Rattle.statements.specs.Grammar.{Word}
-use Rattle.statements.specs.Lines.{lines_of}
-use Rattle.statements.specs.Texts.{LinesSay, IsFirstFault}
+use Rattle.line_words.specs.declared.fault.ParseError.{ParseError}
+use Rattle.line_words.specs.declared.fault.ParseError.TheVariants as errors
+use Rattle.line_words.specs.Grammar.{Word}
+use Rattle.line_words.specs.Lines.{lines_of}
+use Rattle.line_words.specs.Texts.{LinesSay, IsFirstFault}
 use Rattle.script_files.specs.declared.script.Line.{Line}
 use Rattle.script_files.specs.declared.script.Script.{Script}
 use Rattle.script_files.specs.Grammar.{SpellsItem}

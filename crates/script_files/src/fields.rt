@@ -2,12 +2,12 @@
 
 ghost use Rattle.std.specs.Prelude.{◌≡◌};
 ghost use Rattle.std.specs.List.{position};
-ghost use Rattle.statements.specs.Results.{Gives};
-ghost use Rattle.statements.specs.Reading.{each};
+ghost use Rattle.line_words.specs.Results.{Gives};
+ghost use Rattle.line_words.specs.Fields.{each};
 ghost use Rattle.script_files.specs.Reading.{is_point, member_of, one_member, audience_of};
 
 use crate::audience::{Audience, Member, Members};
-use statements::{LineError, Word, is, number_or, rank_of};
+use line_words::{LineError, Word, is, number_or, rank_of};
 use std::alloc::Global;
 
 fn point_place(word: &[u8]) -> Option<usize>

@@ -12,9 +12,10 @@ mod script;
 mod verb;
 
 pub use audience::{Audience, Member, Members};
+pub use line_words::{Name, ParseError, Word, Words};
 pub use parsing::parse;
 pub use script::{Item, Line, RankLine, RankLines, Script, Statement};
 pub use statements::{
-    Action, Blocks, BufferLine, Communicator, LayoutForm, LayoutLine, Name, OldLayout, ParseError,
-    Receiving, Requested, RequestedList, Sending, Stripes, Through, Word, Words,
+    Action, Blocks, BufferLine, Communicator, LayoutForm, LayoutLine, OldLayout, Receiving,
+    Requested, RequestedList, Sending, Stripes, Through,
 };

@@ -1,20 +1,20 @@
 //! Reading a script.
 
 ghost use Rattle.std.specs.Prelude.{◌≡◌, ◌+◌, ◌∷◌, List, ℕ, OnOk, IfErr};
-ghost use Rattle.statements.specs.Lines.{line_of, lines_from, with_front, lines_of};
-ghost use Rattle.statements.specs.Results.{Gives, GivesLines, LineFails};
+ghost use Rattle.line_words.specs.Lines.{line_of, lines_from, with_front, lines_of};
+ghost use Rattle.line_words.specs.Results.{Gives, GivesLines, LineFails};
 ghost use Rattle.script_files.specs.Reading.{item_of, line_read};
 ghost use Rattle.script_files.specs.Scripts.{Says, Answers, IsAnsweredBy};
-ghost use Rattle.statements.specs.Texts.{LinesSay};
+ghost use Rattle.line_words.specs.Texts.{LinesSay};
 ghost use Rattle.script_files.specs.declared.script.Line.{Line};
 
 use crate::reading::item_of;
 use crate::script::{Item, Line, Script};
-use statements::{LineError, ParseError, lines_of, said_in};
+use line_words::{LineError, ParseError, lines_of, said_in};
 use std::alloc::Global;
 
 /// What a line says, if it isn't skipped.
-#[tactic(auto, unfolding(statements::specs::Lines::line_of))]
+#[tactic(auto, unfolding(line_words::specs::Lines::line_of))]
 fn item_in(alloc: Global, line: &[u8]) -> Result<Option<Item>, LineError>
     ensures { Gives (λ x. x) result (line_of item_of line.now) }
 {

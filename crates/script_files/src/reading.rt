@@ -1,15 +1,14 @@
 //! What a line says, by its words.
 
 ghost use Rattle.std.specs.Prelude.{◌≡◌, Some};
-ghost use Rattle.statements.specs.Results.{Gives};
+ghost use Rattle.line_words.specs.Results.{Gives};
 ghost use Rattle.script_files.specs.Reading.{name_alone, said_words, item_of};
 
 use crate::fields::audience_of;
 use crate::script::{Item, Statement};
 use crate::verb::{Verb, verb_of};
-use statements::{
-    LineError, Name, Word, Words, action_of, ended, first, name_of, receiving_of, sending_of,
-};
+use line_words::{LineError, Name, Word, Words, ended, first, name_of};
+use statements::{action_of, receiving_of, sending_of};
 use std::alloc::Global;
 
 /// One name, and nothing behind it.

@@ -5,7 +5,8 @@ ghost use Rattle.script_files.specs.Selections.{lines_for, said_for, kept, First
 ghost use Rattle.script_files.specs.declared.script.Line.{Line};
 
 use crate::audience::Audience;
-use statements::{Action, Name, Receiving, Sending, Words};
+use line_words::{Name, Words};
+use statements::{Action, Receiving, Sending};
 use std::alloc::{AllocError, AllocFailed, Global};
 use std::collections::VecDeque;
 use std::marker::Model;

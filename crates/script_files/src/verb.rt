@@ -3,7 +3,7 @@
 ghost use Rattle.std.specs.Prelude.{◌≡◌};
 ghost use Rattle.script_files.specs.Reading.{verb_of};
 
-use statements::is;
+use line_words::is;
 
 /// What a line that only scripts have says, by its first word.
 #[derive(Clone, Copy, Debug, PartialEq, Eq)]

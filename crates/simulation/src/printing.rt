@@ -78,6 +78,9 @@ pub fn print_refusal<W: Write>(number: u8, out: &mut W) -> io::Result<()> {
 fn emission_of(number: usize, datagram: &Datagram<'_>) -> Emission {
     let kind = match datagram.content {
         Content::Frame(Frame::Eager(_)) => FrameKind::Eager,
+        Content::Frame(Frame::RequestToSend(_)) => FrameKind::Rts,
+        Content::Frame(Frame::ClearToSend(_)) => FrameKind::Cts,
+        Content::Frame(Frame::Data(_)) => FrameKind::Data,
         Content::Ack => FrameKind::Ack,
         Content::Reset => FrameKind::Reset,
     };

@@ -8,8 +8,7 @@ use engine::{Call, Receive, Reply, Send};
 use event_files::{Line, Statement, parse};
 use requests::{Answer, Places, Region, Request, RequestList};
 use statements::{
-    Action, Communicator, LayoutForm, LayoutLine, Name, OldLayout, ParseError, Receiving,
-    Requested, Sending, Through,
+    Action, LayoutLine, Name, OldLayout, ParseError, Receiving, Requested, Sending, Through,
 };
 use std::alloc::{AllocError, Global};
 use std::collections::BTreeMap;
@@ -49,22 +48,6 @@ fn note_answer(
         names.note(alloc, answer)?;
     }
     Ok(())
-}
-
-/// What is made of a layout in this form.
-fn layout_made(alloc: Global, form: &LayoutForm, old: &Layout) -> Result<Layout, Refusal> {
-    match form {
-        LayoutForm::Contiguous(count) => old.contiguous(alloc, *count),
-        LayoutForm::Vector(stripes) => {
-            old.vector(alloc, stripes.count, stripes.blocklength, stripes.stride)
-        }
-        LayoutForm::Indexed(blocks) => old.indexed(alloc, blocks.as_slice()),
-    }
-}
-
-/// Whether this is `world`: no line can name another communicator yet.
-fn is_world(communicator: &Communicator) -> bool {
-    matches!(communicator, Communicator::World)
 }
 
 impl Simulation {
@@ -212,7 +195,7 @@ impl Simulation {
         send: &Sending,
         out: &mut W,
     ) -> Result<(), SimulateError> {
-        if !is_world(&send.communicator) {
+        if !send.communicator.is_world() {
             return Err(SimulateError::Script(line));
         }
         let call = Call::Isend(Send {
@@ -237,7 +220,7 @@ impl Simulation {
         receive: &Receiving,
         out: &mut W,
     ) -> Result<(), SimulateError> {
-        if !is_world(&receive.communicator) {
+        if !receive.communicator.is_world() {
             return Err(SimulateError::Script(line));
         }
         let call = Call::Irecv(Receive {
@@ -422,7 +405,7 @@ impl Simulation {
                 Err(_) => return Err(SimulateError::OutOfMemory),
             },
         };
-        match layout_made(alloc, &line.form, &old) {
+        match line.form.layout_made(alloc, &old) {
             Ok(layout) => {
                 if let Some(names) = self.ranks.get_mut(&rank) {
                     names.set_layout(&line.name, alloc, layout)?;

@@ -1,6 +1,7 @@
 //! The lines of a text, and what their words stand for.
 
-use statements::*;
+use line_words::*;
+use statements::action_of;
 use std::alloc::Global;
 use vocabulary::BasicType;
 
@@ -83,6 +84,8 @@ fn numbers_are_read(rt: HostRuntime) {
     assert_eq!(rt; number_up_to(b"257", 256), None);
     assert_eq!(rt; number_up_to(b"18446744073709551616", u64::MAX), None);
     assert_eq!(rt; rank_of(b"70000").ok(), Some(65_535));
+    assert_eq!(rt; large_of(b"18446744073709551616").ok(), Some(u64::MAX));
+    assert_eq!(rt; numeral_of(b"12").ok(), Some(12));
     assert_eq!(rt; basic_type_of(b"uint16"), Some(BasicType::Uint16));
     assert!(rt; is(b"a", b"a"));
 }
@@ -94,7 +97,7 @@ fn is_spelled(alloc: Global, line: &str) -> Option<bool> {
 }
 
 #[test]
-fn actions_are_told_from_other_lines(rt: HostRuntime) {
+fn buffers_are_told_from_other_lines(rt: HostRuntime) {
     for (line, is_one) in [
         ("buf a int8", true),
         ("buf a int8 -128 -0 3*127", true),
@@ -104,6 +107,14 @@ fn actions_are_told_from_other_lines(rt: HostRuntime) {
         ("buf a uint8 01", false),
         ("buf a uint8 2*3*4", false),
         ("buf int8 int8 1", false),
+    ] {
+        assert_eq!(rt; is_spelled(rt.alloc(), line), Some(is_one), "{line}");
+    }
+}
+
+#[test]
+fn sends_and_receives_are_told_from_other_lines(rt: HostRuntime) {
+    for (line, is_one) in [
         (
             "isend q c 99999999999999999999 99999999999999999999 a",
             true,
@@ -113,10 +124,6 @@ fn actions_are_told_from_other_lines(rt: HostRuntime) {
         ("isend q world any 1 a", false),
         ("irecv q world null any a", true),
         ("irecv q world 1 null a", false),
-        ("wait null", true),
-        ("wait", false),
-        ("wait q q", false),
-        ("Wait q", false),
         ("isend q world 1 7 a as l 1", true),
         ("isend q world 1 7 a as int32 3", false),
         ("isend q world 1 7 a as l", false),
@@ -125,6 +132,18 @@ fn actions_are_told_from_other_lines(rt: HostRuntime) {
         ("isend q world 1 7 a is l 1", false),
         ("irecv q world 1 7 a as null 1", false),
         ("irecv q world 1 7 as l 1", false),
+    ] {
+        assert_eq!(rt; is_spelled(rt.alloc(), line), Some(is_one), "{line}");
+    }
+}
+
+#[test]
+fn completions_are_told_from_other_lines(rt: HostRuntime) {
+    for (line, is_one) in [
+        ("wait null", true),
+        ("wait", false),
+        ("wait q q", false),
+        ("Wait q", false),
         ("test", false),
         ("test null", true),
         ("test q q", false),
@@ -134,6 +153,15 @@ fn actions_are_told_from_other_lines(rt: HostRuntime) {
         ("waitany q null q", true),
         ("waitall", true),
         ("waitall q int8", false),
+        ("barrier world", false),
+    ] {
+        assert_eq!(rt; is_spelled(rt.alloc(), line), Some(is_one), "{line}");
+    }
+}
+
+#[test]
+fn layouts_are_told_from_other_lines(rt: HostRuntime) {
+    for (line, is_one) in [
         ("type l contiguous 3 byte", true),
         ("type l contiguous 3 l", true),
         ("type l contiguous 3", false),
@@ -154,7 +182,6 @@ fn actions_are_told_from_other_lines(rt: HostRuntime) {
         ("type l indexed 12 l", false),
         ("type l struct byte", false),
         ("type l", false),
-        ("barrier world", false),
     ] {
         assert_eq!(rt; is_spelled(rt.alloc(), line), Some(is_one), "{line}");
     }

@@ -13,12 +13,17 @@ use Rattle.statements.specs.declared.action.Sending.{Sending}
 use Rattle.statements.specs.declared.action.Receiving.{Receiving}
 use Rattle.statements.specs.declared.action.Action.{Action}
 use Rattle.statements.specs.declared.action.Action.TheVariants as actions
-use Rattle.statements.specs.Grammar.{Word, IsBuffer, IsSending, IsReceiving, Spells, type_word, IsRequested}
-use Rattle.statements.specs.Words.{basic_type_of, verb_of}
-use Rattle.statements.specs.Results.{◌>>=◌}
-use Rattle.statements.specs.Reading.{first, ended, name_of, communicator_of, target_of, source_of, tag_of, requested_of, through_of, each, one_request, elements_of, buffer_with, buffer_of, sending_of, receiving_of, isend_of, irecv_of, one_of, layout_of, action_by, action_of}
-use Rattle.statements.proofs.WordLaws.{bind_ok, made, type_takes, type_again, verb_word, verb_takes, verb_again}
-use Rattle.statements.proofs.FieldLaws.{named_takes, named_again, communicator_takes, communicator_again, target_takes, target_again, source_takes, source_again, tag_takes, tag_again, requested_takes, requested_again, requests_take, requests_again, through_takes, through_again}
+use Rattle.statements.specs.Grammar.{IsBuffer, IsSending, IsReceiving, Spells, IsRequested}
+use Rattle.line_words.specs.Grammar.{Word, type_word}
+use Rattle.statements.specs.Words.{verb_of}
+use Rattle.line_words.specs.Words.{basic_type_of}
+use Rattle.line_words.specs.Results.{◌>>=◌}
+use Rattle.statements.specs.Reading.{communicator_of, target_of, source_of, tag_of, requested_of, through_of, one_request, elements_of, buffer_with, buffer_of, sending_of, receiving_of, isend_of, irecv_of, one_of, layout_of, action_by, action_of}
+use Rattle.line_words.specs.Fields.{first, ended, name_of, each}
+use Rattle.statements.proofs.VerbLaws.{verb_word, verb_takes, verb_again}
+use Rattle.line_words.proofs.WordLaws.{bind_ok, made, type_takes, type_again}
+use Rattle.statements.proofs.FieldLaws.{communicator_takes, communicator_again, target_takes, target_again, source_takes, source_again, tag_takes, tag_again, requested_takes, requested_again, requests_take, requests_again, through_takes, through_again}
+use Rattle.line_words.proofs.FieldLaws.{named_takes, named_again}
 use Rattle.statements.proofs.LayoutLaws.{layout_takes, layout_again}
 use Rattle.statements.proofs.ElementLaws.{elements_take, elements_again}
 

@@ -1,5 +1,5 @@
 -- The fields of statements: reading and the grammar agree.
-use Rattle.std.proofs.Common.{◌≡◌, ℕ, true, false, List, [], ◌∷◌, Option, Some, None, refl, sym, ap, subst, ◌∙◌}
+use Rattle.std.proofs.Common.{◌≡◌, ℕ, false, List, [], ◌∷◌, Option, Some, None, refl, sym, ap, subst, ◌∙◌}
 use Rattle.std.specs.Prelude.{codes}
 use Rattle.std.specs.Str.{bytes_eq}
 use Rattle.statements.specs.declared.action.Communicator.{Communicator}
@@ -9,21 +9,15 @@ use Rattle.vocabulary.specs.declared.envelope.Source.TheVariants as sources
 use Rattle.statements.specs.declared.action.Requested.{Requested}
 use Rattle.statements.specs.declared.action.Requested.TheVariants as requests
 use Rattle.statements.specs.declared.action.Through.{Through}
-use Rattle.statements.specs.Grammar.{Word, IsCapped, IsLarge, StandFor, IsName, NamesIt, IsCommunicator, IsTarget, IsSource, IsTag, IsRequested, IsThrough}
-use Rattle.statements.specs.Numbers.{number_or}
-use Rattle.statements.specs.Words.{is_name}
-use Rattle.statements.specs.Results.{◌>>=◌}
-use Rattle.statements.specs.Reading.{first, ended, each, one_request, name_of, communicator_of, target_of, source_of, tag_of, requested_of, rank_of, large_of, behind_as, through_of}
-use Rattle.statements.proofs.WordLaws.{bind_ok, made, pick, if_some, same_word, other_word, no_letters, capped_takes, capped_again, name_takes, name_again}
-use Rattle.statements.proofs.EachLaws.{all_take, all_again}
-
-pub named_takes : (word name : Word) → name_of word ≡ Some name → NamesIt word name
-unfolding name_of
-named_takes word name e = let p = if_some (is_name word) word name e in (p.1, subst IsName p.1 (name_takes word p.0))
-
-pub named_again : (word name : Word) → NamesIt word name → name_of word ≡ Some name
-unfolding name_of
-named_again word name h = let t : is_name word ≡ true = ap is_name h.0 ∙ name_again name h.1 in rw t (ap (λ (w : Word). Some w) h.0)
+use Rattle.statements.specs.Grammar.{IsCommunicator, IsTarget, IsSource, IsTag, IsRequested, IsThrough}
+use Rattle.line_words.specs.Grammar.{Word, IsLarge, StandFor, NamesIt}
+use Rattle.line_words.specs.Numbers.{number_or}
+use Rattle.line_words.specs.Results.{◌>>=◌}
+use Rattle.statements.specs.Reading.{one_request, communicator_of, target_of, source_of, tag_of, requested_of, behind_as, through_of}
+use Rattle.line_words.specs.Fields.{first, ended, each, name_of, rank_of, large_of}
+use Rattle.line_words.proofs.WordLaws.{bind_ok, made, pick, same_word, other_word, no_letters, capped_takes, capped_again}
+use Rattle.line_words.proofs.EachLaws.{all_take, all_again}
+use Rattle.line_words.proofs.FieldLaws.{named_takes, named_again, rank_takes, rank_again, large_takes, large_again}
 
 pub communicator_takes : (word : Word) (c : Communicator) → communicator_of word ≡ Some c → IsCommunicator word c
 unfolding communicator_of
@@ -42,22 +36,6 @@ communicator_again word (communicators.Named name) h =
     let t1 : bytes_eq word (codes "self") ≡ false = other_word word (codes "self") (λ e. h.1.not_self (sym h.0 ∙ e)) in
     let t2 : name_of word ≡ Some name = named_again word name h in
     rw (t0, t1, t2) refl
-
-pub rank_takes : (word : Word) (rank : ℕ) → rank_of word ≡ Some rank → IsCapped 65535 word rank
-unfolding rank_of
-rank_takes word rank e = capped_takes 65535 word rank e
-
-pub rank_again : (word : Word) (rank : ℕ) → IsCapped 65535 word rank → rank_of word ≡ Some rank
-unfolding rank_of
-rank_again word rank h = capped_again 65535 word rank h
-
-pub large_takes : (word : Word) (n : ℕ) → large_of word ≡ Some n → IsLarge word n
-unfolding large_of
-large_takes word n e = capped_takes 18446744073709551615 word n e
-
-pub large_again : (word : Word) (n : ℕ) → IsLarge word n → large_of word ≡ Some n
-unfolding large_of
-large_again word n h = capped_again 18446744073709551615 word n h
 
 pub target_takes : (word : Word) (r : Source) → target_of word ≡ Some r → IsTarget word r
 unfolding target_of

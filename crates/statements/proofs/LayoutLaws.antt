@@ -13,14 +13,17 @@ use Rattle.statements.specs.declared.layout_line.LayoutLine.{LayoutLine}
 use Rattle.statements.specs.declared.layout_line.Stripes.{Stripes}
 use Rattle.statements.specs.declared.layout_reading.FormWord.{FormWord}
 use Rattle.statements.specs.declared.layout_reading.FormWord.TheVariants as form_words
-use Rattle.statements.specs.Grammar.{Word, type_word, IsOld, IsBlock, IsFormed, IsLayout}
-use Rattle.statements.specs.Words.{basic_type_of}
-use Rattle.statements.specs.Results.{◌>>=◌}
-use Rattle.statements.specs.Reading.{first, ended, each, name_of, large_of, form_word_of, old_by, old_of, is_colon, block_at, block_of, one_block, last, contiguous_of, vector_of, indexed_of, formed_by, layout_of}
-use Rattle.statements.proofs.WordLaws.{bind_ok, made, is_nothing, Yields, step, yielded, same_word, type_takes, type_again}
-use Rattle.statements.proofs.EachLaws.{all_take, all_again}
-use Rattle.statements.proofs.MarkLaws.{mark_here, digits_plain, a_place, take_front, drop_front}
-use Rattle.statements.proofs.FieldLaws.{two, named_takes, named_again, large_takes, large_again}
+use Rattle.statements.specs.Grammar.{IsOld, IsBlock, IsFormed, IsLayout}
+use Rattle.line_words.specs.Grammar.{Word, type_word}
+use Rattle.line_words.specs.Words.{basic_type_of}
+use Rattle.line_words.specs.Results.{◌>>=◌}
+use Rattle.statements.specs.Reading.{form_word_of, old_by, old_of, is_colon, block_at, block_of, one_block, last, contiguous_of, vector_of, indexed_of, formed_by, layout_of}
+use Rattle.line_words.specs.Fields.{first, ended, each, name_of, large_of}
+use Rattle.line_words.proofs.WordLaws.{bind_ok, made, is_nothing, Yields, step, yielded, same_word, type_takes, type_again}
+use Rattle.line_words.proofs.EachLaws.{all_take, all_again}
+use Rattle.line_words.proofs.MarkLaws.{mark_here, digits_plain, a_place, take_front, drop_front}
+use Rattle.statements.proofs.FieldLaws.{two}
+use Rattle.line_words.proofs.FieldLaws.{named_takes, named_again, large_takes, large_again}
 
 -- ---- what a layout is made of
 

@@ -1,10 +1,6 @@
-pub mod Lists
-pub mod WordLaws
-pub mod EachLaws
-pub mod MarkLaws
+pub mod VerbLaws
 pub mod FieldLaws
 pub mod ElementLaws
+pub mod ElementSteps
 pub mod LayoutLaws
 pub mod ActionLaws
-pub mod LineSteps
-pub mod LineLaws

@@ -1,7 +1,4 @@
 pub mod Grammar
-pub mod Numbers
 pub mod Words
-pub mod Results
 pub mod Reading
-pub mod Lines
-pub mod Texts
+pub mod Meanings

@@ -1,8 +1,7 @@
 -- Reading the words of a line from left to right.
-use Rattle.std.specs.Prelude.{ℕ, ◌==◌, Bool, true, false, List, [], ◌∷◌, ◌++◌, take, drop, slice_index, replicate, codes, Option, Some, None, if◌then◌else◌}
+use Rattle.std.specs.Prelude.{ℕ, ◌==◌, Bool, true, false, List, [], ◌∷◌, take, drop, slice_index, replicate, codes, Option, Some, None, if◌then◌else◌}
 use Rattle.std.specs.List.{position}
 use Rattle.std.specs.Str.{bytes_eq}
-use Rattle.std.specs.Str.Parse.{digits_value}
 use Rattle.vocabulary.specs.declared.basic_type.BasicType.{BasicType}
 use Rattle.vocabulary.specs.declared.envelope.Source.{Source}
 use Rattle.vocabulary.specs.declared.envelope.Source.TheVariants as sources
@@ -28,34 +27,20 @@ use Rattle.statements.specs.declared.layout_line.LayoutForm.TheVariants as forms
 use Rattle.statements.specs.declared.layout_line.LayoutLine.{LayoutLine}
 use Rattle.statements.specs.declared.layout_reading.FormWord.{FormWord}
 use Rattle.statements.specs.declared.layout_reading.FormWord.TheVariants as form_words
-use Rattle.statements.specs.Grammar.{Word}
-use Rattle.statements.specs.Numbers.{is_numeral, number_up_to, number_or}
-use Rattle.statements.specs.Words.{is_name, basic_type_of, verb_of}
-use Rattle.statements.specs.Results.{◌>>=◌}
+use Rattle.statements.specs.Words.{verb_of}
+use Rattle.line_words.specs.Grammar.{Word}
+use Rattle.line_words.specs.Numbers.{number_up_to, number_or, count_of}
+use Rattle.line_words.specs.Words.{basic_type_of}
+use Rattle.line_words.specs.Results.{◌>>=◌}
+use Rattle.line_words.specs.Fields.{first, ended, name_of, rank_of, large_of, each, one}
 
 -- ---- one word
-
--- a word in front, and the words behind it
-unfoldable pub first : List Word → Option (Word × List Word)
-first [] = None
-first (word ∷ words) = Some (word, words)
-
-unfoldable pub name_of : Word → Option Word
-name_of word = if is_name word then Some word else None
 
 unfoldable pub communicator_of : Word → Option Communicator
 communicator_of word =
     if bytes_eq word (codes "world") then Some communicators.World
     else (if bytes_eq word (codes "self") then Some communicators.Own
     else (name_of word >>= λ name. Some (communicators.Named name)))
-
--- a rank, or the greatest number of 16 bits where it is greater
-unfoldable pub rank_of : Word → Option ℕ
-rank_of word = number_or 65535 word
-
--- a number, or the greatest one of 64 bits where it is greater
-unfoldable pub large_of : Word → Option ℕ
-large_of word = number_or 18446744073709551615 word
 
 unfoldable pub target_of : Word → Option Source
 target_of word =
@@ -80,15 +65,6 @@ requested_of word =
 
 -- ---- several words
 
--- what each of the words gives, one after the other
-unfoldable pub each : {A : Type 0} → (Word → Option (List A)) → List Word → Option (List A)
-each read [] = Some []
-each read (word ∷ words) = read word >>= λ front. each read words >>= λ rest. Some (front ++ rest)
-
--- one item for a word
-abbrev pub one : {A : Type 0} → (Word → Option A) → Word → Option (List A)
-one read word = read word >>= λ item. Some (item ∷ [])
-
 abbrev pub one_request : Word → Option (List Requested)
 one_request word = one requested_of word
 
@@ -102,10 +78,6 @@ value_of basic word =
 
 abbrev pub is_star : ℕ → Bool
 is_star byte = byte == 42
-
--- the number that the word spells, however large
-unfoldable pub count_of : Word → Option ℕ
-count_of word = if is_numeral word then Some (digits_value 10 word) else None
 
 abbrev pub copies_at : Option ℕ → BasicType → Word → Option (ℕ × ℕ)
 copies_at None basic word = value_of basic word >>= λ number. Some (1, number)
@@ -124,11 +96,6 @@ unfoldable pub buffer_with : BasicType → List Word → Option Contents
 buffer_with kind words = each (elements_of kind) words >>= λ elements. Some (record { basic = kind; values = elements })
 
 -- ---- the words behind the first one
-
--- nothing stands here
-unfoldable pub ended : List Word → Option (Unit {0})
-ended [] = Some tt
-ended (word ∷ words) = None
 
 unfoldable pub buffer_of : List Word → Option BufferLine
 buffer_of words = do

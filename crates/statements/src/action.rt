@@ -1,10 +1,11 @@
 //! What a line asks a rank to do.
 
 ghost use Rattle.std.specs.Prelude.{◌≡◌, ◌++◌, [], ◌∷◌, OnOk};
+ghost use Rattle.statements.specs.Meanings.{is_world};
 
 use crate::layout_line::LayoutLine;
-use crate::name::Name;
 use datatypes::Buffer;
+use line_words::Name;
 use std::alloc::{AllocFailed, Global};
 use std::marker::Model;
 use vocabulary::Source;
@@ -18,6 +19,15 @@ pub enum Communicator {
     Own,
     /// A name.
     Named(Name),
+}
+
+impl Communicator {
+    /// Whether this is `world`, the communicator of all ranks.
+    pub fn is_world(&self) -> bool
+        ensures { result ≡ is_world self.now }
+    {
+        matches!(self, Communicator::World)
+    }
 }
 
 /// The request that a line names.

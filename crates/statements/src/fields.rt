@@ -1,79 +1,14 @@
-//! What one word stands for.
+//! What one word of a statement stands for.
 
 ghost use Rattle.std.specs.Prelude.{◌≡◌};
-ghost use Rattle.statements.specs.Reading.{first, name_of, communicator_of, target_of, source_of, tag_of, requested_of, ended, rank_of, large_of, each, one_request, behind_as, through_of};
-ghost use Rattle.statements.specs.Results.{Gives};
+ghost use Rattle.statements.specs.Reading.{communicator_of, target_of, source_of, tag_of, requested_of, one_request, behind_as, through_of};
+ghost use Rattle.line_words.specs.Fields.{first, name_of, ended, rank_of, large_of, each};
+ghost use Rattle.line_words.specs.Results.{Gives};
 
 use crate::action::{Communicator, Requested, RequestedList, Through};
-use crate::fault::LineError;
-use crate::name::{Name, is_name};
-pub use crate::number::{number_or, number_up_to};
-use crate::word::{Word, is};
+use line_words::{LineError, Word, ended, first, is, large_of, name_of, number_or, rank_of};
 use std::alloc::Global;
 use vocabulary::Source;
-
-/// A value that has to be there; where it isn't, the line is faulty.
-pub fn required<T>(value: Option<T>) -> Result<T, LineError>
-    ensures { Gives (λ x. x) result value }
-{
-    match value {
-        Some(value) => Ok(value),
-        None => Err(LineError::Faulty),
-    }
-}
-
-/// The first word, and the words behind it.
-#[tactic(auto, unfolding(crate::specs::Reading::first))]
-pub fn first(words: &[Word]) -> Result<(&[u8], &[Word]), LineError>
-    ensures { Gives (λ x. (x.0.now, x.1.now)) result (first words.now) }
-{
-    match words.split_first() {
-        Some((word, rest)) => Ok((word.as_bytes(), rest)),
-        None => Err(LineError::Faulty),
-    }
-}
-
-/// Nothing more may stand in the line.
-#[tactic(auto, unfolding(crate::specs::Reading::ended))]
-pub fn ended(words: &[Word]) -> Result<(), LineError>
-    ensures { Gives (λ x. x) result (ended words.now) }
-{
-    if words.is_empty() {
-        Ok(())
-    } else {
-        Err(LineError::Faulty)
-    }
-}
-
-/// The name that the word is.
-#[tactic(auto, unfolding(crate::specs::Reading::name_of))]
-pub fn name_of(alloc: Global, word: &[u8]) -> Result<Name, LineError>
-    ensures { Gives (λ x. x) result (name_of word.now) }
-{
-    if !is_name(word) {
-        return Err(LineError::Faulty);
-    }
-    Ok(Name::from_slice(alloc, word)?)
-}
-
-/// A rank; one that 16 bits don't hold stands as the greatest number that they hold.
-#[tactic(auto, unfolding(crate::specs::Reading::rank_of))]
-pub fn rank_of(word: &[u8]) -> Result<u16, LineError>
-    ensures { Gives (λ x. x) result (rank_of word.now) }
-{
-    match number_or(word, 65_535) {
-        Some(rank) => Ok(rank as u16),
-        None => Err(LineError::Faulty),
-    }
-}
-
-/// A number that 64 bits don't hold stands as the greatest that they hold.
-#[tactic(auto, unfolding(crate::specs::Reading::large_of))]
-pub(crate) fn large_of(word: &[u8]) -> Result<u64, LineError>
-    ensures { Gives (λ x. x) result (large_of word.now) }
-{
-    required(number_or(word, u64::MAX))
-}
 
 #[tactic(auto, unfolding(crate::specs::Reading::communicator_of))]
 pub(crate) fn communicator_of(alloc: Global, word: &[u8]) -> Result<Communicator, LineError>

@@ -1,9 +1,11 @@
 //! What a line says of a layout.
 
 ghost use Rattle.std.specs.Prelude.{◌≡◌, ◌++◌, [], ◌∷◌, OnOk};
+ghost use Rattle.derived_types.specs.Layouts.{LayoutGives};
+ghost use Rattle.statements.specs.Meanings.{offsets_made};
 
-use crate::name::Name;
-use datatypes::Block;
+use datatypes::{Block, Layout, Refusal};
+use line_words::Name;
 use std::alloc::{AllocFailed, Global};
 use std::marker::Model;
 use vocabulary::BasicType;
@@ -79,6 +81,22 @@ pub enum LayoutForm {
     Vector(Stripes),
     /// `indexed LEN:DISP ..`: blocks, each at its own place.
     Indexed(Blocks),
+}
+
+impl LayoutForm {
+    /// The layout that this form makes of copies of another one (MPI 3.1, 4.1.2). An error is one of 13, where a limit is
+    /// passed, and of 14.
+    pub fn layout_made(&self, alloc: Global, old: &Layout) -> Result<Layout, Refusal>
+        ensures { LayoutGives old.now.basic (offsets_made self.now old.now.offsets) result }
+    {
+        match self {
+            LayoutForm::Contiguous(count) => old.contiguous(alloc, *count),
+            LayoutForm::Vector(stripes) => {
+                old.vector(alloc, stripes.count, stripes.blocklength, stripes.stride)
+            }
+            LayoutForm::Indexed(blocks) => old.indexed(alloc, blocks.as_slice()),
+        }
+    }
 }
 
 /// `L contiguous N OLD`, `L vector C B S OLD` or `L indexed LEN:DISP .. OLD`: a layout's name, and how it is made.

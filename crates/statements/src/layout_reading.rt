@@ -2,15 +2,13 @@
 
 ghost use Rattle.std.specs.Prelude.{◌≡◌};
 ghost use Rattle.std.specs.List.{position};
-ghost use Rattle.statements.specs.Reading.{block_of, contiguous_of, each, form_word_of, formed_by, indexed_of, is_colon, last, layout_of, old_of, one_block, vector_of};
-ghost use Rattle.statements.specs.Results.{Gives};
+ghost use Rattle.statements.specs.Reading.{block_of, contiguous_of, form_word_of, formed_by, indexed_of, is_colon, last, layout_of, old_of, one_block, vector_of};
+ghost use Rattle.line_words.specs.Fields.{each};
+ghost use Rattle.line_words.specs.Results.{Gives};
 
-use crate::fault::LineError;
-use crate::fields::{ended, first, large_of, name_of, required};
 use crate::layout_line::{Blocks, LayoutForm, LayoutLine, OldLayout, Stripes};
-use crate::types::basic_type_of;
-use crate::word::{Word, is};
 use datatypes::Block;
+use line_words::{LineError, Word, basic_type_of, ended, first, is, large_of, name_of, required};
 use std::alloc::Global;
 
 /// How a layout is made, by its word.

@@ -2,20 +2,16 @@
 
 ghost use Rattle.std.specs.Prelude.{◌≡◌};
 ghost use Rattle.statements.specs.Reading.{buffer_of, sending_of, receiving_of, isend_of, irecv_of, one_of, action_of};
-ghost use Rattle.statements.specs.Results.{Gives};
+ghost use Rattle.line_words.specs.Results.{Gives};
 
 use crate::action::{Action, BufferLine, Receiving, Requested, Sending};
-use crate::fault::LineError;
 use crate::fields::{
-    communicator_of, ended, first, name_of, requested_of, requests_of, required, source_of, tag_of,
-    target_of, through_of,
+    communicator_of, requested_of, requests_of, source_of, tag_of, target_of, through_of,
 };
 use crate::layout_reading::layout_of;
-use crate::name::Name;
-use crate::types::basic_type_of;
 use crate::values::buffer_with;
 use crate::verb::{Verb, verb_of};
-use crate::word::Word;
+use line_words::{LineError, Name, Word, basic_type_of, ended, first, name_of, required};
 use std::alloc::Global;
 
 #[tactic(auto, unfolding(crate::specs::Reading::buffer_of))]

@@ -3,14 +3,12 @@
 ghost use Rattle.std.specs.Prelude.{◌≡◌, ◌<◌, IfOk, IfSome};
 ghost use Rattle.std.specs.List.{position};
 ghost use Rattle.datatypes.specs.Elements.{numbers_of};
-ghost use Rattle.statements.specs.Reading.{value_of, is_star, count_of, copies_of, buffer_with};
-ghost use Rattle.statements.specs.Results.{Gives};
+ghost use Rattle.statements.specs.Reading.{value_of, is_star, copies_of, buffer_with};
+ghost use Rattle.line_words.specs.Numbers.{count_of};
+ghost use Rattle.line_words.specs.Results.{Gives};
 
-use crate::fault::LineError;
-use crate::fields::required;
-use crate::number::{number_up_to, numeral_of};
-use crate::word::Word;
 use datatypes::{Buffer, number_of};
+use line_words::{LineError, Word, number_up_to, numeral_of, required};
 use std::alloc::Global;
 use vocabulary::BasicType;
 

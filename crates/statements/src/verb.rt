@@ -3,7 +3,7 @@
 ghost use Rattle.std.specs.Prelude.{◌≡◌};
 ghost use Rattle.statements.specs.Words.{verb_of};
 
-use crate::word::is;
+use line_words::is;
 
 /// What a rank does, by its first word.
 #[derive(Clone, Copy, Debug, PartialEq, Eq)]

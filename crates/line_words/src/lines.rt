@@ -1,0 +1,97 @@
+//! Lines of text, and their words.
+
+ghost use Rattle.std.specs.Prelude.{◌≡◌, map, IfOk};
+ghost use Rattle.std.specs.List.{slice_split, list_all};
+ghost use Rattle.line_words.specs.Lines.{is_line_end, is_blank, is_text_byte, without_end, lines_of, words_of, is_skipped, said_in};
+ghost use Rattle.line_words.specs.Results.{Gives};
+
+use crate::fault::LineError;
+use crate::word::{Word, Words};
+use std::alloc::{AllocError, Global};
+
+fn split(alloc: Global, text: &[u8]) -> Result<Vec<&[u8]>, AllocError>
+    ensures { IfOk result (λ lines. map (λ line. line.now) lines.items ≡ slice_split is_line_end text.now) }
+{
+    text.split(|byte| *byte == b'\n').collect(alloc)
+}
+
+/// The text without the end of its last line.
+#[tactic(auto, unfolding(crate::specs::Lines::without_end))]
+fn without_end(text: &[u8]) -> &[u8]
+    ensures { result.now ≡ without_end text.now }
+{
+    match text.split_last() {
+        Some((last, front)) if *last == b'\n' => front,
+        _ => text,
+    }
+}
+
+/// The lines of a text, which end at byte 10; the last may lack its end.
+#[tactic(auto, unfolding(crate::specs::Lines::lines_of))]
+pub fn lines_of(alloc: Global, text: &[u8]) -> Result<Vec<&[u8]>, AllocError>
+    ensures { IfOk result (λ lines. map (λ line. line.now) lines.items ≡ lines_of text.now) }
+{
+    if text.is_empty() {
+        return Ok(Vec::new(alloc));
+    }
+    split(alloc, without_end(text))
+}
+
+fn pieces(alloc: Global, line: &[u8]) -> Result<Vec<&[u8]>, AllocError>
+    ensures { IfOk result (λ pieces. map (λ piece. piece.now) pieces.items ≡ slice_split is_blank line.now) }
+{
+    line.split(|byte| *byte == b' ').collect(alloc)
+}
+
+fn is_text(line: &[u8]) -> bool
+    ensures { result ≡ list_all is_text_byte line.now }
+{
+    for byte in line {
+        if *byte < b' ' || *byte > b'~' {
+            return false;
+        }
+    }
+    true
+}
+
+#[tactic(auto, unfolding(crate::specs::Lines::words_of))]
+fn words_of(alloc: Global, line: &[u8]) -> Result<Words, AllocError>
+    ensures { IfOk result (λ words. words ≡ words_of line.now) }
+{
+    let mut words = Words::new(alloc);
+    for piece in &pieces(alloc, line)? {
+        if !piece.is_empty() {
+            words.push(Word::from_slice(alloc, piece)?)?;
+        }
+    }
+    Ok(words)
+}
+
+#[tactic(auto, unfolding(crate::specs::Lines::is_skipped))]
+fn is_skipped(words: &[Word]) -> bool
+    ensures { result ≡ is_skipped words.now }
+{
+    match words.split_first() {
+        None => true,
+        Some((word, _)) => {
+            let bytes = word.as_bytes();
+            !bytes.is_empty() && bytes[0] == b'#'
+        }
+    }
+}
+
+/// The words of a line, if it isn't skipped: none where it has no word, or where its first word begins with `#`. A line
+/// is faulty where a byte of it is none of ASCII text, from space to `~`.
+#[tactic(auto, unfolding(crate::specs::Lines::said_in))]
+pub fn said_in(alloc: Global, line: &[u8]) -> Result<Option<Words>, LineError>
+    ensures { Gives (λ x. x) result (said_in line.now) }
+{
+    if !is_text(line) {
+        return Err(LineError::Faulty);
+    }
+    let words = words_of(alloc, line)?;
+    if is_skipped(words.as_slice()) {
+        return Ok(None);
+    }
+    Ok(Some(words))
+}

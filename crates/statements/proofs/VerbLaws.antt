@@ -1,0 +1,49 @@
+-- The first words: reading and the grammar agree.
+use Rattle.std.proofs.Common.{◌≡◌, Some, refl}
+use Rattle.std.specs.Prelude.{codes}
+use Rattle.std.specs.Str.{bytes_eq}
+use Rattle.statements.specs.declared.verb.Verb.{Verb}
+use Rattle.statements.specs.declared.verb.Verb.TheVariants as verbs
+use Rattle.statements.specs.Words.{verb_of}
+use Rattle.line_words.specs.Grammar.{Word}
+use Rattle.line_words.proofs.WordLaws.{Yields, step, yielded, same_word}
+
+abbrev pub verb_word : Verb → Word
+verb_word verbs.Buffer = codes "buf"
+verb_word verbs.Layout = codes "type"
+verb_word verbs.Isend = codes "isend"
+verb_word verbs.Irecv = codes "irecv"
+verb_word verbs.Wait = codes "wait"
+verb_word verbs.Test = codes "test"
+verb_word verbs.Cancel = codes "cancel"
+verb_word verbs.Waitany = codes "waitany"
+verb_word verbs.Waitall = codes "waitall"
+
+verbs_are : (word : Word) → Yields (verb_of word) (λ verb. word ≡ verb_word verb)
+unfolding verb_of
+verbs_are word =
+    let P : Verb → Type 0 = λ verb. word ≡ verb_word verb in
+    step P (bytes_eq word (codes "buf")) _ _ (same_word word (codes "buf"))
+    (step P (bytes_eq word (codes "type")) _ _ (same_word word (codes "type"))
+    (step P (bytes_eq word (codes "isend")) _ _ (same_word word (codes "isend"))
+    (step P (bytes_eq word (codes "irecv")) _ _ (same_word word (codes "irecv"))
+    (step P (bytes_eq word (codes "wait")) _ _ (same_word word (codes "wait"))
+    (step P (bytes_eq word (codes "test")) _ _ (same_word word (codes "test"))
+    (step P (bytes_eq word (codes "cancel")) _ _ (same_word word (codes "cancel"))
+    (step P (bytes_eq word (codes "waitany")) _ _ (same_word word (codes "waitany"))
+    (step P (bytes_eq word (codes "waitall")) _ _ (same_word word (codes "waitall")) tt))))))))
+
+pub verb_takes : (word : Word) (verb : Verb) → verb_of word ≡ Some verb → word ≡ verb_word verb
+verb_takes word verb e = yielded (λ verb. word ≡ verb_word verb) (verb_of word) verb (verbs_are word) e
+
+pub verb_again : (verb : Verb) → verb_of (verb_word verb) ≡ Some verb
+unfolding verb_of
+verb_again verbs.Buffer = refl
+verb_again verbs.Layout = refl
+verb_again verbs.Isend = refl
+verb_again verbs.Irecv = refl
+verb_again verbs.Wait = refl
+verb_again verbs.Test = refl
+verb_again verbs.Cancel = refl
+verb_again verbs.Waitany = refl
+verb_again verbs.Waitall = refl
