@@ -1,12 +1,13 @@
 -- What both halves make of a call is what the engine makes of it.
 use Rattle.std.proofs.Common.{◌≡◌, Option, Some, None, Ok, Err, refl, sym, ap, ap₂, subst, ◌∙◌}
-use Rattle.rank_core.specs.declared.call.Call.{Call}
-use Rattle.rank_core.specs.declared.call.Reply.{Reply}
-use Rattle.rank_core.specs.declared.call.Reply.TheVariants as replies
-use Rattle.rank_core.specs.declared.refused.Refused.{Refused}
-use Rattle.rank_core.specs.Calls.{Answers, IsTaken, NeedsMemory, call_fault, call_frame}
+use Rattle.rank_calls.specs.declared.call.Call.{Call}
+use Rattle.rank_calls.specs.declared.call.Reply.{Reply}
+use Rattle.rank_calls.specs.declared.call.Reply.TheVariants as replies
+use Rattle.rank_calls.specs.declared.refused.Refused.{Refused}
+use Rattle.rank_calls.specs.Calls.{IsTaken, NeedsMemory}
+use Rattle.rank_core.specs.Calls.{Answers, call_fault, call_frame}
 use Rattle.rank_core.specs.CoreState.{CoreState}
-use Rattle.rank_core.specs.Refusals.{IsRefusal}
+use Rattle.rank_calls.specs.Refusals.{IsRefusal}
 use Rattle.sessions.specs.SessionsState.{SessionsState}
 use Rattle.engine.specs.Calls.{CallGives, FrameGives, IsAnswered, WhyRefused, frame_limit}
 use Rattle.engine.specs.EngineState.{EngineState}

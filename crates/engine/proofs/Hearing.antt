@@ -1,5 +1,5 @@
 -- What is heard in a datagram: at which incarnation its source is known then, and what a refusal leaves.
-use Rattle.std.proofs.Common.{◌≡◌, ◌<◌, ℕ, List, length, max, Option, Some, None, Result, Ok, Err, Bool, true, false, refl, sym, ap, subst, ◌∙◌, arith, append-nil, inl, inr}
+use Rattle.std.proofs.Common.{◌≡◌, ◌<◌, ℕ, List, [], ◌∷◌, length, max, Option, Some, None, Result, Ok, Err, Bool, true, false, refl, sym, ap, subst, ◌∙◌, arith, append-nil, inl, inr}
 use Rattle.std.proofs.lemmas.Grind.{common_steps}
 use Rattle.std.proofs.lemmas.List.{get_or-set_same}
 use Rattle.std.specs.Prelude.{OnOk, slice_index}
@@ -14,18 +14,19 @@ use Rattle.incarnation.specs.declared.refused.Refused as judging
 use Rattle.incarnation.specs.declared.refused.Refused.TheVariants as judgings
 use Rattle.incarnation.specs.Judging.{judgement}
 use Rattle.rank_core.specs.CoreState.{CoreState}
-use Rattle.rank_core.specs.declared.refused.Refused.{Refused}
-use Rattle.rank_core.specs.declared.refused.Refused.TheVariants as refusals
+use Rattle.rank_calls.specs.declared.refused.Refused.{Refused}
+use Rattle.rank_calls.specs.declared.refused.Refused.TheVariants as refusals
 use Rattle.sessions.specs.declared.refused.Refused as lower
 use Rattle.sessions.specs.declared.refused.Refused.TheVariants as lowers
 use Rattle.sessions.specs.declared.heard.Unheard.{Unheard}
 use Rattle.sessions.specs.Peers.{peer_at}
 use Rattle.sessions.specs.SessionsState.{SessionsState, knowledge}
 use Rattle.sessions.specs.Heard.{WordText, Acknowledges, Repeats, Hands, Nothing, HeardText, heard_by, heard_in, heard_of, said, session_met, stale, word_of}
-use Rattle.sessions.specs.Events.{TurnedAway, taught_known}
+use Rattle.sessions.specs.Events as links
+use Rattle.sessions.specs.Events.{Sending, TurnedAway, after_send, after_sends, taught_known}
 use Rattle.engine.specs.EngineState.{EngineState}
 use Rattle.engine.specs.Refusals.{of_sessions}
-use Rattle.engine.specs.Datagrams.{DatagramGives, HeardGives, HearingGives, RefusedDatagramLeaves, SourceIsKnown, says_nothing}
+use Rattle.engine.specs.Datagrams.{DatagramGives, HeardGives, HearingGives, RefusedDatagramLeaves, SourceIsKnown, replies, says_nothing}
 use Rattle.engine.proofs.Calling.{both, joined}
 
 -- ---- what says nothing new
@@ -95,6 +96,11 @@ judged_knows (Err judgings.ForeignJob) s d each is = tt
 judged_knows (Err judgings.NotForMe) s d each is = tt
 judged_knows (Err judgings.StaleSource) s d each is = tt
 
+-- frames that are sent teach nothing
+known_sends : (s : SessionsState) (fs : List Sending) → (after_sends s fs).known ≡ s.known
+known_sends s [] = refl
+known_sends s (f ∷ fs) = known_sends (after_send s f) fs
+
 -- the source of what was taken in is known at the incarnation in its header
 pub heard_is_known : (old new : EngineState) (bytes : List ℕ) (h : HeardText) (result : Result (Unit {0}) Refused) →
     length old.sessions.known ≡ old.sessions.place.size → heard_of old.sessions bytes ≡ Ok h → HeardGives old h result new →
@@ -104,6 +110,7 @@ heard_is_known old new bytes h (Err e) each heard gives = tt
 heard_is_known old new bytes h (Ok x) each heard gives = λ d is.
     let by : heard_by (judgement (knowledge old.sessions) d.header) old.sessions d ≡ Ok h = sym (ap (heard_in old.sessions) is) ∙ heard in
     ap (λ (e : EngineState). slice_index e.sessions.known d.header.source.rank) gives.1
+    ∙ ap (λ (known : List ℕ). slice_index known d.header.source.rank) (known_sends (links.after_heard old.sessions (Some h)) (replies old.core h))
     ∙ subst (λ (r : Result HeardText Unheard). Knows r old.sessions d.header.source) by
     (judged_knows (judgement (knowledge old.sessions) d.header) old.sessions d each refl)
 

@@ -1,3 +1,4 @@
 pub mod Calling
 pub mod Hearing
 pub mod Frames
+pub mod Replies

@@ -1,13 +1,16 @@
 -- What a call does to the engine: the core answers it, and the sessions send its frame.
 use Rattle.std.specs.Prelude.{◌≡◌, List, [], ◌∷◌, Option, Some, None, Result, Ok, Err}
-use Rattle.rank_core.specs.declared.call.Call.{Call}
-use Rattle.rank_core.specs.declared.call.Reply.{Reply}
-use Rattle.rank_core.specs.declared.call.Reply.TheVariants as replies
-use Rattle.rank_core.specs.declared.refused.Refused.{Refused}
-use Rattle.rank_core.specs.declared.refused.Refused.TheVariants as refusals
-use Rattle.rank_core.specs.Calls.{Answers, NeedsMemory, call_fault, call_frame}
-use Rattle.rank_core.specs.Refusals.{IsRefusal}
-use Rattle.rank_core.specs.Sending.{FrameFor}
+use Rattle.rank_calls.specs.declared.call.Call.{Call}
+use Rattle.rank_calls.specs.declared.call.Reply.{Reply}
+use Rattle.rank_calls.specs.declared.call.Reply.TheVariants as replies
+use Rattle.rank_calls.specs.declared.sending.Addressed.{Addressed}
+use Rattle.rank_calls.specs.declared.refused.Refused.{Refused}
+use Rattle.rank_calls.specs.declared.refused.Refused.TheVariants as refusals
+use Rattle.rank_calls.specs.Calls.{NeedsMemory}
+use Rattle.rank_core.specs.Calls.{Answers, call_fault, call_frame}
+use Rattle.rank_calls.specs.Refusals.{IsRefusal}
+use Rattle.rank_calls.specs.Frames.{FrameFor}
+use Rattle.sessions.specs.declared.heard.Outgoing.{Outgoing}
 use Rattle.sessions.specs.SessionsState.{SessionsState}
 use Rattle.sessions.specs.Events.{Sending, after_event, event_limit}
 use Rattle.engine.specs.EngineState.{EngineState}
@@ -15,10 +18,18 @@ use Rattle.engine.specs.Refusals.{fault_of_sessions, first_fault}
 
 -- THE FRAME OF A CALL
 
+-- a frame for a rank, as the sessions are to send it
+abbrev pub sending_of : FrameFor → Sending
+sending_of f = record { rank = f.rank; frame = f.frame }
+
+-- a frame of the core as the program hands it to the sessions
+abbrev pub outgoing_of : Addressed → Outgoing
+outgoing_of a = record { target = a.rank; frame = a.frame }
+
 -- what the sessions are to send
 abbrev pub sendings_of : Option FrameFor → List Sending
 sendings_of None = []
-sendings_of (Some f) = record { rank = f.rank; frame = f.frame } ∷ []
+sendings_of (Some f) = sending_of f ∷ []
 
 -- the sessions once the frame, if the call has one, is on its way
 abbrev pub after_frame : SessionsState → Option FrameFor → SessionsState

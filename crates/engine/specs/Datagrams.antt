@@ -1,17 +1,19 @@
 -- What a datagram does to the engine: what is heard in it, both halves take in.
-use Rattle.std.specs.Prelude.{◌≡◌, ℕ, Bool, true, false, List, [], Option, Some, None, Result, Ok, Err, slice_index}
+use Rattle.std.specs.Prelude.{◌≡◌, ℕ, Bool, true, false, List, Option, Some, None, Result, Ok, Err, map, slice_index}
 use Rattle.datagram.specs.Spelling.{FrameText, DatagramText}
 use Rattle.datagram.specs.Reading.{datagram_of}
-use Rattle.rank_core.specs.declared.refused.Refused.{Refused}
-use Rattle.rank_core.specs.declared.refused.Refused.TheVariants as refusals
-use Rattle.rank_core.specs.Refusals.{IsRefusal}
-use Rattle.rank_core.specs.Hearing.{NewsText, after_news, news_fault}
+use Rattle.rank_calls.specs.declared.refused.Refused.{Refused}
+use Rattle.rank_calls.specs.declared.refused.Refused.TheVariants as refusals
+use Rattle.rank_core.specs.CoreState.{CoreState}
+use Rattle.rank_calls.specs.Refusals.{IsRefusal}
+use Rattle.rank_calls.specs.Hearing.{NewsText}
+use Rattle.rank_core.specs.Hearing.{after_news, news_fault, news_frames}
 use Rattle.sessions.specs.declared.refused.Refused as lower
 use Rattle.sessions.specs.declared.heard.Unheard.{Unheard}
-use Rattle.sessions.specs.SessionsState.{SessionsState}
 use Rattle.sessions.specs.Heard.{WordText, Acknowledges, Repeats, Hands, Nothing, HeardText, heard_of}
-use Rattle.sessions.specs.Events.{after_event, event_limit, TurnedAway}
+use Rattle.sessions.specs.Events.{Sending, after_event, event_limit, TurnedAway}
 use Rattle.engine.specs.EngineState.{EngineState}
+use Rattle.engine.specs.Calls.{sending_of}
 use Rattle.engine.specs.Refusals.{of_sessions, fault_of_sessions, first_fault}
 
 -- WHAT IS HEARD
@@ -35,19 +37,31 @@ says_nothing false Repeats = false
 says_nothing false (Hands f) = false
 says_nothing false Nothing = true
 
+-- the frames that a core calls for then, as the sessions are to send them
+abbrev pub replies : CoreState → HeardText → List Sending
+replies c h = map sending_of (news_frames c (news_of h))
+
+-- what the sessions are to send then: the frames that the core calls for
+abbrev pub heard_sendings : EngineState → HeardText → List Sending
+heard_sendings e h = replies e.core h
+
 -- the first rule or limit that it meets: the core's rule first
-abbrev pub heard_fault : SessionsState → HeardText → Option Refused
-heard_fault s h = first_fault (news_fault (frame_in h.word)) (fault_of_sessions (event_limit s (Some h) []))
+abbrev pub heard_fault : EngineState → HeardText → Option Refused
+heard_fault e h =
+    first_fault (news_fault e.core (news_of h)) (fault_of_sessions (event_limit e.sessions (Some h) (heard_sendings e h)))
 
 -- both halves once they took it in
 abbrev pub after_heard : EngineState → HeardText → EngineState
-after_heard e h = record { core = after_news e.core (news_of h); sessions = after_event e.sessions (Some h) [] }
+after_heard e h = record {
+  core = after_news e.core (news_of h);
+  sessions = after_event e.sessions (Some h) (heard_sendings e h);
+}
 
 -- What is heard is taken in by both halves; or a rule, a limit or want of memory refused it, and nothing changes. What says
 -- nothing new isn't refused
 abbrev pub HeardGives : EngineState → HeardText → Result (Unit {0}) Refused → EngineState → Type 0
-HeardGives old h (Ok x) new = (heard_fault old.sessions h ≡ None) × (new ≡ after_heard old h)
-HeardGives old h (Err e) new = (says_nothing h.lesson h.word ≡ false) × IsRefusal (heard_fault old.sessions h) e × (new ≡ old)
+HeardGives old h (Ok x) new = (heard_fault old h ≡ None) × (new ≡ after_heard old h)
+HeardGives old h (Err e) new = (says_nothing h.lesson h.word ≡ false) × IsRefusal (heard_fault old h) e × (new ≡ old)
 
 -- WHAT ISN'T HEARD
 

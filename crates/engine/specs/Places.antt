@@ -1,7 +1,7 @@
 -- Where an engine may stand.
 use Rattle.std.specs.Prelude.{Option}
 use Rattle.incarnation.specs.declared.place.Place.{Place}
-use Rattle.rank_core.specs.declared.refused.Refused.{Refused}
+use Rattle.rank_calls.specs.declared.refused.Refused.{Refused}
 use Rattle.sessions.specs.Places as lower
 use Rattle.engine.specs.Refusals.{fault_of_sessions}
 

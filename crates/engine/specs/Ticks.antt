@@ -1,7 +1,7 @@
 -- What a tick does to the engine: to its sessions alone.
 use Rattle.std.specs.Prelude.{◌≡◌, ℕ, Option, None, Result, Ok, Err}
-use Rattle.rank_core.specs.declared.refused.Refused.{Refused}
-use Rattle.rank_core.specs.Refusals.{IsRefusal}
+use Rattle.rank_calls.specs.declared.refused.Refused.{Refused}
+use Rattle.rank_calls.specs.Refusals.{IsRefusal}
 use Rattle.sessions.specs.Ticks as lower
 use Rattle.engine.specs.EngineState.{EngineState}
 use Rattle.engine.specs.Refusals.{fault_of_sessions}

@@ -1,7 +1,8 @@
 //! How an engine answers calls.
 
 ghost use Rattle.std.specs.Prelude.{◌≡◌, ◌≤◌, ◌<◌, ◌+◌, length, All, IfOk, OnErr, None};
-ghost use Rattle.rank_core.specs.Calls.{IsTaken, IsWithin, NeedsMemory, CanAnswer, call_fault, call_frame};
+ghost use Rattle.rank_calls.specs.Calls.{IsTaken, IsWithin, NeedsMemory};
+ghost use Rattle.rank_core.specs.Calls.{CanAnswer, call_fault, call_frame};
 ghost use Rattle.sessions.specs.Events.{CanSend, sendings};
 ghost use Rattle.engine.specs.Calls.{CallGives, FrameGives, RefusedLeaves, fault_of, frame_limit};
 
@@ -97,7 +98,8 @@ impl Engine {
     /// twice), 1 (for now more than 1,024 bytes of data in a send, or the buffer is too short), 3 (the tag is above the
     /// greatest, or the wildcard in a send), 5 (no such rank, or any rank in a send), 13 (65,536 requests are there, or a
     /// number would come round), 14. A refusal hands the call back, and changes nothing. A send to the own rank (MPI 3.1,
-    /// 3.2.4) or to the null process (3.11) emits no datagram.
+    /// 3.2.4) or to the null process (3.11) emits no datagram. A receive that takes a message which was announced answers
+    /// it: its data are to come where the receive has their type and places for them, and else it has ended without them.
     pub fn call(&mut self, call: Call) -> Reply
         ensures exact { CallGives self.old call result self.new }
         ensures within { IsTaken result → IsWithin call }

@@ -1,15 +1,20 @@
 //! How an engine takes datagrams in.
 
-ghost use Rattle.std.specs.Prelude.{◌≡◌, ◌≤◌, ◌<◌, ◌+◌, length, OnOk, Some};
-ghost use Rattle.rank_core.specs.Hearing.{frame_option};
+ghost use Rattle.std.specs.Prelude.{◌≡◌, ◌≤◌, ◌<◌, ◌+◌, length, map, IfErr, IfOk, None, OnErr, OnOk, Some};
+ghost use Rattle.rank_calls.specs.Hearing.{frame_option, news_text};
+ghost use Rattle.rank_core.specs.Hearing.{CanTake, news_fault};
 ghost use Rattle.sessions.specs.Heard.{heard_text, word_text, CanHear, WordFits};
-ghost use Rattle.engine.specs.Datagrams.{DatagramGives, HeardGives, SourceIsKnown, RefusedDatagramLeaves, frame_in, says_nothing};
+ghost use Rattle.sessions.specs.Events.{after_event, event_limit};
+ghost use Rattle.engine.specs.Calls.{outgoing_of};
+ghost use Rattle.engine.specs.Refusals.{fault_of_sessions};
+ghost use Rattle.engine.specs.Datagrams.{DatagramGives, HeardGives, SourceIsKnown, RefusedDatagramLeaves, frame_in, news_of, replies, says_nothing};
 
 use crate::engine::Engine;
 use crate::refusals::of_sessions;
 use datagram::Frame;
-use rank_core::{Core, News, Refused};
-use sessions::{Heard, Sessions, Word};
+use rank_core::{Addressed, Core, News, Ready, Refused};
+use sessions::{Heard, Outgoing, Sessions, Word};
+use std::alloc::Global;
 
 /// The frame that is handed up, if one is.
 fn frame_in<'a>(word: Word<'a>) -> Option<Frame<'a>>
@@ -38,36 +43,100 @@ fn says_nothing(heard: Heard<'_>) -> bool
     }
 }
 
+/// What of it concerns the core.
+fn news_of<'a>(heard: Heard<'a>) -> News<'a>
+    ensures { news_text result ≡ news_of (heard_text heard.entry) }
+{
+    News {
+        source: heard.source,
+        lesson: heard.lesson,
+        frame: frame_in(heard.word),
+    }
+}
+
+/// Frames of a core, as the sessions take them; or want of memory.
+fn outgoing_of<'a>(alloc: Global, frames: &[Addressed<'a>]) -> Result<Vec<Outgoing<'a>>, Refused>
+    ensures ok { IfOk result (λ outgoing. outgoing.items ≡ map outgoing_of frames.now) }
+    ensures err { IfErr result (λ e. e ≡ Refused.OutOfMemory) }
+{
+    match frames
+        .iter()
+        .map(|addressed| Outgoing {
+            target: addressed.rank,
+            frame: addressed.frame,
+        })
+        .collect(alloc)
+    {
+        Ok(outgoing) => Ok(outgoing),
+        Err(_) => Err(Refused::OutOfMemory),
+    }
+}
+
+/// The sessions take in what is heard, which breaks no rule and meets no limit, and send the frames that the core calls
+/// for; or there is no memory (14), and nothing changes.
+fn carry_out(
+    core: &Core,
+    sessions: &mut Sessions,
+    heard: Heard<'_>,
+    ready: &Ready,
+) -> Result<(), Refused>
+    requires can { CanHear sessions.old (Some (heard_text heard)) }
+    requires place { core.now.state.place ≡ sessions.old.place }
+    requires allowed { news_fault core.now.state (news_of (heard_text heard)) ≡ None }
+    requires ready { CanTake core.now (news_of (heard_text heard)) ready.now }
+    requires limit { event_limit sessions.old (Some (heard_text heard)) (replies core.now.state (heard_text heard)) ≡ None }
+    ensures ok { OnOk result (sessions.new ≡ after_event sessions.old (Some (heard_text heard.entry)) (replies core.now.state (heard_text heard.entry))) }
+    ensures unchanged { OnErr result (sessions.new ≡ sessions.old) }
+    ensures err { IfErr result (λ e. e ≡ Refused.OutOfMemory) }
+    ensures few { length sessions.new.out ≤ length sessions.old.out + 1025 }
+    ensures placed { sessions.new.place ≡ sessions.old.place }
+{
+    let frames = core.frames_for(news_of(heard), ready)?;
+    let outgoing = outgoing_of(*frames.allocator(), &frames)?;
+    match sessions.carry_out(Some(heard), &outgoing) {
+        Ok(()) => Ok(()),
+        Err(refused) => Err(of_sessions(refused)),
+    }
+}
+
+/// The limit that what is heard meets: of its own number, or of the frames that the core calls for. It takes no memory.
+fn limit_of_heard(core: &Core, sessions: &Sessions, heard: Heard<'_>) -> Option<Refused>
+    requires { CanHear sessions.now (Some (heard_text heard)) }
+    ensures { result ≡ fault_of_sessions
+        (event_limit sessions.now (Some (heard_text heard.entry)) (replies core.now.state (heard_text heard.entry))) }
+{
+    let count = core.frame_count(news_of(heard));
+    match sessions.limit_of_replies(heard, count) {
+        Some(limit) => Some(of_sessions(limit)),
+        None => None,
+    }
+}
+
 /// Both halves take in what is heard, or refuse it.
 fn hear(core: &mut Core, sessions: &mut Sessions, heard: Heard<'_>) -> Result<(), Refused>
     requires can { CanHear sessions.old (Some (heard_text heard)) }
     requires fits { WordFits (word_text heard.word) }
+    requires place { core.old.state.place ≡ sessions.old.place }
     ensures exact { HeardGives
         (record { core = core.old.state; sessions = sessions.old }) (heard_text heard.entry) result
         (record { core = core.new.state; sessions = sessions.new }) }
-    ensures few { length sessions.new.out ≤ length sessions.old.out + 64 }
+    ensures few { length sessions.new.out ≤ length sessions.old.out + 1025 }
     ensures placed { sessions.new.place ≡ sessions.old.place }
     ensures core_placed { core.new.state.place ≡ core.old.state.place }
 {
     if says_nothing(heard) {
         return Ok(());
     }
-    let news = News {
-        source: heard.source,
-        lesson: heard.lesson,
-        frame: frame_in(heard.word),
-    };
+    let news = news_of(heard);
     if let Some(fault) = core.fault_of_news(news) {
         return Err(fault);
     }
-    if let Some(limit) = sessions.limit_of(Some(heard), &[]) {
-        return Err(of_sessions(limit));
+    if let Some(limit) = limit_of_heard(core, sessions, heard) {
+        return Err(limit);
     }
     let ready = core.prepare_news(news)?;
-    if let Err(refused) = sessions.carry_out(Some(heard), &[]) {
-        return Err(of_sessions(refused));
-    }
-    core.take_news(heard.source, ready);
+    carry_out(core, sessions, heard, &ready)?;
+    core.take_news(news, ready);
     Ok(())
 }
 
@@ -77,21 +146,26 @@ impl Engine {
     /// Refused is the first that holds of: 21 to 25 and 30 (the bytes spell no datagram), 26 (another job), 27 (for
     /// another rank or a later incarnation of this one, or from no other rank of the job), 28 (from a former incarnation
     /// of its source), 29 (for a former incarnation of this rank: where the datagram is no reset itself, one reset goes
-    /// out to its source), 31 (a number outside the window), 30 (a message of a collective operation or a frame of a
-    /// large message, for now), 13 and 14. A refusal changes nothing, but for that reset; without memory for the reset
-    /// it is 14.
+    /// out to its source), 31 (a number outside the window), 30 (for now a message of a collective operation; an
+    /// announcement under another number than the next of its session; an answer to a transfer that is not offered; data
+    /// that are not due), 13 and 14. A refusal changes nothing, but for that reset; without memory for the reset it is 14.
+    ///
+    /// An announcement of a large message that a receive waits for is answered: its data are to come where the receive
+    /// has their type and places for them, and else the message is used up without them. Data that are asked for go out
+    /// in frames of 1,024 bytes, at most 1,024 of them.
     ///
     /// A datagram from a later incarnation of its source than the known one teaches it, before the datagram is
     /// handled. Both directions of the session start anew, so of a frame or an acknowledgement only number 0 is within
-    /// the window; receives that name the rank end as replaced, with their buffers as they were; messages from its
-    /// former incarnations that were not received are dropped. A reset that teaches nothing changes nothing. MPI 3.1 has
+    /// the window; receives that name the rank or collect from it end as replaced, with their buffers as they were, and so do
+    /// sends that wait for its answer; messages from its former incarnations that were not received are dropped, with
+    /// what came of those of which some data came. A reset that teaches nothing changes nothing. MPI 3.1 has
     /// no restarts of a rank: these rules are this project's own. What is not refused leaves its source known at the
     /// incarnation in its header.
     pub fn on_datagram(&mut self, bytes: &[u8]) -> Result<(), Refused>
         ensures exact { DatagramGives self.old bytes.now result self.new }
         ensures known { OnOk result (SourceIsKnown self.new bytes.now) }
         ensures unchanged { RefusedDatagramLeaves result self.old self.new }
-        ensures few { length self.new.sessions.out ≤ length self.old.sessions.out + 64 }
+        ensures few { length self.new.sessions.out ≤ length self.old.sessions.out + 1025 }
         ensures placed { self.new.sessions.place ≡ self.old.sessions.place }
         ensures core_placed { self.new.core.place ≡ self.old.core.place }
     {

@@ -1,7 +1,7 @@
 //! The engine of one rank.
 
 ghost use Rattle.std.specs.Prelude.{◌≡◌, ◌≤◌, ◌+◌, ◌*◌, ◌↔◌, length, [], All, IsTrue, IfOk, OnOk, OnErr, None, IfErr};
-ghost use Rattle.rank_core.specs.Refusals.{IsRefusal};
+ghost use Rattle.rank_calls.specs.Refusals.{IsRefusal};
 ghost use Rattle.sessions.specs.Peers.{IsIdlePeer};
 ghost use Rattle.sessions.specs.SessionsState.{SessionGives};
 ghost use Rattle.engine.specs.Places.{place_fault};
@@ -47,13 +47,12 @@ impl Engine {
         ensures placed { OnOk result (place_fault place ≡ None) }
         ensures refused { IfErr result (λ e. IsRefusal (place_fault place) e) }
     {
-        match Sessions::new(alloc, place) {
-            Ok(sessions) => Ok(Engine {
-                core: Core::new(alloc, place),
-                sessions,
-            }),
-            Err(refused) => Err(of_sessions(refused)),
-        }
+        let sessions = match Sessions::new(alloc, place) {
+            Ok(sessions) => sessions,
+            Err(refused) => return Err(of_sessions(refused)),
+        };
+        let core = Core::new(alloc, place)?;
+        Ok(Engine { core, sessions })
     }
 
     /// Which rank of which job this is, and at which incarnation.

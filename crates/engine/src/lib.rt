@@ -5,8 +5,9 @@
 //! refusal changes nothing, but for the reset that answers a datagram for a former incarnation of the rank.
 //!
 //! It has two halves: a core, which knows calls, requests and messages, and sessions, which know bytes, numbers and time.
-//! An event goes through both: each finds the rule or limit that it breaks, then the core makes room, then the sessions
-//! carry it out or find no memory, and then the core does its part, which cannot fail.
+//! An event goes through both: each finds the rule or limit that it breaks, then the core makes room and names the frames
+//! that it calls for, then the sessions carry it out and send those frames, or find no memory, and then the core does its
+//! part, which cannot fail.
 #![tactic(auto)]
 
 mod calls;

@@ -2,4 +2,6 @@
 #![tactic(auto)]
 
 #[cfg(test)]
+mod large_messages;
+#[cfg(test)]
 mod tests;

@@ -7,7 +7,7 @@ use requests::{Answer, Outcome, Region, Request, RequestList};
 use std::alloc::Global;
 use vocabulary::{BasicType, Endpoint, Source};
 
-fn rank_of_two(alloc: Global, rank: u16, incarnation: u16) -> Result<Engine, Refused> {
+pub(crate) fn rank_of_two(alloc: Global, rank: u16, incarnation: u16) -> Result<Engine, Refused> {
     let place = Place {
         endpoint: Endpoint { rank, incarnation },
         size: 2,
@@ -21,27 +21,27 @@ fn add_rank(alloc: Global, ranks: &mut Vec<Engine>, rank: u16, incarnation: u16)
 }
 
 /// Ranks 0 and 1 at these incarnations.
-fn two_ranks(alloc: Global, first: u16, second: u16) -> Option<Vec<Engine>> {
+pub(crate) fn two_ranks(alloc: Global, first: u16, second: u16) -> Option<Vec<Engine>> {
     let mut ranks = Vec::new(alloc);
     add_rank(alloc, &mut ranks, 0, first)?;
     add_rank(alloc, &mut ranks, 1, second)?;
     Some(ranks)
 }
 
-fn copies(alloc: Global, number: u8, count: usize) -> Option<Buffer> {
+pub(crate) fn copies(alloc: Global, number: u8, count: usize) -> Option<Buffer> {
     let mut elements = Buffer::new(alloc, BasicType::Uint8);
     elements.push_copies(u64::from(number), count).ok()?;
     Some(elements)
 }
 
-fn started(reply: Reply) -> Option<Request> {
+pub(crate) fn started(reply: Reply) -> Option<Request> {
     match reply {
         Reply::Started(request) => Some(request),
         _ => None,
     }
 }
 
-fn start_send(alloc: Global, engine: &mut Engine) -> Option<Request> {
+pub(crate) fn start_send(alloc: Global, engine: &mut Engine) -> Option<Request> {
     let call = Call::Isend(Send {
         target: Source::Rank(1),
         tag: Some(3),
@@ -69,7 +69,7 @@ fn send_to_itself(alloc: Global) -> Call {
 }
 
 /// Each datagram that one engine emitted comes to another.
-fn deliver(from: &mut Engine, to: &mut Engine) -> Option<()> {
+pub(crate) fn deliver(from: &mut Engine, to: &mut Engine) -> Option<()> {
     for (_target, bytes) in from.take_out() {
         to.on_datagram(bytes.as_slice()).ok()?;
     }
@@ -254,7 +254,7 @@ fn start_sends_to_itself(alloc: Global, engine: &mut Engine, count: u32) -> Opti
     last
 }
 
-fn number_of_refusal(reply: Reply) -> Option<u8> {
+pub(crate) fn number_of_refusal(reply: Reply) -> Option<u8> {
     match reply {
         Reply::Refused(refused, _call) => Some(refused.number()),
         _ => None,
@@ -330,7 +330,7 @@ fn is_cancelled(answer: Option<Answer>) -> bool {
     }
 }
 
-fn done(reply: Reply) -> Option<Answer> {
+pub(crate) fn done(reply: Reply) -> Option<Answer> {
     match reply {
         Reply::Done(answer) => Some(answer),
         _ => None,
@@ -373,7 +373,7 @@ fn wait_for_several(
     Some((place, outcome_count(receiver.take_completion())))
 }
 
-fn send_to_nobody(alloc: Global) -> Call {
+pub(crate) fn send_to_nobody(alloc: Global) -> Call {
     Call::Isend(Send {
         target: Source::Null,
         tag: Some(3),
@@ -414,10 +414,10 @@ fn numbers_of_refusals(rt: HostRuntime) {
     assert_eq!(rt; rank_of_two(rt.alloc(), 2, 0).err(), Some(Refused::Rank));
 }
 
-/// Rank 0 announces a message of 1,025 bytes with tag 3 to rank 1 as transfer 0, in frame 0 of job 1.
+/// Rank 0 announces a message of 1,025 bytes with tag 3 to rank 1 as transfer 1, in frame 0 of job 1.
 const REQUEST: [u8; 56] = [
     0x4d, 0x50, 0x55, 0x44, 1, 1, 0, 0, 0, 1, 0, 0, 0, 0, 0, 24, 0, 0, 0, 0, 0, 0, 0, 1, 0, 0, 0,
-    0, 0, 0, 0, 0, 2, 0, 5, 0, 0, 0, 0, 3, 0, 0, 0, 0, 0, 0, 0, 0, 0, 0, 4, 1, 0, 0, 0, 0,
+    0, 0, 0, 0, 0, 2, 0, 5, 0, 0, 0, 0, 3, 0, 0, 0, 0, 0, 0, 0, 0, 0, 0, 4, 1, 0, 0, 0, 1,
 ];
 
 /// Rank 0 asks rank 1 for the data of transfer 0, in frame 0 of job 1.
@@ -438,7 +438,7 @@ fn number_of_unheard(engine: &mut Engine, bytes: &[u8]) -> Option<u8> {
     engine.on_datagram(bytes).err().map(Refused::number)
 }
 
-/// How the frames of a large message are refused.
+/// How an announcement under another number than the next, an answer to no transfer and data of none are refused.
 fn refuse_parts(engine: &mut Engine) -> (Option<u8>, Option<u8>, Option<u8>) {
     let request = number_of_unheard(engine, &REQUEST);
     let clear = number_of_unheard(engine, &CLEAR);
@@ -468,6 +468,6 @@ fn refused_parts(alloc: Global) -> Option<(usize, bool, Option<u64>, bool)> {
 }
 
 #[test]
-fn frames_of_a_large_message_are_refused_and_change_nothing(rt: HostRuntime) {
+fn frames_of_no_transfer_are_refused_and_change_nothing(rt: HostRuntime) {
     assert_eq!(rt; refused_parts(rt.alloc()), Some((0, true, Some(1), true)));
 }

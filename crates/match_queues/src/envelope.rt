@@ -2,11 +2,12 @@
 
 ghost use Rattle.std.specs.Prelude.{◌≡◌};
 ghost use Rattle.match_queues.specs.Accepts.{accepts};
+ghost use Rattle.match_queues.specs.Bodies.{basic_of, count_of};
 ghost use Rattle.vocabulary.specs.Endpoints.{is_former};
 ghost use Rattle.perfect_queues.specs.Receives.{is_from, has_tag, names};
 
 use datatypes::Buffer;
-use vocabulary::{Endpoint, Source};
+use vocabulary::{BasicType, Endpoint, Source};
 
 /// A receive that was posted for a request (MPI 3.1, 3.2.4 and 3.7.2).
 #[derive(Clone, Copy, Debug, PartialEq, Eq)]
@@ -21,6 +22,26 @@ pub struct Receive {
     pub tag: Option<u32>,
 }
 
+/// What is known of the data of a message that was announced.
+#[derive(Clone, Copy, Debug, PartialEq, Eq)]
+pub struct Announcement {
+    /// The number of its transfer, in the session with its sender.
+    pub transfer: u32,
+    /// The basic type of its elements.
+    pub basic: BasicType,
+    /// How many elements it has.
+    pub count: u32,
+}
+
+/// What is there of the data of a message.
+#[derive(Debug, Drop)]
+pub enum Body {
+    /// All of its elements.
+    Whole(Buffer),
+    /// They are announced, and come once they are asked for.
+    Announced(Announcement),
+}
+
 /// A message: its envelope and its data (MPI 3.1, 3.2.3).
 #[derive(Debug, Drop)]
 pub struct Message {
@@ -30,8 +51,30 @@ pub struct Message {
     pub context: u64,
     /// Its tag, at most 2,147,483,647.
     pub tag: u32,
-    /// Its elements.
-    pub elements: Buffer,
+    /// Its data.
+    pub body: Body,
+}
+
+impl Message {
+    /// The basic type of its elements.
+    pub fn basic(&self) -> BasicType
+        ensures { result ≡ basic_of self.now.body }
+    {
+        match &self.body {
+            Body::Whole(elements) => elements.basic(),
+            Body::Announced(announcement) => announcement.basic,
+        }
+    }
+
+    /// How many elements it has, be they there or not.
+    pub fn count(&self) -> usize
+        ensures { result ≡ count_of self.now.body }
+    {
+        match &self.body {
+            Body::Whole(elements) => elements.len(),
+            Body::Announced(announcement) => announcement.count as usize,
+        }
+    }
 }
 
 fn is_from(source: Source, rank: u16) -> bool

@@ -8,6 +8,6 @@ mod envelope;
 mod queues;
 mod refused;
 
-pub use envelope::{Message, Receive};
+pub use envelope::{Announcement, Body, Message, Receive};
 pub use queues::{Arrival, Queues, oldest_is_taken};
 pub use refused::OutOfMemory;

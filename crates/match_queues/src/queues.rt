@@ -1,10 +1,12 @@
 //! The queues.
 
-ghost use Rattle.std.specs.Prelude.{◌≡◌, ℕ, ◌≤◌, ◌<◌, not, filter, [], IfOk, OnOk, position, Some, None, is_some};
+ghost use Rattle.std.specs.Option.{option_copied};
+ghost use Rattle.std.specs.Prelude.{◌≡◌, ◌&&◌, ℕ, ◌≤◌, ◌<◌, not, filter, [], IfOk, OnOk, position, Some, None, is_some};
 ghost use Rattle.std.specs.VecDeque.{deque_len, deque_capacity};
 ghost use Rattle.vocabulary.specs.Endpoints.{is_former};
 ghost use Rattle.perfect_queues.specs.Receives.{names};
 ghost use Rattle.match_queues.specs.State.{State, message_at, receive_at, message_for, receive_for, posted_for, after_post, after_arrival, after_cancel, after_drop, keys_naming};
+ghost use Rattle.match_queues.specs.Accepts.{accepts};
 ghost use Rattle.match_queues.specs.Arrivals.{arrival_of};
 ghost use Rattle.match_queues.specs.Oldest.{IsOldestMessage, IsOldestReceive, IsCancelled};
 ghost use Rattle.match_queues.specs.declared.envelope.Receive.{Receive};
@@ -56,6 +58,22 @@ fn place_of_receive(message: &Message, receives: &VecDeque<Receive>) -> Option<u
     ensures { result ≡ receive_for message.now receives.now.items }
 {
     receives.iter().position(|receive| receive.accepts(message))
+}
+
+fn receive_at(receives: &VecDeque<Receive>, place: Option<usize>) -> Option<Receive>
+    ensures { result ≡ receive_at receives.now.items place }
+{
+    match place {
+        Some(place) => receives.get(place).copied(),
+        None => None,
+    }
+}
+
+/// The place of the oldest receive that accepts the message and does not name the rank.
+fn place_of_other(message: &Message, receives: &VecDeque<Receive>, rank: u16) -> Option<usize>
+    ensures { result ≡ position (λ r. not (names r.source rank) && accepts r message.now) receives.now.items }
+{
+    receives.iter().position(|receive| !names(receive, rank) && receive.accepts(message))
 }
 
 fn place_of_request(request: usize, receives: &VecDeque<Receive>) -> Option<usize>
@@ -137,6 +155,33 @@ impl Queues {
         ensures kept { self.new ≡ record self.old { messages = self.new.messages } }
     {
         self.unexpected.reserve(1).map_err(|_| OutOfMemory {})
+    }
+
+    /// The oldest posted receive that accepts the message, which stays posted.
+    pub fn receive_for(&self, message: &Message) -> Option<Receive>
+        ensures { result ≡ receive_at self.now.state.posted (receive_for message.now self.now.state.posted) }
+    {
+        receive_at(&self.posted, place_of_receive(message, &self.posted))
+    }
+
+    /// The oldest posted receive that accepts the message, among those that would be left if what names the rank were
+    /// dropped. It stays posted.
+    #[tactic(auto, using(crate::proofs::Others::oldest_other))]
+    pub fn receive_for_unnamed(&self, message: &Message, rank: u16) -> Option<Receive>
+        ensures { result ≡ receive_at (filter (λ r. not (names r.source rank)) self.now.state.posted)
+            (receive_for message.now (filter (λ r. not (names r.source rank)) self.now.state.posted)) }
+    {
+        receive_at(&self.posted, place_of_other(message, &self.posted, rank))
+    }
+
+    /// The oldest unexpected message that the receive accepts, which stays where it is.
+    pub fn message_for(&self, receive: &Receive) -> Option<&Message>
+        ensures { option_copied result ≡ message_at self.now.state.unexpected (message_for receive.now self.now.state.unexpected) }
+    {
+        match place_of_message(receive, &self.unexpected) {
+            Some(place) => self.unexpected.get(place),
+            None => None,
+        }
     }
 
     /// Takes the oldest unexpected message that the receive accepts, or posts the receive behind the others, for which

@@ -1,10 +1,13 @@
 -- A receive ends alike.
-use Rattle.std.proofs.Common.{◌≡◌, ℕ, Bool, true, false, ◌&&◌, Option, None, nat_le, List, length, refl, ap, ◌∙◌, if◌then◌else◌}
+use Rattle.std.proofs.Common.{◌≡◌, ℕ, Bool, true, false, ◌&&◌, Option, None, nat_le, List, length, refl, sym, ap, subst, ◌∙◌, if◌then◌else◌}
 use Rattle.layouts.specs.Buffers.{is_same_type, put_at}
 use Rattle.perfect_queues.specs.Buffers.{Handed, places_in}
 use Rattle.perfect_queues.specs.Outcomes as machine
 use Rattle.perfect_queues.specs.Receives.{Receive}
+use Rattle.datatypes.specs.Contents.{Contents}
 use Rattle.match_queues.specs.declared.envelope.Message.{Message}
+use Rattle.match_queues.specs.declared.envelope.Body.{Body}
+use Rattle.match_queues.specs.declared.envelope.Body.TheVariants.{Whole}
 use Rattle.vocabulary.specs.declared.envelope.Source.{Source}
 use Rattle.proof_pure_network.specs.Held.{full}
 use Rattle.requests.specs.Outcomes.{outcome_of}
@@ -13,7 +16,7 @@ use Rattle.vocabulary.specs.declared.basic_type.BasicType.{BasicType}
 use Rattle.vocabulary.specs.declared.envelope.Status.{Status}
 use Rattle.requests.specs.declared.outcome.Failure.TheVariants.{WrongType, Truncated}
 use Rattle.requests.specs.declared.outcome.Outcome.TheVariants as outcomes
-use Rattle.rank_core.specs.Receiving.{status_of}
+use Rattle.rank_calls.specs.Receiving.{status_of}
 use Rattle.proof_engine_view.specs.Seen.{outcome_seen}
 use Rattle.proof_engine_matching.specs.Matches.{OutcomesAgree}
 
@@ -25,18 +28,23 @@ ends true true basic status told buffer = refl
 ends true false basic status told buffer = refl
 ends false room basic status told buffer = refl
 
+-- a message with this body
+abbrev with_body : Message → Body → Message
+with_body m b = record m { body = b }
+
 -- how a receive on world ends
-world_ends : (source : Source) (tag : Option ℕ) (context : ℕ) (into : Handed) (m : Message) →
-    machine.outcome (record { source = source; tag = tag; context = context; group = None; into = into }) (full (held_of m) m.elements.values)
-    ≡ outcome_seen (outcome_of into (status_of m) m.elements)
-world_ends source tag context into m =
-    ends (is_same_type into.buffer.basic m.elements.basic) (nat_le (length m.elements.values) (length (places_in into)))
-    into.buffer.basic (status_of m) (put_at into.buffer.values (places_in into) m.elements.values) into.buffer.values
+world_ends : (source : Source) (tag : Option ℕ) (context : ℕ) (into : Handed) (m : Message) (c : Contents) →
+    machine.outcome (record { source = source; tag = tag; context = context; group = None; into = into }) (full (held_of (with_body m (Whole c))) c.values)
+    ≡ outcome_seen (outcome_of into (status_of (with_body m (Whole c))) c)
+world_ends source tag context into m c =
+    ends (is_same_type into.buffer.basic c.basic) (nat_le (length c.values) (length (places_in into)))
+    into.buffer.basic (status_of (with_body m (Whole c))) (put_at into.buffer.values (places_in into) c.values) into.buffer.values
 
 -- the law of outcomes
 pub outcomes_agree : OutcomesAgree
-outcomes_agree p m w =
-    ap (λ (r : Receive). machine.outcome r (full (held_of m) m.elements.values)) same ∙ world_ends p.source p.tag p.context p.into m
+outcomes_agree p m c is w =
+    subst (λ (b : Body). machine.outcome p (full (held_of (with_body m b)) c.values) ≡ outcome_seen (outcome_of p.into (status_of (with_body m b)) c)) (sym is)
+    (ap (λ (r : Receive). machine.outcome r (full (held_of (with_body m (Whole c))) c.values)) same ∙ world_ends p.source p.tag p.context p.into m c)
   where
     same : p ≡ record { source = p.source; tag = p.tag; context = p.context; group = None; into = p.into }
     same = λ i. record { source = p.source; tag = p.tag; context = p.context; group = w.group i; into = p.into }

@@ -3,8 +3,8 @@ use Rattle.std.proofs.Common.{◌≡◌, ℕ, suc, Bool, true, false, List, [], 
 use Rattle.match_queues.specs.Accepts.{accepts}
 use Rattle.match_queues.specs.declared.envelope.Message.{Message}
 use Rattle.match_queues.specs.State.{State, message_at, message_for, posted_at}
-use Rattle.rank_core.specs.declared.call.Receive as engine_receive
-use Rattle.rank_core.specs.Receiving.{posted_by}
+use Rattle.rank_calls.specs.declared.call.Receive as engine_receive
+use Rattle.rank_calls.specs.Receiving.{posted_by}
 use Rattle.perfect_queues.specs.Receives.{Receive}
 use Rattle.proof_pure_network.specs.Held.{Held, fits}
 use Rattle.proof_pure_network.specs.Matching.{found}

@@ -1,12 +1,14 @@
 -- What is taken from an engine's queues, and what from a core's jobs.
 use Rattle.std.specs.Prelude.{◌≡◌, ℕ, ◌⊎◌, List, [], ◌∷◌, ◌++◌, map, Some, None, slice_get, slice_set}
+use Rattle.datatypes.specs.Contents.{Contents}
 use Rattle.match_queues.specs.declared.envelope.Message.{Message}
+use Rattle.match_queues.specs.declared.envelope.Body.TheVariants.{Whole}
 use Rattle.match_queues.specs.declared.queues.Arrival.TheVariants.{Kept, Matched}
 use Rattle.match_queues.specs.Arrivals.{arrival_of}
 use Rattle.match_queues.specs.State.{State, after_arrival, after_post, message_at, message_for}
 use Rattle.requests.specs.Outcomes.{outcome_of}
-use Rattle.rank_core.specs.declared.call.Receive as engine_receive
-use Rattle.rank_core.specs.Receiving.{posted_by, status_of}
+use Rattle.rank_calls.specs.declared.call.Receive as engine_receive
+use Rattle.rank_calls.specs.Receiving.{posted_by, status_of}
 use Rattle.perfect_queues.specs.Outcomes.{Outcome, outcome}
 use Rattle.perfect_queues.specs.Receives.{Receive}
 use Rattle.proof_pure_network.specs.Held.{Held, full}
@@ -55,8 +57,8 @@ PostsMatch =
     (old : State) (v : engine_receive.Receive) (key : ℕ) →
     FindsNone old v key ⊎ ((m : Message) × (earlier : List Held) × (later : List Held) × Finds old v key m earlier later)
 
--- a receive on world ends alike
+-- a receive on world ends alike with a message that is whole
 abbrev pub OutcomesAgree : Type 0
 OutcomesAgree =
-    (p : Receive) (m : Message) → IsOnWorld p →
-    outcome p (full (held_of m) m.elements.values) ≡ outcome_seen (outcome_of p.into (status_of m) m.elements)
+    (p : Receive) (m : Message) (c : Contents) → m.body ≡ Whole c → IsOnWorld p →
+    outcome p (full (held_of m) c.values) ≡ outcome_seen (outcome_of p.into (status_of m) c)

@@ -9,26 +9,28 @@ use Rattle.vocabulary.specs.declared.envelope.Status.{Status}
 use Rattle.match_queues.specs.declared.envelope.Message.{Message}
 use Rattle.match_queues.specs.declared.queues.Arrival.{Arrival}
 use Rattle.match_queues.specs.Arrivals.{arrival_of}
-use Rattle.match_queues.specs.State.{State, after_arrival}
+use Rattle.match_queues.specs.State.{State, after_arrival, receive_at, receive_for}
 use Rattle.requests.specs.Outcomes.{outcome_of}
 use Rattle.requests.specs.Table.{after_finish, after_message, entry_after, progress_after, slot_at}
 use Rattle.requests.specs.declared.table.Entry.{Entry}
 use Rattle.requests.specs.declared.table.Progress.{Progress}
 use Rattle.requests.specs.declared.table.Progress.TheVariants.{Receiving, Finished}
+use Rattle.requests.specs.declared.table.Progress.TheVariants as progresses
 use Rattle.rank_core.specs.CoreState.{CoreState}
-use Rattle.rank_core.specs.Receiving.{slots_on_arrival, status_of}
+use Rattle.rank_calls.specs.Receiving.{slots_on_arrival, status_of, transfers_on_arrival}
 use Rattle.rank_core.specs.Sending as rank
 use Rattle.proof_pure_network.specs.Core.{Core, Effect}
 use Rattle.proof_pure_network.specs.Held.{Held, full}
 use Rattle.proof_pure_network.specs.Jobs.{Job, Over, Waiting, oldest_posted}
 use Rattle.proof_pure_network.specs.Matching.{arrived, arrived_at}
-use Rattle.proof_engine_view.specs.Rows.{Fits, Holds, IsOnWorld, IsTable, Row, held_of, jobs_of, posted_rows}
+use Rattle.proof_engine_view.specs.Rows.{Fits, Holds, IsOnWorld, IsTable, IsWhole, Row, held_of, jobs_of, posted_rows}
 use Rattle.proof_engine_view.specs.Seen.{outcome_seen}
 use Rattle.proof_engine_matching.specs.Matches.{ArrivalsMatch, IsKept, IsMatchedTo, OutcomesAgree}
 use Rattle.proof_engine_steps.proofs.Named.{NamedStay, named_same, named_set}
 use Rattle.proof_engine_steps.proofs.RowLemmas.{set_jobs}
 use Rattle.proof_engine_steps.proofs.Tables.{Says, changed_table, held_at, says_some, set_is_set}
 use Rattle.proof_engine_steps.proofs.Waking.{Holding, known_still}
+use Rattle.proof_engine_steps.proofs.Wholes.{arrival_leaves, arrival_whole, small_with, whole, whole_of}
 
 -- what a message leaves of the rows
 pub record Arrives (rows : List Row) (slots : List (Option Entry)) (queues : State) (core : Core) (after : Effect) : Type 0 where
@@ -64,12 +66,16 @@ arrives_kept rows slots queues core m js table po he =
 -- a receive that waits is on world
 on_world : (g : Progress) (p : Receive) → Fits g (Waiting p) → IsOnWorld p
 on_world (Receiving r) p f = f.1
+on_world (progresses.Collecting w) p f = absurd f
+on_world progresses.Offering p f = absurd f
 on_world (Finished o) p f = absurd f
 
 -- what the message makes of the entry is what it makes of the job
 finished_fits : (g : Progress) (p : Receive) (status : Status) (c : Contents) (x : machine.Outcome) → Fits g (Waiting p) → x ≡ outcome_seen (outcome_of p.into status c) →
     Fits (progress_after g status c) (Over x)
 finished_fits (Receiving r) p status c x f h = h ∙ ap (λ (y : Handed). outcome_seen (outcome_of y status c)) f.0
+finished_fits (progresses.Collecting w) p status c x f h = absurd f
+finished_fits progresses.Offering p status c x f h = absurd f
 finished_fits (Finished o) p status c x f h = absurd f
 
 -- an entry with the serial, that fits the job, says the same
@@ -77,11 +83,11 @@ says_entry : (t : Entry) (k : ℕ) (j : Job) → t.serial ≡ k → Fits t.progr
 says_entry t k j e f = subst (λ (x : ℕ). Says (Some t) x j) e (says_some t.serial t.progress j f)
 
 -- the receive with serial k takes it
-arrives_matched : OutcomesAgree → (rows : List Row) (slots : List (Option Entry)) (queues : State) (core : Core) (m : Message) (k key : ℕ) (p : Receive) →
+arrives_matched : OutcomesAgree → (rows : List Row) (slots : List (Option Entry)) (queues : State) (core : Core) (m : Message) (c : Contents) (k key : ℕ) (p : Receive) →
     core.jobs ≡ jobs_of rows → IsTable slots rows → core.held ≡ map held_of queues.unexpected → slice_get rows k ≡ Some (record { key = key; job = Waiting p }) →
     ((o : machine.Outcome) → queues.posted ≡ posted_rows (slice_set rows k (record { key = key; job = Over o }))) →
-    Arrives rows (after_finish slots key (status_of m) m.elements) queues core (arrived_at core (held_of m) (Some (k, p)))
-arrives_matched agree rows slots queues core m k key p js table he row po =
+    Arrives rows (after_finish slots key (status_of (whole m c)) c) queues core (arrived_at core (held_of (whole m c)) (Some (k, p)))
+arrives_matched agree rows slots queues core m c k key p js table he row po =
     record {
       left = slice_set rows k over;
       jobs = ap (λ (ys : List Job). slice_set ys k (Over x)) js ∙ sym (set_jobs rows k key (Over x));
@@ -89,7 +95,7 @@ arrives_matched agree rows slots queues core m k key p js table he row po =
       table = subst (λ (t : List (Option Entry)). IsTable t (slice_set rows k over)) (sym finish)
           (changed_table slots (slice_set slots key (Some after)) rows k key (Waiting p) (Over x) (Some after) table row (λ e. cc)
           (set_is_set slots key mine.entry (Some after) mine.there)
-          (says_entry after k (Over x) mine.serial_is (finished_fits mine.entry.progress p (status_of m) m.elements x mine.fits (agree p m (on_world mine.entry.progress p mine.fits)))));
+          (says_entry after k (Over x) mine.serial_is (finished_fits mine.entry.progress p (status_of (whole m c)) c x mine.fits (agree p (whole m c) c refl (on_world mine.entry.progress p mine.fits)))));
       posted = po x;
       held = he;
       blocked = refl;
@@ -99,7 +105,7 @@ arrives_matched agree rows slots queues core m k key p js table he row po =
     }
   where
     x : machine.Outcome
-    x = machine.outcome p (full (held_of m) m.elements.values)
+    x = machine.outcome p (full (held_of (whole m c)) c.values)
 
     over : Row
     over = record { key = key; job = Over x }
@@ -108,31 +114,31 @@ arrives_matched agree rows slots queues core m k key p js table he row po =
     mine = held_at slots rows k key (Waiting p) table row (λ e. cc)
 
     after : Entry
-    after = after_message mine.entry (status_of m) m.elements
+    after = after_message mine.entry (status_of (whole m c)) c
 
-    finish : after_finish slots key (status_of m) m.elements ≡ slice_set slots key (Some after)
-    finish = ap (λ (s : Option Entry). entry_after s slots key (status_of m) m.elements) mine.there
+    finish : after_finish slots key (status_of (whole m c)) c ≡ slice_set slots key (Some after)
+    finish = ap (λ (s : Option Entry). entry_after s slots key (status_of (whole m c)) c) mine.there
 
--- a message comes, from a link or from the rank itself
-pub message_arrives : ArrivalsMatch → OutcomesAgree → (rows : List Row) (slots : List (Option Entry)) (queues : State) (core : Core) (m : Message) →
+-- a whole message comes, from a link or from the rank itself
+pub message_arrives : ArrivalsMatch → OutcomesAgree → (rows : List Row) (slots : List (Option Entry)) (queues : State) (core : Core) (m : Message) (c : Contents) →
     core.jobs ≡ jobs_of rows → IsTable slots rows → queues.posted ≡ posted_rows rows → core.held ≡ map held_of queues.unexpected →
-    Arrives rows (slots_on_arrival slots (arrival_of queues m)) (after_arrival queues m) core (arrived core (held_of m))
-message_arrives match agree rows slots queues core m js table po he = go (match rows queues m po)
+    Arrives rows (slots_on_arrival slots (arrival_of queues (whole m c))) (after_arrival queues (whole m c)) core (arrived core (held_of (whole m c)))
+message_arrives match agree rows slots queues core m c js table po he = go (match rows queues (whole m c) po)
   where
-    oldest : (o : Option (ℕ × Receive)) → oldest_posted (held_of m) (jobs_of rows) ≡ o → arrived core (held_of m) ≡ arrived_at core (held_of m) o
-    oldest o e = ap (arrived_at core (held_of m)) (ap (oldest_posted (held_of m)) js ∙ e)
+    oldest : (o : Option (ℕ × Receive)) → oldest_posted (held_of (whole m c)) (jobs_of rows) ≡ o → arrived core (held_of (whole m c)) ≡ arrived_at core (held_of (whole m c)) o
+    oldest o e = ap (arrived_at core (held_of (whole m c))) (ap (oldest_posted (held_of (whole m c))) js ∙ e)
 
-    go : IsKept rows queues m ⊎ ((k : ℕ) × (key : ℕ) × (p : Receive) × IsMatchedTo rows queues m k key p) →
-        Arrives rows (slots_on_arrival slots (arrival_of queues m)) (after_arrival queues m) core (arrived core (held_of m))
+    go : IsKept rows queues (whole m c) ⊎ ((k : ℕ) × (key : ℕ) × (p : Receive) × IsMatchedTo rows queues (whole m c) k key p) →
+        Arrives rows (slots_on_arrival slots (arrival_of queues (whole m c))) (after_arrival queues (whole m c)) core (arrived core (held_of (whole m c)))
     go (inl kept) =
-        subst (λ (f : Effect). Arrives rows (slots_on_arrival slots (arrival_of queues m)) (after_arrival queues m) core f) (sym (oldest None kept.core))
-        (subst (λ (a : Arrival). Arrives rows (slots_on_arrival slots a) (after_arrival queues m) core (arrived_at core (held_of m) None)) (sym kept.arrival)
-        (subst (λ (s : State). Arrives rows slots s core (arrived_at core (held_of m) None)) (sym kept.queues) (arrives_kept rows slots queues core m js table po he)))
+        subst (λ (f : Effect). Arrives rows (slots_on_arrival slots (arrival_of queues (whole m c))) (after_arrival queues (whole m c)) core f) (sym (oldest None kept.core))
+        (subst (λ (a : Arrival). Arrives rows (slots_on_arrival slots a) (after_arrival queues (whole m c)) core (arrived_at core (held_of (whole m c)) None)) (sym kept.arrival)
+        (subst (λ (s : State). Arrives rows slots s core (arrived_at core (held_of (whole m c)) None)) (sym kept.queues) (arrives_kept rows slots queues core (whole m c) js table po he)))
     go (inr t) =
-        let h : IsMatchedTo rows queues m t.0 t.1 t.2 = t.3 in
-        subst (λ (f : Effect). Arrives rows (slots_on_arrival slots (arrival_of queues m)) (after_arrival queues m) core f) (sym (oldest (Some (t.0, t.2)) h.core))
-        (subst (λ (a : Arrival). Arrives rows (slots_on_arrival slots a) (after_arrival queues m) core (arrived_at core (held_of m) (Some (t.0, t.2)))) (sym h.arrival)
-        (arrives_matched agree rows slots (after_arrival queues m) core m t.0 t.1 t.2 js table (he ∙ ap (λ (ms : List Message). map held_of ms) (sym h.unexpected)) h.row h.posted))
+        let h : IsMatchedTo rows queues (whole m c) t.0 t.1 t.2 = t.3 in
+        subst (λ (f : Effect). Arrives rows (slots_on_arrival slots (arrival_of queues (whole m c))) (after_arrival queues (whole m c)) core f) (sym (oldest (Some (t.0, t.2)) h.core))
+        (subst (λ (a : Arrival). Arrives rows (slots_on_arrival slots a) (after_arrival queues (whole m c)) core (arrived_at core (held_of (whole m c)) (Some (t.0, t.2)))) (sym h.arrival)
+        (arrives_matched agree rows slots (after_arrival queues (whole m c)) core m c t.0 t.1 t.2 js table (he ∙ ap (λ (ms : List Message). map held_of ms) (sym h.unexpected)) h.row h.posted))
 
 -- what a message leaves of a rank and of its core, before a blocked call is answered
 pub record IsHeldAfter (rows : List Row) (new : CoreState) (known : List ℕ) (core : Core) (after : Effect) : Type 0 where
@@ -142,13 +148,13 @@ pub record IsHeldAfter (rows : List Row) (new : CoreState) (known : List ℕ) (c
   pub sends : after.out ≡ []
   pub waits : NamedStay rows left
 
--- a rank takes a message into its queues and its slots, and its core takes it too
-pub message_holds : ArrivalsMatch → OutcomesAgree → (old : CoreState) (known : List ℕ) (core : Core) (rows : List Row) (m : Message) → Holding old known core rows →
-    IsHeldAfter rows (rank.arrived old m) known core (arrived core (held_of m))
+-- a rank takes a message with these elements into its queues and its slots, and its core takes it too
+elements_hold : ArrivalsMatch → OutcomesAgree → (old : CoreState) (known : List ℕ) (core : Core) (rows : List Row) (m : Message) (c : Contents) → Holding old known core rows →
+    IsHeldAfter rows (rank.arrived old (whole m c)) known core (arrived core (held_of (whole m c)))
 unfolding rank.arrived
-message_holds match agree old known core rows m h =
-    let a : Arrives rows (slots_on_arrival old.slots (arrival_of old.queues m)) (after_arrival old.queues m) core (arrived core (held_of m)) =
-    message_arrives match agree rows old.slots old.queues core m h.jobs h.table h.posted h.held in
+elements_hold match agree old known core rows m c h =
+    let a : Arrives rows (slots_on_arrival old.slots (arrival_of old.queues (whole m c))) (after_arrival old.queues (whole m c)) core (arrived core (held_of (whole m c))) =
+    message_arrives match agree rows old.slots old.queues core m c h.jobs h.table h.posted h.held in
     record {
       left = a.left;
       holding = record {
@@ -157,12 +163,21 @@ message_holds match agree old known core rows m h =
         table = a.table;
         posted = a.posted;
         held = a.held;
-        knowing = known_still old.place old.place known core.known (arrived core (held_of m)).core.known h.knowing refl a.known;
+        small = small_with old.transfers (transfers_on_arrival old.transfers old.slots (arrival_of old.queues (whole m c))) old.queues.unexpected (after_arrival old.queues (whole m c)).unexpected h.small
+            (arrival_leaves old.transfers old.slots m c (receive_at old.queues.posted (receive_for (whole m c) old.queues.posted))) (arrival_whole old.queues (whole m c) h.small.whole tt);
+        knowing = known_still old.place old.place known core.known (arrived core (held_of (whole m c))).core.known h.knowing refl a.known;
       };
       blocked = a.blocked;
       sends = a.sends;
       waits = a.waits;
     }
+
+-- so it is with each message that is whole
+pub message_holds : ArrivalsMatch → OutcomesAgree → (old : CoreState) (known : List ℕ) (core : Core) (rows : List Row) (m : Message) → IsWhole m → Holding old known core rows →
+    IsHeldAfter rows (rank.arrived old m) known core (arrived core (held_of m))
+message_holds match agree old known core rows m w h =
+    let c : (c : Contents) × (m ≡ whole m c) = whole_of m w in
+    subst (λ (x : Message). IsHeldAfter rows (rank.arrived old x) known core (arrived core (held_of x))) (sym c.1) (elements_hold match agree old known core rows m c.0 h)
 
 -- what a message leaves as it was
 pub record Keeps (old new : CoreState) : Type 0 where

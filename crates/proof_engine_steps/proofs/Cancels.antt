@@ -23,9 +23,11 @@ use Rattle.requests.specs.declared.region.Region.{Region}
 use Rattle.requests.specs.declared.table.Entry.{Entry}
 use Rattle.requests.specs.declared.table.Progress.{Progress}
 use Rattle.requests.specs.declared.table.Progress.TheVariants.{Receiving, Finished}
+use Rattle.requests.specs.declared.table.Progress.TheVariants as progresses
+use Rattle.proof_engine_steps.proofs.Wholes.{small_still}
 use Rattle.requests.specs.declared.table.Request.{Request}
-use Rattle.rank_core.specs.declared.call.Reply.{Reply}
-use Rattle.rank_core.specs.declared.call.Reply.TheVariants as replies
+use Rattle.rank_calls.specs.declared.call.Reply.{Reply}
+use Rattle.rank_calls.specs.declared.call.Reply.TheVariants as replies
 use Rattle.rank_core.specs.CoreState.{CoreState}
 use Rattle.rank_core.specs.Waiting.{Cancels, cancel_fault, cancelled_at}
 use Rattle.proof_engine_view.specs.Rows.{Fits, Holds, Row, held_of, posted_job, posted_rows}
@@ -199,6 +201,7 @@ cancel_holds old known core q b shown w =
       posted = cancel_posted old.queues q.key ∙ (ap (λ (ps : List posted.Receive). posted_without ps q.key) shown.posted ∙
           cancelled_rows shown.rows q.serial q.key w.receive x w.there (set_change old.slots shown.rows q.serial q.key (Waiting w.receive) (Over x) shown.table w.there (λ e. cc)).alone);
       held = shown.held ∙ ap (λ (ms : List Message). map held_of ms) (sym (cancel_unexpected old.queues q.key));
+      small = small_still old.transfers old.transfers old.queues.unexpected (queues.after_cancel old.queues q.key).unexpected shown.small refl (cancel_unexpected old.queues q.key);
       knowing = (holding_of old known core shown).knowing;
     }
   where
@@ -246,6 +249,8 @@ cancel_some old known core q shown free fine None g =
 cancel_some old known core q shown free fine (Some (Receiving b)) g =
     subst (λ (ss : List (Option Entry)). IsMeant old known core (machine.Cancel (Some q.serial)) replies.Accepted (record old { slots = ss; queues = queues.after_cancel old.queues q.key }))
     (sym (ap (cancelled_by old.slots q) g)) (cancel_waiting old known core q b shown free fine g)
+cancel_some old known core q shown free fine (Some (progresses.Collecting w)) g = absurd (row_of old.slots shown.rows q.serial q.key (progresses.Collecting w) shown.table g).fits
+cancel_some old known core q shown free fine (Some progresses.Offering) g = absurd (row_of old.slots shown.rows q.serial q.key progresses.Offering shown.table g).fits
 cancel_some old known core q shown free fine (Some (Finished o)) g = cancel_over old known core q o shown free fine g
 
 -- a cancel that breaks no rule

@@ -10,6 +10,7 @@ use Rattle.requests.specs.declared.region.Region.{Region}
 use Rattle.requests.specs.declared.table.Entry.{Entry}
 use Rattle.requests.specs.declared.table.Progress.{Progress}
 use Rattle.requests.specs.declared.table.Progress.TheVariants.{Receiving, Finished}
+use Rattle.requests.specs.declared.table.Progress.TheVariants as progresses
 use Rattle.requests.specs.declared.table.Request.{Request}
 use Rattle.proof_engine_view.specs.Rows.{Fits, IsRow, IsTable, Row}
 use Rattle.proof_engine_view.specs.Seen.{outcome_seen}
@@ -59,6 +60,8 @@ over_of o Closed f = absurd f
 -- one that stands in the table isn't closed
 open_of : (g : Progress) → Fits g Closed → ⊥
 open_of (Receiving b) f = f
+open_of (progresses.Collecting w) f = f
+open_of progresses.Offering f = f
 open_of (Finished o) f = f
 
 -- a request whose progress the table tells is named by an unanswered row

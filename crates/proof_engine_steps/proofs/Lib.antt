@@ -1,3 +1,4 @@
+pub mod Wholes
 pub mod Tables
 pub mod RowLemmas
 pub mod Named

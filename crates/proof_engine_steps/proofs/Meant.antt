@@ -7,12 +7,12 @@ use Rattle.vocabulary.specs.declared.endpoint.Endpoint.{Endpoint}
 use Rattle.proof_pure_network.specs.Core.{Core, view}
 use Rattle.proof_pure_network.specs.Engine.{called, core_ready, core_settled}
 use Rattle.proof_pure_network.specs.Held.{blank}
-use Rattle.rank_core.specs.declared.call.Call.{Call}
-use Rattle.rank_core.specs.declared.call.Reply.{Reply}
-use Rattle.rank_core.specs.declared.call.Reply.TheVariants as replies
+use Rattle.rank_calls.specs.declared.call.Call.{Call}
+use Rattle.rank_calls.specs.declared.call.Reply.{Reply}
+use Rattle.rank_calls.specs.declared.call.Reply.TheVariants as replies
 use Rattle.rank_core.specs.Calls.{call_frame}
 use Rattle.rank_core.specs.CoreState.{CoreState}
-use Rattle.rank_core.specs.Sending.{FrameFor}
+use Rattle.rank_calls.specs.Frames.{FrameFor}
 use Rattle.proof_engine_view.specs.Frames.{sent_by}
 use Rattle.proof_engine_view.specs.Seen.{answer_seen, call_seen, told_call}
 use Rattle.proof_engine_view.specs.Shown.{IsShown}

@@ -6,11 +6,13 @@ use Rattle.vocabulary.specs.Endpoints.{is_former}
 use Rattle.perfect_queues.specs.Outcomes as machine
 use Rattle.perfect_queues.specs.Receives.{names}
 use Rattle.vocabulary.specs.declared.endpoint.Endpoint.{Endpoint}
+use Rattle.match_queues.specs.declared.envelope.Message.{Message}
 use Rattle.match_queues.specs.declared.envelope.Receive as queued
 use Rattle.match_queues.specs.State.{keys_naming}
 use Rattle.requests.specs.Table.{after_replaces}
 use Rattle.rank_core.specs.CoreState.{CoreState}
-use Rattle.rank_core.specs.Hearing.{NewsText, replaced, taught}
+use Rattle.rank_calls.specs.Hearing.{NewsText}
+use Rattle.rank_core.specs.Hearing.{replaced, taught}
 use Rattle.proof_pure_network.specs.Core.{Core}
 use Rattle.proof_pure_network.specs.Engine as network
 use Rattle.proof_pure_network.specs.Held.{Held}
@@ -25,6 +27,7 @@ use Rattle.proof_engine_steps.proofs.Named.{NamedStay, blocked_stays, named_map}
 use Rattle.proof_engine_steps.proofs.Replacing.{replaced_table}
 use Rattle.proof_engine_steps.proofs.Starting.{holding_of}
 use Rattle.proof_engine_steps.proofs.Waking.{Holding}
+use Rattle.proof_engine_steps.proofs.Wholes.{drop_leaves, keys_small}
 
 -- what a rank and its core hold once both learnt, before a blocked call is answered
 pub record HoldBoth (e : CoreState) (known : List ℕ) (core : Core) : Type 0 where
@@ -65,9 +68,11 @@ learned_holds e known core rows s h inside apart later =
     record {
       jobs = ap (λ (js : List Job). map (ended r i) js) h.jobs ∙ ended_jobs r i rows;
       count = length-map rows (ended_row r i) ∙ h.count;
-      table = subst (λ (ps : List queued.Receive). IsTable (after_replaces e.slots (keys_naming r ps)) (map (ended_row r i) rows)) (sym h.posted) (replaced_table e.slots rows r i h.table);
+      table = subst (λ (ks : List ℕ). IsTable (after_replaces e.slots ks) (map (ended_row r i) rows))
+          (sym (keys_small e.transfers e.queues.unexpected r (keys_naming r e.queues.posted) h.small ∙ ap (keys_naming r) h.posted)) (replaced_table e.slots rows r i h.table);
       posted = ap (λ (ps : List queued.Receive). filter (λ (x : queued.Receive). not (names x.source r)) ps) h.posted ∙ posted_left r i rows;
       held = ap (λ (hs : List Held). filter (λ (x : Held). not (is_former r i x.sender)) hs) h.held ∙ held_left r i e.queues.unexpected;
+      small = drop_leaves e.transfers e.queues.unexpected r (λ (m : Message). not (is_former r i m.sender)) h.small;
       knowing = learnt_known e.place known core.known r i h.knowing inside apart later;
     }
   where

@@ -13,6 +13,7 @@ opening_is_shown p inside =
       table = record { stands = λ k r is. absurd cc; entries = λ key t is. absurd cc };
       posted = refl;
       held = refl;
+      small = record { offers = refl; collections = refl; whole = tt };
       blocked = refl;
       pending = refl;
       width = k.width;

@@ -12,12 +12,13 @@ use Rattle.vocabulary.specs.declared.endpoint.Endpoint.{Endpoint}
 use Rattle.match_queues.specs.declared.envelope.Message.{Message}
 use Rattle.requests.specs.Regions.{sent_from}
 use Rattle.requests.specs.declared.table.Request.{Request}
-use Rattle.rank_core.specs.declared.call.Call.TheVariants as calls
-use Rattle.rank_core.specs.declared.call.Reply.TheVariants as replies
-use Rattle.rank_core.specs.declared.call.Send.{Send}
+use Rattle.rank_calls.specs.declared.call.Call.TheVariants as calls
+use Rattle.rank_calls.specs.declared.call.Reply.TheVariants as replies
+use Rattle.rank_calls.specs.declared.call.Send.{Send}
 use Rattle.rank_core.specs.CoreState.{CoreState}
 use Rattle.rank_core.specs.Sending as rank
-use Rattle.rank_core.specs.Sending.{IsSending, arrived_at_itself, arrived_if, destination, frame_to, frame_unless, own_message, send_fault}
+use Rattle.rank_calls.specs.Sending.{destination, frame_to, frame_unless, own_message, send_fault}
+use Rattle.rank_core.specs.Sending.{IsSending, arrived_at_itself, arrived_if}
 use Rattle.proof_pure_network.specs.Core.{Core}
 use Rattle.proof_pure_network.specs.Engine as cores
 use Rattle.proof_pure_network.specs.Engine.{pushed_over, sends, sends_to}
@@ -29,7 +30,7 @@ use Rattle.proof_engine_view.specs.Shown.{IsShown}
 use Rattle.proof_engine_matching.specs.Matches.{ArrivalsMatch, OutcomesAgree}
 use Rattle.proof_engine_steps.specs.Steps.{IsCalled}
 use Rattle.proof_engine_steps.proofs.Arriving.{IsHeldAfter, Keeps, arrived_keeps, message_holds}
-use Rattle.proof_engine_steps.proofs.Sends.{KeepsRules, core_sent, null_send_shown, other_send_shown, send_holds, send_rules, send_started}
+use Rattle.proof_engine_steps.proofs.Sends.{IsSmallSending, KeepsRules, core_sent, null_send_shown, other_send_shown, send_holds, send_rules, send_started, small_sending}
 use Rattle.proof_engine_steps.proofs.Waking.{Holding}
 
 -- the core's send to its own endpoint
@@ -41,7 +42,7 @@ core_sends_own core own c tag basic values known =
 
 -- such a send is that of its core: the request starts, finished, and then the message comes
 own_send_shown : ArrivalsMatch → OutcomesAgree → (old new : CoreState) (known : List ℕ) (core : Core) (s : Send) (q : Request) (to tag : ℕ) → IsShown old known core → old.blocked ≡ None →
-    s.target ≡ Rank to → s.tag ≡ Some tag → (to == old.place.endpoint.rank) ≡ true → KeepsRules old.place s → IsSending old s q new →
+    s.target ≡ Rank to → s.tag ≡ Some tag → (to == old.place.endpoint.rank) ≡ true → KeepsRules old.place s → IsSmallSending old s q new →
     IsCalled old known core (calls.Isend s) (replies.Started q) new
 own_send_shown match agree old new known core s q to tag shown free target_is tag_is own kept sent =
     send_started old new known core s q (arrived (pushed_over core) (held_of m)) after.left shown free kept sent.serial
@@ -55,8 +56,8 @@ own_send_shown match agree old new known core s q to tag shown free target_is ta
       completion = ap (λ (x : CoreState). x.completion) rest ∙ keeps.completion;
       blocked = ap (λ (x : CoreState). x.blocked) rest ∙ keeps.blocked;
     })
-    (λ within. after.sends ∙ sym (ap₂ (λ (t : Source) (g : Option ℕ). sent_by known (frame_to old.place (destination t g) c)) target_is tag_is ∙
-    ap (λ (b : Bool). sent_by known (frame_unless b (record { rank = to; tag = tag }) c)) own))
+    (λ within. after.sends ∙ sym (ap₂ (λ (t : Source) (g : Option ℕ). sent_by known (frame_to old.place old.transfers (destination t g) c)) target_is tag_is ∙
+    ap (λ (b : Bool). sent_by known (frame_unless b old.transfers (record { rank = to; tag = tag }) c)) own))
   where
     e : Endpoint
     e = old.place.endpoint
@@ -79,15 +80,18 @@ own_send_shown match agree old new known core s q to tag shown free target_is ta
         ap (λ (b : Bool). arrived_if b started (record { rank = to; tag = tag }) c) own
 
     after : IsHeldAfter (shown.rows ++ record { key = q.key; job = Over ends.Sent } ∷ []) (rank.arrived started m) known (pushed_over core) (arrived (pushed_over core) (held_of m))
-    after = message_holds match agree started known (pushed_over core) (shown.rows ++ record { key = q.key; job = Over ends.Sent } ∷ []) m (send_holds old known core s q new shown sent)
+    after = message_holds match agree started known (pushed_over core) (shown.rows ++ record { key = q.key; job = Over ends.Sent } ∷ []) m tt (send_holds old known core s q new shown sent)
 
 -- a send that meets no rule, by where it goes
 pub send_shown : ArrivalsMatch → OutcomesAgree → (old new : CoreState) (known : List ℕ) (core : Core) (s : Send) (q : Request) → IsShown old known core → old.blocked ≡ None →
     send_fault old.place s ≡ None → IsSending old s q new → IsCalled old known core (calls.Isend s) (replies.Started q) new
-send_shown match agree old new known core s q shown free fine sent = go s.target refl s.tag refl kept.inside kept.low
+send_shown match agree old new known core s q shown free fine is_sent = go s.target refl s.tag refl kept.inside kept.low
   where
     kept : KeepsRules old.place s
     kept = send_rules old.place s fine
+
+    sent : IsSmallSending old s q new
+    sent = small_sending old new s q kept is_sent
 
     by_rank : (to tag : ℕ) → s.target ≡ Rank to → s.tag ≡ Some tag → (own : Bool) → (to == old.place.endpoint.rank) ≡ own →
         IsCalled old known core (calls.Isend s) (replies.Started q) new

@@ -21,14 +21,18 @@ use Rattle.requests.specs.Table.{IsSet, is_full}
 use Rattle.requests.specs.declared.outcome.Outcome.TheVariants as outcomes
 use Rattle.requests.specs.declared.table.Progress.TheVariants.{Finished, Receiving}
 use Rattle.requests.specs.declared.table.Request.{Request}
-use Rattle.rank_core.specs.declared.call.Call.TheVariants as calls
-use Rattle.rank_core.specs.declared.call.Receive.{Receive}
-use Rattle.rank_core.specs.declared.call.Reply.TheVariants as replies
-use Rattle.rank_core.specs.declared.refused.Refused.{Refused}
-use Rattle.rank_core.specs.declared.refused.Refused.TheVariants as refusals
+use Rattle.rank_calls.specs.declared.call.Call.TheVariants as calls
+use Rattle.rank_calls.specs.declared.call.Receive.{Receive}
+use Rattle.rank_calls.specs.declared.call.Reply.TheVariants as replies
+use Rattle.rank_calls.specs.declared.refused.Refused.{Refused}
+use Rattle.rank_calls.specs.declared.refused.Refused.TheVariants as refusals
 use Rattle.rank_core.specs.CoreState.{CoreState}
-use Rattle.rank_core.specs.Receiving.{IsPosting, IsReceiving, IsReceivingNothing, ReceivesFrom, posted_by, progress_on_post, receive_fault, status_of}
-use Rattle.proof_engine_view.specs.Rows.{IsOnWorld, Row, held_of, posted_rows}
+use Rattle.rank_calls.specs.Receiving.{posted_by, progress_on_post, status_of, transfers_on_post}
+use Rattle.rank_core.specs.Receiving.{IsPosting, IsReceiving, IsReceivingNothing, ReceivesFrom, receive_fault}
+use Rattle.rank_calls.specs.Frames.{FrameFor}
+use Rattle.std.specs.List.{AllByRecursion}
+use Rattle.proof_engine_view.specs.Frames.{sent_by}
+use Rattle.proof_engine_view.specs.Rows.{IsOnWorld, IsWhole, Row, held_of, posted_rows}
 use Rattle.proof_engine_view.specs.Seen.{receive_seen}
 use Rattle.proof_engine_view.specs.Shown.{IsShown}
 use Rattle.proof_engine_matching.specs.Matches.{Finds, FindsNone, OutcomesAgree, PostsMatch}
@@ -37,6 +41,7 @@ use Rattle.proof_engine_steps.proofs.Regions.{handed_buffer}
 use Rattle.proof_engine_steps.proofs.Sends.{Stays}
 use Rattle.proof_engine_steps.proofs.Starting.{core_free, fault_free, holding_of, holding_started, no_fault, serial_told, shown_free, started_call, two_tests}
 use Rattle.proof_engine_steps.proofs.Waking.{Holding}
+use Rattle.proof_engine_steps.proofs.Wholes.{found_whole, post_whole, receive_gives, small_still, small_with, whole, whole_of}
 
 -- WHAT A RECEIVE THAT WAS TAKEN MET
 
@@ -87,6 +92,11 @@ serial_of old new v q h = ap (λ (e : CoreState). e.serial) h.rest
 queues_of : (old new : CoreState) (v : Receive) (q : Request) → IsPosting old v q new → new.queues ≡ after_post old.queues (posted_by q.key v)
 queues_of old new v q h = ap (λ (e : CoreState). e.queues) h.rest
 
+-- its transfers are as the message that was found leaves them
+transfers_of : (old new : CoreState) (v : Receive) (q : Request) (m : Option Message) → IsPosting old v q new → message_at old.queues.unexpected (message_for (posted_by q.key v) old.queues.unexpected) ≡ m →
+    new.transfers ≡ transfers_on_post old.transfers v.into q.key m
+transfers_of old new v q m h e = ap (λ (c : CoreState). c.transfers) h.rest ∙ ap (transfers_on_post old.transfers v.into q.key) e
+
 -- a receive is started in both, by what the core makes of it
 receive_started : (old new : CoreState) (known : List ℕ) (core : Core) (v : Receive) (q : Request) (after : Effect) (rows : List Row) → IsShown old known core →
     old.blocked ≡ None → receive_fault old v ≡ None → q.serial ≡ old.serial → matching.receives core (receive_seen v) v.source ≡ after → Holding new known after.core rows →
@@ -100,7 +110,7 @@ receive_started old new known core v q after rows shown free fine serial is hold
       completion = stays.completion;
       free = same ∙ core_is;
       shown = shown_free new known after.core rows holding (stays.blocked ∙ free) (same ∙ core_is);
-      sends = λ within. out;
+      sends = λ within. out ∙ sym (ap (λ (f : Option FrameFor). sent_by known f) (receive_gives old v v.source shown.small.whole));
       reply = ap (λ (n : ℕ). Some (machine.Irecv (receive_seen v), Some (machine.Started n))) (serial_told old known core q shown serial);
     })
 
@@ -124,25 +134,32 @@ post_waits old new known core v q shown free fine real h finds =
     (holding_started old new known core (posted_at core (receive_seen v) None).core shown.rows q.key (Receiving v.into) (Waiting (receive_seen v)) (holding_of old known core shown) h.fresh
     (entry_of old new v q None h finds.message) (refl, on_world v) refl (serial_of old new v q h)
     (ap (λ (s : State). s.posted) qs ∙ ap (λ (ps : List queued.Receive). ps ++ posted_by q.key v ∷ []) shown.posted)
-    (shown.held ∙ ap (λ (s : State). map held_of s.unexpected) (sym qs)) refl (ap (λ (e : CoreState). e.place) h.rest))
+    (shown.held ∙ ap (λ (s : State). map held_of s.unexpected) (sym qs))
+    (small_still old.transfers new.transfers old.queues.unexpected new.queues.unexpected shown.small
+    (transfers_of old new v q None h finds.message) (ap (λ (s : State). s.unexpected) qs))
+    refl (ap (λ (e : CoreState). e.place) h.rest))
     refl refl (post_stays old new v q h)
 
 -- the oldest message that it accepts ends the receive
-post_ends : (old new : CoreState) (known : List ℕ) (core : Core) (v : Receive) (q : Request) (m : Message) (earlier later : List Held) → OutcomesAgree → IsShown old known core →
-    old.blocked ≡ None → receive_fault old v ≡ None → IsPosted core v → IsPosting old v q new → Finds old.queues v q.key m earlier later → IsCalled old known core (calls.Irecv v) (replies.Started q) new
-post_ends old new known core v q m earlier later agree shown free fine real h finds =
+post_ends : (old new : CoreState) (known : List ℕ) (core : Core) (v : Receive) (q : Request) (m : Message) (c : Contents) (earlier later : List Held) → OutcomesAgree → IsShown old known core →
+    old.blocked ≡ None → receive_fault old v ≡ None → IsPosted core v → IsPosting old v q new → Finds old.queues v q.key (whole m c) earlier later → IsCalled old known core (calls.Irecv v) (replies.Started q) new
+post_ends old new known core v q m c earlier later agree shown free fine real h finds =
     let qs : new.queues ≡ after_post old.queues (posted_by q.key v) = queues_of old new v q h in
-    receive_started old new known core v q (posted_at core (receive_seen v) (Some (earlier, held_of m, later))) (shown.rows ++ record { key = q.key; job = Over x } ∷ []) shown free fine h.serial
-    (core_posts core old.queues v (Some (earlier, held_of m, later)) real shown.held finds.core)
-    (holding_started old new known core (posted_at core (receive_seen v) (Some (earlier, held_of m, later))).core shown.rows q.key (Finished (outcome_of (handed_of v.into) (status_of m) m.elements)) (Over x)
+    receive_started old new known core v q (posted_at core (receive_seen v) (Some (earlier, held_of (whole m c), later))) (shown.rows ++ record { key = q.key; job = Over x } ∷ []) shown free fine h.serial
+    (core_posts core old.queues v (Some (earlier, held_of (whole m c), later)) real shown.held finds.core)
+    (holding_started old new known core (posted_at core (receive_seen v) (Some (earlier, held_of (whole m c), later))).core shown.rows q.key (Finished (outcome_of (handed_of v.into) (status_of (whole m c)) c)) (Over x)
     (holding_of old known core shown) h.fresh
-    (entry_of old new v q (Some m) h finds.message) (agree (receive_seen v) m (on_world v)) refl (serial_of old new v q h)
+    (entry_of old new v q (Some (whole m c)) h finds.message) (agree (receive_seen v) (whole m c) c refl (on_world v)) refl (serial_of old new v q h)
     (ap (λ (s : State). s.posted) qs ∙ (finds.posted ∙ (shown.posted ∙ sym (append-nil (posted_rows shown.rows)))))
-    (sym (ap (λ (s : State). map held_of s.unexpected) qs ∙ finds.unexpected)) refl (ap (λ (e : CoreState). e.place) h.rest))
+    (sym (ap (λ (s : State). map held_of s.unexpected) qs ∙ finds.unexpected))
+    (small_with old.transfers new.transfers old.queues.unexpected new.queues.unexpected shown.small
+    (transfers_of old new v q (Some (whole m c)) h finds.message)
+    (subst (λ (s : State). AllByRecursion IsWhole s.unexpected) (sym qs) (post_whole old.queues (posted_by q.key v) shown.small.whole)))
+    refl (ap (λ (e : CoreState). e.place) h.rest))
     refl refl (post_stays old new v q h)
   where
     x : ends.Outcome
-    x = ends.outcome (receive_seen v) (full (held_of m) m.elements.values)
+    x = ends.outcome (receive_seen v) (full (held_of (whole m c)) c.values)
 
 -- a receive that is posted, by whether a message waits that it accepts
 posting_shown : PostsMatch → OutcomesAgree → (old new : CoreState) (known : List ℕ) (core : Core) (v : Receive) (q : Request) → IsShown old known core → old.blocked ≡ None →
@@ -152,7 +169,10 @@ posting_shown match agree old new known core v q shown free fine real h = go (ma
     go : FindsNone old.queues v q.key ⊎ ((m : Message) × (earlier : List Held) × (later : List Held) × Finds old.queues v q.key m earlier later) →
         IsCalled old known core (calls.Irecv v) (replies.Started q) new
     go (inl finds) = post_waits old new known core v q shown free fine real h finds
-    go (inr t) = post_ends old new known core v q t.0 t.1 t.2 agree shown free fine real h t.3
+    go (inr t) =
+        let c : (c : Contents) × (t.0 ≡ whole t.0 c) =
+        whole_of t.0 (found_whole old.queues.unexpected (message_for (posted_by q.key v) old.queues.unexpected) t.0 shown.small.whole t.3.message) in
+        post_ends old new known core v q t.0 c.0 t.1 t.2 agree shown free fine real h (subst (λ (m : Message). Finds old.queues v q.key m t.1 t.2) c.1 t.3)
 
 -- a receive from the null process is over at once, and its buffer is as it was
 nothing_shown : (old new : CoreState) (known : List ℕ) (core : Core) (v : Receive) (q : Request) → IsShown old known core → old.blocked ≡ None →
@@ -164,7 +184,10 @@ nothing_shown old new known core v q shown free fine null h =
     (holding_of old known core shown) h.fresh h.entry
     (ap (λ (b : Contents). ends.Received ends.null_status b.values) (handed_buffer v.into)) refl (ap (λ (e : CoreState). e.serial) h.rest)
     (ap (λ (e : CoreState). e.queues.posted) h.rest ∙ (shown.posted ∙ sym (append-nil (posted_rows shown.rows))))
-    (shown.held ∙ ap (λ (e : CoreState). map held_of e.queues.unexpected) (sym h.rest)) refl (ap (λ (e : CoreState). e.place) h.rest))
+    (shown.held ∙ ap (λ (e : CoreState). map held_of e.queues.unexpected) (sym h.rest))
+    (small_still old.transfers new.transfers old.queues.unexpected new.queues.unexpected shown.small
+    (ap (λ (e : CoreState). e.transfers) h.rest) (ap (λ (e : CoreState). e.queues.unexpected) h.rest))
+    refl (ap (λ (e : CoreState). e.place) h.rest))
     refl refl
     (record { place = ap (λ (e : CoreState). e.place) h.rest; completion = ap (λ (e : CoreState). e.completion) h.rest; blocked = ap (λ (e : CoreState). e.blocked) h.rest })
   where

@@ -8,10 +8,10 @@ use Rattle.proof_pure_network.specs.Held.{blank}
 use Rattle.proof_pure_network.specs.Jobs.{request_of}
 use Rattle.requests.specs.declared.awaited.Awaited as rank
 use Rattle.requests.specs.declared.awaited.Awaited.TheVariants as awaiteds
-use Rattle.rank_core.specs.declared.call.Call.{Call}
-use Rattle.rank_core.specs.declared.call.Call.TheVariants as calls
-use Rattle.rank_core.specs.declared.refused.Refused.{Refused}
-use Rattle.rank_core.specs.declared.refused.Refused.TheVariants as refusals
+use Rattle.rank_calls.specs.declared.call.Call.{Call}
+use Rattle.rank_calls.specs.declared.call.Call.TheVariants as calls
+use Rattle.rank_calls.specs.declared.refused.Refused.{Refused}
+use Rattle.rank_calls.specs.declared.refused.Refused.TheVariants as refusals
 use Rattle.rank_core.specs.Calls.{fault_at, free_fault}
 use Rattle.rank_core.specs.CoreState.{CoreState}
 use Rattle.proof_engine_view.specs.Seen.{call_meant, call_seen}

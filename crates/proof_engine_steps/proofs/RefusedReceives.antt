@@ -6,10 +6,10 @@ use Rattle.proof_pure_network.specs.Core.{Core, view}
 use Rattle.proof_pure_network.specs.Held.{blank}
 use Rattle.requests.specs.Regions.{handed_of, is_unfit_to_receive}
 use Rattle.requests.specs.Table.{is_full}
-use Rattle.rank_core.specs.declared.call.Call.TheVariants as calls
-use Rattle.rank_core.specs.declared.call.Receive.{Receive}
-use Rattle.rank_core.specs.declared.refused.Refused.{Refused}
-use Rattle.rank_core.specs.declared.refused.Refused.TheVariants as refusals
+use Rattle.rank_calls.specs.declared.call.Call.TheVariants as calls
+use Rattle.rank_calls.specs.declared.call.Receive.{Receive}
+use Rattle.rank_calls.specs.declared.refused.Refused.{Refused}
+use Rattle.rank_calls.specs.declared.refused.Refused.TheVariants as refusals
 use Rattle.rank_core.specs.CoreState.{CoreState}
 use Rattle.rank_core.specs.Receiving.{receive_fault}
 use Rattle.proof_engine_view.specs.Seen.{call_seen}

@@ -9,15 +9,17 @@ use Rattle.proof_pure_network.specs.Core.{Core, view}
 use Rattle.proof_pure_network.specs.Held.{blank}
 use Rattle.requests.specs.Regions.{byte_count, handed_of}
 use Rattle.requests.specs.Table.{is_full}
-use Rattle.rank_core.specs.declared.call.Call.TheVariants as calls
-use Rattle.rank_core.specs.declared.call.Send.{Send}
-use Rattle.rank_core.specs.declared.refused.Refused.{Refused}
-use Rattle.rank_core.specs.declared.refused.Refused.TheVariants as refusals
+use Rattle.rank_calls.specs.declared.call.Call.TheVariants as calls
+use Rattle.rank_calls.specs.declared.call.Send.{Send}
+use Rattle.rank_calls.specs.declared.refused.Refused.{Refused}
+use Rattle.rank_calls.specs.declared.refused.Refused.TheVariants as refusals
 use Rattle.rank_core.specs.CoreState.{CoreState}
-use Rattle.rank_core.specs.Sending.{or_full, send_fault}
+use Rattle.rank_calls.specs.Sending.{announced_to, or_worn_out, send_fault}
+use Rattle.rank_core.specs.Sending.{or_full}
+use Rattle.rendezvous.specs.State.{is_full_to}
 use Rattle.proof_engine_view.specs.Seen.{call_seen}
 use Rattle.proof_engine_view.specs.Shown.{IsShown}
-use Rattle.proof_engine_steps.specs.Refused.{HasReason, MachinesFault, Narrower, NoRoom}
+use Rattle.proof_engine_steps.specs.Refused.{HasReason, IsOutOfRoom, MachinesFault, Narrower, NoRoom}
 use Rattle.proof_engine_steps.proofs.Reasons.{count_fault, limit_met, rank_fault, reason_is, tag_fault, type_fault}
 use Rattle.proof_engine_steps.proofs.Sends.{send_count, send_fit, send_rules}
 use Rattle.proof_engine_steps.proofs.Starting.{core_free, fault_free}
@@ -91,18 +93,26 @@ pub send_faultless : (old : CoreState) (known : List ℕ) (core : Core) (s : Sen
 send_faultless old known core s shown free fine = send_fit old.place core s (core_free old known core shown free) (send_rules old.place s fine)
 
 -- a send that meets no limit breaks no rule
-pub no_send_fault : (old : CoreState) (s : Send) → or_full (send_fault old.place s) old ≡ None → send_fault old.place s ≡ None
+pub no_send_fault : (old : CoreState) (s : Send) → or_worn_out (or_full (send_fault old.place s) old) (announced_to old.place s) old.transfers ≡ None →
+    send_fault old.place s ≡ None
 no_send_fault old s h = go (send_fault old.place s) h
   where
-    go : (f : Option Refused) → or_full f old ≡ None → f ≡ None
+    go : (f : Option Refused) → or_worn_out (or_full f old) (announced_to old.place s) old.transfers ≡ None → f ≡ None
     go None e = refl
     go (Some x) e = absurd cc
 
 -- a send that breaks a rule or meets the limit
 pub send_reason : (old : CoreState) (known : List ℕ) (core : Core) (s : Send) (why : Refused) → IsShown old known core → old.blocked ≡ None →
-    or_full (send_fault old.place s) old ≡ Some why → HasReason old core (calls.Isend s) why
+    or_worn_out (or_full (send_fault old.place s) old) (announced_to old.place s) old.transfers ≡ Some why → HasReason old core (calls.Isend s) why
 send_reason old known core s why shown free fault = go (send_fault old.place s) refl fault
   where
-    go : (f : Option Refused) → send_fault old.place s ≡ f → or_full f old ≡ Some why → HasReason old core (calls.Isend s) why
+    -- no request or no transfer is left
+    room : (b : Bool) (r : Option ℕ) → or_worn_out (if b then Some refusals.Limit else None) r old.transfers ≡ Some why → IsOutOfRoom why
+    room true r h = limit_met true why h
+    room false None h = limit_met false why h
+    room false (Some rank) h = limit_met (is_full_to old.transfers.numbers rank) why h
+
+    go : (f : Option Refused) → send_fault old.place s ≡ f → or_worn_out (or_full f old) (announced_to old.place s) old.transfers ≡ Some why →
+        HasReason old core (calls.Isend s) why
     go (Some x) e h = reason_is old core (calls.Isend s) x why h (send_fault_reason old core s x (core_free old known core shown free) e)
-    go None e h = NoRoom (limit_met (is_full old.slots old.serial) why h) (send_faultless old known core s shown free e)
+    go None e h = NoRoom (room (is_full old.slots old.serial) (announced_to old.place s) h) (send_faultless old known core s shown free e)

@@ -14,10 +14,10 @@ use Rattle.requests.specs.declared.awaited.Awaited.{Awaited}
 use Rattle.requests.specs.declared.awaited.Awaited.TheVariants as awaiteds
 use Rattle.requests.specs.declared.table.Progress.{Progress}
 use Rattle.requests.specs.declared.table.Request.{Request}
-use Rattle.rank_core.specs.declared.call.Call.{Call}
-use Rattle.rank_core.specs.declared.call.Call.TheVariants as calls
-use Rattle.rank_core.specs.declared.refused.Refused.{Refused}
-use Rattle.rank_core.specs.declared.refused.Refused.TheVariants as refusals
+use Rattle.rank_calls.specs.declared.call.Call.{Call}
+use Rattle.rank_calls.specs.declared.call.Call.TheVariants as calls
+use Rattle.rank_calls.specs.declared.refused.Refused.{Refused}
+use Rattle.rank_calls.specs.declared.refused.Refused.TheVariants as refusals
 use Rattle.rank_core.specs.CoreState.{CoreState}
 use Rattle.rank_core.specs.Waiting.{cancel_fault, wait_fault}
 use Rattle.proof_engine_view.specs.Seen.{awaited_by, awaited_seen, call_seen, own_serial, request_by, serial_meant}

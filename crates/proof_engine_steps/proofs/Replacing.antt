@@ -11,6 +11,7 @@ use Rattle.requests.specs.Table.{after_replace, after_replaces, replaced_entry, 
 use Rattle.requests.specs.declared.table.Entry.{Entry}
 use Rattle.requests.specs.declared.table.Progress.{Progress}
 use Rattle.requests.specs.declared.table.Progress.TheVariants.{Receiving, Finished}
+use Rattle.requests.specs.declared.table.Progress.TheVariants as progresses
 use Rattle.proof_pure_network.specs.Jobs.{Job, Waiting, Collecting, Offering, Over, Closed, ended}
 use Rattle.proof_engine_view.specs.Rows.{Fits, Holds, IsRow, IsTable, Row, Stands, posted_rows}
 use Rattle.proof_engine_steps.proofs.Ending.{IsAmong, IsNaming, cases_among, ended_at, ended_row, named_at, naming_among}
@@ -45,6 +46,8 @@ twice (Some t) = go t.progress
     go : (g : Progress) →
         ◌≡◌ {A = Option Entry} (Some (record { serial = t.serial; progress = replaced_progress (replaced_progress g) })) (Some (record { serial = t.serial; progress = replaced_progress g }))
     go (Receiving b) = refl
+    go (progresses.Collecting w) = refl
+    go progresses.Offering = refl
     go (Finished o) = refl
 
 -- ALL KEYS
@@ -88,6 +91,8 @@ fits_replaced (Receiving b) r i (Collecting p h got) f named = absurd f
 fits_replaced (Receiving b) r i (Offering d basic values) f named = absurd f
 fits_replaced (Receiving b) r i (Over x) f named = absurd f
 fits_replaced (Receiving b) r i Closed f named = absurd f
+fits_replaced (progresses.Collecting w) r i job f named = absurd f
+fits_replaced progresses.Offering r i job f named = absurd f
 fits_replaced (Finished o) r i (Waiting p) f named = absurd f
 fits_replaced (Finished o) r i (Collecting p h got) f named = absurd f
 fits_replaced (Finished o) r i (Offering d basic values) f named = absurd f
@@ -103,6 +108,8 @@ fits_kept (Receiving b) r i (Collecting p h got) f named = absurd f
 fits_kept (Receiving b) r i (Offering d basic values) f named = absurd f
 fits_kept (Receiving b) r i (Over x) f named = absurd f
 fits_kept (Receiving b) r i Closed f named = absurd f
+fits_kept (progresses.Collecting w) r i job f named = absurd f
+fits_kept progresses.Offering r i job f named = absurd f
 fits_kept (Finished o) r i (Waiting p) f named = absurd f
 fits_kept (Finished o) r i (Collecting p h got) f named = absurd f
 fits_kept (Finished o) r i (Offering d basic values) f named = absurd f

@@ -22,16 +22,20 @@ use Rattle.requests.specs.Regions.{byte_count, handed_of, sent_from}
 use Rattle.requests.specs.declared.outcome.Outcome.TheVariants.{Sent}
 use Rattle.requests.specs.declared.table.Progress.TheVariants.{Finished}
 use Rattle.requests.specs.declared.table.Request.{Request}
-use Rattle.rank_core.specs.declared.call.Call.TheVariants as calls
-use Rattle.rank_core.specs.declared.call.Reply.TheVariants as replies
-use Rattle.rank_core.specs.declared.call.Send.{Send}
+use Rattle.rank_calls.specs.declared.call.Call.TheVariants as calls
+use Rattle.rank_calls.specs.declared.call.Reply.TheVariants as replies
+use Rattle.rank_calls.specs.declared.call.Send.{Send}
 use Rattle.incarnation.specs.declared.place.Place.{Place}
-use Rattle.rank_core.specs.declared.refused.Refused.{Refused}
-use Rattle.rank_core.specs.declared.refused.Refused.TheVariants as refusals
+use Rattle.rank_calls.specs.declared.refused.Refused.{Refused}
+use Rattle.rank_calls.specs.declared.refused.Refused.TheVariants as refusals
 use Rattle.datatypes.specs.ContentLaws.{sizes, values_of-bytes_of}
-use Rattle.rank_core.specs.Calls.{IsWithin}
+use Rattle.rank_calls.specs.Calls.{IsWithin}
 use Rattle.rank_core.specs.CoreState.{CoreState}
-use Rattle.rank_core.specs.Sending.{IsSending, arrived_at_itself, arrived_if, destination, frame_of, frame_to, frame_unless, send_fault}
+use Rattle.rank_calls.specs.Sending.{announced_to, destination, eager_frame, frame_to, frame_unless, is_large, offered_by, progress_of_send, rank_to, request_frame, send_fault}
+use Rattle.rank_core.specs.Sending.{IsSending, arrived_at_itself, arrived_if, frame_of}
+use Rattle.rendezvous.specs.State.{next_to}
+use Rattle.requests.specs.Table.{IsSet, slot_at}
+use Rattle.requests.specs.declared.table.Entry.{Entry}
 use Rattle.proof_engine_view.specs.Frames.{endpoint_of, sent_by}
 use Rattle.proof_engine_view.specs.Rows.{Row, posted_rows}
 use Rattle.proof_engine_view.specs.Seen.{call_seen}
@@ -118,13 +122,40 @@ called_send core own s =
 
 -- THE RANK'S SEND
 
+-- what a send that goes in one frame leaves: its request is finished
+pub record IsSmallSending (old : CoreState) (s : Send) (q : Request) (new : CoreState) : Type 0 where
+  pub fresh : slot_at old.slots q.key ≡ None
+  pub serial : q.serial ≡ old.serial
+  pub started : List (Option Entry)
+  pub entry : IsSet old.slots started q.key (Some (record { serial = old.serial; progress = Finished Sent }))
+  pub rest : new ≡ arrived_at_itself (record old { slots = started; serial = old.serial + 1 }) (destination s.target s.tag) (sent_from s.from)
+
+-- elements that are so few go in one frame
+few_small : (s : Send) → byte_count s.from ≤ 1024 → is_large (sent_from s.from) ≡ false
+few_small s few = le-ltb 1024 (byte_count s.from) few
+
+-- each send that breaks no rule is such a one
+pub small_sending : (old new : CoreState) (s : Send) (q : Request) → KeepsRules old.place s → IsSending old s q new → IsSmallSending old s q new
+small_sending old new s q kept sent =
+    record {
+      fresh = sent.fresh;
+      serial = sent.serial;
+      started = sent.started;
+      entry = subst (λ (a : Option ℕ). IsSet old.slots sent.started q.key (Some (record { serial = old.serial; progress = progress_of_send a }))) none sent.entry;
+      rest = subst (λ (a : Option ℕ). new ≡ arrived_at_itself (record old { slots = sent.started; serial = old.serial + 1; transfers = offered_by old.transfers a q.key (sent_from s.from) })
+          (destination s.target s.tag) (sent_from s.from)) none sent.rest;
+    }
+  where
+    none : announced_to old.place s ≡ None
+    none = ap (λ (b : Bool). if b then rank_to old.place (destination s.target s.tag) else None) (few_small s kept.few)
+
 -- its request is there, and is over
-pub send_holds : (old : CoreState) (known : List ℕ) (core : Core) (s : Send) (q : Request) (new : CoreState) → (shown : IsShown old known core) → (sent : IsSending old s q new) →
+pub send_holds : (old : CoreState) (known : List ℕ) (core : Core) (s : Send) (q : Request) (new : CoreState) → (shown : IsShown old known core) → (sent : IsSmallSending old s q new) →
     Holding (record old { slots = sent.started; serial = old.serial + 1 }) known (pushed_over core) (shown.rows ++ record { key = q.key; job = Over ends.Sent } ∷ [])
 send_holds old known core s q new shown sent =
     holding_started old (record old { slots = sent.started; serial = old.serial + 1 }) known core (pushed_over core) shown.rows q.key (Finished Sent) (Over ends.Sent)
     (holding_of old known core shown) sent.fresh sent.entry refl refl refl
-    (shown.posted ∙ sym (append-nil (posted_rows shown.rows))) shown.held refl refl
+    (shown.posted ∙ sym (append-nil (posted_rows shown.rows))) shown.held shown.small refl refl
 
 -- what such a send leaves of the rank but for its requests and queues
 pub record Stays (old new : CoreState) : Type 0 where
@@ -135,7 +166,7 @@ pub record Stays (old new : CoreState) : Type 0 where
 -- a send that was started, by what the core makes of it
 pub send_started : (old new : CoreState) (known : List ℕ) (core : Core) (s : Send) (q : Request) (after : Effect) (rows : List Row) → IsShown old known core → old.blocked ≡ None →
     KeepsRules old.place s → q.serial ≡ old.serial → core_sent old.place.endpoint core s.target s.tag (sent_from s.from) ≡ after → Holding new known after.core rows →
-    after.core.blocked ≡ core.blocked → Stays old new → (IsWithin (calls.Isend s) → after.out ≡ sent_by known (frame_of old.place s)) →
+    after.core.blocked ≡ core.blocked → Stays old new → (IsWithin (calls.Isend s) → after.out ≡ sent_by known (frame_of old s)) →
     IsCalled old known core (calls.Isend s) (replies.Started q) new
 send_started old new known core s q after rows shown free kept serial is holding same stays out =
     let core_is : core.blocked ≡ None = core_free old known core shown free in
@@ -152,9 +183,9 @@ send_started old new known core s q after rows shown free kept serial is holding
 
 -- the same, where nothing comes to the own rank
 away_shown : (old new : CoreState) (known : List ℕ) (core : Core) (s : Send) (q : Request) (after : Effect) → (shown : IsShown old known core) → old.blocked ≡ None →
-    KeepsRules old.place s → (sent : IsSending old s q new) → new ≡ record old { slots = sent.started; serial = old.serial + 1 } →
+    KeepsRules old.place s → (sent : IsSmallSending old s q new) → new ≡ record old { slots = sent.started; serial = old.serial + 1 } →
     core_sent old.place.endpoint core s.target s.tag (sent_from s.from) ≡ after → after.core ≡ pushed_over core →
-    (IsWithin (calls.Isend s) → after.out ≡ sent_by known (frame_of old.place s)) →
+    (IsWithin (calls.Isend s) → after.out ≡ sent_by known (frame_of old s)) →
     IsCalled old known core (calls.Isend s) (replies.Started q) new
 away_shown old new known core s q after shown free kept sent rest is left out =
     send_started old new known core s q after (shown.rows ++ record { key = q.key; job = Over ends.Sent } ∷ []) shown free kept sent.serial is
@@ -167,25 +198,28 @@ away_shown old new known core s q after shown free kept sent rest is left out =
 
 -- a send to the null process
 pub null_send_shown : (old new : CoreState) (known : List ℕ) (core : Core) (s : Send) (q : Request) → IsShown old known core → old.blocked ≡ None →
-    s.target ≡ Null → KeepsRules old.place s → IsSending old s q new → IsCalled old known core (calls.Isend s) (replies.Started q) new
+    s.target ≡ Null → KeepsRules old.place s → IsSmallSending old s q new → IsCalled old known core (calls.Isend s) (replies.Started q) new
 null_send_shown old new known core s q shown free is kept sent =
     away_shown old new known core s q (effect (pushed_over core) []) shown free kept sent
     (sent.rest ∙ ap (λ (t : Source). arrived_at_itself (record old { slots = sent.started; serial = old.serial + 1 }) (destination t s.tag) (sent_from s.from)) is)
     (ap (λ (t : Source). core_sent old.place.endpoint core t s.tag (sent_from s.from)) is) refl
-    (λ within. sym (ap (λ (t : Source). sent_by known (frame_to old.place (destination t s.tag) (sent_from s.from))) is))
+    (λ within. sym (ap (λ (t : Source). sent_by known (frame_to old.place old.transfers (destination t s.tag) (sent_from s.from))) is))
 
 -- the frame that is sent is that of the network, where each element has the width of its type
-send_seen : (p : Place) (known : List ℕ) (s : Send) (to tag : ℕ) → s.target ≡ Rank to → s.tag ≡ Some tag → (to == p.endpoint.rank) ≡ false → IsWithin (calls.Isend s) →
-    (endpoint_of known to, Eager rules.world tag (sent_from s.from).basic (sent_from s.from).values) ∷ [] ≡ sent_by known (frame_of p s)
-send_seen p known s to tag target_is tag_is other within =
-    sym (ap₂ (λ (t : Source) (g : Option ℕ). sent_by known (frame_to p (destination t g) (sent_from s.from))) target_is tag_is
-    ∙ ap (λ (b : Bool). sent_by known (frame_unless b (record { rank = to; tag = tag }) (sent_from s.from))) other
+send_seen : (old : CoreState) (known : List ℕ) (s : Send) (to tag : ℕ) → s.target ≡ Rank to → s.tag ≡ Some tag → (to == old.place.endpoint.rank) ≡ false →
+    byte_count s.from ≤ 1024 → IsWithin (calls.Isend s) →
+    (endpoint_of known to, Eager rules.world tag (sent_from s.from).basic (sent_from s.from).values) ∷ [] ≡ sent_by known (frame_of old s)
+send_seen old known s to tag target_is tag_is other few within =
+    sym (ap₂ (λ (t : Source) (g : Option ℕ). sent_by known (frame_to old.place old.transfers (destination t g) (sent_from s.from))) target_is tag_is
+    ∙ ap (λ (b : Bool). sent_by known (frame_unless b old.transfers (record { rank = to; tag = tag }) (sent_from s.from))) other
+    ∙ ap (λ (b : Bool). sent_by known (Some (record { rank = to; frame = if b then request_frame (next_to old.transfers.numbers to) tag (sent_from s.from) else eager_frame tag (sent_from s.from) })))
+    (few_small s few)
     ∙ ap (λ (values : List ℕ). (endpoint_of known to, Eager rules.world tag (sent_from s.from).basic values) ∷ [])
     (values_of-bytes_of (size_of (sent_from s.from).basic) (sent_from s.from).values (sizes (sent_from s.from).basic).positive within))
 
 -- a send to another rank
 pub other_send_shown : (old new : CoreState) (known : List ℕ) (core : Core) (s : Send) (q : Request) (to tag : ℕ) → IsShown old known core → old.blocked ≡ None →
-    s.target ≡ Rank to → s.tag ≡ Some tag → (to == old.place.endpoint.rank) ≡ false → KeepsRules old.place s → IsSending old s q new →
+    s.target ≡ Rank to → s.tag ≡ Some tag → (to == old.place.endpoint.rank) ≡ false → KeepsRules old.place s → IsSmallSending old s q new →
     IsCalled old known core (calls.Isend s) (replies.Started q) new
 other_send_shown old new known core s q to tag shown free target_is tag_is other kept sent =
     away_shown old new known core s q (effect (pushed_over core) ((endpoint_of known to, Eager rules.world tag c.basic c.values) ∷ [])) shown free kept sent
@@ -193,7 +227,7 @@ other_send_shown old new known core s q to tag shown free target_is tag_is other
     ap (λ (b : Bool). arrived_if b started (record { rank = to; tag = tag }) c) other)
     (ap₂ (λ (t : Source) (g : Option ℕ). core_sent old.place.endpoint core t g c) target_is tag_is ∙
     core_sends core old.place.endpoint to (slice_index known to) rules.world tag c.basic c.values other (le-leb (length c.values * size_of c.basic) 1024 kept.few) (shown.known_alike to))
-    refl (send_seen old.place known s to tag target_is tag_is other)
+    refl (send_seen old known s to tag target_is tag_is other kept.few)
   where
     c : Contents
     c = sent_from s.from

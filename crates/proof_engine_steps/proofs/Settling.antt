@@ -12,6 +12,7 @@ use Rattle.requests.specs.declared.region.Region.{Region}
 use Rattle.requests.specs.declared.table.Entry as slots
 use Rattle.requests.specs.declared.table.Progress.{Progress}
 use Rattle.requests.specs.declared.table.Progress.TheVariants.{Receiving, Finished}
+use Rattle.requests.specs.declared.table.Progress.TheVariants as progresses
 use Rattle.requests.specs.Table.{progress_at, progress_of, slot_at}
 use Rattle.proof_engine_view.specs.Rows.{Fits, Holds, IsTable, Row}
 use Rattle.proof_engine_view.specs.Seen.{outcome_seen}
@@ -42,6 +43,8 @@ pub record IsReceiving (g : Progress) : Type 0 where
 -- its progress is that it is received
 pub fits_waiting : (g : Progress) (p : Receive) → Fits g (Waiting p) → IsReceiving g
 fits_waiting (Receiving b) p f = record { region = b; is = refl }
+fits_waiting (progresses.Collecting w) p f = absurd f
+fits_waiting progresses.Offering p f = absurd f
 fits_waiting (Finished o) p f = absurd f
 
 -- it has ended so
@@ -53,6 +56,8 @@ pub record IsFinished (g : Progress) (x : machine.Outcome) : Type 0 where
 -- the progress of a request that is over
 pub fits_over : (g : Progress) (x : machine.Outcome) → Fits g (Over x) → IsFinished g x
 fits_over (Receiving b) x f = absurd f
+fits_over (progresses.Collecting w) x f = absurd f
+fits_over progresses.Offering x f = absurd f
 fits_over (Finished o) x f = record { outcome = o; is = refl; seen = f }
 
 -- what the table says of a receive that waits

@@ -20,6 +20,7 @@ use Rattle.requests.specs.declared.outcome.Outcome.{Outcome}
 use Rattle.requests.specs.declared.outcome.Outcome.TheVariants as outcomes
 use Rattle.requests.specs.declared.table.Progress.{Progress}
 use Rattle.requests.specs.declared.table.Progress.TheVariants.{Receiving, Finished}
+use Rattle.requests.specs.declared.table.Progress.TheVariants as progresses
 use Rattle.requests.specs.declared.table.Request.{Request}
 use Rattle.rank_core.specs.CoreState.{CoreState}
 use Rattle.proof_engine_view.specs.Rows.{Row, Stands}
@@ -34,6 +35,8 @@ use Rattle.proof_engine_steps.proofs.Found.{HasRow, finished_row, row_of, waitin
 abbrev pub standing_of : Option Progress → rules.Standing
 standing_of None = rules.Missing
 standing_of (Some (Receiving b)) = rules.Receiving
+standing_of (Some (progresses.Collecting w)) = rules.Receiving
+standing_of (Some progresses.Offering) = rules.Sends
 standing_of (Some (Finished o)) = rules.standing_of_outcome (outcome_seen o)
 
 -- a request that is finished is no missing one
@@ -50,6 +53,8 @@ outcome_stands ends.Empty = refl
 missing_of : (g : Option Progress) → rules.is_missing (standing_of g) ≡ not (is_some g)
 missing_of None = refl
 missing_of (Some (Receiving b)) = refl
+missing_of (Some (progresses.Collecting w)) = refl
+missing_of (Some progresses.Offering) = refl
 missing_of (Some (Finished o)) = outcome_stands (outcome_seen o)
 
 -- whether an outcome is a receive's
@@ -66,6 +71,8 @@ receives_of outcomes.Empty = refl
 receive_of : (g : Option Progress) → rules.is_receive (standing_of g) ≡ table.is_receive g
 receive_of None = refl
 receive_of (Some (Receiving b)) = refl
+receive_of (Some (progresses.Collecting w)) = refl
+receive_of (Some progresses.Offering) = refl
 receive_of (Some (Finished o)) = receives_of o
 
 -- what the machine may do with the request under a serial
@@ -112,6 +119,8 @@ standing_seen old known core q shown = go (progress_at old.slots q.key q.serial)
         let r : HasRow shown.rows q.serial q.key (Receiving b) = row_of old.slots shown.rows q.serial q.key (Receiving b) shown.table e in
         let p : (p : receives.Receive) × (r.job ≡ Waiting p) = waiting_of b r.job r.fits in
         at q.serial (Some (record { key = q.key; job = Waiting p.0 })) (held_own old q (Receiving b) e) (r.there ∙ ap (λ (j : Job). Some (record { key = q.key; job = j })) p.1)
+    go (Some (progresses.Collecting w)) e = absurd (row_of old.slots shown.rows q.serial q.key (progresses.Collecting w) shown.table e).fits
+    go (Some progresses.Offering) e = absurd (row_of old.slots shown.rows q.serial q.key progresses.Offering shown.table e).fits
     go (Some (Finished o)) e =
         at q.serial (Some (record { key = q.key; job = Over (outcome_seen o) })) (held_own old q (Finished o) e) (finished_row old.slots shown.rows q o shown.table e)
 

@@ -13,15 +13,16 @@ use Rattle.requests.specs.Table.{IsSet, slot_at}
 use Rattle.requests.specs.declared.table.Progress.{Progress}
 use Rattle.requests.specs.declared.awaited.Awaited as rank
 use Rattle.requests.specs.declared.table.Request.{Request}
-use Rattle.rank_core.specs.declared.call.Call.{Call}
-use Rattle.rank_core.specs.declared.call.Reply.TheVariants as replies
-use Rattle.rank_core.specs.declared.refused.Refused.{Refused}
-use Rattle.rank_core.specs.Calls.{IsWithin, call_frame}
+use Rattle.rank_calls.specs.declared.call.Call.{Call}
+use Rattle.rank_calls.specs.declared.call.Reply.TheVariants as replies
+use Rattle.rank_calls.specs.declared.refused.Refused.{Refused}
+use Rattle.rank_calls.specs.Calls.{IsWithin}
+use Rattle.rank_core.specs.Calls.{call_frame}
 use Rattle.rank_core.specs.CoreState.{CoreState}
 use Rattle.proof_engine_view.specs.Rows.{Fits, Row, held_of, posted_job, posted_rows}
 use Rattle.proof_engine_view.specs.Frames.{sent_by}
 use Rattle.proof_engine_view.specs.Seen.{call_seen}
-use Rattle.proof_engine_view.specs.Shown.{IsBlocked, IsShown}
+use Rattle.proof_engine_view.specs.Shown.{AreSmall, IsBlocked, IsShown}
 use Rattle.proof_engine_steps.specs.Steps.{IsCalled}
 use Rattle.proof_engine_steps.proofs.RowLemmas.{posted_push, push_jobs}
 use Rattle.proof_engine_steps.proofs.Settling.{ready_free, settled_free}
@@ -55,9 +56,9 @@ two_tests false false x y o h = (refl, refl, h)
 -- one more request, in both
 pub holding_started : (e e' : CoreState) (known : List ℕ) (core core' : Core) (rows : List Row) (key : ℕ) (g : Progress) (job : Job) → Holding e known core rows → slot_at e.slots key ≡ None →
     IsSet e.slots e'.slots key (Some (record { serial = e.serial; progress = g })) → Fits g job → core'.jobs ≡ core.jobs ++ job ∷ [] → e'.serial ≡ e.serial + 1 →
-    e'.queues.posted ≡ posted_rows rows ++ posted_job key job → core'.held ≡ map held_of e'.queues.unexpected → core'.known ≡ core.known → e'.place ≡ e.place →
+    e'.queues.posted ≡ posted_rows rows ++ posted_job key job → core'.held ≡ map held_of e'.queues.unexpected → AreSmall e'.transfers e'.queues.unexpected → core'.known ≡ core.known → e'.place ≡ e.place →
     Holding e' known core' (rows ++ record { key = key; job = job } ∷ [])
-holding_started e e' known core core' rows key g job h fresh set fits js se po he kn pl =
+holding_started e e' known core core' rows key g job h fresh set fits js se po he small kn pl =
     record {
       jobs = js ∙ (ap (λ (ys : List Job). ys ++ job ∷ []) h.jobs ∙ sym (push_jobs rows key job));
       count = length-append rows (record { key = key; job = job } ∷ []) ∙ (ap (λ (n : ℕ). n + 1) h.count ∙ sym se);
@@ -65,6 +66,7 @@ holding_started e e' known core core' rows key g job h fresh set fits js se po h
           (subst (λ (n : ℕ). Says (Some (record { serial = e.serial; progress = g })) n job) (sym h.count) (says_some e.serial g job fits));
       posted = po ∙ sym (posted_push rows key job);
       held = he;
+      small = small;
       knowing = known_still e.place e'.place known core.known core'.known h.knowing pl kn;
     }
 

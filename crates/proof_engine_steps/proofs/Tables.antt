@@ -8,6 +8,7 @@ use Rattle.proof_pure_network.specs.Jobs.{Job, Waiting, Collecting, Offering, Ov
 use Rattle.requests.specs.declared.table.Entry.{Entry}
 use Rattle.requests.specs.declared.table.Progress.{Progress}
 use Rattle.requests.specs.declared.table.Progress.TheVariants.{Receiving, Finished}
+use Rattle.requests.specs.declared.table.Progress.TheVariants as progresses
 use Rattle.requests.specs.Table.{IsSet, slot_at}
 use Rattle.proof_engine_view.specs.Rows.{Fits, Holds, IsRow, IsTable, Row, Stands}
 
@@ -61,8 +62,12 @@ fits_stands k g (Waiting p) f = record { entry = record { serial = k; progress =
 fits_stands k g (Over x) f = record { entry = record { serial = k; progress = g }; there = refl; serial_is = refl; fits = f }
 fits_stands k g Closed f = tt
 fits_stands k (Receiving b) (Collecting p h got) f = absurd f
+fits_stands k (progresses.Collecting w) (Collecting p h got) f = absurd f
+fits_stands k progresses.Offering (Collecting p h got) f = absurd f
 fits_stands k (Finished o) (Collecting p h got) f = absurd f
 fits_stands k (Receiving b) (Offering d basic values) f = absurd f
+fits_stands k (progresses.Collecting w) (Offering d basic values) f = absurd f
+fits_stands k progresses.Offering (Offering d basic values) f = absurd f
 fits_stands k (Finished o) (Offering d basic values) f = absurd f
 
 -- it says the same

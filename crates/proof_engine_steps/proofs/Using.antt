@@ -19,6 +19,7 @@ use Rattle.requests.specs.declared.outcome.Outcome.TheVariants as outcomes
 use Rattle.requests.specs.declared.table.Entry.{Entry}
 use Rattle.requests.specs.declared.table.Progress.{Progress}
 use Rattle.requests.specs.declared.table.Progress.TheVariants.{Receiving, Finished}
+use Rattle.requests.specs.declared.table.Progress.TheVariants as progresses
 use Rattle.requests.specs.declared.table.Request.{Request}
 use Rattle.proof_engine_view.specs.Rows.{Holds, IsTable, Row, jobs_of, posted_job, posted_rows}
 use Rattle.proof_engine_view.specs.Seen.{outcome_seen}
@@ -259,6 +260,8 @@ finished_spent table rows t q h = go (progress_at table q.key q.serial) refl h.1
     go : (g : Option Progress) → progress_at table q.key q.serial ≡ g → rank.finished_with g ≡ Some h.0 → IsSpent table rows q
     go None e f = absurd (none-some h.0 f)
     go (Some (Receiving r)) e f = absurd (none-some h.0 f)
+    go (Some (progresses.Collecting w)) e f = absurd (none-some h.0 f)
+    go (Some progresses.Offering) e f = absurd (none-some h.0 f)
     go (Some (Finished o)) e f = inl (outcome_seen o, finished_row table rows q o t e)
 
 -- what an answer uses up is over

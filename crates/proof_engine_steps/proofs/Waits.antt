@@ -15,8 +15,8 @@ use Rattle.requests.specs.declared.answer.Answer.{Answer}
 use Rattle.requests.specs.declared.awaited.Awaited.{Awaited}
 use Rattle.requests.specs.declared.awaited.Awaited.TheVariants as awaiteds
 use Rattle.requests.specs.declared.table.Request.{Request}
-use Rattle.rank_core.specs.declared.call.Reply.{Reply}
-use Rattle.rank_core.specs.declared.call.Reply.TheVariants as replies
+use Rattle.rank_calls.specs.declared.call.Reply.{Reply}
+use Rattle.rank_calls.specs.declared.call.Reply.TheVariants as replies
 use Rattle.rank_core.specs.CoreState.{CoreState}
 use Rattle.rank_core.specs.Waiting.{Tests, TestsBy, Waits, WaitsBy, wait_fault}
 use Rattle.proof_engine_view.specs.Seen.{answer_seen, awaited_seen, own_serial, request_by}
@@ -74,7 +74,7 @@ wait_blocked old known core a shown free fine g =
     holding : Holding new known (core_waits core a) shown.rows
     holding =
         let h : Holding old known core shown.rows = holding_of old known core shown in
-        record { jobs = h.jobs; count = h.count; table = h.table; posted = h.posted; held = h.held; knowing = h.knowing }
+        record { jobs = h.jobs; count = h.count; table = h.table; posted = h.posted; held = h.held; small = h.small; knowing = h.knowing }
 
 -- it is ready: the call is answered
 wait_done : (old : CoreState) (known : List ℕ) (core : Core) (a : Awaited) (answer : Answer) (used : List Request) → IsShown old known core → old.blocked ≡ None → wait_fault old a ≡ None →
@@ -86,7 +86,7 @@ wait_done old known core a answer used shown free fine g =
       completion = refl;
       shown = subst (λ (c : Core). IsShown new known c) (sym (ap (core_settled_by (core_waits core a)) ready))
           (shown_free new known after (rows_without shown.rows used)
-          (holding_used old new known core after shown.rows a answer used (holding_of old known core shown) g refl refl refl refl refl refl refl) free refl);
+          (holding_used old new known core after shown.rows a answer used (holding_of old known core shown) g refl refl refl refl refl refl refl refl) free refl);
       sends = refl;
       tells = ap (told old.place.endpoint (Some (machine.Wait (awaited_seen a), None))) ready;
     }
@@ -161,7 +161,7 @@ test_meant old new known core q reply shown free fine tests = go (completion old
         let after : Core = core_tested core (Some (answer_seen answer, serials_of used)) in
         test_by old new known core q (Some (answer_seen answer, serials_of used)) (replies.Done answer) shown free fine (same ∙ ap completion_seen g) refl refl (settled_free after core_is)
         (shown_free new known after (rows_without shown.rows used)
-        (holding_used old new known core after shown.rows (awaiteds.One q) answer used (holding_of old known core shown) g refl refl refl refl refl refl refl) free core_is)
+        (holding_used old new known core after shown.rows (awaiteds.One q) answer used (holding_of old known core shown) g refl refl refl refl refl refl refl refl) free core_is)
         (λ x. refl)
 
     go : (o : Option (Answer × List Request)) → completion old.slots (awaiteds.One q) ≡ o → TestsBy old o reply new → IsMeant old known core c reply new

@@ -20,11 +20,12 @@ use Rattle.rank_core.specs.CoreState.{CoreState}
 use Rattle.rank_core.specs.Waiting.{answered_by, woken, woken_by}
 use Rattle.proof_engine_view.specs.Rows.{IsTable, Row, held_of, jobs_of, posted_rows}
 use Rattle.proof_engine_view.specs.Seen.{answer_seen, awaited_seen, told_completion}
-use Rattle.proof_engine_view.specs.Shown.{IsBlocked, IsNamed, IsShown}
+use Rattle.proof_engine_view.specs.Shown.{AreSmall, IsBlocked, IsNamed, IsShown}
 use Rattle.proof_engine_steps.proofs.Agreeing.{SayTheSame, completion_seen, completions_same, named_same_outcome, serials_of}
 use Rattle.proof_engine_steps.proofs.Knowing.{IsKnown}
 use Rattle.proof_engine_steps.proofs.Named.{all_follow}
 use Rattle.proof_engine_steps.proofs.Settling.{ready_free}
+use Rattle.proof_engine_steps.proofs.Wholes.{small_still}
 use Rattle.proof_engine_steps.proofs.Using.{jobs_without, length_without, posted_without, rows_without, table_without, used_spent}
 
 -- the rank holds what the network's core holds, whatever its call waits for
@@ -34,6 +35,7 @@ pub record Holding (e : CoreState) (known : List ℕ) (core : Core) (rows : List
   pub table : IsTable e.slots rows
   pub posted : e.queues.posted ≡ posted_rows rows
   pub held : core.held ≡ map held_of e.queues.unexpected
+  pub small : AreSmall e.transfers e.queues.unexpected
   pub knowing : IsKnown e.place known core.known
 
 -- what is held is shown, with what the call waits for
@@ -47,6 +49,7 @@ shown_with e known core rows h b p =
       table = h.table;
       posted = h.posted;
       held = h.held;
+      small = h.small;
       blocked = b;
       pending = p;
       width = h.knowing.width;
@@ -104,14 +107,15 @@ core_ready_is e known core rows a h b named =
 -- what the answer uses up is taken out of both
 pub holding_used : (e e' : CoreState) (known : List ℕ) (core core' : Core) (rows : List Row) (a : Awaited) (answer : Answer) (used : List Request) → Holding e known core rows →
     completion e.slots a ≡ Some (answer, used) → core'.jobs ≡ all_changed closed core.jobs (serials_of used) → core'.held ≡ core.held → core'.known ≡ core.known →
-    e'.slots ≡ without e.slots used → e'.serial ≡ e.serial → e'.queues ≡ e.queues → e'.place ≡ e.place → Holding e' known core' (rows_without rows used)
-holding_used e e' known core core' rows a answer used h g js hs kn sl se qu pl =
+    e'.slots ≡ without e.slots used → e'.serial ≡ e.serial → e'.queues ≡ e.queues → e'.transfers ≡ e.transfers → e'.place ≡ e.place → Holding e' known core' (rows_without rows used)
+holding_used e e' known core core' rows a answer used h g js hs kn sl se qu tr pl =
     record {
       jobs = js ∙ (ap (λ (ys : List Job). all_changed closed ys (serials_of used)) h.jobs ∙ sym (jobs_without used rows));
       count = length_without used rows ∙ (h.count ∙ sym se);
       table = subst (λ (t : List (Option slots.Entry)). IsTable t (rows_without rows used)) (sym sl) (table_without used e.slots rows h.table (used_spent e.slots rows a answer used h.table g));
       posted = ap (λ (q : State). q.posted) qu ∙ (h.posted ∙ sym (posted_without used rows));
       held = hs ∙ (h.held ∙ ap (λ (q : State). map held_of q.unexpected) (sym qu));
+      small = small_still e.transfers e'.transfers e.queues.unexpected e'.queues.unexpected h.small tr (ap (λ (q : State). q.unexpected) qu);
       knowing = known_still e.place e'.place known core.known core'.known h.knowing pl kn;
     }
 
@@ -146,7 +150,7 @@ settles e known core rows h b free = go e.blocked refl b
         let r : core_ready core ≡ Some (answer_seen answer, serials_of used) = same ∙ ap completion_seen g in
         settled_from e (answered e answer used) known core (core_answered core (serials_of used)) (Some (answer_seen answer, serials_of used)) (woken_ready e a answer used is g) (ap (core_settled_by core) r) r
         (shown_with (answered e answer used) known (core_answered core (serials_of used)) (rows_without rows used)
-        (holding_used e (answered e answer used) known core (core_answered core (serials_of used)) rows a answer used h g refl refl refl refl refl refl refl) refl refl)
+        (holding_used e (answered e answer used) known core (core_answered core (serials_of used)) rows a answer used h g refl refl refl refl refl refl refl refl) refl refl)
         (λ t. refl)
 
     wait : (a : Awaited) (o : Option (Answer × List Request)) → e.blocked ≡ Some a → core_ready core ≡ completion_seen (completion e.slots a) → completion e.slots a ≡ o → IsSettled e known core
@@ -173,6 +177,7 @@ holding_of e known core s =
       table = s.table;
       posted = s.posted;
       held = s.held;
+      small = s.small;
       knowing = record { width = s.width; same = s.known_alike; itself = s.itself };
     }
 

@@ -1,12 +1,12 @@
 -- Why a rank refuses a call, and that it takes none with a fault.
 use Rattle.std.specs.Prelude.{◌≡◌, ℕ, ◌<◌, ◌⊎◌, List, Option, Some, None}
-use Rattle.rank_core.specs.declared.call.Call.{Call}
-use Rattle.rank_core.specs.declared.call.Call.TheVariants as calls
-use Rattle.rank_core.specs.declared.refused.Refused.{Refused}
-use Rattle.rank_core.specs.declared.refused.Refused.TheVariants as refusals
+use Rattle.rank_calls.specs.declared.call.Call.{Call}
+use Rattle.rank_calls.specs.declared.call.Call.TheVariants as calls
+use Rattle.rank_calls.specs.declared.refused.Refused.{Refused}
+use Rattle.rank_calls.specs.declared.refused.Refused.TheVariants as refusals
 use Rattle.rank_core.specs.Calls.{call_fault}
 use Rattle.rank_core.specs.CoreState.{CoreState}
-use Rattle.rank_core.specs.Refusals.{number_of_refusal}
+use Rattle.rank_calls.specs.Refusals.{number_of_refusal}
 use Rattle.requests.specs.Regions.{byte_count}
 use Rattle.perfect_queues.specs.Refusals.{fault}
 use Rattle.proof_pure_network.specs.Core.{Core, view}

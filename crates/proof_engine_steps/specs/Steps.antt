@@ -2,11 +2,13 @@
 use Rattle.std.specs.Prelude.{◌≡◌, ◌<◌, nat_lt, List, [], ℕ, Option, Some, None, slice_index}
 use Rattle.incarnation.specs.declared.place.Place.{Place}
 use Rattle.incarnation.specs.Knowing as knowing
-use Rattle.rank_core.specs.declared.call.Call.{Call}
-use Rattle.rank_core.specs.declared.call.Reply.{Reply}
-use Rattle.rank_core.specs.Calls.{Answers, IsWithin, call_fault, call_frame}
+use Rattle.rank_calls.specs.declared.call.Call.{Call}
+use Rattle.rank_calls.specs.declared.call.Reply.{Reply}
+use Rattle.rank_calls.specs.Calls.{IsWithin}
+use Rattle.rank_core.specs.Calls.{Answers, call_fault, call_frame}
 use Rattle.rank_core.specs.CoreState.{CoreState, opening}
-use Rattle.rank_core.specs.Hearing.{NewsText, after_news, news_fault}
+use Rattle.rank_calls.specs.Hearing.{NewsText}
+use Rattle.rank_core.specs.Hearing.{after_news, news_frames}
 use Rattle.vocabulary.specs.declared.endpoint.Endpoint.{Endpoint}
 use Rattle.perfect_queues.specs.Events.{call_and_reply, told}
 use Rattle.perfect_queues.specs.Refusals.{fault}
@@ -14,7 +16,7 @@ use Rattle.proof_pure_network.specs.Core.{Core, Effect, effect, new_core, view}
 use Rattle.proof_pure_network.specs.Engine.{called, came, core_ready, core_settled, met}
 use Rattle.proof_pure_network.specs.Frames.{Frame}
 use Rattle.proof_pure_network.specs.Held.{blank}
-use Rattle.proof_engine_view.specs.Frames.{frame_heard, known_after, sent_by}
+use Rattle.proof_engine_view.specs.Frames.{IsOfNetwork, frame_heard, known_after, sent_by}
 use Rattle.proof_engine_view.specs.Seen.{call_seen, told_call, told_completion}
 use Rattle.proof_engine_view.specs.Shown.{IsShown}
 
@@ -65,14 +67,17 @@ pub record IsHeard (old : CoreState) (known : List ℕ) (core : Core) (news : Ne
   pub shown :
       IsShown (after_news old news) (known_after news.lesson known news.source)
       (core_settled (heard_by_core core news.source (frame_heard news.frame)).core)
+  -- for now neither gives a frame for it
   pub sends : (heard_by_core core news.source (frame_heard news.frame)).out ≡ []
+  pub gives : news_frames old news ≡ []
   pub tells :
       told old.place.endpoint None (core_ready (heard_by_core core news.source (frame_heard news.frame)).core)
       ≡ told_completion old.place.endpoint (after_news old news).completion
 
--- So it is with all that is heard, whether it is a lesson or not, with a frame or without, at a rank that owes no answer
+-- So it is with all that is heard, whether it is a lesson or not, with a frame of the network or without one, at a rank that
+-- owes no answer
 abbrev pub NewsAreShown : Type 0
 NewsAreShown =
     (old : CoreState) (known : List ℕ) (core : Core) (news : NewsText) →
-    IsShown old known core → old.completion ≡ None → IsFromOther old known news → news_fault news.frame ≡ None →
+    IsShown old known core → old.completion ≡ None → IsFromOther old known news → IsOfNetwork news.frame →
     IsHeard old known core news

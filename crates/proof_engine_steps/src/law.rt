@@ -4,7 +4,7 @@ ghost use Rattle.proof_engine_steps.specs.Steps.{OpeningIsShown, CallsAreShown, 
 ghost use Rattle.proof_engine_steps.specs.Refused.{FaultsHaveReasons, AllowedCallsAreFaultless, RoomIsAReason};
 
 /// States that a rank's core holds what a core of the pure network holds, at whatever incarnation it starts, and that each call
-/// that is taken and all that is heard, be it a lesson or not, with a frame or without, keeps that: the machine finds no
+/// that is taken and all that is heard, be it a lesson or not, with a frame of the network or without one, keeps that: the machine finds no
 /// fault with the call, is told the same reply and completion, and the network's core gives the same frames to its links.
 /// Each call that meets a rule or a limit has the machine's first fault, or a limit met it, or the one rule by which the engine
 /// is narrower for now (a send has at most 1,024 bytes); each call that meets none names no request of another engine, and the

@@ -1,12 +1,12 @@
 -- What the pure network sees of the frames that a rank's core sends and is handed.
-use Rattle.std.specs.Prelude.{ℕ, List, [], ◌∷◌, Bool, true, false, max, Option, Some, None, slice_index, slice_set}
+use Rattle.std.specs.Prelude.{◌≡◌, ℕ, List, [], ◌∷◌, Bool, true, false, max, Option, Some, None, is_some, slice_index, slice_set}
 use Rattle.vocabulary.specs.BasicTypes.{size_of}
 use Rattle.vocabulary.specs.declared.endpoint.Endpoint.{Endpoint}
 use Rattle.datatypes.specs.Contents.{values_of}
 use Rattle.datagram.specs.declared.kinds.Plane.{Plane}
 use Rattle.datagram.specs.declared.kinds.Plane.TheVariants.{PointToPoint, Collective}
 use Rattle.datagram.specs.Spelling.{EagerText, FrameText, EagerFrame, RequestFrame, ClearFrame, DataFrame}
-use Rattle.rank_core.specs.Sending.{FrameFor}
+use Rattle.rank_calls.specs.Frames.{FrameFor}
 use Rattle.proof_pure_network.specs.Frames.{Eager, Frame}
 
 -- an eager message by its plane; one of a collective operation is no frame of the network
@@ -25,6 +25,11 @@ frame_seen (DataFrame t) = None
 abbrev pub frame_heard : Option FrameText → Option Frame
 frame_heard None = None
 frame_heard (Some f) = frame_seen f
+
+-- the frame that came, if one did, is one of the network
+abbrev pub IsOfNetwork : Option FrameText → Type 0
+IsOfNetwork None = Unit {0}
+IsOfNetwork (Some f) = is_some (frame_seen f) ≡ true
 
 -- a frame to an endpoint, if it is one
 abbrev pub sent_as : Endpoint → Option Frame → List (Endpoint × Frame)

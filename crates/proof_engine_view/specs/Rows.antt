@@ -1,14 +1,19 @@
 -- A rank's requests by their serials, each with the key under which it stands in the table.
-use Rattle.std.specs.Prelude.{◌≡◌, ℕ, List, [], ◌∷◌, ◌++◌, length, map, Option, Some, None, slice_get}
+use Rattle.std.specs.Prelude.{◌≡◌, ℕ, List, [], ◌∷◌, ◌++◌, map, Option, Some, None, slice_get}
 use Rattle.match_queues.specs.declared.envelope.Receive as posted
 use Rattle.match_queues.specs.declared.envelope.Message.{Message}
+use Rattle.match_queues.specs.declared.envelope.Body.{Body}
+use Rattle.match_queues.specs.declared.envelope.Body.TheVariants as bodies
+use Rattle.match_queues.specs.Bodies.{basic_of}
 use Rattle.requests.specs.declared.table.Entry.{Entry}
 use Rattle.requests.specs.declared.table.Progress.{Progress}
 use Rattle.requests.specs.declared.table.Progress.TheVariants.{Receiving, Finished}
+use Rattle.requests.specs.declared.table.Progress.TheVariants as progresses
 use Rattle.requests.specs.Regions.{handed_of}
 use Rattle.requests.specs.Table.{slot_at}
 use Rattle.perfect_queues.specs.Receives.{Receive}
-use Rattle.proof_pure_network.specs.Held.{Held, Whole}
+use Rattle.proof_pure_network.specs.Held.{Held, Part, Whole}
+use Rattle.proof_pure_network.specs.Held as held
 use Rattle.proof_pure_network.specs.Jobs.{Job, Waiting, Collecting, Offering, Over, Closed}
 use Rattle.proof_engine_view.specs.Seen.{outcome_seen}
 
@@ -26,13 +31,15 @@ pub record IsOnWorld (p : Receive) : Type 0 where
   pub context : p.context ≡ 0
   pub group : p.group ≡ None
 
--- how far the request is says what the job says
+-- how far the request is says what the job says; for now no receive collects and no send offers
 abbrev pub Fits : Progress → Job → Type 0
 Fits (Receiving r) (Waiting p) = (p.into ≡ handed_of r) × IsOnWorld p
 Fits (Receiving r) (Collecting p h got) = ⊥
 Fits (Receiving r) (Offering d basic values) = ⊥
 Fits (Receiving r) (Over x) = ⊥
 Fits (Receiving r) Closed = ⊥
+Fits (progresses.Collecting w) job = ⊥
+Fits progresses.Offering job = ⊥
 Fits (Finished o) (Waiting p) = ⊥
 Fits (Finished o) (Collecting p h got) = ⊥
 Fits (Finished o) (Offering d basic values) = ⊥
@@ -79,7 +86,21 @@ abbrev pub posted_rows : List Row → List posted.Receive
 posted_rows [] = []
 posted_rows (r ∷ rs) = posted_job r.key r.job ++ posted_rows rs
 
+-- what is there of a message
+abbrev pub body_seen : Body → held.Body
+body_seen (bodies.Whole c) = Whole c.values
+body_seen (bodies.Announced a) = Part a.transfer a.count
+
 -- a message that waits for its receive
 abbrev pub held_of : Message → Held
 held_of m =
-    record { sender = m.sender; context = m.context; tag = m.tag; basic = m.elements.basic; body = Whole m.elements.values }
+    record { sender = m.sender; context = m.context; tag = m.tag; basic = basic_of m.body; body = body_seen m.body }
+
+-- all of its elements are there
+abbrev pub AreThere : Body → Type 0
+AreThere (bodies.Whole c) = Unit {0}
+AreThere (bodies.Announced a) = ⊥
+
+-- so it is with a message
+abbrev pub IsWhole : Message → Type 0
+IsWhole m = AreThere m.body

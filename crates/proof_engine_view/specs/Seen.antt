@@ -13,12 +13,12 @@ use Rattle.requests.specs.Regions.{handed_of}
 use Rattle.requests.specs.Table.{slot_at}
 use Rattle.requests.specs.declared.table.Entry as table
 use Rattle.requests.specs.declared.table.Request.{Request}
-use Rattle.rank_core.specs.declared.call.Send.{Send}
-use Rattle.rank_core.specs.declared.call.Receive.{Receive}
-use Rattle.rank_core.specs.declared.call.Call.{Call}
-use Rattle.rank_core.specs.declared.call.Call.TheVariants as calls
-use Rattle.rank_core.specs.declared.call.Reply.{Reply}
-use Rattle.rank_core.specs.declared.call.Reply.TheVariants as replies
+use Rattle.rank_calls.specs.declared.call.Send.{Send}
+use Rattle.rank_calls.specs.declared.call.Receive.{Receive}
+use Rattle.rank_calls.specs.declared.call.Call.{Call}
+use Rattle.rank_calls.specs.declared.call.Call.TheVariants as calls
+use Rattle.rank_calls.specs.declared.call.Reply.{Reply}
+use Rattle.rank_calls.specs.declared.call.Reply.TheVariants as replies
 use Rattle.rank_core.specs.CoreState.{CoreState}
 use Rattle.perfect_queues.specs.Outcomes as machine_outcomes
 use Rattle.perfect_queues.specs.Receives as machine_receives

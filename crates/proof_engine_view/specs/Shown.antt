@@ -1,5 +1,8 @@
 -- When a rank's core holds what a core of the pure network holds.
-use Rattle.std.specs.Prelude.{◌≡◌, ℕ, List, All, length, map, Option, Some, None, slice_get, slice_index}
+use Rattle.std.specs.Prelude.{◌≡◌, ℕ, List, [], All, length, map, Option, Some, None, slice_get, slice_index}
+use Rattle.std.specs.List.{AllByRecursion}
+use Rattle.match_queues.specs.declared.envelope.Message.{Message}
+use Rattle.rendezvous.specs.State as transfers
 use Rattle.requests.specs.declared.awaited.Awaited as engine
 use Rattle.requests.specs.declared.table.Request.{Request}
 use Rattle.requests.specs.Completions.{awaited_requests}
@@ -8,7 +11,7 @@ use Rattle.perfect_queues.specs.Completions.{Awaited}
 use Rattle.proof_pure_network.specs.Core.{Core}
 use Rattle.proof_pure_network.specs.Engine.{core_ready}
 use Rattle.proof_pure_network.specs.Jobs.{Closed}
-use Rattle.proof_engine_view.specs.Rows.{Row, IsTable, held_of, jobs_of, posted_rows}
+use Rattle.proof_engine_view.specs.Rows.{Row, IsTable, IsWhole, held_of, jobs_of, posted_rows}
 use Rattle.proof_engine_view.specs.Seen.{awaited_seen}
 
 -- a request that wasn't answered: its row stands under its key
@@ -23,6 +26,13 @@ abbrev pub IsBlocked : List Row → Option engine.Awaited → Option Awaited →
 IsBlocked rows None b = b ≡ None
 IsBlocked rows (Some a) b = (b ≡ Some (awaited_seen a)) × All (IsNamed rows) (awaited_requests a)
 
+-- No large message is under way, in either direction: none is offered, none is collected, and each message that waits for its
+-- receive is whole. So it is for now, since no send has more than 1,024 bytes
+pub record AreSmall (t : transfers.State) (unexpected : List Message) : Type 0 where
+  pub offers : t.offers ≡ []
+  pub collections : t.collections ≡ []
+  pub whole : AllByRecursion IsWhole unexpected
+
 -- The rank holds the requests and messages of the network's core and is blocked on the same; and both know the ranks alike:
 -- `known` is what the rank's sessions know, the incarnation of each rank by its number
 pub record IsShown (c : CoreState) (known : List ℕ) (core : Core) : Type 0 where
@@ -32,6 +42,7 @@ pub record IsShown (c : CoreState) (known : List ℕ) (core : Core) : Type 0 whe
   pub table : IsTable c.slots rows
   pub posted : c.queues.posted ≡ posted_rows rows
   pub held : core.held ≡ map held_of c.queues.unexpected
+  pub small : AreSmall c.transfers c.queues.unexpected
   pub blocked : IsBlocked rows c.blocked core.blocked
   -- the blocked call's answer isn't ready
   pub pending : core_ready core ≡ None

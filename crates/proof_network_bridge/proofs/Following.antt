@@ -7,11 +7,12 @@ use Rattle.perfect_queues.specs.Refusals.{fault}
 use Rattle.vocabulary.specs.declared.endpoint.Endpoint.{Endpoint}
 use Rattle.datagram.specs.Spelling.{FrameText}
 use Rattle.incarnation.specs.declared.place.Place.{Place}
-use Rattle.rank_core.specs.declared.call.Call.{Call}
-use Rattle.rank_core.specs.declared.call.Reply.{Reply}
+use Rattle.rank_calls.specs.declared.call.Call.{Call}
+use Rattle.rank_calls.specs.declared.call.Reply.{Reply}
 use Rattle.rank_core.specs.CoreState.{CoreState}
-use Rattle.rank_core.specs.Calls.{IsWithin, call_fault, call_frame}
-use Rattle.rank_core.specs.Sending.{FrameFor}
+use Rattle.rank_calls.specs.Calls.{IsWithin}
+use Rattle.rank_core.specs.Calls.{call_fault, call_frame}
+use Rattle.rank_calls.specs.Frames.{FrameFor}
 use Rattle.requests.specs.declared.answer.Answer.{Answer}
 use Rattle.sessions.specs.Events.{after_event}
 use Rattle.sessions.specs.SessionsState.{SessionsState}
@@ -26,7 +27,7 @@ use Rattle.proof_pure_network.specs.Links.{Link, accept_all}
 use Rattle.proof_pure_network.specs.Network.{Ask, Happening, Network, Restarts, happens, here, new_network, run}
 use Rattle.proof_engine_view.specs.Frames.{sent_by}
 use Rattle.proof_engine_view.specs.Seen.{call_seen, told_call, told_completion}
-use Rattle.proof_engine_view.specs.Shown.{IsShown}
+use Rattle.proof_engine_view.specs.Shown.{AreSmall, IsShown}
 use Rattle.proof_engine_steps.specs.Steps.{CallsAreShown, IsCalled, OpeningIsShown}
 use Rattle.proof_link_truth.specs.Events.{EventsAreTrue, IsAt, LeavesTrue, OpeningIsTrue, RestartsAreTrue, TicksAreTrue, all_addressed, no_links, opening_sessions}
 use Rattle.proof_link_truth.specs.Links as below
@@ -201,6 +202,9 @@ answered_follows shows truth n r engines datagrams history old mid call reply f 
     free : (call_fault old.core call ≡ None) × (frame_limit old.sessions frame ≡ None)
     free = neither_fault (call_fault old.core call) (frame_limit old.sessions frame) gives.allowed
 
+    small : AreSmall old.core.transfers old.core.queues.unexpected
+    small = (f.joined.shown r old there).small
+
     shown : IsCalled old.core known core call reply mid.core
     shown = shows old.core mid.core known core call reply (f.joined.shown r old there) free.0 gives.core
 
@@ -213,7 +217,7 @@ answered_follows shows truth n r engines datagrams history old mid call reply f 
 
     sent : LeavesTrue n (sessions_in engines) datagrams r (after_event old.sessions None (sendings_of frame)) (below.accept_all carried own texts) w.current
     sent = truth n r (sessions_in engines) datagrams carried w.current old.sessions None (sendings_of frame) f.joined.links (is_at n r engines datagrams w old f.joined there) tt
-        (call_may_send n own old.core call core_place free.0) (frame_free old.sessions frame free.1)
+        (call_may_send n own old.core call core_place small free.0) (frame_free old.sessions frame free.1)
 
     leaves : LeavesTrue n (sessions_in engines) datagrams r mid.sessions (below.accept_all carried own texts) w.current
     leaves = subst (λ (s : SessionsState). LeavesTrue n (sessions_in engines) datagrams r s (below.accept_all carried own texts) w.current) (sym sessions_are) sent
@@ -221,7 +225,7 @@ answered_follows shows truth n r engines datagrams history old mid call reply f 
     -- what the sessions send stands for what the network's core gives
     alike : AreCarried (below.accept_all carried own texts) (accept_all w.link own (called own core (call_seen call)).out)
     alike = accept_all_alike carried w.link own texts (called own core (call_seen call)).out f.joined.alike
-        (subst (λ (out : List (Endpoint × Frame)). AreSent texts out) (sym (c.sends within)) (call_sent known old.core call))
+        (subst (λ (out : List (Endpoint × Frame)). AreSent texts out) (sym (c.sends within)) (call_sent known old.core call small free.0))
 
     known_is : mid.sessions.known ≡ known
     known_is = ap (λ (s : SessionsState). s.known) gives.sessions ∙ (frame_keeps old.sessions frame).known

@@ -3,13 +3,13 @@ use Rattle.std.proofs.Common.{◌≡◌, ℕ, zero, suc, Bool, true, false, List
 use Rattle.std.specs.Prelude.{option_map, slice_get, slice_set}
 use Rattle.std.proofs.lemmas.List.{map-set}
 use Rattle.std.proofs.lemmas.Option.{same_Some, slice_get-map}
-use Rattle.rank_core.specs.declared.call.Call.{Call}
-use Rattle.rank_core.specs.declared.call.Reply.{Reply}
-use Rattle.rank_core.specs.declared.call.Reply.TheVariants as replies
-use Rattle.rank_core.specs.declared.refused.Refused.{Refused}
-use Rattle.rank_core.specs.declared.refused.Refused.TheVariants.{Limit}
-use Rattle.rank_core.specs.Calls.{IsTaken}
-use Rattle.rank_core.specs.Sending.{FrameFor}
+use Rattle.rank_calls.specs.declared.call.Call.{Call}
+use Rattle.rank_calls.specs.declared.call.Reply.{Reply}
+use Rattle.rank_calls.specs.declared.call.Reply.TheVariants as replies
+use Rattle.rank_calls.specs.declared.refused.Refused.{Refused}
+use Rattle.rank_calls.specs.declared.refused.Refused.TheVariants.{Limit}
+use Rattle.rank_calls.specs.Calls.{IsTaken}
+use Rattle.rank_calls.specs.Frames.{FrameFor}
 use Rattle.sessions.specs.declared.refused.Refused as lower
 use Rattle.sessions.specs.declared.refused.Refused.TheVariants as lowers
 use Rattle.sessions.specs.Events.{TurnedAway, after_event, is_worn_out, sends_limit}

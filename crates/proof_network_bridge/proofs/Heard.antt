@@ -1,5 +1,5 @@
 -- What a world of engines hears, the pure network hears; and what is refused is nothing to it.
-use Rattle.std.proofs.Common.{◌≡◌, ℕ, ◌≤◌, Bool, true, false, nat_lt, List, [], ◌++◌, Option, Some, None, Result, Ok, Err, refl, sym, ap, subst, ◌∙◌, arith}
+use Rattle.std.proofs.Common.{◌≡◌, ℕ, ◌≤◌, Bool, true, false, nat_lt, List, [], ◌++◌, map, Option, Some, None, is_some, Result, Ok, Err, refl, sym, ap, subst, ◌∙◌, arith}
 use Rattle.std.specs.Prelude.{slice_get, slice_index}
 use Rattle.std.proofs.lemmas.Bool.{eqb-false, le-ltb, lt-ltb}
 use Rattle.perfect_queues.specs.Events.{Entry, told}
@@ -7,20 +7,21 @@ use Rattle.vocabulary.specs.declared.endpoint.Endpoint.{Endpoint}
 use Rattle.datagram.specs.Spelling.{FrameText}
 use Rattle.incarnation.specs.declared.place.Place.{Place}
 use Rattle.rank_core.specs.CoreState.{CoreState}
-use Rattle.rank_core.specs.Hearing.{NewsText, after_news, news_fault}
+use Rattle.rank_calls.specs.Hearing.{NewsText}
+use Rattle.rank_core.specs.Hearing.{after_news}
 use Rattle.sessions.specs.declared.heard.Unheard.{Unheard}
-use Rattle.sessions.specs.Events.{after_event, event_limit, taught_known}
+use Rattle.sessions.specs.Events.{Sending, after_event, taught_known}
 use Rattle.sessions.specs.Heard.{Acknowledges, Hands, HeardText, Nothing, Repeats, WordText, heard_of}
 use Rattle.sessions.specs.SessionsState.{SessionsState}
 use Rattle.engine.specs.Datagrams.{HearingGives, after_heard, frame_in, news_of}
+use Rattle.engine.specs.Calls.{sending_of}
 use Rattle.engine.specs.EngineState.{EngineState}
-use Rattle.engine.specs.Refusals.{fault_of_sessions}
 use Rattle.proof_pure_network.specs.Core.{Core, Effect}
 use Rattle.proof_pure_network.specs.Engine.{came, core_ready, core_settled, met}
 use Rattle.proof_pure_network.specs.Frames.{Frame}
 use Rattle.proof_pure_network.specs.Links.{accept_all, handed_on}
 use Rattle.proof_pure_network.specs.Network.{Network, Word, here, new_network, run}
-use Rattle.proof_engine_view.specs.Frames.{frame_heard, known_after}
+use Rattle.proof_engine_view.specs.Frames.{IsOfNetwork, frame_heard, known_after}
 use Rattle.proof_engine_view.specs.Seen.{told_completion}
 use Rattle.proof_engine_view.specs.Shown.{IsShown}
 use Rattle.proof_engine_steps.specs.Steps.{IsFromOther, IsHeard, NewsAreShown, heard_by_core}
@@ -33,7 +34,7 @@ use Rattle.proof_network_bridge.specs.Following.{DatagramsFollow, LeavesFollowed
 use Rattle.proof_network_bridge.specs.Joined.{IsFollowed, IsJoined, sessions_in}
 use Rattle.proof_network_bridge.proofs.Carried.{IsMeant, handed_alike, next_alike}
 use Rattle.proof_network_bridge.proofs.Following.{followed_after, followed_still, is_at}
-use Rattle.proof_network_bridge.proofs.Halves.{Keeps, away_keeps, neither_fault}
+use Rattle.proof_network_bridge.proofs.Halves.{Keeps, away_keeps}
 use Rattle.proof_network_bridge.proofs.Networks.{IsWord, heard, learnt}
 use Rattle.proof_network_bridge.proofs.Worlds.{IsHeld, held_at, place_is}
 
@@ -165,17 +166,26 @@ by_word n r engines datagrams history old f there s lesson t Nothing says word h
 
 -- ---- a datagram that is taken in
 
+-- a frame that a link hands up is one of the network: what the link carries stands for the network's
+word_of_network : (links : lower.Links) (w : Network) (s d : Endpoint) (x : WordText) → AreCarried links w.link → IsTrueWord links s d x → IsOfNetwork (frame_in x)
+word_of_network links w s d (Acknowledges number) alike says = tt
+word_of_network links w s d Repeats alike says = tt
+word_of_network links w s d Nothing alike says = tt
+word_of_network links w s d (Hands b) alike says =
+    let meant : IsMeant (w.link s d).accepted (w.link s d).handed b = next_alike (links s d) (w.link s d) b (alike s d) says.next in
+    ap (λ (o : Option Frame). is_some o) meant.stands
+
 -- what is heard in it is followed
 heard_follows : NewsAreShown → HearingIsTrue → EventsAreTrue → (n r : ℕ) (engines : List EngineState) (datagrams : List (ℕ × List ℕ)) (history : List Entry) (old : EngineState) (h : HeardText) →
-    (f : IsFollowed n engines datagrams history) → slice_get engines r ≡ Some old → IsFromDatagram datagrams r old.sessions h → news_fault (frame_in h.word) ≡ None →
+    (f : IsFollowed n engines datagrams history) → slice_get engines r ≡ Some old → IsFromDatagram datagrams r old.sessions h →
     LeavesFollowed n engines datagrams r (after_heard old h) (history ++ told_completion old.sessions.place.endpoint (after_heard old h).core.completion)
-heard_follows shows hearing events n r engines datagrams history old h f there comes fine =
-    by_word n r engines datagrams history old f there h.source h.lesson (after_event old.sessions (Some h) []) h.word truth.word
-    (is_word n r engines datagrams w old h.source h.lesson f.joined there truth.heard)
-    (shows old.core old.sessions.known (w.core (here w r)) (news_of h) (f.joined.shown r old there) (f.joined.clean r old there).completion
-    (is_from_other n r w old.core old.sessions.known (news_of h) stands truth.heard) fine)
+heard_follows shows hearing events n r engines datagrams history old h f there comes =
+    subst (λ (ss : List Sending). LeavesFollowed n engines datagrams r (record { core = after_news old.core (news_of h); sessions = after_event old.sessions (Some h) ss })
+    (history ++ told_completion old.sessions.place.endpoint (after_news old.core (news_of h)).completion)) (sym (ap (map sending_of) seen.gives))
+    (by_word n r engines datagrams history old f there h.source h.lesson (after_event old.sessions (Some h) []) h.word truth.word
+    (is_word n r engines datagrams w old h.source h.lesson f.joined there truth.heard) seen
     (record { known = known_alike h.lesson old.sessions.known h.source; place = refl })
-    (events n r (sessions_in engines) datagrams f.joined.carried w.current old.sessions (Some h) [] f.joined.links here_is comes tt refl)
+    (events n r (sessions_in engines) datagrams f.joined.carried w.current old.sessions (Some h) [] f.joined.links here_is comes tt refl))
   where
     w : Network
     w = run n f.happenings new_network
@@ -189,15 +199,19 @@ heard_follows shows hearing events n r engines datagrams history old h f there c
     stands : old.core.place ≡ place_of n (here w r)
     stands = f.joined.placed r old there ∙ (place_is n r engines datagrams w old f.joined there).1
 
+    seen : IsHeard old.core old.sessions.known (w.core (here w r)) (news_of h)
+    seen = shows old.core old.sessions.known (w.core (here w r)) (news_of h) (f.joined.shown r old there) (f.joined.clean r old there).completion
+        (is_from_other n r w old.core old.sessions.known (news_of h) stands truth.heard)
+        (word_of_network f.joined.carried w h.source (here w r) h.word f.joined.alike truth.word)
+
 pub datagrams_follow : NewsAreShown → HearingIsTrue → EventsAreTrue → DatagramsFollow
 datagrams_follow shows hearing events n r number bytes engines datagrams history old mid f there emitted gives = go (heard_of old.sessions bytes) refl gives
   where
     go : (o : Result HeardText Unheard) → heard_of old.sessions bytes ≡ o → HearingGives o old (Ok tt) mid
         → LeavesFollowed n engines datagrams r mid (history ++ told_completion old.sessions.place.endpoint mid.core.completion)
     go (Ok h) is g =
-        let fine = neither_fault (news_fault (frame_in h.word)) (fault_of_sessions (event_limit old.sessions (Some h) [])) g.0 in
         subst (λ (e : EngineState). LeavesFollowed n engines datagrams r e (history ++ told_completion old.sessions.place.endpoint e.core.completion)) (sym g.1)
-        (heard_follows shows hearing events n r engines datagrams history old h f there (record { number = number; bytes = bytes; there = emitted; hears = is }) fine.0)
+        (heard_follows shows hearing events n r engines datagrams history old h f there (record { number = number; bytes = bytes; there = emitted; hears = is }))
     go (Err u) is g = absurd (let e = g.1 in cc)
 
 -- ---- a datagram that is refused

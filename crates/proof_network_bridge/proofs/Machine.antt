@@ -5,11 +5,12 @@ use Rattle.perfect_queues.specs.Calls as machine_calls
 use Rattle.perfect_queues.specs.Refusals.{fault}
 use Rattle.vocabulary.specs.declared.endpoint.Endpoint.{Endpoint}
 use Rattle.incarnation.specs.declared.place.Place.{Place}
-use Rattle.rank_core.specs.declared.call.Call.{Call}
-use Rattle.rank_core.specs.declared.call.Reply.{Reply}
-use Rattle.rank_core.specs.declared.call.Reply.TheVariants as replies
-use Rattle.rank_core.specs.declared.refused.Refused.{Refused}
-use Rattle.rank_core.specs.Calls.{IsTaken, call_fault, call_frame}
+use Rattle.rank_calls.specs.declared.call.Call.{Call}
+use Rattle.rank_calls.specs.declared.call.Reply.{Reply}
+use Rattle.rank_calls.specs.declared.call.Reply.TheVariants as replies
+use Rattle.rank_calls.specs.declared.refused.Refused.{Refused}
+use Rattle.rank_calls.specs.Calls.{IsTaken}
+use Rattle.rank_core.specs.Calls.{call_fault, call_frame}
 use Rattle.sessions.specs.Peers.{IsIdlePeer, peer_at}
 use Rattle.sessions.specs.SessionsState.{SessionsState}
 use Rattle.engine.specs.Calls.{CallGives, IsAnswered, WhyRefused, frame_limit}

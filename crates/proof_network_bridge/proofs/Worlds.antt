@@ -83,6 +83,7 @@ held_emptied e core h =
         table = h.shown.table;
         posted = h.shown.posted;
         held = h.shown.held;
+        small = h.shown.small;
         blocked = h.shown.blocked;
         pending = h.shown.pending;
         width = h.shown.width;

@@ -1,11 +1,11 @@
 -- A world of engines follows the pure network, event by event.
 use Rattle.std.specs.Prelude.{◌≡◌, ℕ, suc, ◌<◌, ◌≤◌, false, List, [], ◌∷◌, ◌++◌, Some, Ok, Err, slice_get, slice_set, slice_index, ◌==◌}
 use Rattle.incarnation.specs.declared.place.Place.{Place}
-use Rattle.rank_core.specs.declared.call.Call.{Call}
-use Rattle.rank_core.specs.declared.call.Reply.{Reply}
-use Rattle.rank_core.specs.declared.call.Reply.TheVariants as replies
-use Rattle.rank_core.specs.declared.refused.Refused.{Refused}
-use Rattle.rank_core.specs.Calls.{IsTaken, IsWithin}
+use Rattle.rank_calls.specs.declared.call.Call.{Call}
+use Rattle.rank_calls.specs.declared.call.Reply.{Reply}
+use Rattle.rank_calls.specs.declared.call.Reply.TheVariants as replies
+use Rattle.rank_calls.specs.declared.refused.Refused.{Refused}
+use Rattle.rank_calls.specs.Calls.{IsTaken, IsWithin}
 use Rattle.sessions.specs.Peers.{IsIdlePeer, peer_at}
 use Rattle.engine.specs.Calls.{CallGives}
 use Rattle.engine.specs.Datagrams.{DatagramGives}

@@ -1,21 +1,26 @@
 -- What is known of a call that breaks no rule and meets no limit.
-use Rattle.std.proofs.Common.{◌≡◌, false, Option, Some, None, refl, arith}
-use Rattle.std.specs.Prelude.{IfSome, ℕ, ◌<◌}
+use Rattle.std.proofs.Common.{◌≡◌, ◌≤◌, ◌*◌, length, sym, Bool, false, true, Option, Some, None, refl, subst, arith}
+use Rattle.std.specs.Prelude.{IfSome, if◌then◌else◌, ℕ, ◌<◌}
 use Rattle.std.proofs.lemmas.Grind.{common_steps}
 use Rattle.perfect_queues.specs.Buffers.{differs_in_type, is_too_short}
 use Rattle.requests.specs.declared.awaited.Awaited.{Awaited}
-use Rattle.requests.specs.Regions.{CanReceive, handed_of, is_unfit_to_receive}
+use Rattle.vocabulary.specs.BasicTypes.{size_of}
+use Rattle.vocabulary.specs.Limits.{send_limit}
+use Rattle.datatypes.specs.Contents.{Contents}
+use Rattle.requests.specs.Regions.{CanReceive, handed_of, is_unfit_to_receive, sent_from}
 use Rattle.requests.specs.Table.{is_full}
-use Rattle.rank_core.specs.declared.call.Call.{Call}
-use Rattle.rank_core.specs.declared.call.Call.TheVariants.{Isend, Irecv}
-use Rattle.rank_core.specs.declared.call.Receive.{Receive}
-use Rattle.rank_core.specs.declared.call.Send.{Send}
-use Rattle.rank_core.specs.declared.refused.Refused.{Refused}
+use Rattle.rank_calls.specs.declared.call.Call.{Call}
+use Rattle.rank_calls.specs.declared.call.Call.TheVariants.{Isend, Irecv}
+use Rattle.rank_calls.specs.declared.call.Receive.{Receive}
+use Rattle.rank_calls.specs.declared.call.Send.{Send}
+use Rattle.rank_calls.specs.declared.refused.Refused.{Refused}
 use Rattle.rank_core.specs.Calls.{call_fault, fault_at, free_fault}
-use Rattle.rank_core.specs.CoreState.{CoreState}
+use Rattle.rank_core.specs.CoreState.{CoreState, IsOfferFor}
 use Rattle.rank_core.specs.Receiving.{receive_fault}
-use Rattle.rank_core.specs.Sending.{destination, or_full, rank_to, send_fault}
-use Rattle.rank_core.proofs.Sends.{long_enough, rank_is_there, same_type}
+use Rattle.rendezvous.specs.State.{State, is_full_to}
+use Rattle.rank_calls.specs.Sending.{announced_to, destination, is_large, or_worn_out, rank_to, send_fault}
+use Rattle.rank_core.specs.Sending.{or_full}
+use Rattle.rank_calls.proofs.Sends.{long_enough, rank_is_there, same_type, within_limit}
 
 -- nothing else was found while no earlier call is blocked
 unblocked : (a : Option Awaited) (c : CoreState) (call : Call) → fault_at a c call ≡ None → free_fault c call ≡ None
@@ -27,9 +32,59 @@ no_rule : (fault : Option Refused) (c : CoreState) → or_full fault c ≡ None 
 no_rule None c none = refl
 no_rule (Some fault) c none = absurd cc
 
+-- nor was one where a transfer can begin
+no_limit : (fault : Option Refused) (rank : Option ℕ) (t : State) → or_worn_out fault rank t ≡ None → fault ≡ None
+no_limit None rank t none = refl
+no_limit (Some fault) rank t none = absurd cc
+
+-- a transfer can begin, where one is needed
+left_to : (b : Bool) (rank : ℕ) (t : State) → is_full_to t.numbers rank ≡ b → or_worn_out None (Some rank) t ≡ None → b ≡ false
+left_to false rank t is none = refl
+left_to true rank t is none = absurd (grind (arith, is, none))
+
+-- so it is of a send
+left_of : (fault : Option Refused) (to : Option ℕ) (rank : ℕ) (t : State) → to ≡ Some rank → or_worn_out fault to t ≡ None → is_full_to t.numbers rank ≡ false
+left_of (Some fault) to rank t is none = absurd cc
+left_of None None rank t is none = absurd cc
+left_of None (Some other) rank t is none =
+    subst (λ (r : ℕ). is_full_to t.numbers r ≡ false) (same_some other rank is) (left_to (is_full_to t.numbers other) other t refl none)
+  where
+    same_some : (a b : ℕ) → Some a ≡ Some b → a ≡ b
+    same_some a b e = cc
+
 -- a send breaks no rule
+free_send : (c : CoreState) (s : Send) → free_fault c (Isend s) ≡ None → send_fault c.place s ≡ None
+free_send c s none = no_rule (send_fault c.place s) c (no_limit (or_full (send_fault c.place s) c) (announced_to c.place s) c.transfers none)
+
+-- the same of a call
 sendable : (c : CoreState) (s : Send) → call_fault c (Isend s) ≡ None → send_fault c.place s ≡ None
-sendable c s none = no_rule (send_fault c.place s) c (unblocked c.blocked c (Isend s) none)
+sendable c s none = free_send c s (unblocked c.blocked c (Isend s) none)
+
+-- a transfer can begin to the rank to which its message is announced
+pub announces : (c : CoreState) (s : Send) (rank : ℕ) → free_fault c (Isend s) ≡ None → announced_to c.place s ≡ Some rank → is_full_to c.transfers.numbers rank ≡ false
+announces c s rank none is = left_of (or_full (send_fault c.place s) c) (announced_to c.place s) rank c.transfers is none
+
+there_if : (b : Bool) (o : Option ℕ) (n rank : ℕ) → (if b then o else None) ≡ Some rank → IfSome o (λ (r : ℕ). r < n) → rank < n
+there_if true None n rank is there = absurd cc
+there_if true (Some r) n rank is there = subst (λ (k : ℕ). k < n) (same_some r rank is) there
+  where
+    same_some : (a b : ℕ) → Some a ≡ Some b → a ≡ b
+    same_some a b e = cc
+there_if false o n rank is there = absurd cc
+
+-- what it offers is within the limit of a message, and goes to a rank of the job
+pub offer_fits : (c : CoreState) (s : Send) (rank : ℕ) (elements : Contents) → free_fault c (Isend s) ≡ None → announced_to c.place s ≡ Some rank →
+    elements ≡ sent_from s.from → IsOfferFor c.place.size (record { target = rank; transfer = 0; request = 0; elements = elements })
+offer_fits c s rank elements none is same =
+    let rules = free_send c s none in
+    record {
+      there = there_if (is_large (sent_from s.from)) (rank_to c.place (destination s.target s.tag)) c.place.size rank is (rank_is_there c.place s rules);
+      limit = subst (λ (e : Contents). length e.values * size_of e.basic ≤ send_limit) (sym same) (within_limit c.place s rules);
+    }
+
+-- it breaks no other rule
+pub allowed_send : (c : CoreState) (s : Send) → call_fault c (Isend s) ≡ None → free_fault c (Isend s) ≡ None
+allowed_send c s none = unblocked c.blocked c (Isend s) none
 
 -- a send's buffer and layout are of one basic type
 pub send_types : (c : CoreState) (s : Send) → call_fault c (Isend s) ≡ None → differs_in_type (handed_of s.from) ≡ false

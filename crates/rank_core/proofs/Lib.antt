@@ -1,3 +1,7 @@
-pub mod Sends
-pub mod Packs
 pub mod Allowed
+pub mod Keeping
+pub mod Endings
+pub mod Allowances
+pub mod Replies
+pub mod Matches
+pub mod Posting

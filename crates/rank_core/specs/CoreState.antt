@@ -1,7 +1,15 @@
 -- What a rank is to the machine: what its calls and its messages have made of it.
-use Rattle.std.specs.Prelude.{ℕ, ◌+◌, ◌<◌, ◌≤◌, ◌^◌, List, [], Option, None, count_by, is_some}
+use Rattle.std.specs.Prelude.{◌≡◌, ℕ, ◌*◌, length, ◌+◌, ◌<◌, ◌≤◌, ◌^◌, List, [], Option, None, count_by, is_some, replicate}
 use Rattle.incarnation.specs.declared.place.Place.{Place}
 use Rattle.match_queues.specs.State.{State}
+use Rattle.std.specs.List.{AllByRecursion}
+use Rattle.vocabulary.specs.BasicTypes.{size_of}
+use Rattle.vocabulary.specs.Limits.{send_limit}
+use Rattle.match_queues.specs.declared.envelope.Message.{Message}
+use Rattle.match_queues.specs.declared.envelope.Body.{Body}
+use Rattle.match_queues.specs.declared.envelope.Body.TheVariants.{Announced, Whole}
+use Rattle.rendezvous.specs.declared.offer.Offer.{Offer}
+use Rattle.rendezvous.specs.State as transfers
 use Rattle.requests.specs.declared.table.Entry.{Entry}
 use Rattle.requests.specs.declared.answer.Answer.{Answer}
 use Rattle.requests.specs.declared.awaited.Awaited.{Awaited}
@@ -10,6 +18,8 @@ use Rattle.requests.specs.declared.awaited.Awaited.{Awaited}
 pub record CoreState : Type 0 where
   pub place : Place
   pub queues : State
+  -- the large messages that go to other ranks and come from them
+  pub transfers : transfers.State
   -- what stands under each key in the table of requests, and how many were started
   pub slots : List (Option Entry)
   pub serial : ℕ
@@ -18,11 +28,30 @@ pub record CoreState : Type 0 where
   -- the blocked call's answer, until it is taken out
   pub completion : Option Answer
 
+-- WHAT A CORE KEEPS
+
+-- the data of an offer are no more than a message may have, and it goes to a rank of the job
+pub record IsOfferFor (size : ℕ) (o : Offer) : Type 0 where
+  pub there : o.target < size
+  pub limit : length o.elements.values * size_of o.elements.basic ≤ send_limit
+
+-- an announced message comes from a rank of the job
+abbrev pub IsAnswerable : (size : ℕ) → Message → Body → Type 0
+IsAnswerable size m (Whole elements) = Unit {0}
+IsAnswerable size m (Announced a) = m.sender.rank < size
+
+-- there are numbers for each rank of the job, and whoever is to be answered or sent to is one of them
+pub record IsKept (p : Place) (q : State) (t : transfers.State) : Type 0 where
+  pub width : length t.numbers ≡ p.size
+  pub answerable : AllByRecursion (λ m. IsAnswerable p.size m m.body) q.unexpected
+  pub offers : AllByRecursion (IsOfferFor p.size) t.offers
+
 -- a core at its start: nothing is pending
 abbrev pub opening : Place → CoreState
 opening p = record {
   place = p;
   queues = record { posted = []; unexpected = [] };
+  transfers = record { numbers = replicate p.size transfers.fresh; offers = []; collections = [] };
   slots = [];
   serial = 0;
   blocked = None;
@@ -32,11 +61,16 @@ opening p = record {
 -- what a core holds, and what it has memory for
 pub record Held : Type 0 where
   pub state : CoreState
+  -- the key that the next request gets
+  pub vacant : ℕ
   -- for how many requests, those that stand in the table included
   pub requests : ℕ
   -- for how many more receives and messages
   pub receives : ℕ
   pub messages : ℕ
+  -- for how many more large messages that go and that come
+  pub offers : ℕ
+  pub collections : ℕ
 
 -- one more request can be started without memory
 pub record CanStart (c : Held) : Type 0 where

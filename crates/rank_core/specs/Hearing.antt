@@ -1,94 +1,45 @@
 -- What is heard from another rank does to the core.
-use Rattle.std.specs.Prelude.{◌≡◌, ℕ, ◌<◌, Bool, true, false, Option, Some, None, is_some}
+use Rattle.std.specs.Prelude.{◌≡◌, ℕ, ◌<◌, ◌++◌, Bool, true, false, List, [], Option, Some, None, is_some}
 use Rattle.std.specs.Global.{Vec}
 use Rattle.vocabulary.specs.declared.endpoint.Endpoint.{Endpoint}
-use Rattle.vocabulary.specs.BasicTypes.{size_of}
-use Rattle.datatypes.specs.Contents.{values_of}
-use Rattle.datagram.specs.declared.kinds.Plane.{Plane}
-use Rattle.datagram.specs.declared.kinds.Plane.TheVariants.{PointToPoint, Collective}
-use Rattle.datagram.specs.declared.frame.Frame.{Frame}
-use Rattle.datagram.specs.Spelling.{EagerText, FrameText, EagerFrame, RequestFrame, ClearFrame, DataFrame, frame_text, FrameFits}
+use Rattle.datagram.specs.Spelling.{RequestText, FrameText, EagerFrame, RequestFrame, ClearFrame, DataFrame}
 use Rattle.match_queues.specs.declared.envelope.Message.{Message}
-use Rattle.match_queues.specs.State.{after_drop, keys_naming}
+use Rattle.match_queues.specs.Arrivals.{arrival_of}
+use Rattle.match_queues.specs.State as queues
+use Rattle.match_queues.specs.State.{keys_naming, receive_at, receive_for}
+use Rattle.rendezvous.specs.Collecting.{Collecting}
+use Rattle.rendezvous.specs.State.{after_cts, after_data, after_drop, after_rts, given, keys_with, offered}
 use Rattle.requests.specs.Table.{after_replaces}
-use Rattle.rank_core.specs.declared.hearing.News.{News}
-use Rattle.rank_core.specs.declared.hearing.Ready.{Ready}
-use Rattle.rank_core.specs.declared.refused.Refused.{Refused}
-use Rattle.rank_core.specs.declared.refused.Refused.TheVariants as refusals
+use Rattle.rank_calls.specs.Frames.{FrameFor, as_list}
+use Rattle.rank_calls.specs.Receiving.{answer_on_arrival, collection_on_arrival}
+use Rattle.rank_calls.specs.declared.news.Ready.{Ready}
+use Rattle.rank_calls.specs.declared.news.Match.{Match}
+use Rattle.rank_calls.specs.declared.refused.Refused.{Refused}
 use Rattle.rank_core.specs.CoreState.{CoreState, Held}
 use Rattle.rank_core.specs.Sending.{arrived}
 use Rattle.rank_core.specs.Waiting.{woken}
-
--- WHAT WAS HEARD
-
--- who spoke, whether its incarnation is new here, and the frame that it sent, if it sent one
-pub record NewsText : Type 0 where
-  pub source : Endpoint
-  pub lesson : Bool
-  pub frame : Option FrameText
-
--- what a frame says, where there is one
-abbrev pub frame_option : Option Frame → Option FrameText
-frame_option None = None
-frame_option (Some f) = Some (frame_text f)
-
--- what a value of the program says
-abbrev pub news_text : News → NewsText
-news_text n = record { source = n.source; lesson = n.lesson; frame = frame_option n.frame }
-
--- the rules of the format hold of the frame
-abbrev pub HeardFits : Option FrameText → Type 0
-HeardFits None = Unit {0}
-HeardFits (Some f) = FrameFits f
+use Rattle.rank_calls.specs.Hearing.{NewsText, heard_fault, transfers_met, message_of, announced_of, sent_by, delivered_by, match_by, wanted_frames, message_from, brings_message}
 
 -- THE RULE
 
--- for now no message of a collective operation is taken
-abbrev pub plane_fault : Plane → Option Refused
-plane_fault Collective = Some refusals.BadFrame
-plane_fault PointToPoint = None
-
--- the rule by which a frame isn't taken; for now none of a large message is
-abbrev pub frame_fault : FrameText → Option Refused
-frame_fault (EagerFrame t) = plane_fault t.plane
-frame_fault (RequestFrame t) = Some refusals.BadFrame
-frame_fault (ClearFrame t) = Some refusals.BadFrame
-frame_fault (DataFrame t) = Some refusals.BadFrame
-
--- and of the frame that was sent, if one was
-abbrev pub news_fault : Option FrameText → Option Refused
-news_fault None = None
-news_fault (Some f) = frame_fault f
+-- the rule that news break
+abbrev pub news_fault : CoreState → NewsText → Option Refused
+news_fault c n = heard_fault (transfers_met n.lesson c.transfers n.source.rank) n.source.rank n.frame
 
 -- WHAT BECOMES OF IT
 
--- the message of an eager frame, whose bytes are read as elements of its type
-unfoldable pub message_of : Endpoint → EagerText → Message
-message_of s t = record {
-  sender = s;
-  context = t.context;
-  tag = t.tag;
-  elements = record { basic = t.basic; values = values_of (size_of t.basic) t.elements };
-}
+-- the keys of the requests that end when a rank was started anew: receives that name it, sends that offer to it, and receives
+-- that collect from it
+abbrev pub keys_ending : CoreState → (rank : ℕ) → List ℕ
+keys_ending c rank = keys_naming rank c.queues.posted ++ keys_with c.transfers rank
 
--- the message that a frame is
-abbrev pub message_in : Endpoint → FrameText → Option Message
-message_in s (EagerFrame t) = Some (message_of s t)
-message_in s (RequestFrame t) = None
-message_in s (ClearFrame t) = None
-message_in s (DataFrame t) = None
-
--- and of the frame that was sent, if one was
-abbrev pub message_from : Endpoint → Option FrameText → Option Message
-message_from s None = None
-message_from s (Some f) = message_in s f
-
--- The rank was started anew: receives that name it end, their buffers as they were; messages from its former
--- incarnations that were not received are dropped (MPI 3.1 has no restarts; this is our own)
+-- The rank was started anew: those requests end, their buffers as they were; messages from its former incarnations that were
+-- not received are dropped, and nothing of a message of which some data came is left (MPI 3.1 has no restarts; this is our own)
 abbrev pub replaced : CoreState → Endpoint → CoreState
 replaced c s = record c {
-  slots = after_replaces c.slots (keys_naming s.rank c.queues.posted);
-  queues = after_drop c.queues s.rank s.incarnation;
+  slots = after_replaces c.slots (keys_ending c s.rank);
+  queues = queues.after_drop c.queues s.rank s.incarnation;
+  transfers = after_drop c.transfers s.rank;
 }
 
 -- so it is where the incarnation is new here
@@ -96,33 +47,100 @@ abbrev pub taught : Bool → CoreState → Endpoint → CoreState
 taught false c s = c
 taught true c s = replaced c s
 
--- a message has come, if one did
-abbrev pub arrived_any : CoreState → Option Message → CoreState
-arrived_any c None = c
-arrived_any c (Some m) = arrived c m
+-- an offer is answered: it is offered no more, and its send is over (3.4)
+abbrev pub answered : CoreState → (rank transfer : ℕ) → CoreState
+answered c rank transfer = record c {
+  slots = sent_by c.slots (offered c.transfers rank transfer);
+  transfers = after_cts c.transfers rank transfer;
+}
 
--- first the lesson, then the message, then a blocked call is answered; where neither came, nothing changes
-abbrev pub after_hearing : Bool → Option Message → CoreState → Endpoint → CoreState
+-- the next data of a transfer have come
+abbrev pub grown : CoreState → (rank transfer : ℕ) → List ℕ → CoreState
+grown c rank transfer bytes = record c {
+  slots = delivered_by c.slots (given c.transfers rank transfer bytes);
+  transfers = after_data c.transfers rank transfer bytes;
+}
+
+-- an announcement has come: its transfer is counted, and its message stands in the queues like any other
+abbrev pub announced : CoreState → Endpoint → RequestText → CoreState
+announced c s t = arrived (record c { transfers = after_rts c.transfers s.rank }) (announced_of s t)
+
+-- what a frame of an endpoint makes of the core
+abbrev pub after_frame : CoreState → Endpoint → FrameText → CoreState
+after_frame c s (EagerFrame t) = arrived c (message_of s t)
+after_frame c s (RequestFrame t) = announced c s t
+after_frame c s (ClearFrame t) = answered c s.rank t.transfer
+after_frame c s (DataFrame t) = grown c s.rank t.transfer t.bytes
+
+-- the same of the frame that came, if one did
+abbrev pub after_any : CoreState → Endpoint → Option FrameText → CoreState
+after_any c s None = c
+after_any c s (Some f) = after_frame c s f
+
+-- first the lesson, then the frame, then a blocked call is answered; where neither came, nothing changes
+abbrev pub after_hearing : Bool → Option FrameText → CoreState → Endpoint → CoreState
 after_hearing false None c s = c
-after_hearing false (Some m) c s = woken (arrived c m)
-after_hearing true message c s = woken (arrived_any (replaced c s) message)
+after_hearing false (Some f) c s = woken (after_frame c s f)
+after_hearing true None c s = woken (replaced c s)
+after_hearing true (Some f) c s = woken (after_frame (replaced c s) s f)
 
 -- what news make of the core
 abbrev pub after_news : CoreState → NewsText → CoreState
-after_news c n = after_hearing n.lesson (message_from n.source n.frame) c n.source
+after_news c n = after_hearing n.lesson n.frame c n.source
+
+-- WHAT AN ANNOUNCEMENT FINDS
+
+-- the same of the queues of a core
+abbrev pub match_of : CoreState → Message → Option Match
+match_of c m = match_by c.slots (receive_at c.queues.posted (receive_for m c.queues.posted)) m
+
+-- WHAT IT GIVES TO OTHERS
+
+-- the answer to an announcement, if a receive finds it
+abbrev pub answer_to_announced : CoreState → Endpoint → RequestText → Option FrameFor
+answer_to_announced c s t = answer_on_arrival c.slots (arrival_of c.queues (announced_of s t))
+
+-- the frames that a frame of an endpoint calls for: the answer to an announcement that is matched, and the data of an offer
+-- that are wanted
+abbrev pub frame_calls_for : CoreState → Endpoint → FrameText → List FrameFor
+frame_calls_for c s (EagerFrame t) = []
+frame_calls_for c s (RequestFrame t) = as_list (answer_to_announced c s t)
+frame_calls_for c s (ClearFrame t) = wanted_frames s.rank t.clearance (offered c.transfers s.rank t.transfer)
+frame_calls_for c s (DataFrame t) = []
+
+-- the same of the frame that came, if one did
+abbrev pub called_for : CoreState → Endpoint → Option FrameText → List FrameFor
+called_for c s None = []
+called_for c s (Some f) = frame_calls_for c s f
+
+-- the frames that news call for, once the lesson is learnt
+abbrev pub news_frames : CoreState → NewsText → List FrameFor
+news_frames c n = called_for (taught n.lesson c n.source) n.source n.frame
 
 -- WHAT IS MADE READY FOR IT
 
--- the keys of the receives that name the rank, where its incarnation is new here
-abbrev pub KeysFit : Option (Vec ℕ) → CoreState → Endpoint → Type 0
-KeysFit None c s = Unit {0}
-KeysFit (Some keys) c s = keys.items ≡ keys_naming s.rank c.queues.posted
+-- the keys of the requests that end, where the incarnation of the rank is new here
+abbrev pub KeysFit : Bool → Option (Vec ℕ) → CoreState → Endpoint → Type 0
+KeysFit false keys c s = keys ≡ None
+KeysFit true None c s = ⊥
+KeysFit true (Some keys) c s = keys.items ≡ keys_ending c s.rank
+
+-- what is collected of the message that is announced, if a receive finds it and wants its data
+abbrev pub collection_for_announced : CoreState → Endpoint → RequestText → Option Collecting
+collection_for_announced c s t = collection_on_arrival c.slots (arrival_of c.queues (announced_of s t))
+
+-- by the frame that came, if one did
+abbrev pub collection_for : CoreState → Endpoint → Option FrameText → Option Collecting
+collection_for c s None = None
+collection_for c s (Some (EagerFrame t)) = None
+collection_for c s (Some (RequestFrame t)) = collection_for_announced c s t
+collection_for c s (Some (ClearFrame t)) = None
+collection_for c s (Some (DataFrame t)) = None
 
 -- it can be taken without memory
-pub record CanTake (h : Held) (s : Endpoint) (r : Ready) : Type 0 where
-  pub keys : KeysFit r.keys h.state s
-  pub room : is_some r.message ≡ true → 0 < h.messages
-
--- what is ready for it makes this of the core
-abbrev pub after_ready : CoreState → Endpoint → Ready → CoreState
-after_ready c s r = after_hearing (is_some r.keys) r.message c s
+pub record CanTake (h : Held) (n : NewsText) (r : Ready) : Type 0 where
+  pub keys : KeysFit n.lesson r.keys h.state n.source
+  pub message : r.message ≡ message_from n.source n.frame
+  pub room : brings_message n.frame ≡ true → 0 < h.messages
+  pub collection : r.collection ≡ collection_for (taught n.lesson h.state n.source) n.source n.frame
+  pub place : is_some r.collection ≡ true → 0 < h.collections

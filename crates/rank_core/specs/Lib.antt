@@ -1,4 +1,3 @@
-pub mod Refusals
 pub mod CoreState
 pub mod Receiving
 pub mod Sending

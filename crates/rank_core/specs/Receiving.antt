@@ -1,29 +1,23 @@
 -- What a receive does to the core (MPI 3.1, 3.2.4 and 3.7).
-use Rattle.std.specs.Prelude.{◌≡◌, ℕ, ◌+◌, List, Option, Some, None, length, if◌then◌else◌}
+use Rattle.std.specs.Prelude.{◌≡◌, ◌+◌, Option, Some, None, if◌then◌else◌}
 use Rattle.vocabulary.specs.declared.envelope.Source.{Source}
 use Rattle.vocabulary.specs.declared.envelope.Source.TheVariants as sources
-use Rattle.vocabulary.specs.declared.envelope.Status.{Status}
 use Rattle.perfect_queues.specs.Buffers.{is_too_short}
 use Rattle.perfect_queues.specs.Outcomes.{null_status}
 use Rattle.perfect_queues.specs.Refusals.{is_source_beyond, is_tag_above}
-use Rattle.match_queues.specs.declared.envelope.Receive as posted
 use Rattle.match_queues.specs.declared.envelope.Message.{Message}
-use Rattle.match_queues.specs.declared.queues.Arrival.{Arrival}
-use Rattle.match_queues.specs.declared.queues.Arrival.TheVariants.{Kept, Matched}
 use Rattle.match_queues.specs.State.{message_at, message_for, after_post}
-use Rattle.requests.specs.declared.region.Region.{Region}
-use Rattle.requests.specs.declared.table.Entry.{Entry}
 use Rattle.requests.specs.declared.table.Request.{Request}
-use Rattle.requests.specs.declared.table.Progress.{Progress}
-use Rattle.requests.specs.declared.table.Progress.TheVariants.{Receiving, Finished}
+use Rattle.requests.specs.declared.table.Progress.TheVariants.{Finished}
+use Rattle.rank_calls.specs.Frames.{FrameFor}
 use Rattle.requests.specs.declared.outcome.Outcome.TheVariants as outcomes
-use Rattle.requests.specs.Outcomes.{outcome_of}
 use Rattle.requests.specs.Regions.{handed_of, is_unfit_to_receive}
-use Rattle.requests.specs.Table.{slot_at, IsSet, after_finish, is_full}
-use Rattle.rank_core.specs.declared.call.Receive.{Receive}
-use Rattle.rank_core.specs.declared.refused.Refused.{Refused}
-use Rattle.rank_core.specs.declared.refused.Refused.TheVariants as refusals
+use Rattle.requests.specs.Table.{slot_at, IsSet, is_full}
+use Rattle.rank_calls.specs.declared.call.Receive.{Receive}
+use Rattle.rank_calls.specs.declared.refused.Refused.{Refused}
+use Rattle.rank_calls.specs.declared.refused.Refused.TheVariants as refusals
 use Rattle.rank_core.specs.CoreState.{CoreState}
+use Rattle.rank_calls.specs.Receiving.{posted_by, progress_on_post, transfers_on_post, answer_on_post}
 
 -- The first rule or limit that a receive meets: buffer and layout differ in basic type, or a place is named twice; the buffer
 -- is too short; the tag is above the highest; there is no such rank; no request can be started.
@@ -36,23 +30,17 @@ receive_fault c v =
     else (if is_full c.slots c.serial then Some refusals.Limit
     else None))))
 
--- the receive as it stands in the queue, under its key in the table; it is on world, whose context is 0
-abbrev pub posted_by : ℕ → Receive → posted.Receive
-posted_by key v = record { request = key; context = 0; source = v.source; tag = v.tag }
+-- THE ANSWER TO AN ANNOUNCED MESSAGE
 
--- the status that a message gives (MPI 3.1, 3.2.5)
-abbrev pub status_of : Message → Status
-status_of m = record { source = sources.Rank m.sender.rank; tag = Some m.tag; count = length m.elements.values }
+-- the message that a receive would take now
+abbrev pub found_by : CoreState → Receive → Option Message
+found_by c v = message_at c.queues.unexpected (message_for (posted_by 0 v) c.queues.unexpected)
 
--- the table once a message came: the receive that took it has ended
-abbrev pub slots_on_arrival : List (Option Entry) → Arrival → List (Option Entry)
-slots_on_arrival slots (Matched r m) = after_finish slots r.request (status_of m) m.elements
-slots_on_arrival slots Kept = slots
-
--- how far a receive is once it was posted: it waits, or it has ended with the message that was found
-abbrev pub progress_on_post : Region → Option Message → Progress
-progress_on_post r None = Receiving r
-progress_on_post r (Some m) = Finished (outcome_of (handed_of r) (status_of m) m.elements)
+-- the frame that a receive gives to another rank: a receive from the null process takes no message
+abbrev pub receive_frame : Source → CoreState → Receive → Option FrameFor
+receive_frame sources.Any c v = answer_on_post v.into (found_by c v)
+receive_frame (sources.Rank rank) c v = answer_on_post v.into (found_by c v)
+receive_frame sources.Null c v = None
 
 -- the receive has the next serial and a key that was free; it has ended with the oldest message that it accepts, or it
 -- waits (MPI 3.1, 3.5)
@@ -63,7 +51,13 @@ pub record IsPosting (old : CoreState) (v : Receive) (r : Request) (new : CoreSt
     serial = old.serial;
     progress = progress_on_post v.into (message_at old.queues.unexpected (message_for (posted_by r.key v) old.queues.unexpected));
   }))
-  pub rest : new ≡ record old { slots = new.slots; serial = old.serial + 1; queues = after_post old.queues (posted_by r.key v) }
+  pub rest : new ≡ record old {
+    slots = new.slots;
+    serial = old.serial + 1;
+    queues = after_post old.queues (posted_by r.key v);
+    transfers = transfers_on_post old.transfers v.into r.key
+        (message_at old.queues.unexpected (message_for (posted_by r.key v) old.queues.unexpected));
+  }
 
 -- a receive from the null process is finished in its own call, and its buffer is as it was (MPI 3.1, 3.11)
 pub record IsReceivingNothing (old : CoreState) (v : Receive) (r : Request) (new : CoreState) : Type 0 where

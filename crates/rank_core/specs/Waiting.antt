@@ -6,14 +6,14 @@ use Rattle.requests.specs.declared.awaited.Awaited.{Awaited}
 use Rattle.requests.specs.declared.awaited.Awaited.TheVariants.{One}
 use Rattle.requests.specs.declared.table.Request.{Request}
 use Rattle.requests.specs.declared.table.Progress.{Progress}
-use Rattle.requests.specs.declared.table.Progress.TheVariants.{Receiving, Finished}
+use Rattle.requests.specs.declared.table.Progress.TheVariants.{Receiving, Collecting, Offering, Finished}
 use Rattle.requests.specs.Completions.{awaited_requests, completion, without}
 use Rattle.requests.specs.Lists.{is_one_absent, is_twice}
 use Rattle.requests.specs.Table.{after_cancel, is_receive, progress_at}
-use Rattle.rank_core.specs.declared.call.Reply.{Reply}
-use Rattle.rank_core.specs.declared.call.Reply.TheVariants as replies
-use Rattle.rank_core.specs.declared.refused.Refused.{Refused}
-use Rattle.rank_core.specs.declared.refused.Refused.TheVariants as refusals
+use Rattle.rank_calls.specs.declared.call.Reply.{Reply}
+use Rattle.rank_calls.specs.declared.call.Reply.TheVariants as replies
+use Rattle.rank_calls.specs.declared.refused.Refused.{Refused}
+use Rattle.rank_calls.specs.declared.refused.Refused.TheVariants as refusals
 use Rattle.rank_core.specs.CoreState.{CoreState}
 
 -- requests that aren't there, or of which one is named twice, can't be waited for
@@ -57,6 +57,8 @@ Tests old q reply new = TestsBy old (completion old.slots (One q)) reply new
 abbrev pub cancelled_at : CoreState → Request → Option Progress → CoreState
 cancelled_at c q None = c
 cancelled_at c q (Some (Receiving r)) = record c { slots = after_cancel c.slots q; queues = queues.after_cancel c.queues q.key }
+cancelled_at c q (Some (Collecting w)) = c
+cancelled_at c q (Some Offering) = c
 cancelled_at c q (Some (Finished o)) = c
 
 -- what a cancel makes of the core

@@ -1,21 +1,27 @@
 //! How a core answers calls that break no rule, in what was made ready for them.
 
-ghost use Rattle.std.specs.Prelude.{◌≡◌, ◌<◌, length, true, false, Some, None};
+ghost use Rattle.std.specs.Prelude.{◌≡◌, ◌<◌, length, true, false, Some, None, is_some};
+ghost use Rattle.rendezvous.specs.State.{is_full_to};
 ghost use Rattle.requests.specs.Lists.{is_twice, named};
 ghost use Rattle.requests.specs.Regions.{CanReceive};
 ghost use Rattle.requests.specs.declared.awaited.Awaited.TheVariants.{AllOf};
-ghost use Rattle.rank_core.specs.Calls.{Answers, CanAnswer, CanPost, HasOutcomeRoom, IsPacked, IsTaken, call_fault, free_fault};
-ghost use Rattle.rank_core.specs.CoreState.{CanStart};
-ghost use Rattle.rank_core.specs.Receiving.{IsPosting, IsReceiving, IsReceivingNothing, receive_fault};
-ghost use Rattle.rank_core.specs.Sending.{IsSending, arrived_at_itself, is_own, is_to_itself};
-ghost use Rattle.rank_core.specs.Waiting.{Cancels, Tests, Waits, cancelled};
+ghost use Rattle.rank_calls.specs.Calls.{HasOutcomeRoom, IsPacked, IsTaken};
+ghost use Rattle.rank_core.specs.Calls.{Answers, CanAnswer, CanPost, collection_on_receive, call_fault, free_fault};
+ghost use Rattle.rank_core.specs.CoreState.{CanStart, IsOfferFor};
+ghost use Rattle.rank_calls.specs.Receiving.{collection_on_post, transfers_with};
+ghost use Rattle.rank_core.specs.Receiving.{found_by, IsPosting, IsReceiving, IsReceivingNothing};
+ghost use Rattle.rank_calls.specs.Sending.{announced_to, is_own, is_to_itself};
+ghost use Rattle.rank_core.specs.Sending.{IsOffering, IsSending, arrived_at_itself};
+ghost use Rattle.rank_core.specs.Waiting.{Tests, Waits, cancelled};
+ghost use Rattle.rank_calls.specs.declared.call.Call.TheVariants as calls;
 
-use crate::call::{Call, Receive, Reply, Send};
-use crate::prepared::Prepared;
 use crate::rank::Core;
-use crate::receiving::{null_status, posted_by, progress_on_post};
-use crate::sending::{Destination, destination_of, into_elements, own_message};
 use datatypes::Buffer;
+use rank_calls::{
+    Call, Destination, Prepared, Receive, Reply, Send, announced_to, destination_of, into_elements,
+    null_status, own_message, posted_by, progress_on_post,
+};
+use rendezvous::Collection;
 use requests::{Awaited, AwaitedAll, Outcome, Progress, ReceiveRegion, Request, RequestList};
 use vocabulary::Source;
 
@@ -33,16 +39,40 @@ impl Core {
         }
     }
 
+    #[tactic(auto, using(crate::proofs::Allowed::announces))]
     fn send(&mut self, send: Send, prepared: Prepared) -> Request
         requires start { CanStart self.old }
         requires packed { IsPacked send prepared }
         requires room { is_to_itself self.old.state.place send ≡ true → 0 < self.old.messages }
+        requires offer { is_some (announced_to self.old.state.place send) ≡ true → 0 < self.old.offers }
+        requires allowed { free_fault self.old.state (calls.Isend send) ≡ None }
         ensures exact { IsSending self.old.state send result self.new.state }
         ensures placed { self.new.state.place ≡ self.old.state.place }
     {
-        let request = self.requests.start(Progress::Finished(Outcome::Sent));
+        let announced = announced_to(self.place, &send);
         let destination = destination_of(send.target, send.tag);
-        self.arrive_at_itself(destination, into_elements(send, prepared));
+        let elements = into_elements(send, prepared);
+        match announced {
+            Some(rank) => self.offer(rank, elements),
+            None => {
+                let request = self.requests.start(Progress::Finished(Outcome::Sent));
+                self.arrive_at_itself(destination, elements);
+                request
+            }
+        }
+    }
+
+    /// A message that does not go in one frame is announced: its send waits for its receiver's answer (MPI 3.1, 3.4).
+    fn offer(&mut self, rank: u16, elements: Buffer) -> Request
+        requires start { CanStart self.old }
+        requires room { 0 < self.old.offers }
+        requires left { is_full_to self.old.state.transfers.numbers rank ≡ false }
+        requires fits { IsOfferFor self.old.state.place.size (record { target = rank; transfer = 0; request = 0; elements = elements }) }
+        ensures exact { IsOffering self.old.state rank elements result self.new.state }
+        ensures placed { self.new.state.place ≡ self.old.state.place }
+    {
+        let request = self.requests.start(Progress::Offering);
+        let _transfer = self.transfers.begin_send(rank, request.key, elements);
         request
     }
 
@@ -57,29 +87,48 @@ impl Core {
         self.requests.start(Progress::Finished(outcome))
     }
 
-    fn post(&mut self, receive: Receive) -> Request
+    /// What a receive begins to collect is collected from now on, if it begins to.
+    fn collect(&mut self, collection: Option<Collection>)
+        requires { is_some collection ≡ true → 0 < self.old.collections }
+        ensures exact { self.new ≡ record self.old {
+          state = record self.old.state { transfers = transfers_with self.old.state.transfers collection };
+          collections = self.new.collections;
+        } }
+    {
+        if let Some(collection) = collection {
+            self.transfers.collect(collection);
+        }
+    }
+
+    #[tactic(auto, using(crate::proofs::Posting::collected))]
+    fn post(&mut self, receive: Receive, collection: Option<Collection>) -> Request
         requires start { CanStart self.old }
         requires post { 0 < self.old.receives }
         requires fit { CanReceive receive.into }
+        requires collection { collection ≡ collection_on_post receive.into self.old.vacant (found_by self.old.state receive) }
+        requires place { is_some collection ≡ true → 0 < self.old.collections }
         ensures exact { IsPosting self.old.state receive result self.new.state }
         ensures placed { self.new.state.place ≡ self.old.state.place }
     {
         let posted = posted_by(self.requests.next_key(), &receive);
+        self.collect(collection);
         let found = self.queues.post(posted);
         let progress = progress_on_post(ReceiveRegion::new(receive.into), found);
         self.requests.start(progress)
     }
 
-    fn receive(&mut self, receive: Receive) -> Request
+    fn receive(&mut self, receive: Receive, collection: Option<Collection>) -> Request
         requires start { CanStart self.old }
         requires post { CanPost receive.source self.old }
         requires fit { CanReceive receive.into }
+        requires collection { collection ≡ collection_on_receive receive.source self.old.state self.old.vacant receive }
+        requires place { is_some collection ≡ true → 0 < self.old.collections }
         ensures exact { IsReceiving self.old.state receive result self.new.state }
         ensures placed { self.new.state.place ≡ self.old.state.place }
     {
         match receive.source {
             Source::Null => self.receive_nothing(receive),
-            Source::Any | Source::Rank(_) => self.post(receive),
+            Source::Any | Source::Rank(_) => self.post(receive, collection),
         }
     }
 
@@ -136,7 +185,7 @@ impl Core {
     }
 
     /// Answers a call that breaks no rule, in what was made ready for it.
-    #[tactic(auto, using(crate::proofs::Allowed::receive_fits))]
+    #[tactic(auto, using(crate::proofs::Allowed::receive_fits, crate::proofs::Allowed::allowed_send))]
     pub fn answer(&mut self, call: Call, prepared: Prepared) -> Reply
         requires allowed { call_fault self.old.state call ≡ None }
         requires room { CanAnswer self.old call prepared }
@@ -146,7 +195,7 @@ impl Core {
     {
         match call {
             Call::Isend(send) => Reply::Started(self.send(send, prepared)),
-            Call::Irecv(receive) => Reply::Started(self.receive(receive)),
+            Call::Irecv(receive) => Reply::Started(self.receive(receive, prepared.into_place())),
             Call::Wait(request) => self.wait(Awaited::One(request)),
             Call::Test(request) => self.test(request),
             Call::Waitany(list) => self.wait(Awaited::AnyOf(list)),

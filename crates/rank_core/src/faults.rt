@@ -7,29 +7,27 @@ ghost use Rattle.datagram.specs.Spelling.{frame_text, FrameFits};
 ghost use Rattle.requests.specs.Lists.{named};
 ghost use Rattle.requests.specs.Regions.{sent_from};
 ghost use Rattle.requests.specs.declared.awaited.Awaited.TheVariants.{One};
-ghost use Rattle.rank_core.specs.Calls.{CanAnswer, IsPacked, IsWithin, call_fault, call_frame, call_rank, free_fault};
-ghost use Rattle.rank_core.specs.Receiving.{receive_fault};
-ghost use Rattle.rank_core.specs.Sending.{addressed, frame_of, or_full, send_fault};
+ghost use Rattle.rank_calls.specs.Calls.{IsPacked, IsWithin};
+ghost use Rattle.rank_core.specs.Calls.{CanAnswer, call_fault, call_frame, call_rank};
+ghost use Rattle.rank_calls.specs.Frames.{addressed};
+ghost use Rattle.rank_core.specs.Receiving.{receive_fault, receive_frame};
+ghost use Rattle.rank_calls.specs.Sending.{announced_to, or_worn_out, send_fault};
+ghost use Rattle.rank_core.specs.Sending.{frame_of, or_full};
 ghost use Rattle.rank_core.specs.Waiting.{cancel_fault, requests_fault, wait_fault};
 
-use crate::call::{Call, Receive, Send};
-use crate::prepared::Prepared;
 use crate::rank::Core;
-use crate::receiving::{is_source_beyond, is_tag_above};
-use crate::refused::Refused;
-use crate::sending::{Addressed, destination_of, elements_of, fault_of, frame_to, rank_to};
-use requests::{Region, Request, RequestList};
-
-/// The bytes of a buffer show that each element has the width of its type.
-fn show_widths(region: &Region)
-    ensures { AreWithin (size_of region.now.buffer.basic) ((sent_from region.now).values) }
-{
-    let _bytes = region.buffer.as_bytes();
-}
+use rank_calls::{
+    Addressed, Call, Prepared, Receive, Refused, Send, announced_to, answer_on_post,
+    destination_of, elements_of, fault_of, frame_to, is_source_beyond, is_tag_above, posted_by,
+    rank_to, show_widths,
+};
+use requests::{Request, RequestList};
+use vocabulary::Source;
 
 impl Core {
     fn fault_of_send(&self, send: &Send) -> Option<Refused>
-        ensures fault { result ≡ or_full (send_fault self.now.state.place send.now) self.now.state }
+        ensures fault { result ≡ or_worn_out (or_full (send_fault self.now.state.place send.now) self.now.state)
+            (announced_to self.now.state.place send.now) self.now.state.transfers }
         ensures within { AreWithin (size_of send.now.from.buffer.basic) ((sent_from send.now.from).values) }
     {
         show_widths(&send.from);
@@ -39,7 +37,10 @@ impl Core {
         if self.requests.is_full() {
             return Some(Refused::Limit);
         }
-        None
+        match announced_to(self.place, send) {
+            Some(rank) if self.transfers.is_full_to(rank) => Some(Refused::Limit),
+            _ => None,
+        }
     }
 
     #[tactic(auto, unfolding(crate::specs::Receiving::receive_fault))]
@@ -110,8 +111,8 @@ impl Core {
     /// The first rule or limit that a call meets: 6 (an earlier call is blocked, there is no such request, a list names one
     /// twice, or what is cancelled is no receive), 2 (buffer and layout are of different basic types, or a receive names a
     /// place twice), 1 (for now more than 1,024 bytes of data in a send, or the buffer is too short), 3 (the tag is above
-    /// the greatest, or the wildcard in a send), 5 (no such rank, or any rank in a send), 13 (65,536 requests are there, or
-    /// no serial is left). It takes no memory (MPI 3.1, 3.2.2, 3.7 and 4.1.11).
+    /// the greatest, or the wildcard in a send), 5 (no such rank, or any rank in a send), 13 (65,536 requests are there, no
+    /// serial is left, or no number of a transfer to the rank). It takes no memory (MPI 3.1, 3.2.2, 3.7 and 4.1.11).
     pub fn fault_of(&self, call: &Call) -> Option<Refused>
         ensures fault { result ≡ call_fault self.now.state call.now }
         ensures within { result ≡ None → IsWithin call.now }
@@ -136,25 +137,42 @@ impl Core {
     {
         match call {
             Call::Isend(send) => rank_to(self.place, destination_of(send.target, send.tag)),
-            Call::Irecv(_)
-            | Call::Wait(_)
-            | Call::Test(_)
-            | Call::Waitany(_)
-            | Call::Waitall(_)
-            | Call::Cancel(_) => None,
+            Call::Irecv(receive) => match self.answer_of_receive(receive) {
+                Some(answer) => Some(answer.rank),
+                None => None,
+            },
+            Call::Wait(_) | Call::Test(_) | Call::Waitany(_) | Call::Waitall(_) | Call::Cancel(_) =>
+                None,
         }
     }
 
-    #[tactic(auto, using(crate::proofs::Sends::is_small, crate::proofs::Sends::is_there))]
+    /// The frame that answers the message that a receive finds, if it finds one that was announced. It takes no memory.
+    #[tactic(auto, using(crate::proofs::Posting::answer_is_there))]
+    fn answer_of_receive(&self, receive: &Receive) -> Option<Addressed<'static>>
+        ensures exact { addressed result ≡ receive_frame receive.now.source self.now.state receive.now }
+        ensures fits { IfSome result (λ a. FrameFits (frame_text a.frame)) }
+        ensures there { IfSome result (λ a. a.rank < self.now.state.place.size) }
+    {
+        match receive.source {
+            Source::Null => None,
+            Source::Any | Source::Rank(_) => {
+                let posted = posted_by(0, receive);
+                answer_on_post(&receive.into, self.queues.message_for(&posted))
+            }
+        }
+    }
+
+    #[tactic(auto, using(rank_calls::proofs::Sends::is_sendable, rank_calls::proofs::Sends::is_there))]
     fn frame_of_send<'a>(&self, send: &'a Send, prepared: &'a Prepared) -> Option<Addressed<'a>>
         requires allowed { send_fault self.now.state.place send.now ≡ None }
         requires packed { IsPacked send.now prepared.now }
-        ensures exact { addressed result ≡ frame_of self.now.state.place send.now }
+        ensures exact { addressed result ≡ frame_of self.now.state send.now }
         ensures fits { IfSome result (λ a. FrameFits (frame_text a.frame)) }
         ensures there { IfSome result (λ a. a.rank < self.now.state.place.size) }
     {
         let elements = elements_of(send, prepared);
-        frame_to(self.place, destination_of(send.target, send.tag), elements)
+        let destination = destination_of(send.target, send.tag);
+        frame_to(self.place, &self.transfers, destination, elements)
     }
 
     /// The frame that a call that breaks no rule gives to another rank, lent from the call, or from what was made ready for
@@ -168,12 +186,9 @@ impl Core {
     {
         match call {
             Call::Isend(send) => self.frame_of_send(send, prepared),
-            Call::Irecv(_)
-            | Call::Wait(_)
-            | Call::Test(_)
-            | Call::Waitany(_)
-            | Call::Waitall(_)
-            | Call::Cancel(_) => None,
+            Call::Irecv(receive) => self.answer_of_receive(receive),
+            Call::Wait(_) | Call::Test(_) | Call::Waitany(_) | Call::Waitall(_) | Call::Cancel(_) =>
+                None,
         }
     }
 }

@@ -1,174 +1,149 @@
 //! How a core takes in what is heard from another rank.
 
-ghost use Rattle.std.specs.Prelude.{◌≡◌, ◌<◌, ◌≤◌, true, IfOk, IfErr, OnOk, Some, None, is_some};
-ghost use Rattle.datagram.specs.Spelling.{eager_text, EagerFits};
+ghost use Rattle.std.specs.Prelude.{◌≡◌, ◌<◌, ◌≤◌, true, None, is_some};
+ghost use Rattle.datagram.specs.Spelling.{request_text};
+ghost use Rattle.match_queues.specs.Arrivals.{arrival_of};
+ghost use Rattle.rendezvous.specs.State.{is_due, is_next};
+ghost use Rattle.rank_core.specs.CoreState.{IsAnswerable};
+ghost use Rattle.rank_calls.specs.Receiving.{collection_on_arrival};
 ghost use Rattle.rank_core.specs.Sending.{arrived};
 ghost use Rattle.rank_core.specs.Waiting.{woken};
-ghost use Rattle.rank_core.specs.Hearing.{NewsText, news_text, HeardFits, frame_option, frame_fault, news_fault, message_of, message_in, message_from, KeysFit, CanTake, taught, arrived_any, after_news, after_ready};
+ghost use Rattle.rank_calls.specs.Hearing.{news_text, frame_option, IsWhole, brings_message, heard_fault, message_from, announced_of};
+ghost use Rattle.rank_core.specs.Hearing.{news_fault, CanTake, KeysFit, after_any, collection_for, taught, announced, answered, grown, after_news};
 
 use crate::rank::Core;
-use crate::receiving::status_of;
-use crate::refused::Refused;
-use datagram::{Eager, Frame, Plane};
-use datatypes::Buffer;
-use match_queues::{Arrival, Message};
+use datagram::{ClearToSend, Data, Frame, RequestToSend};
+use match_queues::{Arrival, Body, Message};
+use rank_calls::{News, Ready, announced_of, status_of};
+use rendezvous::Collection;
 use requests::Answer;
-use std::alloc::Global;
 use std::mem;
 use vocabulary::Endpoint;
-
-/// What is heard from another rank, as far as it concerns a core.
-#[derive(Clone, Copy, Debug)]
-pub struct News<'a> {
-    /// Who spoke.
-    pub source: Endpoint,
-    /// Whether its incarnation is new here: the rank was started anew.
-    pub lesson: bool,
-    /// The frame that it sent, if it is to be handed up.
-    pub frame: Option<Frame<'a>>,
-}
-
-/// What is ready for news, so that they can be taken without memory.
-#[derive(Debug, Drop)]
-pub struct Ready {
-    /// With a lesson the keys of the receives that name the rank.
-    pub keys: Option<Vec<usize>>,
-    /// The message that came, if one did.
-    pub message: Option<Message>,
-}
-
-/// The message of an eager frame.
-#[tactic(auto, unfolding(crate::specs::Hearing::message_of))]
-fn message_of(alloc: Global, source: Endpoint, eager: &Eager) -> Result<Message, Refused>
-    requires { EagerFits (eager_text eager.now) }
-    ensures ok { IfOk result (λ m. m ≡ message_of source (eager_text eager.now)) }
-    ensures err { IfErr result (λ e. e ≡ Refused.OutOfMemory) }
-{
-    let bytes = Vec::from_slice(alloc, eager.elements).map_err(|_| Refused::OutOfMemory)?;
-    Ok(Message {
-        sender: source,
-        context: eager.context,
-        tag: eager.tag,
-        elements: Buffer::from_bytes(eager.basic, bytes),
-    })
-}
-
-/// The message that was sent, if a frame was.
-fn message_from(
-    alloc: Global,
-    source: Endpoint,
-    frame: Option<Frame<'_>>,
-) -> Result<Option<Message>, Refused>
-    requires { HeardFits (frame_option frame) }
-    ensures ok { IfOk result (λ m. m ≡ message_from source (frame_option frame.entry)) }
-    ensures err { IfErr result (λ e. e ≡ Refused.OutOfMemory) }
-{
-    match frame {
-        None => Ok(None),
-        Some(Frame::Eager(eager)) => Ok(Some(message_of(alloc, source, &eager)?)),
-        Some(Frame::RequestToSend(_) | Frame::ClearToSend(_) | Frame::Data(_)) => Ok(None),
-    }
-}
 
 /// Drops an answer that was not taken out.
 fn forget(_answer: Option<Answer>) {}
 
 impl Core {
-    /// The rule that news break: 30 (for now a message of a collective operation, or a frame of a large message). It
-    /// takes no memory.
-    pub fn fault_of_news(&self, news: News<'_>) -> Option<Refused>
-        ensures { result ≡ news_fault (frame_option news.entry.frame) }
+    /// The message ends the oldest receive that accepts it, or is kept in the room that there is. One that was announced is
+    /// collected where that receive wants its data.
+    #[tactic(auto, unfolding(crate::specs::Sending::arrived))]
+    fn receive_or_keep(&mut self, message: Message, collection: Option<Collection>)
+        requires room { 0 < self.old.messages }
+        requires answerable { IsAnswerable self.old.state.place.size message message.body }
+        requires collection { collection ≡ collection_on_arrival self.old.state.slots (arrival_of self.old.state.queues message) }
+        requires place { is_some collection ≡ true → 0 < self.old.collections }
+        ensures exact { self.new.state ≡ arrived self.old.state message }
+        ensures placed { self.new.state.place ≡ self.old.state.place }
     {
-        match news.frame {
-            None => None,
-            Some(Frame::Eager(eager)) => match eager.plane {
-                Plane::Collective => Some(Refused::BadFrame),
-                Plane::PointToPoint => None,
-            },
-            Some(Frame::RequestToSend(_) | Frame::ClearToSend(_) | Frame::Data(_)) => {
-                Some(Refused::BadFrame)
+        let Arrival::Matched(receive, message) = self.queues.arrive(message) else {
+            return;
+        };
+        let status = status_of(&message);
+        match message.body {
+            Body::Whole(elements) => self.requests.finish(receive.request, status, &elements),
+            Body::Announced(announcement) => {
+                self.requests
+                    .announce(receive.request, status, announcement.basic);
+                if let Some(collection) = collection {
+                    self.transfers.collect(collection);
+                }
             }
         }
     }
 
-    /// The keys of the receives that name the rank, where its incarnation is new here.
-    fn keys_for(&self, source: Endpoint, lesson: bool) -> Result<Option<Vec<usize>>, Refused>
-        ensures lesson { IfOk result (λ keys. is_some keys ≡ lesson) }
-        ensures keys { IfOk result (λ keys. KeysFit keys self.now.state source) }
-        ensures err { IfErr result (λ e. e ≡ Refused.OutOfMemory) }
-    {
-        if !lesson {
-            return Ok(None);
-        }
-        match self.queues.keys_naming(self.alloc, source.rank) {
-            Ok(keys) => Ok(Some(keys)),
-            Err(_) => Err(Refused::OutOfMemory),
-        }
-    }
-
-    fn make_room_for(&mut self, message: &Option<Message>) -> Result<(), Refused>
-        ensures room { OnOk result (is_some message.now ≡ true → 0 < self.new.messages) }
-        ensures kept { self.new.state ≡ self.old.state }
-        ensures err { IfErr result (λ e. e ≡ Refused.OutOfMemory) }
-    {
-        if message.is_none() {
-            return Ok(());
-        }
-        self.queues
-            .reserve_message()
-            .map_err(|_| Refused::OutOfMemory)
-    }
-
-    /// Makes ready what news that break no rule need, or finds that there is no memory (14). What the core holds stays as
-    /// it is.
-    pub fn prepare_news(&mut self, news: News<'_>) -> Result<Ready, Refused>
-        requires { HeardFits (frame_option news.frame) }
-        ensures can { IfOk result (λ ready. CanTake self.new news.entry.source ready) }
-        ensures means { IfOk result (λ ready.
-            after_ready self.old.state news.entry.source ready ≡ after_news self.old.state (news_text news.entry)) }
-        ensures kept { self.new.state ≡ self.old.state }
-        ensures err { IfErr result (λ e. e ≡ Refused.OutOfMemory) }
-    {
-        let message = message_from(self.alloc, news.source, news.frame)?;
-        let keys = self.keys_for(news.source, news.lesson)?;
-        self.make_room_for(&message)?;
-        Ok(Ready { keys, message })
-    }
-
-    /// The message ends the oldest receive that accepts it, or is kept in the room that there is.
-    #[tactic(auto, unfolding(crate::specs::Sending::arrived))]
+    /// The message, whose data are there, ends the oldest receive that accepts it, or is kept in the room that there is.
     pub(crate) fn arrive(&mut self, message: Message)
-        requires { 0 < self.old.messages }
+        requires room { 0 < self.old.messages }
+        requires whole { IsWhole message.body }
         ensures exact { self.new.state ≡ arrived self.old.state message }
         ensures placed { self.new.state.place ≡ self.old.state.place }
     {
-        if let Arrival::Matched(receive, message) = self.queues.arrive(message) {
-            let status = status_of(&message);
-            self.requests
-                .finish(receive.request, status, &message.elements);
+        self.receive_or_keep(message, None);
+    }
+
+    /// A message is announced: its transfer is counted.
+    fn announce(&mut self, source: Endpoint, request: RequestToSend, collection: Option<Collection>)
+        requires room { 0 < self.old.messages }
+        requires next { is_next self.old.state.transfers.numbers source.rank request.transfer ≡ true }
+        requires collection { collection ≡ collection_on_arrival self.old.state.slots
+            (arrival_of self.old.state.queues (announced_of source (request_text request))) }
+        requires place { is_some collection ≡ true → 0 < self.old.collections }
+        ensures exact { self.new.state ≡ announced self.old.state source (request_text request) }
+        ensures placed { self.new.state.place ≡ self.old.state.place }
+    {
+        self.transfers.on_rts(source.rank, request.transfer);
+        self.receive_or_keep(announced_of(source, &request), collection);
+    }
+
+    /// An offer is answered: its send is over (MPI 3.1, 3.4).
+    fn finish_offer(&mut self, rank: u16, answer: ClearToSend)
+        ensures exact { self.new.state ≡ answered self.old.state rank answer.transfer }
+        ensures placed { self.new.state.place ≡ self.old.state.place }
+    {
+        if let Some(offer) = self.transfers.on_cts(rank, answer.transfer) {
+            self.requests.finish_send(offer.request);
         }
     }
 
-    /// With a lesson the receives under these keys end, and what former incarnations sent is dropped.
+    /// The next data of a transfer end its receive, once they are all there.
+    fn grow(&mut self, rank: u16, piece: Data<'_>)
+        requires { is_due self.old.state.transfers.collections rank piece.transfer piece.offset piece.bytes.now ≡ true }
+        ensures exact { self.new.state ≡ grown self.old.state rank piece.entry.transfer piece.entry.bytes.now }
+        ensures placed { self.new.state.place ≡ self.old.state.place }
+    {
+        if let Some(collected) = self
+            .transfers
+            .on_data(rank, piece.transfer, piece.offset, piece.bytes)
+        {
+            self.requests
+                .deliver(collected.request, &collected.elements);
+        }
+    }
+
+    /// With a lesson the requests under these keys end, and what former incarnations sent and what went to them is
+    /// dropped.
     fn learn(&mut self, source: Endpoint, keys: Option<Vec<usize>>)
-        requires { KeysFit keys self.old.state source }
+        requires { KeysFit (is_some keys) keys self.old.state source }
         ensures state { self.new.state ≡ taught (is_some keys) self.old.state source }
         ensures placed { self.new.state.place ≡ self.old.state.place }
         ensures room { self.old.messages ≤ self.new.messages }
+        ensures collections { self.old.collections ≤ self.new.collections }
     {
         if let Some(keys) = keys {
             self.requests.replace_each(&keys);
             self.queues.drop_from(source.rank, source.incarnation);
+            self.transfers.drop_from(source.rank);
         }
     }
 
-    fn arrive_any(&mut self, message: Option<Message>)
-        requires { is_some message ≡ true → 0 < self.old.messages }
-        ensures exact { self.new.state ≡ arrived_any self.old.state message }
+    /// What a frame of an endpoint makes of the core, if one came: its message comes, the transfer that it announces is counted,
+    /// the send that it answers is over, or its data are put to those that came before.
+    #[tactic(auto, using(crate::proofs::Allowances::allowed, crate::proofs::Allowances::second_of, crate::proofs::Allowances::whole_so))]
+    fn take_frame(
+        &mut self,
+        source: Endpoint,
+        frame: Option<Frame<'_>>,
+        message: Option<Message>,
+        collection: Option<Collection>,
+    )
+        requires allowed { heard_fault self.old.state.transfers source.rank (frame_option frame) ≡ None }
+        requires message { message ≡ message_from source (frame_option frame) }
+        requires room { brings_message (frame_option frame) ≡ true → 0 < self.old.messages }
+        requires collection { collection ≡ collection_for self.old.state source (frame_option frame) }
+        requires place { is_some collection ≡ true → 0 < self.old.collections }
+        ensures exact { self.new.state ≡ after_any self.old.state source (frame_option frame.entry) }
         ensures placed { self.new.state.place ≡ self.old.state.place }
     {
-        if let Some(message) = message {
-            self.arrive(message);
+        match frame {
+            None => {}
+            Some(Frame::Eager(_)) => {
+                if let Some(message) = message {
+                    self.arrive(message);
+                }
+            }
+            Some(Frame::RequestToSend(request)) => self.announce(source, request, collection),
+            Some(Frame::ClearToSend(answer)) => self.finish_offer(source.rank, answer),
+            Some(Frame::Data(piece)) => self.grow(source.rank, piece),
         }
     }
 
@@ -186,22 +161,29 @@ impl Core {
         }
     }
 
-    /// Takes news in that were made ready: first the lesson, then the message, then a blocked call is answered.
+    /// Takes in news that break no rule and were made ready: first the lesson, then the frame, then a blocked call is
+    /// answered. It takes no memory.
     ///
-    /// With a lesson, receives that name the rank end as replaced, with their buffers as they were, and messages from its
-    /// former incarnations that were not received are dropped. MPI 3.1 has no restarts of a rank: these rules are this
+    /// With a lesson the requests that wait for the rank end as replaced, with their buffers as they were: receives that name
+    /// it or collect from it, and sends that wait for its answer. Messages from its former incarnations that were not
+    /// received are dropped, and the session's transfers start anew. MPI 3.1 has no restarts of a rank: these rules are this
     /// project's own.
-    pub fn take_news(&mut self, source: Endpoint, ready: Ready)
-        requires { CanTake self.old source ready }
-        ensures exact { self.new.state ≡ after_ready self.old.state source ready }
+    pub fn take_news(&mut self, news: News<'_>, ready: Ready)
+        requires allowed { news_fault self.old.state (news_text news) ≡ None }
+        requires can { CanTake self.old (news_text news) ready }
+        ensures exact { self.new.state ≡ after_news self.old.state (news_text news.entry) }
         ensures placed { self.new.state.place ≡ self.old.state.place }
     {
-        let Ready { keys, message } = ready;
-        if keys.is_none() && message.is_none() {
+        let Ready {
+            keys,
+            message,
+            collection,
+        } = ready;
+        if keys.is_none() && news.frame.is_none() {
             return;
         }
-        self.learn(source, keys);
-        self.arrive_any(message);
+        self.learn(news.source, keys);
+        self.take_frame(news.source, news.frame, message, collection);
         self.wake();
     }
 }

@@ -6,19 +6,14 @@
 #![tactic(auto)]
 
 mod answering;
-mod call;
+mod answers_to_news;
 mod faults;
 mod hearing;
-mod prepared;
 mod preparing;
+mod preparing_news;
 mod rank;
-mod receiving;
-mod refused;
-mod sending;
 
-pub use call::{Call, Handed, Receive, Reply, Send};
-pub use hearing::{News, Ready};
-pub use prepared::Prepared;
 pub use rank::Core;
-pub use refused::Refused;
-pub use sending::Addressed;
+pub use rank_calls::{
+    Addressed, Call, Handed, News, Prepared, Ready, Receive, Refused, Reply, Send,
+};

@@ -1,54 +1,29 @@
 //! How what a call needs is made ready.
 
-ghost use Rattle.std.specs.Prelude.{◌≡◌, ◌<◌, length, true, false, OnOk, OnErr, IfOk, IfErr, None};
+ghost use Rattle.std.specs.Prelude.{◌≡◌, ◌<◌, true, false, OnOk, OnErr, IfOk, IfErr, None};
 ghost use Rattle.perfect_queues.specs.Buffers.{differs_in_type, is_too_short};
 ghost use Rattle.requests.specs.Regions.{handed_of};
 ghost use Rattle.requests.specs.Table.{is_full};
-ghost use Rattle.rank_core.specs.Calls.{CanAnswer, CanPost, HasOutcomeRoom, IsPacked, NeedsMemory, call_fault, free_fault};
+ghost use Rattle.rank_calls.specs.Calls.{NeedsMemory};
+ghost use Rattle.rank_core.specs.Calls.{CanAnswer, CanPost, collection_on_receive, call_fault};
 ghost use Rattle.rank_core.specs.CoreState.{CanStart};
-ghost use Rattle.rank_core.specs.Receiving.{receive_fault};
-ghost use Rattle.rank_core.specs.Sending.{or_full, send_fault};
+ghost use Rattle.rank_calls.specs.declared.refused.Refused.TheVariants as refusals;
+ghost use Rattle.rank_calls.specs.declared.call.Call.TheVariants as calls;
 
-use crate::call::{Call, Send};
-use crate::prepared::Prepared;
 use crate::rank::Core;
-use crate::refused::Refused;
-use crate::sending::{destination_of, is_own};
-use requests::{OutcomeRoom, RequestList};
-use std::alloc::Global;
+use rank_calls::{
+    Call, Prepared, Receive, Refused, Send, announced_to, collection_on_post, destination_of,
+    is_own, packed, posted_by, room_for_all,
+};
+use rendezvous::Collection;
 use vocabulary::Source;
-
-/// The data of a send, taken out of the places of a layout where they do not stand in its buffer in order.
-fn packed(alloc: Global, send: &Send) -> Result<Prepared, Refused>
-    requires types { differs_in_type (handed_of send.now.from) ≡ false }
-    requires room { is_too_short (handed_of send.now.from) ≡ false }
-    ensures packed { IfOk result (λ prepared. IsPacked send.now prepared) }
-    ensures err { IfErr result (λ e. e ≡ Refused.OutOfMemory) }
-{
-    match send.from.pack(alloc) {
-        Ok(Some(elements)) => Ok(Prepared::Packed(elements)),
-        Ok(None) => Ok(Prepared::Nothing),
-        Err(_) => Err(Refused::OutOfMemory),
-    }
-}
-
-/// The room for the outcomes of all requests of a list.
-fn room_for_all(alloc: Global, list: &RequestList) -> Result<Prepared, Refused>
-    ensures room { IfOk result (λ prepared. HasOutcomeRoom (length list.now) prepared) }
-    ensures err { IfErr result (λ e. e ≡ Refused.OutOfMemory) }
-{
-    match OutcomeRoom::new(alloc, list.len()) {
-        Ok(room) => Ok(Prepared::Room(room)),
-        Err(_) => Err(Refused::OutOfMemory),
-    }
-}
 
 impl Core {
     fn make_room_to_start(&mut self) -> Result<(), Refused>
         requires { is_full self.old.state.slots self.old.state.serial ≡ false }
         ensures room { OnOk result (CanStart self.new) }
         ensures kept { self.new ≡ record self.old { requests = self.new.requests } }
-        ensures err { IfErr result (λ e. e ≡ Refused.OutOfMemory) }
+        ensures err { IfErr result (λ e. e ≡ refusals.OutOfMemory) }
     {
         match self.requests.reserve() {
             Ok(()) => Ok(()),
@@ -60,7 +35,7 @@ impl Core {
     fn make_room_if(&mut self, own: bool) -> Result<(), Refused>
         ensures room { OnOk result (own ≡ true → 0 < self.new.messages) }
         ensures kept { self.new ≡ record self.old { messages = self.new.messages } }
-        ensures err { IfErr result (λ e. e ≡ Refused.OutOfMemory) }
+        ensures err { IfErr result (λ e. e ≡ refusals.OutOfMemory) }
     {
         if !own {
             return Ok(());
@@ -75,20 +50,69 @@ impl Core {
         requires full { is_full self.old.state.slots self.old.state.serial ≡ false }
         requires types { differs_in_type (handed_of send.now.from) ≡ false }
         requires room { is_too_short (handed_of send.now.from) ≡ false }
-        ensures room { IfOk result (λ prepared. CanAnswer self.new (Call.Isend send.now) prepared) }
+        ensures room { IfOk result (λ prepared. CanAnswer self.new (calls.Isend send.now) prepared) }
         ensures kept { self.new.state ≡ self.old.state }
-        ensures err { IfErr result (λ e. e ≡ Refused.OutOfMemory) }
+        ensures err { IfErr result (λ e. e ≡ refusals.OutOfMemory) }
     {
         self.make_room_to_start()?;
         self.make_room_if(is_own(self.place, destination_of(send.target, send.tag)))?;
+        self.make_room_to_offer(announced_to(self.place, send).is_some())?;
         packed(self.alloc, send)
+    }
+
+    /// Makes room for an offer, where a message is announced.
+    fn make_room_to_offer(&mut self, announced: bool) -> Result<(), Refused>
+        ensures room { OnOk result (announced ≡ true → 0 < self.new.offers) }
+        ensures kept { self.new ≡ record self.old { offers = self.new.offers } }
+        ensures err { IfErr result (λ e. e ≡ refusals.OutOfMemory) }
+    {
+        if !announced {
+            return Ok(());
+        }
+        match self.transfers.reserve_send() {
+            Ok(()) => Ok(()),
+            Err(_) => Err(Refused::OutOfMemory),
+        }
+    }
+
+    /// Makes room for a collection, where one is to begin.
+    pub(crate) fn make_room_to_collect(&mut self, collects: bool) -> Result<(), Refused>
+        ensures room { OnOk result (collects ≡ true → 0 < self.new.collections) }
+        ensures kept { self.new ≡ record self.old { collections = self.new.collections } }
+        ensures err { IfErr result (λ e. e ≡ refusals.OutOfMemory) }
+    {
+        if !collects {
+            return Ok(());
+        }
+        match self.transfers.reserve_collection() {
+            Ok(()) => Ok(()),
+            Err(_) => Err(Refused::OutOfMemory),
+        }
+    }
+
+    /// The place for the data of the message that a receive finds, where it is announced and wanted.
+    fn place_for(&self, receive: &Receive) -> Result<Option<Collection>, Refused>
+        ensures ok { IfOk result (λ collection. collection ≡
+            collection_on_receive receive.now.source self.now.state self.now.vacant receive.now) }
+        ensures err { IfErr result (λ e. e ≡ refusals.OutOfMemory) }
+    {
+        if let Source::Null = receive.source {
+            return Ok(None);
+        }
+        let posted = posted_by(0, receive);
+        collection_on_post(
+            self.alloc,
+            &receive.into,
+            self.requests.next_key(),
+            self.queues.message_for(&posted),
+        )
     }
 
     /// A receive from the null process is posted nowhere.
     fn make_room_to_post(&mut self, source: Source) -> Result<(), Refused>
         ensures room { OnOk result (CanPost source self.new) }
         ensures kept { self.new ≡ record self.old { receives = self.new.receives } }
-        ensures err { IfErr result (λ e. e ≡ Refused.OutOfMemory) }
+        ensures err { IfErr result (λ e. e ≡ refusals.OutOfMemory) }
     {
         if let Source::Null = source {
             return Ok(());
@@ -99,16 +123,20 @@ impl Core {
         }
     }
 
-    fn prepare_receive(&mut self, source: Source) -> Result<Prepared, Refused>
-        requires { is_full self.old.state.slots self.old.state.serial ≡ false }
-        ensures start { OnOk result (CanStart self.new) }
-        ensures post { OnOk result (CanPost source self.new) }
+    fn prepare_receive(&mut self, receive: &Receive) -> Result<Prepared, Refused>
+        requires full { is_full self.old.state.slots self.old.state.serial ≡ false }
+        ensures room { IfOk result (λ prepared. CanAnswer self.new (calls.Irecv receive.now) prepared) }
         ensures kept { self.new.state ≡ self.old.state }
-        ensures err { IfErr result (λ e. e ≡ Refused.OutOfMemory) }
+        ensures err { IfErr result (λ e. e ≡ refusals.OutOfMemory) }
     {
         self.make_room_to_start()?;
-        self.make_room_to_post(source)?;
-        Ok(Prepared::Nothing)
+        self.make_room_to_post(receive.source)?;
+        let place = self.place_for(receive)?;
+        self.make_room_to_collect(place.is_some())?;
+        match place {
+            Some(collection) => Ok(Prepared::Place(collection)),
+            None => Ok(Prepared::Nothing),
+        }
     }
 
     /// Makes ready what the answer to a call that breaks no rule takes, or finds that there is no memory (14), which a wait
@@ -118,12 +146,12 @@ impl Core {
         requires { call_fault self.old.state call.now ≡ None }
         ensures room { IfOk result (λ prepared. CanAnswer self.new call.now prepared) }
         ensures kept { self.new.state ≡ self.old.state }
-        ensures err { IfErr result (λ e. e ≡ Refused.OutOfMemory) }
+        ensures err { IfErr result (λ e. e ≡ refusals.OutOfMemory) }
         ensures need { OnErr result (NeedsMemory call.now) }
     {
         match call {
             Call::Isend(send) => self.prepare_send(send),
-            Call::Irecv(receive) => self.prepare_receive(receive.source),
+            Call::Irecv(receive) => self.prepare_receive(receive),
             Call::Waitall(list) => room_for_all(self.alloc, list),
             Call::Wait(_) | Call::Test(_) | Call::Waitany(_) | Call::Cancel(_) => {
                 Ok(Prepared::Nothing)

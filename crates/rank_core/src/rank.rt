@@ -1,10 +1,13 @@
 //! The core of one rank.
 
-ghost use Rattle.std.specs.Prelude.{◌≡◌, None};
+ghost use Rattle.std.specs.Prelude.{◌≡◌, IfErr, IfOk, None};
 ghost use Rattle.rank_core.specs.CoreState.{opening};
+ghost use Rattle.rank_calls.specs.declared.refused.Refused.TheVariants as refusals;
 
 use incarnation::Place;
 use match_queues::Queues;
+use rank_calls::Refused;
+use rendezvous::Transfers;
 use requests::{Answer, Awaited, Requests};
 use std::alloc::Global;
 use std::marker::Model;
@@ -18,6 +21,8 @@ pub struct Core {
     pub(crate) place: Place,
     /// The receives that wait for a message, and the messages that wait for a receive.
     pub(crate) queues: Queues,
+    /// The large messages that go to other ranks and come from them.
+    pub(crate) transfers: Transfers,
     /// The requests that were started and have not ended.
     pub(crate) requests: Requests,
     /// What the blocked call waits for.
@@ -27,7 +32,7 @@ pub struct Core {
 }
 
 impl Model for Core {
-    ghost use Rattle.rank_core.specs.CoreState.{Held};
+    ghost use Rattle.rank_core.specs.CoreState.{Held, IsKept};
 
     ghost Value = { Held };
 
@@ -35,30 +40,41 @@ impl Model for Core {
       state = record {
         place = c.place;
         queues = c.queues.state;
+        transfers = c.transfers.state;
         slots = c.requests.slots;
         serial = c.requests.serial;
         blocked = c.blocked;
         completion = c.completion;
       };
+      vacant = c.requests.vacant;
       requests = c.requests.capacity;
       receives = c.queues.receives;
       messages = c.queues.messages;
+      offers = c.transfers.sends;
+      collections = c.transfers.receives;
     } };
+
+    ghost invariant = { λ c. IsKept c.place c.queues.state c.transfers.state };
 }
 
 impl Core {
-    /// The core of a rank at its start: nothing is pending. It takes no memory.
-    pub fn new(alloc: Global, place: Place) -> Core
-        ensures { result.state ≡ opening place }
+    /// The core of a rank at its start: nothing is pending. It fails for want of memory alone (14).
+    pub fn new(alloc: Global, place: Place) -> Result<Core, Refused>
+        ensures ok { IfOk result (λ core. core.state ≡ opening place) }
+        ensures err { IfErr result (λ e. e ≡ refusals.OutOfMemory) }
     {
-        Core {
+        let Ok(transfers) = Transfers::new(alloc, place.size) else {
+            return Err(Refused::OutOfMemory);
+        };
+        Ok(Core {
             alloc,
             place,
             queues: Queues::new(alloc),
+            transfers,
             requests: Requests::new(alloc),
             blocked: None,
             completion: None,
-        }
+        })
     }
 
     /// Which rank of which job this is, and at which incarnation.

@@ -1,7 +1,7 @@
 //! Taking in the datagrams that are there.
 
 ghost use Rattle.std.specs.Prelude.{◌≡◌, ◌+◌, ◌<◌, ◌^◌, Result};
-ghost use Rattle.rank_core.specs.declared.refused.Refused.{Refused};
+ghost use Rattle.rank_calls.specs.declared.refused.Refused.{Refused};
 ghost use Rattle.engine.specs.Datagrams.{DatagramGives};
 ghost use Rattle.rank_drive.specs.Exchanges.{FailsWith};
 ghost use Rattle.rank_drive.specs.Listening.{ListensTo, after_one};

@@ -7,12 +7,12 @@ use Rattle.requests.specs.declared.answer.Answer.TheVariants as answers
 use Rattle.requests.specs.declared.outcome.Outcome.{Outcome}
 use Rattle.requests.specs.declared.outcome.Outcome.TheVariants as outcomes
 use Rattle.requests.specs.declared.table.Request.{Request}
-use Rattle.rank_core.specs.Refusals.{number_of_refusal}
-use Rattle.rank_core.specs.declared.refused.Refused.{Refused}
-use Rattle.rank_core.specs.declared.call.Call.{Call}
-use Rattle.rank_core.specs.declared.call.Call.TheVariants as calls
-use Rattle.rank_core.specs.declared.call.Reply.{Reply}
-use Rattle.rank_core.specs.declared.call.Reply.TheVariants as replies
+use Rattle.rank_calls.specs.Refusals.{number_of_refusal}
+use Rattle.rank_calls.specs.declared.refused.Refused.{Refused}
+use Rattle.rank_calls.specs.declared.call.Call.{Call}
+use Rattle.rank_calls.specs.declared.call.Call.TheVariants as calls
+use Rattle.rank_calls.specs.declared.call.Reply.{Reply}
+use Rattle.rank_calls.specs.declared.call.Reply.TheVariants as replies
 use Rattle.statements.specs.declared.action.Requested.{Requested}
 use Rattle.statements.specs.declared.action.Requested.TheVariants as requested
 use Rattle.rank_script.specs.declared.names.Doing.{Doing}

@@ -2,7 +2,8 @@
 use Rattle.std.proofs.Common.{◌≡◌, ℕ, zero, suc, ◌+◌, ◌-◌, ◌*◌, ◌/◌, ◌%◌, ◌<◌, ◌≤◌, min, true, List, [], ◌∷◌, ◌++◌, length, drop, map, refl, sym, ap, ◌∙◌, arith, subst}
 use Rattle.std.specs.List.{range_with_len}
 use Rattle.std.proofs.lemmas.Bool.{lt-ltb, eq-eqb, ne_eqb, and_from}
-use Rattle.std.proofs.lemmas.List.{append_assoc, length-append, length-take, length-drop, take-append-drop, drop-drop, drop_min, take_all}
+use Rattle.std.proofs.lemmas.List.{append_assoc, length-append, length-map, length-take, length-drop, take-append-drop, drop-drop, drop_min, take_all}
+use Rattle.std.proofs.lemmas.List.FromFn.{length-range_with_len}
 use Rattle.std.proofs.Math.Nat.{mul-le-mul_right}
 use Rattle.vocabulary.specs.declared.basic_type.BasicType.{BasicType}
 use Rattle.vocabulary.specs.BasicTypes.{size_of}
@@ -185,3 +186,9 @@ elements source transfer request basic values p within =
       taken = all_taken bytes c some refl (sym len);
       whole = ap (λ (t : List ℕ). record { request = request; elements = record { basic = basic; values = t } }) (values_of-bytes_of size values low within);
     }
+
+-- so many pieces are there
+pub count_is : (bytes : List ℕ) → length (pieces_of bytes) ≡ piece_count piece_bytes bytes
+count_is bytes =
+    length-map (range_with_len 0 (piece_count piece_bytes bytes)) (piece_at piece_bytes bytes)
+    ∙ length-range_with_len 0 (piece_count piece_bytes bytes)

@@ -1,6 +1,6 @@
 //! The pieces in which data go.
 
-ghost use Rattle.std.specs.Prelude.{◌≡◌, IfOk, IfSome, map, ◌<◌};
+ghost use Rattle.std.specs.Prelude.{◌≡◌, IfOk, IfSome, length, map, ◌<◌};
 ghost use Rattle.vocabulary.specs.BasicTypes.{size_of};
 ghost use Rattle.datatypes.specs.Contents.{bytes_of};
 ghost use Rattle.rendezvous.specs.Pieces.{piece_at, pieces_of, piece_count, piece_bytes};
@@ -59,4 +59,12 @@ pub fn pieces(alloc: Global, elements: &Buffer) -> Result<Vec<Piece<'_>>, OutOfM
         ≡ pieces_of (bytes_of (size_of elements.now.basic) elements.now.values)) }
 {
     cut(alloc, elements.as_bytes())
+}
+
+/// In how many pieces the data of these elements go. It takes no memory.
+#[tactic(auto, using(crate::proofs::PieceLaws::count_is))]
+pub fn piece_count(elements: &Buffer) -> usize
+    ensures { result ≡ length (pieces_of (bytes_of (size_of elements.now.basic) elements.now.values)) }
+{
+    elements.as_bytes().len().div_ceil(PIECE_BYTES)
 }

@@ -3,7 +3,7 @@ use Rattle.std.proofs.Common.{subst, ◌≡◌, ℕ, Bool, true, false, List, Op
 use Rattle.std.proofs.lemmas.Bool.{eqb-true}
 use Rattle.requests.specs.declared.table.Entry.{Entry}
 use Rattle.requests.specs.declared.table.Progress.{Progress}
-use Rattle.requests.specs.declared.table.Progress.TheVariants.{Receiving, Finished}
+use Rattle.requests.specs.declared.table.Progress.TheVariants.{Receiving, Collecting, Offering, Finished}
 use Rattle.requests.specs.declared.table.Request.{Request}
 use Rattle.requests.specs.Steps.{is_waiting, cancelled_entry}
 use Rattle.requests.specs.Table.{slot_at, progress_at, progress_of, cancelled_by, after_cancel}
@@ -11,6 +11,8 @@ use Rattle.requests.specs.Table.{slot_at, progress_at, progress_of, cancelled_by
 stays : (slots : List (Option Entry)) (q : Request) (p : Option Progress) → is_waiting p ≡ false → cancelled_by slots q p ≡ slots
 stays slots q None h = refl
 stays slots q (Some (Receiving r)) h = absurd cc
+stays slots q (Some (Collecting w)) h = refl
+stays slots q (Some Offering) h = refl
 stays slots q (Some (Finished o)) h = refl
 
 -- what is no receive that waits stays
@@ -22,6 +24,8 @@ ends : (slots : List (Option Entry)) (q : Request) (s : ℕ) (p : Progress) (b :
 ends slots q s p false e h = absurd cc
 ends slots q s (Receiving r) true e h =
     ap (λ (n : ℕ). slice_set slots q.key (Some (cancelled_entry (record { serial = n; progress = Receiving r })))) (sym (eqb-true s q.serial e))
+ends slots q s (Collecting w) true e h = absurd cc
+ends slots q s Offering true e h = absurd cc
 ends slots q s (Finished o) true e h = absurd cc
 
 found : (slots : List (Option Entry)) (q : Request) (slot : Option Entry) (e : Entry) → slot ≡ Some e → is_waiting (progress_of slot q.serial) ≡ true →

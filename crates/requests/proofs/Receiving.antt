@@ -1,5 +1,5 @@
 -- How a receive into a whole buffer ends, and what a receive into places leaves.
-use Rattle.std.proofs.Common.{◌≡◌, ℕ, ◌≤◌, ◌||◌, Bool, true, false, cond, not, List, ◌++◌, length, drop, Option, Some, None, Ok, Err, Result, refl, sym, ap, ◌∙◌, arith}
+use Rattle.std.proofs.Common.{◌≡◌, ℕ, ◌≤◌, ◌&&◌, ◌||◌, Bool, true, false, cond, not, List, [], ◌++◌, length, drop, Option, Some, None, Ok, Err, Result, refl, sym, ap, ◌∙◌, arith}
 use Rattle.std.specs.Prelude.{nat_le}
 use Rattle.vocabulary.specs.declared.envelope.Status.{Status}
 use Rattle.layouts.specs.Buffers.{Contents, is_same_type, put_at}
@@ -12,6 +12,9 @@ use Rattle.perfect_queues.specs.Buffers.{Handed, is_too_short, places_in, whole}
 use Rattle.requests.specs.declared.outcome.Outcome.{Outcome}
 use Rattle.requests.specs.declared.outcome.Outcome.TheVariants.{Received, Ended}
 use Rattle.requests.specs.declared.outcome.Failure.TheVariants as failures
+use Rattle.vocabulary.specs.declared.basic_type.BasicType.{BasicType}
+use Rattle.requests.specs.declared.region.Region.{Region}
+use Rattle.requests.specs.Table.{has_room}
 use Rattle.requests.specs.declared.region.Places.{Places}
 use Rattle.requests.specs.declared.region.Places.TheVariants.{All}
 use Rattle.requests.specs.Outcomes.{outcome_of, outcome_of_whole}
@@ -41,6 +44,15 @@ of_whole b s m =
 
 pub whole_is : (b : Contents) (p : Places) (s : Status) (m : Contents) → p ≡ All → outcome_of_whole b s m ≡ outcome_of (handed_by b p) s m
 whole_is b p s m e = of_whole b s m ∙ ap (λ (q : Places). outcome_of (handed_by b q) s m) (sym e)
+
+-- a region that is a whole buffer has a place for each of its elements
+pub whole_room : (r : Region) (basic : BasicType) (n : ℕ) → r.places ≡ All → is_same_type r.buffer.basic basic ≡ true →
+    nat_le n (length r.buffer.values) ≡ has_room r basic n
+whole_room r basic n all same =
+    let law = first_places (length r.buffer.values) r.buffer.values [] in
+    sym (ap (λ (t : Bool). t && nat_le n (length (places_in (handed_by r.buffer r.places)))) same
+    ∙ ap (λ (p : Places). nat_le n (length (places_in (handed_by r.buffer p)))) all
+    ∙ ap (nat_le n) law.room)
 
 neither : (a b : Bool) → (not a || b) ≡ false → (a ≡ true) × (b ≡ false)
 neither true b h = (refl, h)

@@ -8,7 +8,7 @@ use Rattle.requests.specs.declared.outcome.Outcome.{Outcome}
 use Rattle.requests.specs.declared.outcome.Outcome.TheVariants.{Empty}
 use Rattle.requests.specs.declared.table.Entry.{Entry}
 use Rattle.requests.specs.declared.table.Progress.{Progress}
-use Rattle.requests.specs.declared.table.Progress.TheVariants.{Receiving, Finished}
+use Rattle.requests.specs.declared.table.Progress.TheVariants.{Receiving, Collecting, Offering, Finished}
 use Rattle.requests.specs.declared.table.Request.{Request}
 use Rattle.requests.specs.Lists.{named}
 use Rattle.requests.specs.Table.{Table, progress_at}
@@ -17,6 +17,8 @@ use Rattle.requests.specs.Table.{Table, progress_at}
 abbrev pub finished_with : Option Progress → Option Outcome
 finished_with None = None
 finished_with (Some (Receiving r)) = None
+finished_with (Some (Collecting w)) = None
+finished_with (Some Offering) = None
 finished_with (Some (Finished o)) = Some o
 
 -- the outcome of a request, where it is finished

@@ -3,7 +3,7 @@ use Rattle.std.specs.Prelude.{◌≡◌, ℕ, not, Bool, true, false, List, Opti
 use Rattle.std.specs.List.{list_all, list_any}
 use Rattle.requests.specs.declared.table.Entry.{Entry}
 use Rattle.requests.specs.declared.table.Progress.{Progress}
-use Rattle.requests.specs.declared.table.Progress.TheVariants.{Receiving, Finished}
+use Rattle.requests.specs.declared.table.Progress.TheVariants.{Receiving, Collecting, Offering, Finished}
 use Rattle.requests.specs.declared.table.Request.{Request}
 use Rattle.requests.specs.declared.outcome.Outcome.{Outcome}
 use Rattle.requests.specs.declared.outcome.Outcome.TheVariants.{Cancelled, Empty}
@@ -15,11 +15,15 @@ use Rattle.requests.specs.Table.{Table}
 abbrev pub is_waiting : Option Progress → Bool
 is_waiting None = false
 is_waiting (Some (Receiving r)) = true
+is_waiting (Some (Collecting w)) = false
+is_waiting (Some Offering) = false
 is_waiting (Some (Finished o)) = false
 
 -- a receive that waits has ended, and its buffer is as it was (MPI 3.1, 3.8.4)
 abbrev pub cancelled_progress : Progress → Progress
 cancelled_progress (Receiving r) = Finished (Cancelled r.buffer)
+cancelled_progress (Collecting w) = Collecting w
+cancelled_progress Offering = Offering
 cancelled_progress (Finished o) = Finished o
 
 -- an entry once its request was cancelled

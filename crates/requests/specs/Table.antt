@@ -1,12 +1,18 @@
 -- The table of requests.
-use Rattle.std.specs.Prelude.{◌≡◌, ◌≢◌, ℕ, ◌+◌, ◌≤◌, nat_le, Bool, true, false, ◌||◌, List, [], ◌∷◌, Option, Some, None, is_some, count_by, slice_index_or, slice_set, ◌==◌, if◌then◌else◌}
+use Rattle.std.specs.Prelude.{◌≡◌, ◌≢◌, ℕ, ◌+◌, ◌≤◌, nat_le, Bool, true, false, ◌&&◌, ◌||◌, List, length, [], ◌∷◌, Option, Some, None, is_some, count_by, slice_index_or, slice_set, ◌==◌, if◌then◌else◌}
 use Rattle.vocabulary.specs.declared.envelope.Status.{Status}
+use Rattle.vocabulary.specs.declared.basic_type.BasicType.{BasicType}
+use Rattle.layouts.specs.Buffers.{is_same_type}
+use Rattle.perfect_queues.specs.Buffers.{places_in}
 use Rattle.datatypes.specs.Contents.{Contents}
 use Rattle.requests.specs.declared.table.Entry.{Entry}
 use Rattle.requests.specs.declared.table.Progress.{Progress}
-use Rattle.requests.specs.declared.table.Progress.TheVariants.{Receiving, Finished}
+use Rattle.requests.specs.declared.table.Progress.TheVariants.{Receiving, Collecting, Offering, Finished}
 use Rattle.requests.specs.declared.outcome.Outcome.{Outcome}
 use Rattle.requests.specs.declared.outcome.Outcome.TheVariants as outcomes
+use Rattle.requests.specs.declared.outcome.Failure.{Failure}
+use Rattle.requests.specs.declared.outcome.Failure.TheVariants.{Truncated, WrongType}
+use Rattle.requests.specs.declared.region.Region.{Region}
 use Rattle.requests.specs.declared.table.Request.{Request}
 use Rattle.requests.specs.declared.table.Tested.{Tested}
 use Rattle.requests.specs.declared.table.Tested.TheVariants as tests
@@ -44,6 +50,8 @@ pub record IsSet (old new : List (Option Entry)) (key : ℕ) (slot : Option Entr
 -- how far a request is once its message came: a receive that waits ends with it
 abbrev pub progress_after : Progress → Status → Contents → Progress
 progress_after (Receiving r) status m = Finished (outcome_of (handed_of r) status m)
+progress_after (Collecting w) status m = Collecting w
+progress_after Offering status m = Offering
 progress_after (Finished o) status m = Finished o
 
 -- a receive that was unfinished ends with the message
@@ -72,6 +80,8 @@ progress_at slots key serial = progress_of (slot_at slots key) serial
 abbrev pub TestGives : Table → ℕ → Option Progress → Tested → Table → Type 0
 TestGives old key None tested new = (tested ≡ tests.Absent) × (new ≡ old)
 TestGives old key (Some (Receiving r)) tested new = (tested ≡ tests.Pending) × (new ≡ old)
+TestGives old key (Some (Collecting w)) tested new = (tested ≡ tests.Pending) × (new ≡ old)
+TestGives old key (Some Offering) tested new = (tested ≡ tests.Pending) × (new ≡ old)
 TestGives old key (Some (Finished o)) tested new = (tested ≡ tests.Done o) × (new.slots ≡ slice_set old.slots key None) × (new.serial ≡ old.serial)
 
 -- A RECEIVE THAT IS CANCELLED
@@ -81,6 +91,8 @@ abbrev pub cancelled_by : List (Option Entry) → Request → Option Progress �
 cancelled_by slots q None = slots
 cancelled_by slots q (Some (Receiving r)) =
     slice_set slots q.key (Some (record { serial = q.serial; progress = Finished (outcomes.Cancelled r.buffer) }))
+cancelled_by slots q (Some (Collecting w)) = slots
+cancelled_by slots q (Some Offering) = slots
 cancelled_by slots q (Some (Finished o)) = slots
 
 -- the slots once a request was cancelled: only a receive that waits changes
@@ -101,13 +113,17 @@ is_receives outcomes.Empty = true
 abbrev pub is_receive : Option Progress → Bool
 is_receive None = false
 is_receive (Some (Receiving r)) = true
+is_receive (Some (Collecting w)) = true
+is_receive (Some Offering) = false
 is_receive (Some (Finished o)) = is_receives o
 
 -- A RANK THAT WAS STARTED ANEW
 
--- a receive that waits ends, and its buffer is as it was
+-- a receive that waits or collects ends, and its buffer is as it was; a send that waits for an answer ends without one
 abbrev pub replaced_progress : Progress → Progress
 replaced_progress (Receiving r) = Finished (outcomes.Replaced (Some r.buffer))
+replaced_progress (Collecting w) = Finished (outcomes.Replaced (Some w.into.buffer))
+replaced_progress Offering = Finished (outcomes.Replaced None)
 replaced_progress (Finished o) = Finished o
 
 -- an entry once the rank that it names was replaced
@@ -127,3 +143,83 @@ after_replace slots key = slot_replaced (slot_at slots key) slots key
 abbrev pub after_replaces : List (Option Entry) → (keys : List ℕ) → List (Option Entry)
 after_replaces slots [] = slots
 after_replaces slots (key ∷ keys) = after_replaces (after_replace slots key) keys
+
+-- A LARGE MESSAGE
+
+-- whether a region has the message's basic type, and places for its elements
+abbrev pub has_room : Region → BasicType → (count : ℕ) → Bool
+has_room r basic count = is_same_type r.buffer.basic basic && nat_le count (length (places_in (handed_of r)))
+
+-- why a receive ends whose message doesn't fit: the types differ, or it is longer
+abbrev pub failure_of : Region → BasicType → Failure
+failure_of r basic = if is_same_type r.buffer.basic basic then Truncated else WrongType
+
+-- a receive that is matched with an announced message collects its data where it has room for them, and else ends with
+-- that match, its buffer as it was
+abbrev pub matched_progress : Region → Status → BasicType → Progress
+matched_progress r status basic =
+    if has_room r basic status.count
+    then Collecting (record { into = r; status = status })
+    else Finished (outcomes.Ended (failure_of r basic) status r.buffer)
+
+-- how far a request is once an announced message was matched with it
+abbrev pub progress_on_announcement : Progress → Status → BasicType → Progress
+progress_on_announcement (Receiving r) status basic = matched_progress r status basic
+progress_on_announcement (Collecting w) status basic = Collecting w
+progress_on_announcement Offering status basic = Offering
+progress_on_announcement (Finished o) status basic = Finished o
+
+-- the slot once it is so
+abbrev pub slot_announced : Option Entry → List (Option Entry) → (key : ℕ) → Status → BasicType → List (Option Entry)
+slot_announced None slots key status basic = slots
+slot_announced (Some e) slots key status basic =
+    slice_set slots key (Some (record e { progress = progress_on_announcement e.progress status basic }))
+
+-- the slots once an announced message was matched with the receive under a key
+abbrev pub after_announcement : List (Option Entry) → (key : ℕ) → Status → BasicType → List (Option Entry)
+after_announcement slots key status basic = slot_announced (slot_at slots key) slots key status basic
+
+-- whether a request wants the data of an announced message that is matched with it, by how far it is
+abbrev pub wants_so : Progress → BasicType → (count : ℕ) → Bool
+wants_so (Receiving r) basic count = has_room r basic count
+wants_so (Collecting w) basic count = false
+wants_so Offering basic count = false
+wants_so (Finished o) basic count = false
+
+-- whether the request in a slot does
+abbrev pub wants_by : Option Entry → BasicType → (count : ℕ) → Bool
+wants_by None basic count = false
+wants_by (Some e) basic count = wants_so e.progress basic count
+
+-- the receive that collects has all data now, and ends with them
+abbrev pub progress_on_delivery : Progress → Contents → Progress
+progress_on_delivery (Receiving r) m = Receiving r
+progress_on_delivery (Collecting w) m = Finished (outcome_of (handed_of w.into) w.status m)
+progress_on_delivery Offering m = Offering
+progress_on_delivery (Finished o) m = Finished o
+
+-- the slot once it is so
+abbrev pub slot_delivered : Option Entry → List (Option Entry) → (key : ℕ) → Contents → List (Option Entry)
+slot_delivered None slots key m = slots
+slot_delivered (Some e) slots key m =
+    slice_set slots key (Some (record e { progress = progress_on_delivery e.progress m }))
+
+-- the slots once all data of a message have come for the receive under a key
+abbrev pub after_delivery : List (Option Entry) → (key : ℕ) → Contents → List (Option Entry)
+after_delivery slots key m = slot_delivered (slot_at slots key) slots key m
+
+-- a send whose receiver has answered is over (3.4)
+abbrev pub progress_on_answer : Progress → Progress
+progress_on_answer (Receiving r) = Receiving r
+progress_on_answer (Collecting w) = Collecting w
+progress_on_answer Offering = Finished outcomes.Sent
+progress_on_answer (Finished o) = Finished o
+
+-- the slot once it is so
+abbrev pub slot_answered : Option Entry → List (Option Entry) → (key : ℕ) → List (Option Entry)
+slot_answered None slots key = slots
+slot_answered (Some e) slots key = slice_set slots key (Some (record e { progress = progress_on_answer e.progress }))
+
+-- the slots once the receiver of the send under a key has answered
+abbrev pub after_answer : List (Option Entry) → (key : ℕ) → List (Option Entry)
+after_answer slots key = slot_answered (slot_at slots key) slots key

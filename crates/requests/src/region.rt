@@ -2,11 +2,13 @@
 
 ghost use Rattle.std.specs.Prelude.{◌≡◌, ◌*◌, length, None, IfOk, false, nat_lt};
 ghost use Rattle.perfect_queues.specs.Buffers.{differs_in_type, is_too_short};
+ghost use Rattle.requests.specs.Table.{has_room};
 ghost use Rattle.requests.specs.Regions.{CanReceive, handed_of, byte_count, packed_of, is_unfit_to_receive};
 
 use datatypes::{Buffer, Layout};
 use std::alloc::{AllocError, Global};
 use std::marker::Model;
+use vocabulary::BasicType;
 
 /// Which places of a buffer data take, in order (MPI 3.1, 3.2.2 and 4.1.11).
 #[derive(Debug, Drop)]
@@ -125,6 +127,20 @@ impl Region {
         }
     }
 
+    /// Whether its elements are of this type, and there are places for so many (MPI 3.1, 3.2.4 and 3.3.1).
+    #[tactic(auto, using(crate::proofs::Receiving::whole_room))]
+    pub fn has_room(&self, basic: BasicType, count: u64) -> bool
+        ensures { result ≡ has_room self.now basic count }
+    {
+        if self.buffer.basic() != basic {
+            return false;
+        }
+        match &self.places {
+            Places::All => count <= self.buffer.len() as u64,
+            Places::Copies(layout, copies) => count <= layout.place_count(*copies),
+        }
+    }
+
     /// The elements at the places, in order, as a buffer of their own; none where they are the buffer itself, since all
     /// of it is taken (MPI 3.1, 4.1.11). It fails for want of memory alone.
     pub fn pack(&self, alloc: Global) -> Result<Option<Buffer>, AllocError>
@@ -158,6 +174,13 @@ impl ReceiveRegion {
         ensures { result ≡ region }
     {
         ReceiveRegion { region }
+    }
+
+    /// Whether its elements are of this type, and there are places for so many (MPI 3.1, 3.2.4 and 3.3.1).
+    pub fn has_room(&self, basic: BasicType, count: u64) -> bool
+        ensures { result ≡ has_room self.now basic count }
+    {
+        self.region.has_room(basic, count)
     }
 
     /// The buffer of the region.

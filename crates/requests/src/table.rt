@@ -5,10 +5,10 @@ ghost use Rattle.std.specs.List.{list_any};
 ghost use Rattle.requests.specs.Completions.{outcome_at};
 ghost use Rattle.requests.specs.Lists.{named, is_one_absent};
 ghost use Rattle.requests.specs.Steps.{is_waiting, lacks, cancelled_entry};
-ghost use Rattle.requests.specs.Table.{Table, HasRoom, is_full, entry_at, IsSet, after_finish, after_message, progress_at, TestGives, replaced_entry, after_replace, after_replaces, after_cancel, is_receive, is_receives};
+ghost use Rattle.requests.specs.Table.{Table, HasRoom, is_full, entry_at, IsSet, after_finish, after_message, progress_at, TestGives, replaced_entry, after_replace, after_replaces, after_cancel, is_receive, is_receives, slot_at, wants_by, matched_progress, progress_on_announcement, progress_on_delivery, progress_on_answer, after_announcement, after_delivery, after_answer};
 
 use crate::list::RequestList;
-use crate::outcome::{Outcome, received};
+use crate::outcome::{Failure, Outcome, received};
 use crate::refused::Refused;
 use crate::region::ReceiveRegion;
 use datatypes::Buffer;
@@ -16,7 +16,7 @@ use slab::Slab;
 use std::alloc::Global;
 use std::marker::Model;
 use std::mem;
-use vocabulary::Status;
+use vocabulary::{BasicType, Status};
 
 /// The most requests that a rank has at one time, those that are finished and not yet answered included.
 const MOST_REQUESTS: usize = 65_536;
@@ -30,11 +30,24 @@ pub struct Request {
     pub serial: u64,
 }
 
+/// A receive that was matched with an announced message, and waits for its data.
+#[derive(Debug, Drop)]
+pub struct Matched {
+    /// Where the data go.
+    pub into: ReceiveRegion,
+    /// What the message says of itself.
+    pub status: Status,
+}
+
 /// How far an operation is.
 #[derive(Debug, Drop)]
 pub enum Progress {
     /// A receive into this region waits for its message.
     Receiving(ReceiveRegion),
+    /// A receive was matched with an announced message, whose data come in pieces.
+    Collecting(Matched),
+    /// A send has announced its message, and waits for its receiver's answer.
+    Offering,
     /// The operation is over, and its outcome was not yet answered.
     Finished(Outcome),
 }
@@ -82,8 +95,56 @@ fn advance(entry: &mut Entry, status: Status, message: &Buffer)
         Progress::Receiving(region) => {
             entry.progress = Progress::Finished(received(region, status, message));
         }
-        Progress::Finished(outcome) => entry.progress = Progress::Finished(outcome),
+        other => entry.progress = other,
     }
+}
+
+/// Matches a receive that waits with an announced message: it collects the data where it has room for them, and else is
+/// over.
+fn announce(entry: &mut Entry, status: Status, basic: BasicType)
+    ensures { entry.new ≡ record entry.old { progress = progress_on_announcement entry.old.progress status basic } }
+{
+    match mem::replace(&mut entry.progress, Progress::Offering) {
+        Progress::Receiving(into) => entry.progress = match_announced(into, status, basic),
+        other => entry.progress = other,
+    }
+}
+
+/// Ends a receive that collects with the data that it waited for.
+fn deliver(entry: &mut Entry, message: &Buffer)
+    ensures { entry.new ≡ record entry.old { progress = progress_on_delivery entry.old.progress message.now } }
+{
+    match mem::replace(&mut entry.progress, Progress::Offering) {
+        Progress::Collecting(Matched { into, status }) => {
+            entry.progress = Progress::Finished(received(into, status, message));
+        }
+        other => entry.progress = other,
+    }
+}
+
+/// Ends a send that waits for its receiver's answer.
+fn end_offered(entry: &mut Entry)
+    ensures { entry.new ≡ record entry.old { progress = progress_on_answer entry.old.progress } }
+{
+    if let Progress::Offering = &entry.progress {
+        entry.progress = Progress::Finished(Outcome::Sent);
+    }
+}
+
+/// How far a receive into this region is once it was matched with an announced message of this status and type.
+pub fn match_announced(into: ReceiveRegion, status: Status, basic: BasicType) -> Progress
+    ensures { result ≡ matched_progress into status basic }
+{
+    if into.has_room(basic, status.count) {
+        return Progress::Collecting(Matched { into, status });
+    }
+    let buffer = into.into_buffer();
+    let why = if buffer.basic() == basic {
+        Failure::Truncated
+    } else {
+        Failure::WrongType
+    };
+    Progress::Finished(Outcome::Ended(why, status, buffer))
 }
 
 /// Ends a receive that waits, for the rank that it names was started anew.
@@ -94,6 +155,11 @@ fn end_replaced(entry: &mut Entry)
         Progress::Receiving(region) => {
             entry.progress = Progress::Finished(Outcome::Replaced(Some(region.into_buffer())));
         }
+        Progress::Collecting(matched) => {
+            let buffer = matched.into.into_buffer();
+            entry.progress = Progress::Finished(Outcome::Replaced(Some(buffer)));
+        }
+        Progress::Offering => entry.progress = Progress::Finished(Outcome::Replaced(None)),
         Progress::Finished(outcome) => entry.progress = Progress::Finished(outcome),
     }
 }
@@ -106,7 +172,7 @@ fn end_cancelled(entry: &mut Entry)
         Progress::Receiving(region) => {
             entry.progress = Progress::Finished(Outcome::Cancelled(region.into_buffer()));
         }
-        Progress::Finished(outcome) => entry.progress = Progress::Finished(outcome),
+        other => entry.progress = other,
     }
 }
 
@@ -176,6 +242,47 @@ impl Requests {
         }
     }
 
+    /// Matches the receive under this key with an announced message of this status and type: it collects its data where
+    /// it has room for them, and else is over (MPI 3.1, 3.2.4 and 3.3.1). Anything else stays as it is.
+    pub fn announce(&mut self, key: usize, status: Status, basic: BasicType)
+        ensures { self.new ≡ record self.old { slots = after_announcement self.old.slots key status basic } }
+    {
+        if let Some(entry) = self.entries.get_mut(key) {
+            announce(entry, status, basic);
+        }
+    }
+
+    /// Whether the receive under this key waits, and has room for a message of this type and so many elements.
+    pub fn wants(&self, key: usize, basic: BasicType, count: u64) -> bool
+        ensures { result ≡ wants_by (slot_at self.now.slots key) basic count }
+    {
+        match self.entries.get(key) {
+            Some(entry) => match &entry.progress {
+                Progress::Receiving(into) => into.has_room(basic, count),
+                Progress::Collecting(_) | Progress::Offering | Progress::Finished(_) => false,
+            },
+            None => false,
+        }
+    }
+
+    /// Gives the receive under this key the data that it collected. Anything else stays as it is.
+    pub fn deliver(&mut self, key: usize, message: &Buffer)
+        ensures { self.new ≡ record self.old { slots = after_delivery self.old.slots key message.now } }
+    {
+        if let Some(entry) = self.entries.get_mut(key) {
+            deliver(entry, message);
+        }
+    }
+
+    /// Ends the send under this key, whose receiver has answered (MPI 3.1, 3.4). Anything else stays as it is.
+    pub fn finish_send(&mut self, key: usize)
+        ensures { self.new ≡ record self.old { slots = after_answer self.old.slots key } }
+    {
+        if let Some(entry) = self.entries.get_mut(key) {
+            end_offered(entry);
+        }
+    }
+
     /// Ends the receive under this key, if one waits there.
     fn replace(&mut self, key: usize)
         ensures { self.new ≡ record self.old { slots = after_replace self.old.slots key } }
@@ -242,7 +349,8 @@ impl Requests {
                     return false;
                 }
                 match &entry.progress {
-                    Progress::Receiving(_) => true,
+                    Progress::Receiving(_) | Progress::Collecting(_) => true,
+                    Progress::Offering => false,
                     Progress::Finished(outcome) => outcome.is_receives(),
                 }
             }
@@ -261,7 +369,7 @@ impl Requests {
                 }
                 match &entry.progress {
                     Progress::Receiving(_) => true,
-                    Progress::Finished(_) => false,
+                    Progress::Collecting(_) | Progress::Offering | Progress::Finished(_) => false,
                 }
             }
             None => false,
@@ -294,7 +402,7 @@ impl Requests {
                     return false;
                 }
                 match &entry.progress {
-                    Progress::Receiving(_) => false,
+                    Progress::Receiving(_) | Progress::Collecting(_) | Progress::Offering => false,
                     Progress::Finished(_) => true,
                 }
             }
@@ -311,8 +419,11 @@ impl Requests {
                 if entry.serial != request.serial {
                     return Tested::Absent;
                 }
-                if let Progress::Receiving(_) = &entry.progress {
-                    return Tested::Pending;
+                match &entry.progress {
+                    Progress::Receiving(_) | Progress::Collecting(_) | Progress::Offering => {
+                        return Tested::Pending;
+                    }
+                    Progress::Finished(_) => {}
                 }
             }
             None => return Tested::Absent,
@@ -320,7 +431,9 @@ impl Requests {
         match self.entries.try_remove(request.key) {
             Some(entry) => match entry.progress {
                 Progress::Finished(outcome) => Tested::Done(outcome),
-                Progress::Receiving(_) => Tested::Absent,
+                Progress::Receiving(_) | Progress::Collecting(_) | Progress::Offering => {
+                    Tested::Absent
+                }
             },
             None => Tested::Absent,
         }

@@ -32,7 +32,7 @@ abbrev pub count_for : ℕ → List Sending → ℕ
 count_for rank fs = count_by (λ f. f.rank == rank) fs
 
 -- one frame more for this rank, or for another
-one_more : (peers : List Peer) (k r : ℕ) (b : List ℕ) (t : Bool) → (k == r) ≡ t → k < length peers →
+pub one_more : (peers : List Peer) (k r : ℕ) (b : List ℕ) (t : Bool) → (k == r) ≡ t → k < length peers →
     number_at (with_sender peers k (after_accept (peer_at peers k).sender b)) r ≡ number_at peers r + cond t 1 0
 one_more peers k r b true is there =
     let s : SenderState = after_accept (peer_at peers k).sender b in

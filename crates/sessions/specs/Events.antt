@@ -1,5 +1,6 @@
 -- What an event does to the sessions: the lesson, the link, and then the frames.
 use Rattle.std.specs.Prelude.{◌≡◌, ℕ, ◌+◌, ◌<◌, nat_le, nat_lt, max, ◌==◌, Bool, true, false, List, [], ◌∷◌, ◌++◌, map, length, Option, Some, None, if◌then◌else◌, slice_index, slice_set, ◌⊎◌}
+use Rattle.std.specs.List.{AllByRecursion}
 use Rattle.vocabulary.specs.declared.endpoint.Endpoint.{Endpoint}
 use Rattle.datagram.specs.Spelling.{FrameText, frame_text, FrameFits}
 use Rattle.reliable_link.specs.SenderState.{SenderState, after_ack, after_accept, entered_on_ack, next_number}
@@ -127,6 +128,11 @@ heard_limit s (Some h) = word_limit h.word (session_met h.lesson (peer_at s.peer
 abbrev pub sends_limit : SessionsState → List Sending → Option Refused
 sends_limit s [] = None
 sends_limit s (f ∷ fs) = if is_worn_out (peer_at s.peers f.rank).sender then Some refusals.Limit else sends_limit (after_send s f) fs
+
+-- so many frames, all for one rank
+pub record AreFor (rank count : ℕ) (fs : List Sending) : Type 0 where
+  pub each : AllByRecursion (λ f. f.rank ≡ rank) fs
+  pub many : length fs ≡ count
 
 -- the first of two
 abbrev pub first_limit : Option Refused → Option Refused → Option Refused

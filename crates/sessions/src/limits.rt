@@ -1,11 +1,11 @@
 //! The limit that an event meets: no last number is used.
 
-ghost use Rattle.std.specs.Prelude.{◌≡◌, ◌<◌, ◌≤◌, ◌+◌, ◌==◌, ◌∷◌, [], nat_le, All, None, Some, count_by, length, slice_get};
+ghost use Rattle.std.specs.Prelude.{◌≡◌, ◌<◌, ◌≤◌, ◌+◌, ◌==◌, ◌∷◌, [], nat_le, All, List, None, Some, count_by, length, slice_get};
 ghost use Rattle.datagram.specs.Spelling.{FrameText};
 ghost use Rattle.reliable_link.specs.SenderState.{next_number};
 ghost use Rattle.sessions.specs.Peers.{peer_at};
-ghost use Rattle.sessions.specs.Heard.{heard_option, CanHear};
-ghost use Rattle.sessions.specs.Events.{CanSend, sendings, after_heard, heard_limit, sends_limit, event_limit};
+ghost use Rattle.sessions.specs.Heard.{heard_option, heard_text, CanHear};
+ghost use Rattle.sessions.specs.Events.{AreFor, CanSend, Sending, sendings, after_heard, heard_limit, sends_limit, event_limit};
 
 use crate::heard::{Heard, Outgoing, Word};
 use crate::judging::next_in;
@@ -104,6 +104,24 @@ impl Sessions {
             return Some(limit);
         }
         self.limit_of_sends(heard, frames)
+    }
+
+    /// The limit that an event meets whose frames, so many, all go to the rank that spoke, whatever they say: 13 exactly
+    /// where the frame that is handed up has the last number, or one of the frames would have it. It changes nothing, and
+    /// takes no memory.
+    pub fn limit_of_replies(&self, heard: Heard<'_>, count: usize) -> Option<Refused>
+        requires { CanHear self.now (Some (heard_text heard)) }
+        ensures { (frames : List Sending) → AreFor heard.entry.source.rank count frames →
+            result ≡ event_limit self.now (Some (heard_text heard.entry)) frames }
+    {
+        if let Some(limit) = self.limit_of_heard(Some(heard)) {
+            return Some(limit);
+        }
+        let number = self.next_number_after(Some(heard), heard.source.rank);
+        if count as u64 > u64::MAX - number {
+            return Some(Refused::Limit);
+        }
+        None
     }
 
     /// The limit that a frame to a rank meets, whatever the frame says: 13 exactly where it would have the last number. It

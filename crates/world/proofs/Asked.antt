@@ -3,10 +3,10 @@ use Rattle.std.proofs.Common.{◌≡◌, ℕ, List, [], Option, Some, None, refl
 use Rattle.std.specs.Prelude.{Err, slice_get}
 use Rattle.engine.specs.Calls.{WhyRefused, fault_of}
 use Rattle.engine.specs.EngineState.{EngineState}
-use Rattle.rank_core.specs.Refusals.{IsRefusal}
-use Rattle.rank_core.specs.declared.call.Call.{Call}
-use Rattle.rank_core.specs.declared.refused.Refused as lower
-use Rattle.rank_core.specs.declared.refused.Refused.TheVariants as lowers
+use Rattle.rank_calls.specs.Refusals.{IsRefusal}
+use Rattle.rank_calls.specs.declared.call.Call.{Call}
+use Rattle.rank_calls.specs.declared.refused.Refused as lower
+use Rattle.rank_calls.specs.declared.refused.Refused.TheVariants as lowers
 use Rattle.world.specs.Faults.{first_fault, target_of}
 use Rattle.world.specs.Steps.{ByTheEngine, ByTheWorld, CallRuns, EventRuns, ForRoom, IsFaultOrMemory, IsFirstFault, IsWhy, RanAt, Refusal, asked_fault, engine_fault, fault_among, fault_by, fault_in, of_engine}
 use Rattle.world.specs.WorldState.{WorldState}

@@ -13,7 +13,7 @@ use Rattle.sessions.specs.declared.refused.Refused as lower
 use Rattle.sessions.specs.Events.{TurnedAway}
 use Rattle.sessions.specs.Heard.{HeardText, heard_of}
 use Rattle.sessions.specs.SessionsState.{SessionsState}
-use Rattle.rank_core.specs.declared.refused.Refused.{Refused}
+use Rattle.rank_calls.specs.declared.refused.Refused.{Refused}
 use Rattle.proof_network_bridge.specs.Following.{RefusesDatagram}
 use Rattle.proof_network_bridge.specs.Joined.{IsClean, IsFollowed}
 use Rattle.proof_network_bridge.proofs.Closed.{refusals_follow}
@@ -161,6 +161,6 @@ refused_plainly old event failed engines datagrams history dr er s es ds hs rese
 
 -- where enough room would have been found, and none was, the world had none
 pub had_no_room : (old : WorldState) (size datagrams entries : ℕ) (found : Bool) → size ≡ length old.engines → datagrams ≡ length old.datagrams → entries ≡ length old.history →
-    (datagrams + 64 * size ≤ old.datagram_room → entries + 1 ≤ old.entry_room → found ≡ true) → found ≡ false → HasRoom old → ⊥
+    (datagrams + 1025 * size ≤ old.datagram_room → entries + 1 ≤ old.entry_room → found ≡ true) → found ≡ false → HasRoom old → ⊥
 had_no_room old size datagrams entries found size_is datagrams_are entries_are enough none room =
     both_ways found none (enough (omega (arith, size_is, datagrams_are, room.datagrams)) (omega (arith, entries_are, room.entries)))

@@ -24,9 +24,9 @@ use Rattle.rank_core.specs.CoreState.{CoreState}
 use Rattle.engine.specs.Refusals.{of_sessions}
 use Rattle.engine.specs.Datagrams.{HearingGives}
 use Rattle.engine.specs.EngineState.{EngineState}
-use Rattle.rank_core.specs.Refusals.{of_datagram}
-use Rattle.rank_core.specs.declared.refused.Refused as lower
-use Rattle.rank_core.specs.declared.refused.Refused.TheVariants as lowers
+use Rattle.rank_calls.specs.Refusals.{of_datagram}
+use Rattle.rank_calls.specs.declared.refused.Refused as lower
+use Rattle.rank_calls.specs.declared.refused.Refused.TheVariants as lowers
 use Rattle.world.specs.declared.refused.Refused.{Refused}
 use Rattle.world.specs.declared.refused.Refused.TheVariants.{CarriesJob, Engine, NoSuchRank}
 use Rattle.world.specs.Faults.{event_fault, first_fault}

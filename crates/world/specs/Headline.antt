@@ -12,11 +12,11 @@ use Rattle.engine.specs.EngineState.{EngineState}
 use Rattle.sessions.specs.Peers.{peer_at}
 use Rattle.reliable_link.specs.SenderState.{SenderState, next_number}
 use Rattle.engine.specs.Calls.{CallGives}
-use Rattle.rank_core.specs.Calls.{IsTaken}
-use Rattle.rank_core.specs.declared.call.Call.{Call}
-use Rattle.rank_core.specs.declared.call.Reply.{Reply}
-use Rattle.rank_core.specs.declared.call.Reply.TheVariants as replies
-use Rattle.rank_core.specs.declared.refused.Refused.{Refused}
+use Rattle.rank_calls.specs.Calls.{IsTaken}
+use Rattle.rank_calls.specs.declared.call.Call.{Call}
+use Rattle.rank_calls.specs.declared.call.Reply.{Reply}
+use Rattle.rank_calls.specs.declared.call.Reply.TheVariants as replies
+use Rattle.rank_calls.specs.declared.refused.Refused.{Refused}
 use Rattle.perfect_queues.specs.Events as machine
 use Rattle.perfect_queues.specs.Quiet.{IsAtRest}
 use Rattle.perfect_queues.specs.Refusals.{fault}

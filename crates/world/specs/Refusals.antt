@@ -1,6 +1,6 @@
 -- The numbers under which a world refuses.
 use Rattle.std.specs.Prelude.{ℕ}
-use Rattle.rank_core.specs.Refusals as lower
+use Rattle.rank_calls.specs.Refusals as lower
 use Rattle.world.specs.declared.refused.Refused.{Refused}
 use Rattle.world.specs.declared.refused.Refused.TheVariants.{Engine, NoSuchRank, NoSuchDatagram, CarriesJob}
 

@@ -5,13 +5,13 @@ use Rattle.vocabulary.specs.Endpoints.{last_incarnation}
 use Rattle.incarnation.specs.declared.place.Place.{Place}
 use Rattle.engine.specs.EngineState.{EngineState, emptied, opening}
 use Rattle.engine.specs.Calls.{CallGives, fault_of}
-use Rattle.rank_core.specs.Calls.{IsTaken, IsWithin}
-use Rattle.rank_core.specs.Refusals.{IsRefusal}
-use Rattle.rank_core.specs.declared.refused.Refused as lower
-use Rattle.rank_core.specs.declared.refused.Refused.TheVariants as lowers
-use Rattle.rank_core.specs.declared.call.Call.{Call}
-use Rattle.rank_core.specs.declared.call.Reply.{Reply}
-use Rattle.rank_core.specs.declared.call.Reply.TheVariants as replies
+use Rattle.rank_calls.specs.Calls.{IsTaken, IsWithin}
+use Rattle.rank_calls.specs.Refusals.{IsRefusal}
+use Rattle.rank_calls.specs.declared.refused.Refused as lower
+use Rattle.rank_calls.specs.declared.refused.Refused.TheVariants as lowers
+use Rattle.rank_calls.specs.declared.call.Call.{Call}
+use Rattle.rank_calls.specs.declared.call.Reply.{Reply}
+use Rattle.rank_calls.specs.declared.call.Reply.TheVariants as replies
 use Rattle.requests.specs.declared.answer.Answer.{Answer}
 use Rattle.world.specs.declared.event.Event.{Event}
 use Rattle.world.specs.declared.event.Event.TheVariants as events

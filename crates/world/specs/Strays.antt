@@ -5,9 +5,9 @@ use Rattle.datagram.specs.Spelling.{DatagramText}
 use Rattle.datagram.specs.Reading.{datagram_of, number_at}
 use Rattle.engine.specs.Datagrams.{DatagramGives}
 use Rattle.engine.specs.EngineState.{EngineState}
-use Rattle.rank_core.specs.declared.refused.Refused as lower
-use Rattle.rank_core.specs.declared.refused.Refused.TheVariants as engines
-use Rattle.rank_core.specs.Refusals.{of_datagram}
+use Rattle.rank_calls.specs.declared.refused.Refused as lower
+use Rattle.rank_calls.specs.declared.refused.Refused.TheVariants as engines
+use Rattle.rank_calls.specs.Refusals.{of_datagram}
 use Rattle.world.specs.declared.refused.Refused.{Refused}
 use Rattle.world.specs.declared.refused.Refused.TheVariants.{Engine, CarriesJob}
 

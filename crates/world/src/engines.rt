@@ -1,7 +1,7 @@
 //! What one event does to the engines of a world.
 
 ghost use Rattle.std.specs.Prelude.{◌≡◌, ◌≤◌, ◌<◌, ◌*◌, length, option_map, Option, Some, None, IfOk, IfErr, OnErr, slice_get, vec_len};
-ghost use Rattle.rank_core.specs.declared.refused.Refused.TheVariants as lowers;
+ghost use Rattle.rank_calls.specs.declared.refused.Refused.TheVariants as lowers;
 ghost use Rattle.engine.specs.EngineState.{opening};
 ghost use Rattle.proof_network_bridge.specs.Joined.{opening_engines};
 ghost use Rattle.proof_link_truth.specs.Wire.{at, place_of};
@@ -116,7 +116,7 @@ pub fn run_event(
     requires world { IsWorld engines.old.items }
     requires placed { ArePlaced engines.old.items }
     ensures exact { RanAt datagrams.now event engines.old.items (gave_of result) engines.new.items }
-    ensures few { length (emitted (gave_of result)) ≤ 64 * vec_len engines.old }
+    ensures few { length (emitted (gave_of result)) ≤ 1025 * vec_len engines.old }
     ensures world { IsWorld engines.new.items }
     ensures unchanged { OnErr result (engines.new.items ≡ engines.old.items) }
 {

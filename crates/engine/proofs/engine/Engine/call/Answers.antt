@@ -1,5 +1,5 @@
 use Rattle.std.proofs.Common.{sym, ◌∙◌}
-use Rattle.rank_core.specs.declared.prepared.Prepared.{Prepared}
+use Rattle.rank_calls.specs.declared.prepared.Prepared.{Prepared}
 use Rattle.engine.proofs.Calling.{answered, joined, refused_by_core, refused_on_the_way}
 use Rattle.engine.proofs.engine.Engine.call.Goals as goal
 

@@ -1,5 +1,5 @@
 use Rattle.std.proofs.Common.{Result, Err}
-use Rattle.rank_core.specs.declared.refused.Refused.{Refused}
+use Rattle.rank_calls.specs.declared.refused.Refused.{Refused}
 use Rattle.sessions.specs.Heard.{heard_text}
 use Rattle.engine.proofs.Calling.{joined}
 use Rattle.engine.proofs.Hearing.{heard_is_known, refusal_leaves, turned_away}

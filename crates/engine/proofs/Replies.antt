@@ -1,0 +1,130 @@
+-- The frames that the core calls for: they all go to the rank that spoke, the sessions can send them, and they are few.
+use Rattle.std.proofs.Common.{◌≡◌, ℕ, ◌+◌, ◌<◌, ◌≤◌, Bool, List, [], ◌∷◌, length, map, Option, Some, None, refl, sym, ap, subst, ◌∙◌, arith}
+use Rattle.std.specs.Prelude.{All}
+use Rattle.std.specs.List.{AllByRecursion}
+use Rattle.std.proofs.lemmas.List.{length-map}
+use Rattle.std.proofs.lemmas.List.Elements.{All-cons, All-nil}
+use Rattle.vocabulary.specs.declared.endpoint.Endpoint.{Endpoint}
+use Rattle.vocabulary.specs.BasicTypes.{size_of}
+use Rattle.datatypes.specs.Contents.{bytes_of}
+use Rattle.datagram.specs.declared.kinds.Clearance.{Clearance}
+use Rattle.datagram.specs.declared.kinds.Clearance.TheVariants.{Send, Drop}
+use Rattle.datagram.specs.Spelling.{ClearFrame, DataFrame, EagerFrame, FrameText, RequestFrame, RequestText}
+use Rattle.incarnation.specs.declared.place.Place.{Place}
+use Rattle.match_queues.specs.Arrivals.{arrival_at}
+use Rattle.match_queues.specs.declared.envelope.Receive.{Receive}
+use Rattle.match_queues.specs.State.{receive_at, receive_for}
+use Rattle.rendezvous.specs.declared.offer.Offer.{Offer}
+use Rattle.rendezvous.specs.Pieces.{pieces_of}
+use Rattle.rendezvous.specs.State.{offered}
+use Rattle.requests.specs.declared.table.Entry.{Entry}
+use Rattle.rank_core.specs.CoreState.{CoreState}
+use Rattle.rank_calls.specs.declared.sending.Addressed.{Addressed}
+use Rattle.rank_calls.specs.Frames.{FrameFor, addressed_text, as_list}
+use Rattle.rank_calls.specs.Hearing.{CanGo, HeardFits, announced_of, data_frames, wanted_frames}
+use Rattle.rank_core.specs.Hearing.{called_for, news_frames, taught}
+use Rattle.rank_calls.specs.Receiving.{answer_on_arrival}
+use Rattle.sessions.specs.declared.heard.Outgoing.{Outgoing}
+use Rattle.sessions.specs.declared.refused.Refused as lower
+use Rattle.sessions.specs.declared.refused.Refused.TheVariants as lowers
+use Rattle.sessions.specs.Refusals as lowest
+use Rattle.sessions.specs.Events.{AreFor, CanSend, Sending, most_answers, sendings}
+use Rattle.sessions.specs.Heard.{Acknowledges, Hands, HeardText, Nothing, Repeats, WordFits, WordText}
+use Rattle.engine.specs.Calls.{outgoing_of, sending_of}
+use Rattle.engine.specs.Datagrams.{frame_in, news_of, replies}
+
+-- ---- to whom they go
+
+-- all of these frames are for this rank
+abbrev pub AreFramesFor : ℕ → List FrameFor → Type 0
+AreFramesFor rank fs = AllByRecursion (λ f. f.rank ≡ rank) (map sending_of fs)
+
+data_are_for : (rank transfer : ℕ) (ps : List (ℕ × List ℕ)) → AreFramesFor rank (data_frames rank transfer ps)
+data_are_for rank transfer [] = tt
+data_are_for rank transfer (p ∷ ps) = (refl, data_are_for rank transfer ps)
+
+wanted_are_for : (rank : ℕ) (clearance : Clearance) (o : Option Offer) → AreFramesFor rank (wanted_frames rank clearance o)
+wanted_are_for rank Drop o = tt
+wanted_are_for rank Send None = tt
+wanted_are_for rank Send (Some o) = data_are_for rank o.transfer (pieces_of (bytes_of (size_of o.elements.basic) o.elements.values))
+
+answer_is_for : (slots : List (Option Entry)) (r : Option Receive) (s : Endpoint) (t : RequestText) →
+    AreFramesFor s.rank (as_list (answer_on_arrival slots (arrival_at r (announced_of s t))))
+unfolding announced_of
+answer_is_for slots None s t = tt
+answer_is_for slots (Some r) s t = (refl, tt)
+
+called_are_for : (c : CoreState) (s : Endpoint) (f : Option FrameText) → AreFramesFor s.rank (called_for c s f)
+called_are_for c s None = tt
+called_are_for c s (Some (EagerFrame t)) = tt
+called_are_for c s (Some (RequestFrame t)) =
+    answer_is_for c.slots (receive_at c.queues.posted (receive_for (announced_of s t) c.queues.posted)) s t
+called_are_for c s (Some (ClearFrame t)) = wanted_are_for s.rank t.clearance (offered c.transfers s.rank t.transfer)
+called_are_for c s (Some (DataFrame t)) = tt
+
+-- so many frames go to the rank that spoke
+pub replies_are_for : (c : CoreState) (h : HeardText) (count : ℕ) → count ≡ length (news_frames c (news_of h)) →
+    AreFor h.source.rank count (replies c h)
+replies_are_for c h count is =
+    record {
+      each = called_are_for (taught h.lesson c h.source) h.source (frame_in h.word);
+      many = length-map (news_frames c (news_of h)) sending_of ∙ sym is;
+    }
+
+-- ---- the sessions can send them
+
+can_send : (size : ℕ) (place : Place) (fs : List FrameFor) → size ≡ place.size → AllByRecursion (CanGo size) fs →
+    All (CanSend place) (map sending_of fs)
+can_send size place [] same go = All-nil (CanSend place)
+can_send size place (f ∷ fs) same go =
+    All-cons (CanSend place) (sending_of f) (map sending_of fs)
+    (record { there = subst (λ (n : ℕ). f.rank < n) same go.0.there; fits = go.0.fits })
+    (can_send size place fs same go.1)
+
+said : (fs : List Addressed) → sendings (map outgoing_of fs) ≡ map sending_of (map addressed_text fs)
+said [] = refl
+said (f ∷ fs) = ap (λ (rest : List Sending). sending_of (addressed_text f) ∷ rest) (said fs)
+
+-- what the program hands to the sessions says what the core calls for
+pub outgoing_says : (c : CoreState) (h : HeardText) (os : List Outgoing) (fs : List Addressed) → os ≡ map outgoing_of fs →
+    map addressed_text fs ≡ news_frames c (news_of h) → sendings os ≡ replies c h
+outgoing_says c h os fs made are = ap sendings made ∙ said fs ∙ ap (map sending_of) are
+
+pub outgoing_can_go : (c : CoreState) (place : Place) (h : HeardText) (os : List Outgoing) → sendings os ≡ replies c h → c.place ≡ place →
+    AllByRecursion (CanGo c.place.size) (news_frames c (news_of h)) → All (CanSend place) (sendings os)
+outgoing_can_go c place h os says same go =
+    subst (λ (fs : List Sending). All (CanSend place) fs) (sym says)
+    (can_send c.place.size place (news_frames c (news_of h)) (ap (λ (p : Place). p.size) same) go)
+
+-- ---- they are few
+
+few_by : (c : CoreState) (s : Endpoint) (lesson : Bool) (w : WordText) →
+    length (news_frames c (record { source = s; lesson = lesson; frame = frame_in w })) ≤ 1024 →
+    most_answers (Some (record { source = s; lesson = lesson; word = w }))
+    + length (news_frames c (record { source = s; lesson = lesson; frame = frame_in w })) ≤ 1025
+few_by c s lesson (Acknowledges n) few = omega arith
+few_by c s lesson Repeats few = omega arith
+few_by c s lesson (Hands f) few = omega (arith, few)
+few_by c s lesson Nothing few = omega arith
+
+-- with what answers the word they are at most 1,025
+pub few_go_out : (c : CoreState) (h : HeardText) (os : List Outgoing) → sendings os ≡ replies c h →
+    length (news_frames c (news_of h)) ≤ 1024 → most_answers (Some h) + length os ≤ 1025
+few_go_out c h os says few =
+    let many : length os ≡ length (news_frames c (news_of h)) =
+    sym (length-map os _) ∙ ap length says ∙ length-map (news_frames c (news_of h)) sending_of in
+    subst (λ (n : ℕ). most_answers (Some h) + n ≤ 1025) (sym many) (few_by c h.source h.lesson h.word few)
+
+-- ---- what becomes of it
+
+-- what is handed up is within the format's limits
+pub news_fit : (w : WordText) → WordFits w → HeardFits (frame_in w)
+news_fit (Acknowledges n) fits = tt
+news_fit Repeats fits = tt
+news_fit (Hands f) fits = fits
+news_fit Nothing fits = tt
+
+-- where there is no limit, only memory was wanting
+pub only_memory : (l : Option lower.Refused) (e : lower.Refused) → l ≡ None → lowest.IsRefusal l e → e ≡ lowers.OutOfMemory
+only_memory None e is refused = refused
+only_memory (Some f) e is refused = absurd cc

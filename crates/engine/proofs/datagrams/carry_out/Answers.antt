@@ -1,0 +1,44 @@
+-- The sessions send what the core calls for.
+use Rattle.std.proofs.Common.{List, Some, map, ap, subst, ◌∙◌}
+use Rattle.std.specs.List.{AllByRecursion}
+use Rattle.rank_calls.specs.Hearing.{CanGo, NewsText}
+use Rattle.rank_core.specs.Hearing.{news_frames}
+use Rattle.sessions.specs.Events.{Sending, after_event, event_limit, sendings}
+use Rattle.sessions.specs.Heard.{heard_text}
+use Rattle.engine.specs.Calls.{outgoing_of}
+use Rattle.engine.specs.Refusals.{of_sessions}
+use Rattle.engine.proofs.Replies.{only_memory, outgoing_can_go, outgoing_says}
+use Rattle.engine.proofs.datagrams.carry_out.Goals as goal
+
+pub carry_out-requires-clause-frames : goal.carry_out-requires-clause-frames
+carry_out-requires-clause-frames c =
+    let core = c.args.core.now.state in
+    let h = heard_text c.args.heard in
+    outgoing_can_go core c.args.sessions.now.place h c.deref-2.result.now
+    (outgoing_says core h c.deref-2.result.now c.in_ok-frames.frames.items
+    (c.deref-2.ensures.value ∙ c.in_ok-outgoing.ensures.ok ∙ ap (map outgoing_of) c.deref.ensures.value)
+    (c.in_ok-frames.ensures.exact ∙ ap (news_frames core) c.news_of.ensures))
+    c.requires.place
+    (subst (λ (n : NewsText). AllByRecursion (CanGo core.place.size) (news_frames core n)) c.news_of.ensures c.frames_for.ensures.go)
+
+pub returns-in-Ok-clause-ok : goal.returns-in-Ok-clause-ok
+returns-in-Ok-clause-ok c =
+    let core = c.args.core.now.state in
+    let h = heard_text c.args.heard in
+    c.in-Ok.ensures.exact.1
+    ∙ ap (λ (fs : List Sending). after_event c.args.sessions.now (Some h) fs)
+    (outgoing_says core h c.deref-2.result.now c.in_ok-frames.frames.items
+    (c.deref-2.ensures.value ∙ c.in_ok-outgoing.ensures.ok ∙ ap (map outgoing_of) c.deref.ensures.value)
+    (c.in_ok-frames.ensures.exact ∙ ap (news_frames core) c.news_of.ensures))
+
+pub returns-clause-err : goal.returns-clause-err
+returns-clause-err c =
+    let core = c.args.core.now.state in
+    let h = heard_text c.args.heard in
+    let says = outgoing_says core h c.deref-2.result.now c.in_ok-frames.frames.items
+    (c.deref-2.ensures.value ∙ c.in_ok-outgoing.ensures.ok ∙ ap (map outgoing_of) c.deref.ensures.value)
+    (c.in_ok-frames.ensures.exact ∙ ap (news_frames core) c.news_of.ensures) in
+    c.of_sessions.ensures
+    ∙ ap of_sessions
+    (only_memory (event_limit c.args.sessions.now (Some h) (sendings c.deref-2.result.now)) c.in-Err.refused
+    (ap (λ (fs : List Sending). event_limit c.args.sessions.now (Some h) fs) says ∙ c.requires.limit) c.in-Err.ensures.exact.1)

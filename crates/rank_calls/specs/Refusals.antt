@@ -1,0 +1,54 @@
+-- The number of each refusal, and what a call or an event may be refused with.
+use Rattle.std.specs.Prelude.{◌≡◌, ℕ, Option, Some, None}
+use Rattle.datagram.specs.declared.refused.Refused as lower
+use Rattle.datagram.specs.declared.refused.Refused.TheVariants as lowers
+use Rattle.incarnation.specs.declared.refused.Refused as judging
+use Rattle.incarnation.specs.declared.refused.Refused.TheVariants as judgings
+use Rattle.rank_calls.specs.declared.refused.Refused.{Refused}
+use Rattle.rank_calls.specs.declared.refused.Refused.TheVariants.{Count, WrongType, Tag, Rank, Request, Limit, OutOfMemory, Short, Magic, Version, Kind, Length, ForeignJob, NotForMe, StaleSource, StaleTarget, BadFrame, OutOfWindow, ClockBack}
+
+-- the number that a call or an event answers
+abbrev pub number_of_refusal : Refused → ℕ
+number_of_refusal Count = 1
+number_of_refusal WrongType = 2
+number_of_refusal Tag = 3
+number_of_refusal Rank = 5
+number_of_refusal Request = 6
+number_of_refusal Limit = 13
+number_of_refusal OutOfMemory = 14
+number_of_refusal Short = 21
+number_of_refusal Magic = 22
+number_of_refusal Version = 23
+number_of_refusal Kind = 24
+number_of_refusal Length = 25
+number_of_refusal ForeignJob = 26
+number_of_refusal NotForMe = 27
+number_of_refusal StaleSource = 28
+number_of_refusal StaleTarget = 29
+number_of_refusal BadFrame = 30
+number_of_refusal OutOfWindow = 31
+number_of_refusal ClockBack = 41
+
+-- the refusal of bytes that are no datagram
+abbrev pub of_datagram : lower.Refused → Refused
+of_datagram lowers.OutOfMemory = OutOfMemory
+of_datagram lowers.Short = Short
+of_datagram lowers.Magic = Magic
+of_datagram lowers.Version = Version
+of_datagram lowers.Kind = Kind
+of_datagram lowers.Length = Length
+of_datagram lowers.BadFrame = BadFrame
+
+-- the refusal of a datagram by its endpoints
+abbrev pub of_judging : judging.Refused → Refused
+of_judging judgings.Limit = Limit
+of_judging judgings.OutOfMemory = OutOfMemory
+of_judging judgings.ForeignJob = ForeignJob
+of_judging judgings.NotForMe = NotForMe
+of_judging judgings.StaleSource = StaleSource
+of_judging judgings.StaleTarget = StaleTarget
+
+-- A refusal is by the first rule that is broken; where none is, only for want of memory.
+abbrev pub IsRefusal : Option Refused → Refused → Type 0
+IsRefusal (Some fault) refused = refused ≡ fault
+IsRefusal None refused = refused ≡ OutOfMemory

@@ -1,0 +1,263 @@
+//! What a send is: the first rule that it breaks, its frame, and its message to the own rank.
+
+ghost use Rattle.std.specs.Prelude.{◌≡◌, ◌<◌, Some, None, IfSome, false, true};
+ghost use Rattle.datagram.specs.Spelling.{frame_text, FrameFits};
+ghost use Rattle.vocabulary.specs.BasicTypes.{size_of};
+ghost use Rattle.datatypes.specs.Contents.{AreWithin};
+ghost use Rattle.perfect_queues.specs.Refusals.{is_no_tag, is_no_target};
+ghost use Rattle.requests.specs.Regions.{sent_from};
+ghost use Rattle.rank_calls.specs.Calls.{IsPacked};
+ghost use Rattle.rank_calls.specs.Frames.{addressed};
+ghost use Rattle.rank_calls.specs.Sending.{IsSendable, announced_to, destination, eager_frame, frame_to, frame_with, is_large, is_own, own_message, rank_to, request_frame, send_fault};
+
+use crate::call::Send;
+use crate::prepared::Prepared;
+use crate::receiving::is_tag_above;
+use crate::refused::Refused;
+use datagram::{Eager, Frame, Plane, RequestToSend};
+use datatypes::Buffer;
+use incarnation::Place;
+use match_queues::{Body, Message};
+use rendezvous::Transfers;
+use requests::Region;
+use vocabulary::{EAGER_LIMIT, Source};
+
+/// A frame for a rank.
+#[derive(Clone, Copy, Debug)]
+pub struct Addressed<'a> {
+    /// The rank that it goes to.
+    pub rank: u16,
+    /// The frame.
+    pub frame: Frame<'a>,
+}
+
+/// The rank that a message goes to, and its tag.
+#[derive(Clone, Copy, Debug)]
+pub struct Destination {
+    /// The rank.
+    pub rank: u16,
+    /// The tag.
+    pub tag: u32,
+}
+
+fn is_no_tag(tag: Option<u32>) -> bool
+    ensures { result ≡ is_no_tag tag }
+{
+    match tag {
+        None => true,
+        Some(_) => is_tag_above(tag),
+    }
+}
+
+fn is_no_target(size: u16, target: Source) -> bool
+    ensures { result ≡ is_no_target size target }
+{
+    match target {
+        Source::Rank(rank) => rank >= size,
+        Source::Any => true,
+        Source::Null => false,
+    }
+}
+
+/// The first rule that a send breaks.
+#[tactic(auto, unfolding(crate::specs::Sending::send_fault))]
+pub fn fault_of(place: Place, send: &Send) -> Option<Refused>
+    ensures { result ≡ send_fault place send.now }
+{
+    if send.from.differs_in_type() {
+        return Some(Refused::WrongType);
+    }
+    if send.from.is_above(EAGER_LIMIT) {
+        return Some(Refused::Count);
+    }
+    if send.from.is_too_short() {
+        return Some(Refused::Count);
+    }
+    if is_no_tag(send.tag) {
+        return Some(Refused::Tag);
+    }
+    if is_no_target(place.size, send.target) {
+        return Some(Refused::Rank);
+    }
+    None
+}
+
+/// The rank that a send goes to, with its tag: none where it goes to the null process (MPI 3.1, 3.11).
+pub fn destination_of(target: Source, tag: Option<u32>) -> Option<Destination>
+    ensures { result ≡ destination target tag }
+{
+    match (target, tag) {
+        (Source::Rank(rank), Some(tag)) => Some(Destination { rank, tag }),
+        _ => None,
+    }
+}
+
+/// Whether this is the own rank: what goes there goes into its own queues without a frame (MPI 3.1, 3.2.4).
+pub fn is_own(place: Place, destination: Option<Destination>) -> bool
+    ensures { result ≡ is_own place destination }
+{
+    match destination {
+        Some(destination) => destination.rank == place.endpoint.rank,
+        None => false,
+    }
+}
+
+/// To which other rank a frame goes.
+pub fn rank_to(place: Place, destination: Option<Destination>) -> Option<u16>
+    ensures { result ≡ rank_to place destination }
+{
+    match destination {
+        Some(destination) => {
+            if destination.rank == place.endpoint.rank {
+                None
+            } else {
+                Some(destination.rank)
+            }
+        }
+        None => None,
+    }
+}
+
+/// Whether these elements do not go in one frame.
+fn is_large(elements: &Buffer) -> bool
+    ensures { result ≡ is_large elements.now }
+{
+    elements.byte_len() > EAGER_LIMIT
+}
+
+/// To which other rank the message of a send is announced, if it is one that does not go in one frame.
+pub fn announced_to(place: Place, send: &Send) -> Option<u16>
+    ensures { result ≡ announced_to place send.now }
+{
+    if !send.from.is_above(EAGER_LIMIT) {
+        return None;
+    }
+    rank_to(place, destination_of(send.target, send.tag))
+}
+
+/// The frame of these elements under a tag, lent from them.
+fn eager_frame(tag: u32, elements: &Buffer) -> Frame<'_>
+    requires sendable { IsSendable tag elements.now }
+    requires small { is_large elements.now ≡ false }
+    ensures exact { frame_text result ≡ eager_frame tag elements.now }
+    ensures fits { FrameFits (frame_text result) }
+{
+    Frame::Eager(Eager {
+        plane: Plane::PointToPoint,
+        basic: elements.basic(),
+        tag,
+        context: 0,
+        count: elements.len() as u32,
+        elements: elements.as_bytes(),
+    })
+}
+
+/// The frame that announces these elements under a tag, as the transfer with this number.
+fn request_frame(transfer: u32, tag: u32, elements: &Buffer) -> Frame<'static>
+    requires sendable { IsSendable tag elements.now }
+    requires large { is_large elements.now ≡ true }
+    ensures exact { frame_text result ≡ request_frame transfer tag elements.now }
+    ensures fits { FrameFits (frame_text result) }
+{
+    Frame::RequestToSend(RequestToSend {
+        plane: Plane::PointToPoint,
+        basic: elements.basic(),
+        tag,
+        context: 0,
+        count: elements.len() as u32,
+        transfer,
+    })
+}
+
+/// The frame of these elements for a rank: they go in it, or it announces them as the next transfer there.
+fn frame_with<'a>(
+    transfers: &Transfers,
+    destination: Destination,
+    elements: &'a Buffer,
+) -> Frame<'a>
+    requires { IsSendable destination.tag elements.now }
+    ensures exact { frame_text result ≡ frame_with transfers.now.state destination elements.now }
+    ensures fits { FrameFits (frame_text result) }
+{
+    if is_large(elements) {
+        return request_frame(
+            transfers.next_to(destination.rank),
+            destination.tag,
+            elements,
+        );
+    }
+    eager_frame(destination.tag, elements)
+}
+
+/// The frame with which these elements go to another rank; none goes to the own one.
+pub fn frame_to<'a>(
+    place: Place,
+    transfers: &Transfers,
+    destination: Option<Destination>,
+    elements: &'a Buffer,
+) -> Option<Addressed<'a>>
+    requires sendable { IfSome destination (λ d. IsSendable d.tag elements.now) }
+    requires there { IfSome destination (λ d. d.rank < place.size) }
+    ensures exact { addressed result ≡ frame_to place transfers.now.state destination elements.now }
+    ensures fits { IfSome result (λ a. FrameFits (frame_text a.frame)) }
+    ensures there { IfSome result (λ a. a.rank < place.size) }
+{
+    match destination {
+        Some(destination) => {
+            if destination.rank == place.endpoint.rank {
+                return None;
+            }
+            Some(Addressed {
+                rank: destination.rank,
+                frame: frame_with(transfers, destination, elements),
+            })
+        }
+        None => None,
+    }
+}
+
+/// The elements of a send: those that were packed, or all of its buffer.
+#[tactic(auto, using(crate::proofs::Packs::stand_ready))]
+pub fn elements_of<'a>(send: &'a Send, prepared: &'a Prepared) -> &'a Buffer
+    requires { IsPacked send.now prepared.now }
+    ensures { result.now ≡ sent_from send.now.from }
+{
+    match prepared {
+        Prepared::Packed(elements) => elements,
+        Prepared::Nothing => &send.from.buffer,
+        Prepared::Room(_) | Prepared::Place(_) => unreachable!(),
+    }
+}
+
+/// The same, taken out.
+#[tactic(auto, using(crate::proofs::Packs::stand_ready))]
+pub fn into_elements(send: Send, prepared: Prepared) -> Buffer
+    requires { IsPacked send prepared }
+    ensures { result ≡ sent_from send.from }
+{
+    let Send { from, .. } = send;
+    match prepared {
+        Prepared::Packed(elements) => elements,
+        Prepared::Nothing => from.buffer,
+        Prepared::Room(_) | Prepared::Place(_) => unreachable!(),
+    }
+}
+
+/// The message of these elements to the own rank.
+pub fn own_message(place: Place, tag: u32, elements: Buffer) -> Message
+    ensures { result ≡ own_message place tag elements }
+{
+    Message {
+        sender: place.endpoint,
+        context: 0,
+        tag,
+        body: Body::Whole(elements),
+    }
+}
+
+/// The bytes of a buffer show that each element has the width of its type.
+pub fn show_widths(region: &Region)
+    ensures { AreWithin (size_of region.now.buffer.basic) ((sent_from region.now).values) }
+{
+    let _bytes = region.buffer.as_bytes();
+}

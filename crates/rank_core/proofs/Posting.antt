@@ -1,0 +1,91 @@
+-- What a receive makes of the message that it finds.
+use Rattle.std.proofs.Common.{◌≡◌, ℕ, ◌<◌, Bool, true, false, List, [], ◌∷◌, length, Option, Some, None, refl, sym, ap, ◌∙◌, arith, subst, inl, inr}
+use Rattle.std.specs.Prelude.{IfSome, slice_get}
+use Rattle.std.specs.List.{AllByRecursion}
+use Rattle.std.proofs.lemmas.Bool.{cases_lt}
+use Rattle.std.proofs.lemmas.Option.{slice_get-get_or, slice_get_past}
+use Rattle.vocabulary.specs.declared.envelope.Source.{Source}
+use Rattle.vocabulary.specs.declared.envelope.Source.TheVariants as sources
+use Rattle.match_queues.specs.declared.envelope.Message.{Message}
+use Rattle.match_queues.specs.declared.envelope.Body.{Body}
+use Rattle.match_queues.specs.declared.envelope.Body.TheVariants.{Announced, Whole}
+use Rattle.match_queues.specs.State.{message_at, message_for}
+use Rattle.match_queues.specs.Bodies.{basic_of, count_of}
+use Rattle.rendezvous.specs.Collecting.{Collecting}
+use Rattle.rendezvous.specs.State as transfers
+use Rattle.requests.specs.declared.region.Region.{Region}
+use Rattle.requests.specs.Table.{has_room}
+use Rattle.rank_calls.specs.declared.call.Receive.{Receive}
+use Rattle.rank_calls.specs.declared.sending.Addressed.{Addressed}
+use Rattle.rank_core.specs.CoreState.{CoreState, IsAnswerable, IsKept}
+use Rattle.rank_calls.specs.Frames.{FrameFor, addressed}
+use Rattle.rank_calls.specs.Receiving.{answer_by, answer_on_post, collection_on_match, collection_on_post, transfers_on_match, transfers_on_post, transfers_with}
+use Rattle.rank_core.specs.Receiving.{found_by, receive_frame}
+use Rattle.rank_calls.specs.Receiving.{posted_by}
+use Rattle.rank_core.proofs.Replies.{at_place}
+
+-- WHAT IT COLLECTS
+
+on_match : (t : transfers.State) (wanted : Bool) (m : Message) (b : Body) (key : ℕ) →
+    transfers_with t (collection_on_match wanted m b key) ≡ transfers_on_match t wanted m b key
+on_match t wanted m (Whole elements) key = refl
+on_match t false m (Announced a) key = refl
+on_match t true m (Announced a) key = refl
+
+on_post : (t : transfers.State) (r : Region) (key : ℕ) (o : Option Message) → transfers_with t (collection_on_post r key o) ≡ transfers_on_post t r key o
+on_post t r key None = refl
+on_post t r key (Some m) = on_match t (has_room r (basic_of m.body) (count_of m.body)) m m.body key
+
+-- what is made ready is just what it collects
+pub collected : (t : transfers.State) (r : Region) (key : ℕ) (o : Option Message) (c : Option Collecting) → c ≡ collection_on_post r key o →
+    transfers_with t c ≡ transfers_on_post t r key o
+collected t r key o c is = ap (transfers_with t) is ∙ on_post t r key o
+
+-- WHOM IT ANSWERS
+
+one_of_all : (size : ℕ) (ms : List Message) (i : ℕ) → AllByRecursion (λ (m : Message). IsAnswerable size m m.body) ms →
+    IfSome (slice_get ms i) (λ (m : Message). IsAnswerable size m m.body)
+one_of_all size [] i all = subst (λ (o : Option Message). IfSome o (λ (m : Message). IsAnswerable size m m.body)) (sym (slice_get_past [] i (omega arith))) tt
+one_of_all size (m ∷ ms) i all =
+    elim (cases_lt i (length (m ∷ ms))) [
+      | inl lt ↦
+          subst (λ (o : Option Message). IfSome o (λ (n : Message). IsAnswerable size n n.body)) (sym (slice_get-get_or (m ∷ ms) i m lt))
+          (at_place (λ (n : Message). IsAnswerable size n n.body) (m ∷ ms) i m all lt)
+      | inr le ↦
+          subst (λ (o : Option Message). IfSome o (λ (n : Message). IsAnswerable size n n.body)) (sym (slice_get_past (m ∷ ms) i le)) tt
+    ]
+
+found_is_answerable : (size : ℕ) (ms : List Message) (o : Option ℕ) → AllByRecursion (λ (m : Message). IsAnswerable size m m.body) ms →
+    IfSome (message_at ms o) (λ (m : Message). IsAnswerable size m m.body)
+found_is_answerable size ms None all = tt
+found_is_answerable size ms (Some i) all = one_of_all size ms i all
+
+there_by : (size : ℕ) (wanted : Bool) (m : Message) (b : Body) → IsAnswerable size m b → IfSome (answer_by wanted m b) (λ (f : FrameFor). f.rank < size)
+there_by size wanted m (Whole elements) answerable = tt
+there_by size wanted m (Announced a) answerable = answerable
+
+there_on_post : (size : ℕ) (r : Region) (o : Option Message) → IfSome o (λ (m : Message). IsAnswerable size m m.body) →
+    IfSome (answer_on_post r o) (λ (f : FrameFor). f.rank < size)
+there_on_post size r None answerable = tt
+there_on_post size r (Some m) answerable = there_by size (has_room r (basic_of m.body) (count_of m.body)) m m.body answerable
+
+there_for : (c : CoreState) (v : Receive) → IsKept c.place c.queues c.transfers → IfSome (answer_on_post v.into (found_by c v)) (λ (f : FrameFor). f.rank < c.place.size)
+there_for c v kept =
+    there_on_post c.place.size v.into (found_by c v)
+    (found_is_answerable c.place.size c.queues.unexpected (message_for (posted_by 0 v) c.queues.unexpected) kept.answerable)
+
+there_from : (s : Source) (c : CoreState) (v : Receive) → IsKept c.place c.queues c.transfers →
+    IfSome (receive_frame s c v) (λ (f : FrameFor). f.rank < c.place.size)
+there_from sources.Any c v kept = there_for c v kept
+there_from (sources.Rank rank) c v kept = there_for c v kept
+there_from sources.Null c v kept = tt
+
+said : (size : ℕ) (a : Option Addressed) → IfSome (addressed a) (λ (f : FrameFor). f.rank < size) → IfSome a (λ (x : Addressed). x.rank < size)
+said size None there = tt
+said size (Some a) there = there
+
+-- the answer goes to a rank of the job
+pub answer_is_there : (c : CoreState) (v : Receive) (a : Option Addressed) → IsKept c.place c.queues c.transfers →
+    addressed a ≡ receive_frame v.source c v → IfSome a (λ (x : Addressed). x.rank < c.place.size)
+answer_is_there c v a kept is =
+    said c.place.size a (subst (λ (o : Option FrameFor). IfSome o (λ (f : FrameFor). f.rank < c.place.size)) (sym is) (there_from v.source c v kept))
