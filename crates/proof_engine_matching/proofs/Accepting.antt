@@ -1,11 +1,13 @@
 -- The queues' test of a message is that of the machine.
-use Rattle.std.proofs.Common.{◌≡◌, ℕ, Bool, true, false, ◌&&◌, ◌==◌, refl}
+use Rattle.std.proofs.Common.{◌≡◌, ℕ, List, Bool, true, false, ◌&&◌, ◌==◌, refl}
 use Rattle.perfect_queues.specs.Receives as machine
 use Rattle.match_queues.specs.Accepts as queues
 use Rattle.match_queues.specs.declared.envelope.Receive as posted
 use Rattle.match_queues.specs.declared.envelope.Message.{Message}
 use Rattle.proof_pure_network.specs.Held.{fits}
 use Rattle.proof_engine_view.specs.Rows.{held_of}
+use Rattle.vocabulary.specs.declared.endpoint.Endpoint.{Endpoint}
+use Rattle.proof_engine_view.specs.Transfers.{Transfer}
 
 -- the record that stands in the queue for a receive
 abbrev pub posted_record : (key : ℕ) → machine.Receive → posted.Receive
@@ -17,5 +19,5 @@ and_nested true b c = refl
 and_nested false b c = refl
 
 -- a receive in the queue accepts the messages that the receive itself does
-pub same_test : (key : ℕ) (p : machine.Receive) (m : Message) → queues.accepts (posted_record key p) m ≡ fits p (held_of m)
-same_test key p m = and_nested (p.context == m.context) (machine.is_from p.source m.sender.rank) (machine.has_tag p.tag m.tag)
+pub same_test : (from : Endpoint → List Transfer) (key : ℕ) (p : machine.Receive) (m : Message) → queues.accepts (posted_record key p) m ≡ fits p (held_of from m)
+same_test from key p m = and_nested (p.context == m.context) (machine.is_from p.source m.sender.rank) (machine.has_tag p.tag m.tag)

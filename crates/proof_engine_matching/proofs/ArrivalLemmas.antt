@@ -5,7 +5,8 @@ use Rattle.match_queues.specs.declared.envelope.Receive as posted
 use Rattle.match_queues.specs.declared.envelope.Message.{Message}
 use Rattle.match_queues.specs.Arrivals.{arrival_at}
 use Rattle.match_queues.specs.State.{State, arrived_at, receive_at, receive_for}
-use Rattle.perfect_queues.specs.Outcomes.{Outcome}
+use Rattle.vocabulary.specs.declared.endpoint.Endpoint.{Endpoint}
+use Rattle.proof_engine_view.specs.Transfers.{Transfer}
 use Rattle.perfect_queues.specs.Receives.{Receive}
 use Rattle.proof_pure_network.specs.Held.{fits}
 use Rattle.proof_pure_network.specs.Jobs.{Closed, Collecting, Job, Offering, Over, Waiting, oldest_posted, or_later, takes}
@@ -23,30 +24,31 @@ abbrev pub row_of : ℕ → Job → Row
 row_of key j = record { key = key; job = j }
 
 -- no receive accepts it
-record Passed (m : Message) (rows : List Row) : Type 0 where
-  core : oldest_posted (held_of m) (jobs_of rows) ≡ None
+record Passed (from : Endpoint → List Transfer) (m : Message) (rows : List Row) : Type 0 where
+  core : oldest_posted (held_of from m) (jobs_of rows) ≡ None
   place : place_for m rows ≡ None
 
 -- row k is that of the oldest receive that accepts it, and place i of the queue is this receive's
-record Taken (m : Message) (rows : List Row) (k i key : ℕ) (p : Receive) : Type 0 where
+record Taken (from : Endpoint → List Transfer) (m : Message) (rows : List Row) (k i key : ℕ) (p : Receive) : Type 0 where
   row : slice_get rows k ≡ Some (row_of key (Waiting p))
-  core : oldest_posted (held_of m) (jobs_of rows) ≡ Some (k, p)
+  core : oldest_posted (held_of from m) (jobs_of rows) ≡ Some (k, p)
   place : place_for m rows ≡ Some i
   there : slice_get (posted_rows rows) i ≡ Some (posted_record key p)
-  rest : (o : Outcome) → remove (posted_rows rows) i ≡ posted_rows (slice_set rows k (row_of key (Over o)))
+  accepts : fits p (held_of from m) ≡ true
+  rest : (x : Job) → posted_job key x ≡ [] → remove (posted_rows rows) i ≡ posted_rows (slice_set rows k (row_of key x))
 
 -- no row takes the message, or the oldest that accepts it
-abbrev Tried : Message → List Row → Type 0
-Tried m rows = Passed m rows ⊎ ((k : ℕ) × (i : ℕ) × (key : ℕ) × (p : Receive) × Taken m rows k i key p)
+abbrev Tried : (Endpoint → List Transfer) → Message → List Row → Type 0
+Tried from m rows = Passed from m rows ⊎ ((k : ℕ) × (i : ℕ) × (key : ℕ) × (p : Receive) × Taken from m rows k i key p)
 
 -- a row that waits for nothing changes nothing
-skip : (m : Message) (key : ℕ) (j : Job) (rs : List Row) → takes (held_of m) j ≡ None → posted_job key j ≡ [] → Tried m rs → Tried m (row_of key j ∷ rs)
-skip m key j rs a b = ⊎_elim
-    (λ (n : Passed m rs). inl (record {
+skip : (from : Endpoint → List Transfer) (m : Message) (key : ℕ) (j : Job) (rs : List Row) → takes (held_of from m) j ≡ None → posted_job key j ≡ [] → Tried from m rs → Tried from m (row_of key j ∷ rs)
+skip from m key j rs a b = ⊎_elim
+    (λ (n : Passed from m rs). inl (record {
       core = ap₂ or_later a n.core;
       place = ap (λ (l : List posted.Receive). position (λ r. accepts r m) (l ++ posted_rows rs)) b ∙ n.place;
     }))
-    (λ (s : (k : ℕ) × (i : ℕ) × (key : ℕ) × (p : Receive) × Taken m rs k i key p). inr (
+    (λ (s : (k : ℕ) × (i : ℕ) × (key : ℕ) × (p : Receive) × Taken from m rs k i key p). inr (
       suc s.0,
       s.1,
       s.2,
@@ -56,68 +58,71 @@ skip m key j rs a b = ⊎_elim
         core = ap₂ or_later a s.4.core;
         place = ap (λ (l : List posted.Receive). position (λ r. accepts r m) (l ++ posted_rows rs)) b ∙ s.4.place;
         there = ap (λ (l : List posted.Receive). slice_get (l ++ posted_rows rs) s.1) b ∙ s.4.there;
-        rest = λ o.
+        accepts = s.4.accepts;
+        rest = λ x e.
             ap (λ (l : List posted.Receive). remove (l ++ posted_rows rs) s.1) b
-            ∙ (s.4.rest o ∙ sym (ap (λ (l : List posted.Receive). l ++ posted_rows (slice_set rs s.0 (row_of s.2 (Over o)))) b));
+            ∙ (s.4.rest x e ∙ sym (ap (λ (l : List posted.Receive). l ++ posted_rows (slice_set rs s.0 (row_of s.2 x))) b));
       },
     ))
 
 -- what a receive that waits takes, by its test
-taken_by : (m : Message) (p : Receive) (t : Bool) → fits p (held_of m) ≡ t → takes (held_of m) (Waiting p) ≡ (if t then Some p else None)
-taken_by m p t h = ap (λ (b : Bool). if b then Some p else None) h
+taken_by : (from : Endpoint → List Transfer) (m : Message) (p : Receive) (t : Bool) → fits p (held_of from m) ≡ t → takes (held_of from m) (Waiting p) ≡ (if t then Some p else None)
+taken_by from m p t h = ap (λ (b : Bool). if b then Some p else None) h
 
 -- a receive that waits and doesn't accept it
-miss : (m : Message) (key : ℕ) (p : Receive) (rs : List Row) → fits p (held_of m) ≡ false → Tried m rs → Tried m (row_of key (Waiting p) ∷ rs)
-miss m key p rs h = ⊎_elim
-    (λ (n : Passed m rs). inl (record {
-      core = ap₂ or_later (taken_by m p false h) n.core;
-      place = position_later (λ r. accepts r m) (posted_record key p) (posted_rows rs) None (same_test key p m ∙ h) n.place;
+miss : (from : Endpoint → List Transfer) (m : Message) (key : ℕ) (p : Receive) (rs : List Row) → fits p (held_of from m) ≡ false → Tried from m rs → Tried from m (row_of key (Waiting p) ∷ rs)
+miss from m key p rs h = ⊎_elim
+    (λ (n : Passed from m rs). inl (record {
+      core = ap₂ or_later (taken_by from m p false h) n.core;
+      place = position_later (λ r. accepts r m) (posted_record key p) (posted_rows rs) None (same_test from key p m ∙ h) n.place;
     }))
-    (λ (s : (k : ℕ) × (i : ℕ) × (key : ℕ) × (p : Receive) × Taken m rs k i key p). inr (
+    (λ (s : (k : ℕ) × (i : ℕ) × (key : ℕ) × (p : Receive) × Taken from m rs k i key p). inr (
       suc s.0,
       suc s.1,
       s.2,
       s.3,
       record {
         row = s.4.row;
-        core = ap₂ or_later (taken_by m p false h) s.4.core;
-        place = position_later (λ r. accepts r m) (posted_record key p) (posted_rows rs) (Some s.1) (same_test key p m ∙ h) s.4.place;
+        core = ap₂ or_later (taken_by from m p false h) s.4.core;
+        place = position_later (λ r. accepts r m) (posted_record key p) (posted_rows rs) (Some s.1) (same_test from key p m ∙ h) s.4.place;
         there = s.4.there;
-        rest = λ o. ap (λ (l : List posted.Receive). posted_record key p ∷ l) (s.4.rest o);
+        accepts = s.4.accepts;
+        rest = λ x e. ap (λ (l : List posted.Receive). posted_record key p ∷ l) (s.4.rest x e);
       },
     ))
 
 -- the receive that accepts it
-hit : (m : Message) (key : ℕ) (p : Receive) (rs : List Row) → fits p (held_of m) ≡ true → Taken m (row_of key (Waiting p) ∷ rs) 0 0 key p
-hit m key p rs h =
+hit : (from : Endpoint → List Transfer) (m : Message) (key : ℕ) (p : Receive) (rs : List Row) → fits p (held_of from m) ≡ true → Taken from m (row_of key (Waiting p) ∷ rs) 0 0 key p
+hit from m key p rs h =
     record {
       row = refl;
-      core = ap (λ (t : Option Receive). or_later t (oldest_posted (held_of m) (jobs_of rs))) (taken_by m p true h);
-      place = position_here (λ r. accepts r m) (posted_record key p) (posted_rows rs) (same_test key p m ∙ h);
+      core = ap (λ (t : Option Receive). or_later t (oldest_posted (held_of from m) (jobs_of rs))) (taken_by from m p true h);
+      place = position_here (λ r. accepts r m) (posted_record key p) (posted_rows rs) (same_test from key p m ∙ h);
       there = refl;
-      rest = λ o. remove_first (posted_record key p) (posted_rows rs);
+      accepts = h;
+      rest = λ x e. remove_first (posted_record key p) (posted_rows rs) ∙ sym (ap (λ (l : List posted.Receive). l ++ posted_rows rs) e);
     }
 
 -- one more row in front
-step : (m : Message) (key : ℕ) (j : Job) (rs : List Row) → Tried m rs → Tried m (row_of key j ∷ rs)
-step m key (Waiting p) rs t = go (fits p (held_of m)) refl
+step : (from : Endpoint → List Transfer) (m : Message) (key : ℕ) (j : Job) (rs : List Row) → Tried from m rs → Tried from m (row_of key j ∷ rs)
+step from m key (Waiting p) rs t = go (fits p (held_of from m)) refl
   where
-    go : (b : Bool) → fits p (held_of m) ≡ b → Tried m (row_of key (Waiting p) ∷ rs)
-    go true h = inr (0, 0, key, p, hit m key p rs h)
-    go false h = miss m key p rs h t
-step m key (Collecting p h got) rs t = skip m key (Collecting p h got) rs refl refl t
-step m key (Offering d basic values) rs t = skip m key (Offering d basic values) rs refl refl t
-step m key (Over o) rs t = skip m key (Over o) rs refl refl t
-step m key Closed rs t = skip m key Closed rs refl refl t
+    go : (b : Bool) → fits p (held_of from m) ≡ b → Tried from m (row_of key (Waiting p) ∷ rs)
+    go true h = inr (0, 0, key, p, hit from m key p rs h)
+    go false h = miss from m key p rs h t
+step from m key (Collecting p h got) rs t = skip from m key (Collecting p h got) rs refl refl t
+step from m key (Offering d basic values) rs t = skip from m key (Offering d basic values) rs refl refl t
+step from m key (Over o) rs t = skip from m key (Over o) rs refl refl t
+step from m key Closed rs t = skip from m key Closed rs refl refl t
 
 -- all rows
-tried : (m : Message) (rows : List Row) → Tried m rows
-tried m [] = inl (record { core = refl; place = refl })
-tried m (r ∷ rs) = step m r.key r.job rs (tried m rs)
+tried : (from : Endpoint → List Transfer) (m : Message) (rows : List Row) → Tried from m rows
+tried from m [] = inl (record { core = refl; place = refl })
+tried from m (r ∷ rs) = step from m r.key r.job rs (tried from m rs)
 
 -- the message stays, as no row takes it
-kept : (rows : List Row) (old : State) (m : Message) → old.posted ≡ posted_rows rows → Passed m rows → IsKept rows old m
-kept rows old m h n =
+kept : (from : Endpoint → List Transfer) (rows : List Row) (old : State) (m : Message) → old.posted ≡ posted_rows rows → Passed from m rows → IsKept from rows old m
+kept from rows old m h n =
     let none : receive_for m old.posted ≡ None = ap (λ (ps : List posted.Receive). receive_for m ps) h ∙ n.place in
     record {
       core = n.core;
@@ -126,21 +131,22 @@ kept rows old m h n =
     }
 
 -- the message goes to the row that takes it
-matched : (rows : List Row) (old : State) (m : Message) (k i key : ℕ) (p : Receive) → old.posted ≡ posted_rows rows → Taken m rows k i key p → IsMatchedTo rows old m k key p
-matched rows old m k i key p h s =
+matched : (from : Endpoint → List Transfer) (rows : List Row) (old : State) (m : Message) (k i key : ℕ) (p : Receive) → old.posted ≡ posted_rows rows → Taken from m rows k i key p → IsMatchedTo from rows old m k key p
+matched from rows old m k i key p h s =
     let place : receive_for m old.posted ≡ Some i = ap (λ (ps : List posted.Receive). receive_for m ps) h ∙ s.place in
     let there : slice_get old.posted i ≡ Some (posted_record key p) = ap (λ (ps : List posted.Receive). slice_get ps i) h ∙ s.there in
     record {
       row = s.row;
       core = s.core;
       arrival = ap (λ (o : Option ℕ). arrival_at (receive_at old.posted o) m) place ∙ ap (λ (r : Option posted.Receive). arrival_at r m) there;
-      posted = λ o. ap (λ (q : Option ℕ). (arrived_at q old m).posted) place ∙ (ap (λ (ps : List posted.Receive). remove ps i) h ∙ s.rest o);
+      accepts = s.accepts;
+      posted = λ x e. ap (λ (q : Option ℕ). (arrived_at q old m).posted) place ∙ (ap (λ (ps : List posted.Receive). remove ps i) h ∙ s.rest x e);
       unexpected = ap (λ (q : Option ℕ). (arrived_at q old m).unexpected) place;
     }
 
 -- the law of arrivals
 pub arrivals_match : ArrivalsMatch
-arrivals_match rows old m h = ⊎_elim
-    (λ (n : Passed m rows). inl (kept rows old m h n))
-    (λ (s : (k : ℕ) × (i : ℕ) × (key : ℕ) × (p : Receive) × Taken m rows k i key p). inr (s.0, s.2, s.3, matched rows old m s.0 s.1 s.2 s.3 h s.4))
-    (tried m rows)
+arrivals_match from rows old m h = ⊎_elim
+    (λ (n : Passed from m rows). inl (kept from rows old m h n))
+    (λ (s : (k : ℕ) × (i : ℕ) × (key : ℕ) × (p : Receive) × Taken from m rows k i key p). inr (s.0, s.2, s.3, matched from rows old m s.0 s.1 s.2 s.3 h s.4))
+    (tried from m rows)

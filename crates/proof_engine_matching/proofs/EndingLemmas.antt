@@ -12,6 +12,8 @@ use Rattle.vocabulary.specs.declared.envelope.Source.{Source}
 use Rattle.proof_pure_network.specs.Held.{full}
 use Rattle.requests.specs.Outcomes.{outcome_of}
 use Rattle.proof_engine_view.specs.Rows.{held_of}
+use Rattle.vocabulary.specs.declared.endpoint.Endpoint.{Endpoint}
+use Rattle.proof_engine_view.specs.Transfers.{Transfer}
 use Rattle.vocabulary.specs.declared.basic_type.BasicType.{BasicType}
 use Rattle.vocabulary.specs.declared.envelope.Status.{Status}
 use Rattle.requests.specs.declared.outcome.Failure.TheVariants.{WrongType, Truncated}
@@ -33,18 +35,18 @@ abbrev with_body : Message → Body → Message
 with_body m b = record m { body = b }
 
 -- how a receive on world ends
-world_ends : (source : Source) (tag : Option ℕ) (context : ℕ) (into : Handed) (m : Message) (c : Contents) →
-    machine.outcome (record { source = source; tag = tag; context = context; group = None; into = into }) (full (held_of (with_body m (Whole c))) c.values)
+world_ends : (from : Endpoint → List Transfer) (source : Source) (tag : Option ℕ) (context : ℕ) (into : Handed) (m : Message) (c : Contents) →
+    machine.outcome (record { source = source; tag = tag; context = context; group = None; into = into }) (full (held_of from (with_body m (Whole c))) c.values)
     ≡ outcome_seen (outcome_of into (status_of (with_body m (Whole c))) c)
-world_ends source tag context into m c =
+world_ends from source tag context into m c =
     ends (is_same_type into.buffer.basic c.basic) (nat_le (length c.values) (length (places_in into)))
     into.buffer.basic (status_of (with_body m (Whole c))) (put_at into.buffer.values (places_in into) c.values) into.buffer.values
 
 -- the law of outcomes
 pub outcomes_agree : OutcomesAgree
-outcomes_agree p m c is w =
-    subst (λ (b : Body). machine.outcome p (full (held_of (with_body m b)) c.values) ≡ outcome_seen (outcome_of p.into (status_of (with_body m b)) c)) (sym is)
-    (ap (λ (r : Receive). machine.outcome r (full (held_of (with_body m (Whole c))) c.values)) same ∙ world_ends p.source p.tag p.context p.into m c)
+outcomes_agree from p m c is w =
+    subst (λ (b : Body). machine.outcome p (full (held_of from (with_body m b)) c.values) ≡ outcome_seen (outcome_of p.into (status_of (with_body m b)) c)) (sym is)
+    (ap (λ (r : Receive). machine.outcome r (full (held_of from (with_body m (Whole c))) c.values)) same ∙ world_ends from p.source p.tag p.context p.into m c)
   where
     same : p ≡ record { source = p.source; tag = p.tag; context = p.context; group = None; into = p.into }
     same = λ i. record { source = p.source; tag = p.tag; context = p.context; group = w.group i; into = p.into }

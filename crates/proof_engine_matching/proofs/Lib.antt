@@ -3,3 +3,4 @@ pub mod Accepting
 pub mod ArrivalLemmas
 pub mod PostLemmas
 pub mod EndingLemmas
+pub mod AnnouncedLemmas

@@ -9,6 +9,8 @@ use Rattle.perfect_queues.specs.Receives.{Receive}
 use Rattle.proof_pure_network.specs.Held.{Held, fits}
 use Rattle.proof_pure_network.specs.Matching.{found}
 use Rattle.proof_engine_view.specs.Rows.{held_of}
+use Rattle.vocabulary.specs.declared.endpoint.Endpoint.{Endpoint}
+use Rattle.proof_engine_view.specs.Transfers.{Transfer}
 use Rattle.proof_engine_view.specs.Seen.{receive_seen}
 use Rattle.proof_engine_matching.specs.Matches.{Finds, FindsNone, PostsMatch}
 use Rattle.proof_engine_matching.proofs.Accepting.{posted_record, same_test}
@@ -19,20 +21,21 @@ abbrev Parts : Type 0
 Parts = List Held × Held × List Held
 
 -- the receive accepts none of them
-record Passed (key : ℕ) (p : Receive) (ms : List Message) : Type 0 where
-  core : found p (map held_of ms) ≡ None
+record Passed (from : Endpoint → List Transfer) (key : ℕ) (p : Receive) (ms : List Message) : Type 0 where
+  core : found p (map (held_of from) ms) ≡ None
   place : position (accepts (posted_record key p)) ms ≡ None
 
 -- the oldest that it accepts is m, at place i
-record Taken (key : ℕ) (p : Receive) (ms : List Message) (i : ℕ) (m : Message) (earlier later : List Held) : Type 0 where
-  core : found p (map held_of ms) ≡ Some (earlier, held_of m, later)
+record Taken (from : Endpoint → List Transfer) (key : ℕ) (p : Receive) (ms : List Message) (i : ℕ) (m : Message) (earlier later : List Held) : Type 0 where
+  core : found p (map (held_of from) ms) ≡ Some (earlier, held_of from m, later)
   place : position (accepts (posted_record key p)) ms ≡ Some i
   there : slice_get ms i ≡ Some m
-  rest : map held_of (remove ms i) ≡ earlier ++ later
+  accepts : fits p (held_of from m) ≡ true
+  rest : map (held_of from) (remove ms i) ≡ earlier ++ later
 
 -- none is accepted, or the oldest that is
-abbrev Tried : ℕ → Receive → List Message → Type 0
-Tried key p ms = Passed key p ms ⊎ ((i : ℕ) × (m : Message) × (earlier : List Held) × (later : List Held) × Taken key p ms i m earlier later)
+abbrev Tried : (Endpoint → List Transfer) → ℕ → Receive → List Message → Type 0
+Tried from key p ms = Passed from key p ms ⊎ ((i : ℕ) × (m : Message) × (earlier : List Held) × (later : List Held) × Taken from key p ms i m earlier later)
 
 -- what the test of the first message makes of the search
 abbrev searched : Held → List Held → Option Parts → Bool → Option Parts
@@ -43,51 +46,53 @@ found_by : (p : Receive) (h : Held) (hs : List Held) (b : Bool) (o : Option Part
 found_by p h hs b o e f = ap (λ (t : Bool). searched h hs (found p hs) t) e ∙ ap (λ (q : Option Parts). searched h hs q b) f
 
 -- the first message is not accepted
-miss : (key : ℕ) (p : Receive) (m : Message) (ms : List Message) → fits p (held_of m) ≡ false → Tried key p ms → Tried key p (m ∷ ms)
-miss key p m ms h = ⊎_elim
-    (λ (n : Passed key p ms). inl (record {
-      core = found_by p (held_of m) (map held_of ms) false None h n.core;
-      place = position_later (accepts (posted_record key p)) m ms None (same_test key p m ∙ h) n.place;
+miss : (from : Endpoint → List Transfer) (key : ℕ) (p : Receive) (m : Message) (ms : List Message) → fits p (held_of from m) ≡ false → Tried from key p ms → Tried from key p (m ∷ ms)
+miss from key p m ms h = ⊎_elim
+    (λ (n : Passed from key p ms). inl (record {
+      core = found_by p (held_of from m) (map (held_of from) ms) false None h n.core;
+      place = position_later (accepts (posted_record key p)) m ms None (same_test from key p m ∙ h) n.place;
     }))
-    (λ (s : (i : ℕ) × (n : Message) × (earlier : List Held) × (later : List Held) × Taken key p ms i n earlier later). inr (
+    (λ (s : (i : ℕ) × (n : Message) × (earlier : List Held) × (later : List Held) × Taken from key p ms i n earlier later). inr (
       suc s.0,
       s.1,
-      held_of m ∷ s.2,
+      held_of from m ∷ s.2,
       s.3,
       record {
-        core = found_by p (held_of m) (map held_of ms) false (Some (s.2, held_of s.1, s.3)) h s.4.core;
-        place = position_later (accepts (posted_record key p)) m ms (Some s.0) (same_test key p m ∙ h) s.4.place;
+        core = found_by p (held_of from m) (map (held_of from) ms) false (Some (s.2, held_of from s.1, s.3)) h s.4.core;
+        place = position_later (accepts (posted_record key p)) m ms (Some s.0) (same_test from key p m ∙ h) s.4.place;
         there = s.4.there;
-        rest = ap (λ (l : List Held). held_of m ∷ l) s.4.rest;
+        accepts = s.4.accepts;
+        rest = ap (λ (l : List Held). held_of from m ∷ l) s.4.rest;
       },
     ))
 
 -- the first message is accepted
-hit : (key : ℕ) (p : Receive) (m : Message) (ms : List Message) → fits p (held_of m) ≡ true → Taken key p (m ∷ ms) 0 m [] (map held_of ms)
-hit key p m ms h =
+hit : (from : Endpoint → List Transfer) (key : ℕ) (p : Receive) (m : Message) (ms : List Message) → fits p (held_of from m) ≡ true → Taken from key p (m ∷ ms) 0 m [] (map (held_of from) ms)
+hit from key p m ms h =
     record {
-      core = found_by p (held_of m) (map held_of ms) true (found p (map held_of ms)) h refl;
-      place = position_here (accepts (posted_record key p)) m ms (same_test key p m ∙ h);
+      core = found_by p (held_of from m) (map (held_of from) ms) true (found p (map (held_of from) ms)) h refl;
+      place = position_here (accepts (posted_record key p)) m ms (same_test from key p m ∙ h);
       there = refl;
-      rest = ap (λ (l : List Message). map held_of l) (remove_first m ms);
+      accepts = h;
+      rest = ap (λ (l : List Message). map (held_of from) l) (remove_first m ms);
     }
 
 -- one more message in front
-step : (key : ℕ) (p : Receive) (m : Message) (ms : List Message) → Tried key p ms → Tried key p (m ∷ ms)
-step key p m ms t = go (fits p (held_of m)) refl
+step : (from : Endpoint → List Transfer) (key : ℕ) (p : Receive) (m : Message) (ms : List Message) → Tried from key p ms → Tried from key p (m ∷ ms)
+step from key p m ms t = go (fits p (held_of from m)) refl
   where
-    go : (b : Bool) → fits p (held_of m) ≡ b → Tried key p (m ∷ ms)
-    go true h = inr (0, m, [], map held_of ms, hit key p m ms h)
-    go false h = miss key p m ms h t
+    go : (b : Bool) → fits p (held_of from m) ≡ b → Tried from key p (m ∷ ms)
+    go true h = inr (0, m, [], map (held_of from) ms, hit from key p m ms h)
+    go false h = miss from key p m ms h t
 
 -- all messages
-tried : (key : ℕ) (p : Receive) (ms : List Message) → Tried key p ms
-tried key p [] = inl (record { core = refl; place = refl })
-tried key p (m ∷ ms) = step key p m ms (tried key p ms)
+tried : (from : Endpoint → List Transfer) (key : ℕ) (p : Receive) (ms : List Message) → Tried from key p ms
+tried from key p [] = inl (record { core = refl; place = refl })
+tried from key p (m ∷ ms) = step from key p m ms (tried from key p ms)
 
 -- the receive is posted, as none is accepted
-finds_none : (old : State) (v : engine_receive.Receive) (key : ℕ) → Passed key (receive_seen v) old.unexpected → FindsNone old v key
-finds_none old v key n =
+finds_none : (from : Endpoint → List Transfer) (old : State) (v : engine_receive.Receive) (key : ℕ) → Passed from key (receive_seen v) old.unexpected → FindsNone from old v key
+finds_none from old v key n =
     let none : message_for (posted_by key v) old.unexpected ≡ None = n.place in
     record {
       core = n.core;
@@ -96,19 +101,20 @@ finds_none old v key n =
     }
 
 -- the receive takes the oldest that it accepts
-finds : (old : State) (v : engine_receive.Receive) (key i : ℕ) (m : Message) (earlier later : List Held) → Taken key (receive_seen v) old.unexpected i m earlier later → Finds old v key m earlier later
-finds old v key i m earlier later s =
+finds : (from : Endpoint → List Transfer) (old : State) (v : engine_receive.Receive) (key i : ℕ) (m : Message) (earlier later : List Held) → Taken from key (receive_seen v) old.unexpected i m earlier later → Finds from old v key m earlier later
+finds from old v key i m earlier later s =
     let place : message_for (posted_by key v) old.unexpected ≡ Some i = s.place in
     record {
       core = s.core;
+      accepts = s.accepts;
       message = ap (λ (o : Option ℕ). message_at old.unexpected o) place ∙ s.there;
       posted = ap (λ (o : Option ℕ). (posted_at o old (posted_by key v)).posted) place;
-      unexpected = ap (λ (o : Option ℕ). map held_of (posted_at o old (posted_by key v)).unexpected) place ∙ s.rest;
+      unexpected = ap (λ (o : Option ℕ). map (held_of from) (posted_at o old (posted_by key v)).unexpected) place ∙ s.rest;
     }
 
 -- the law of posted receives
 pub posts_match : PostsMatch
-posts_match old v key = ⊎_elim
-    (λ (n : Passed key (receive_seen v) old.unexpected). inl (finds_none old v key n))
-    (λ (s : (i : ℕ) × (m : Message) × (earlier : List Held) × (later : List Held) × Taken key (receive_seen v) old.unexpected i m earlier later). inr (s.1, s.2, s.3, finds old v key s.0 s.1 s.2 s.3 s.4))
-    (tried key (receive_seen v) old.unexpected)
+posts_match from old v key = ⊎_elim
+    (λ (n : Passed from key (receive_seen v) old.unexpected). inl (finds_none from old v key n))
+    (λ (s : (i : ℕ) × (m : Message) × (earlier : List Held) × (later : List Held) × Taken from key (receive_seen v) old.unexpected i m earlier later). inr (s.1, s.2, s.3, finds from old v key s.0 s.1 s.2 s.3 s.4))
+    (tried from key (receive_seen v) old.unexpected)

@@ -1,64 +1,87 @@
 -- What is taken from an engine's queues, and what from a core's jobs.
-use Rattle.std.specs.Prelude.{◌≡◌, ℕ, ◌⊎◌, List, [], ◌∷◌, ◌++◌, map, Some, None, slice_get, slice_set}
+use Rattle.std.specs.Prelude.{◌≡◌, ℕ, true, ◌⊎◌, List, [], ◌∷◌, ◌++◌, map, Some, None, slice_get, slice_set}
+use Rattle.vocabulary.specs.declared.endpoint.Endpoint.{Endpoint}
 use Rattle.datatypes.specs.Contents.{Contents}
 use Rattle.match_queues.specs.declared.envelope.Message.{Message}
-use Rattle.match_queues.specs.declared.envelope.Body.TheVariants.{Whole}
+use Rattle.match_queues.specs.declared.envelope.Body.TheVariants.{Announced, Whole}
+use Rattle.match_queues.specs.declared.envelope.Announcement.{Announcement}
 use Rattle.match_queues.specs.declared.queues.Arrival.TheVariants.{Kept, Matched}
 use Rattle.match_queues.specs.Arrivals.{arrival_of}
 use Rattle.match_queues.specs.State.{State, after_arrival, after_post, message_at, message_for}
 use Rattle.requests.specs.Outcomes.{outcome_of}
+use Rattle.requests.specs.Regions.{handed_of}
+use Rattle.requests.specs.Table.{has_room, matched_progress}
+use Rattle.requests.specs.declared.region.Region.{Region}
 use Rattle.rank_calls.specs.declared.call.Receive as engine_receive
 use Rattle.rank_calls.specs.Receiving.{posted_by, status_of}
-use Rattle.perfect_queues.specs.Outcomes.{Outcome, outcome}
+use Rattle.perfect_queues.specs.Outcomes.{outcome}
 use Rattle.perfect_queues.specs.Receives.{Receive}
-use Rattle.proof_pure_network.specs.Held.{Held, full}
-use Rattle.proof_pure_network.specs.Jobs.{Over, Waiting, oldest_posted}
+use Rattle.perfect_queues.specs.Receives as machine
+use Rattle.proof_pure_network.specs.Held.{Held, fits, full}
+use Rattle.proof_pure_network.specs.Jobs.{Job, Waiting, matched_job, oldest_posted}
 use Rattle.proof_pure_network.specs.Matching.{found}
-use Rattle.proof_engine_view.specs.Rows.{IsOnWorld, Row, held_of, jobs_of, posted_rows}
+use Rattle.proof_engine_view.specs.Rows.{Fits, IsOnWorld, Row, body_seen, held_of, jobs_of, posted_job, posted_rows}
 use Rattle.proof_engine_view.specs.Seen.{outcome_seen, receive_seen}
+use Rattle.proof_engine_view.specs.Transfers.{Transfer}
 
 -- the message waits behind the others
-pub record IsKept (rows : List Row) (old : State) (m : Message) : Type 0 where
-  pub core : oldest_posted (held_of m) (jobs_of rows) ≡ None
+pub record IsKept (from : Endpoint → List Transfer) (rows : List Row) (old : State) (m : Message) : Type 0 where
+  pub core : oldest_posted (held_of from m) (jobs_of rows) ≡ None
   pub arrival : arrival_of old m ≡ Kept
   pub queues : after_arrival old m ≡ record old { unexpected = old.unexpected ++ m ∷ [] }
 
 -- the receive with serial k takes it
-pub record IsMatchedTo (rows : List Row) (old : State) (m : Message) (k key : ℕ) (p : Receive) : Type 0 where
+pub record IsMatchedTo (from : Endpoint → List Transfer) (rows : List Row) (old : State) (m : Message) (k key : ℕ) (p : Receive) : Type 0 where
   pub row : slice_get rows k ≡ Some (record { key = key; job = Waiting p })
-  pub core : oldest_posted (held_of m) (jobs_of rows) ≡ Some (k, p)
+  pub core : oldest_posted (held_of from m) (jobs_of rows) ≡ Some (k, p)
   pub arrival :
       arrival_of old m ≡ Matched (record { request = key; context = p.context; source = p.source; tag = p.tag }) m
-  pub posted : (o : Outcome) → (after_arrival old m).posted ≡ posted_rows (slice_set rows k (record { key = key; job = Over o }))
+  pub accepts : fits p (held_of from m) ≡ true
+  -- whatever becomes of it, if it waits no more
+  pub posted :
+      (x : Job) → posted_job key x ≡ [] →
+      (after_arrival old m).posted ≡ posted_rows (slice_set rows k (record { key = key; job = x }))
   pub unexpected : (after_arrival old m).unexpected ≡ old.unexpected
 
 -- A message that comes is kept by the engine's queues and by the core, or both match it with the same receive
 abbrev pub ArrivalsMatch : Type 0
 ArrivalsMatch =
-    (rows : List Row) (old : State) (m : Message) → old.posted ≡ posted_rows rows →
-    IsKept rows old m ⊎ ((k : ℕ) × (key : ℕ) × (p : Receive) × IsMatchedTo rows old m k key p)
+    (from : Endpoint → List Transfer) (rows : List Row) (old : State) (m : Message) → old.posted ≡ posted_rows rows →
+    IsKept from rows old m ⊎ ((k : ℕ) × (key : ℕ) × (p : Receive) × IsMatchedTo from rows old m k key p)
 
 -- no message that waits is accepted
-pub record FindsNone (old : State) (v : engine_receive.Receive) (key : ℕ) : Type 0 where
-  pub core : found (receive_seen v) (map held_of old.unexpected) ≡ None
+pub record FindsNone (from : Endpoint → List Transfer) (old : State) (v : engine_receive.Receive) (key : ℕ) : Type 0 where
+  pub core : found (receive_seen v) (map (held_of from) old.unexpected) ≡ None
   pub message : message_at old.unexpected (message_for (posted_by key v) old.unexpected) ≡ None
   pub queues : after_post old (posted_by key v) ≡ record old { posted = old.posted ++ posted_by key v ∷ [] }
 
 -- the receive takes the same message out of both, and those before and after it stay
-pub record Finds (old : State) (v : engine_receive.Receive) (key : ℕ) (m : Message) (earlier later : List Held) : Type 0 where
-  pub core : found (receive_seen v) (map held_of old.unexpected) ≡ Some (earlier, held_of m, later)
+pub record Finds (from : Endpoint → List Transfer) (old : State) (v : engine_receive.Receive) (key : ℕ) (m : Message) (earlier later : List Held) : Type 0 where
+  pub core : found (receive_seen v) (map (held_of from) old.unexpected) ≡ Some (earlier, held_of from m, later)
   pub message : message_at old.unexpected (message_for (posted_by key v) old.unexpected) ≡ Some m
+  pub accepts : fits (receive_seen v) (held_of from m) ≡ true
   pub posted : (after_post old (posted_by key v)).posted ≡ old.posted
-  pub unexpected : map held_of (after_post old (posted_by key v)).unexpected ≡ earlier ++ later
+  pub unexpected : map (held_of from) (after_post old (posted_by key v)).unexpected ≡ earlier ++ later
 
 -- A receive that is posted finds the same message in the engine's queues and in the core, or in neither
 abbrev pub PostsMatch : Type 0
 PostsMatch =
-    (old : State) (v : engine_receive.Receive) (key : ℕ) →
-    FindsNone old v key ⊎ ((m : Message) × (earlier : List Held) × (later : List Held) × Finds old v key m earlier later)
+    (from : Endpoint → List Transfer) (old : State) (v : engine_receive.Receive) (key : ℕ) →
+    FindsNone from old v key ⊎ ((m : Message) × (earlier : List Held) × (later : List Held) × Finds from old v key m earlier later)
 
 -- a receive on world ends alike with a message that is whole
 abbrev pub OutcomesAgree : Type 0
 OutcomesAgree =
-    (p : Receive) (m : Message) (c : Contents) → m.body ≡ Whole c → IsOnWorld p →
-    outcome p (full (held_of m) c.values) ≡ outcome_seen (outcome_of p.into (status_of m) c)
+    (from : Endpoint → List Transfer) (p : Receive) (m : Message) (c : Contents) → m.body ≡ Whole c → IsOnWorld p →
+    outcome p (full (held_of from m) c.values) ≡ outcome_seen (outcome_of p.into (status_of m) c)
+
+-- an announced message is wanted by a receive on world alike, and leaves it alike
+pub record AnnouncedAlike (from : Endpoint → List Transfer) (p : Receive) (r : Region) (m : Message) (a : Announcement) : Type 0 where
+  pub wanted : machine.has_room p a.basic a.count ≡ has_room r a.basic a.count
+  pub fits : Fits (matched_progress r (status_of m) a.basic) (matched_job p (held_of from m) (body_seen (from m.sender) m.body))
+
+-- A receive on world that accepts it is matched with an announced message alike
+abbrev pub AnnouncementsAgree : Type 0
+AnnouncementsAgree =
+    (from : Endpoint → List Transfer) (p : Receive) (r : Region) (m : Message) (a : Announcement) → m.body ≡ Announced a →
+    p.into ≡ handed_of r → IsOnWorld p → fits p (held_of from m) ≡ true → AnnouncedAlike from p r m a

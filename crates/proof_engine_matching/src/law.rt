@@ -1,6 +1,6 @@
 //! The law of matching.
 
-ghost use Rattle.proof_engine_matching.specs.Matches.{ArrivalsMatch, PostsMatch, OutcomesAgree};
+ghost use Rattle.proof_engine_matching.specs.Matches.{ArrivalsMatch, PostsMatch, OutcomesAgree, AnnouncementsAgree};
 
 /// States that a message that arrives takes the same receive from an engine's queues as from a core's jobs, that a receive
 /// that is posted takes the same message, and that both end a receive alike. It does nothing when it is called.
@@ -8,4 +8,5 @@ pub fn queues_match_alike()
     ensures arrivals { ArrivalsMatch }
     ensures posts { PostsMatch }
     ensures outcomes { OutcomesAgree }
+    ensures announcements { AnnouncementsAgree }
 {}

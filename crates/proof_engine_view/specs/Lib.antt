@@ -1,4 +1,7 @@
 pub mod Seen
 pub mod Frames
+pub mod Transfers
+pub mod Standing
 pub mod Rows
+pub mod UnderWay
 pub mod Shown

@@ -1,21 +1,25 @@
 -- A rank's requests by their serials, each with the key under which it stands in the table.
-use Rattle.std.specs.Prelude.{◌≡◌, ℕ, List, [], ◌∷◌, ◌++◌, map, Option, Some, None, slice_get}
+use Rattle.std.specs.Prelude.{◌≡◌, ℕ, true, List, [], ◌∷◌, ◌++◌, map, Option, Some, None, slice_get}
+use Rattle.vocabulary.specs.declared.endpoint.Endpoint.{Endpoint}
+use Rattle.vocabulary.specs.declared.envelope.Source.TheVariants.{Rank}
 use Rattle.match_queues.specs.declared.envelope.Receive as posted
 use Rattle.match_queues.specs.declared.envelope.Message.{Message}
 use Rattle.match_queues.specs.declared.envelope.Body.{Body}
 use Rattle.match_queues.specs.declared.envelope.Body.TheVariants as bodies
 use Rattle.match_queues.specs.Bodies.{basic_of}
 use Rattle.requests.specs.declared.table.Entry.{Entry}
+use Rattle.requests.specs.declared.table.Matched.{Matched}
 use Rattle.requests.specs.declared.table.Progress.{Progress}
 use Rattle.requests.specs.declared.table.Progress.TheVariants.{Receiving, Finished}
 use Rattle.requests.specs.declared.table.Progress.TheVariants as progresses
 use Rattle.requests.specs.Regions.{handed_of}
 use Rattle.requests.specs.Table.{slot_at}
 use Rattle.perfect_queues.specs.Receives.{Receive}
-use Rattle.proof_pure_network.specs.Held.{Held, Part, Whole}
+use Rattle.proof_pure_network.specs.Held.{Held, Part, Whole, count_of, fits}
 use Rattle.proof_pure_network.specs.Held as held
 use Rattle.proof_pure_network.specs.Jobs.{Job, Waiting, Collecting, Offering, Over, Closed}
 use Rattle.proof_engine_view.specs.Seen.{outcome_seen}
+use Rattle.proof_engine_view.specs.Transfers.{Transfer, serial_at}
 
 -- a request: its key in the table, and its job
 pub record Row : Type 0 where
@@ -31,15 +35,31 @@ pub record IsOnWorld (p : Receive) : Type 0 where
   pub context : p.context ≡ 0
   pub group : p.group ≡ None
 
--- how far the request is says what the job says; for now no receive collects and no send offers
+-- a receive was matched with this announced message, which it accepts: its data go where the receive's go, and the status is
+-- the message's
+pub record IsMatched (w : Matched) (p : Receive) (h : Held) : Type 0 where
+  pub into : p.into ≡ handed_of w.into
+  pub on_world : IsOnWorld p
+  pub accepts : fits p h ≡ true
+  pub status : w.status ≡ record { source = Rank h.sender.rank; tag = Some h.tag; count = count_of h.body }
+
+-- how far the request is says what the job says; which data a receive has so far, and what a send offers, the transfers say
 abbrev pub Fits : Progress → Job → Type 0
 Fits (Receiving r) (Waiting p) = (p.into ≡ handed_of r) × IsOnWorld p
 Fits (Receiving r) (Collecting p h got) = ⊥
 Fits (Receiving r) (Offering d basic values) = ⊥
 Fits (Receiving r) (Over x) = ⊥
 Fits (Receiving r) Closed = ⊥
-Fits (progresses.Collecting w) job = ⊥
-Fits progresses.Offering job = ⊥
+Fits (progresses.Collecting w) (Waiting p) = ⊥
+Fits (progresses.Collecting w) (Collecting p h got) = IsMatched w p h
+Fits (progresses.Collecting w) (Offering d basic values) = ⊥
+Fits (progresses.Collecting w) (Over x) = ⊥
+Fits (progresses.Collecting w) Closed = ⊥
+Fits progresses.Offering (Waiting p) = ⊥
+Fits progresses.Offering (Collecting p h got) = ⊥
+Fits progresses.Offering (Offering d basic values) = Unit {0}
+Fits progresses.Offering (Over x) = ⊥
+Fits progresses.Offering Closed = ⊥
 Fits (Finished o) (Waiting p) = ⊥
 Fits (Finished o) (Collecting p h got) = ⊥
 Fits (Finished o) (Offering d basic values) = ⊥
@@ -53,13 +73,13 @@ pub record Holds (slot : Option Entry) (serial : ℕ) (job : Job) : Type 0 where
   pub serial_is : entry.serial ≡ serial
   pub fits : Fits entry.progress job
 
--- what stands in the slot of a request whose outcome wasn't answered; for now none collects or offers
+-- what stands in the slot of a request whose outcome wasn't answered
 abbrev pub Stands : Option Entry → (serial : ℕ) → Job → Type 0
 Stands slot k (Waiting p) = Holds slot k (Waiting p)
+Stands slot k (Collecting p h got) = Holds slot k (Collecting p h got)
+Stands slot k (Offering d basic values) = Holds slot k (Offering d basic values)
 Stands slot k (Over o) = Holds slot k (Over o)
 Stands slot k Closed = Unit {0}
-Stands slot k (Collecting p h got) = ⊥
-Stands slot k (Offering d basic values) = ⊥
 
 -- a slot's entry is that of a row
 pub record IsRow (rows : List Row) (key : ℕ) (t : Entry) : Type 0 where
@@ -86,21 +106,17 @@ abbrev pub posted_rows : List Row → List posted.Receive
 posted_rows [] = []
 posted_rows (r ∷ rs) = posted_job r.key r.job ++ posted_rows rs
 
--- what is there of a message
-abbrev pub body_seen : Body → held.Body
-body_seen (bodies.Whole c) = Whole c.values
-body_seen (bodies.Announced a) = Part a.transfer a.count
+-- what is there of a message of which its sender announced these: a large one is named by the serial of its send
+abbrev pub body_seen : List Transfer → Body → held.Body
+body_seen ts (bodies.Whole c) = Whole c.values
+body_seen ts (bodies.Announced a) = Part (serial_at ts a.transfer) a.count
 
--- a message that waits for its receive
-abbrev pub held_of : Message → Held
-held_of m =
-    record { sender = m.sender; context = m.context; tag = m.tag; basic = basic_of m.body; body = body_seen m.body }
-
--- all of its elements are there
-abbrev pub AreThere : Body → Type 0
-AreThere (bodies.Whole c) = Unit {0}
-AreThere (bodies.Announced a) = ⊥
-
--- so it is with a message
-abbrev pub IsWhole : Message → Type 0
-IsWhole m = AreThere m.body
+-- a message that waits for its receive, by what each endpoint announced
+abbrev pub held_of : (Endpoint → List Transfer) → Message → Held
+held_of from m = record {
+  sender = m.sender;
+  context = m.context;
+  tag = m.tag;
+  basic = basic_of m.body;
+  body = body_seen (from m.sender) m.body;
+}

@@ -1,8 +1,5 @@
 -- When a rank's core holds what a core of the pure network holds.
-use Rattle.std.specs.Prelude.{◌≡◌, ℕ, List, [], All, length, map, Option, Some, None, slice_get, slice_index}
-use Rattle.std.specs.List.{AllByRecursion}
-use Rattle.match_queues.specs.declared.envelope.Message.{Message}
-use Rattle.rendezvous.specs.State as transfers
+use Rattle.std.specs.Prelude.{◌≡◌, ℕ, List, All, length, map, Option, Some, None, slice_get, slice_index}
 use Rattle.requests.specs.declared.awaited.Awaited as engine
 use Rattle.requests.specs.declared.table.Request.{Request}
 use Rattle.requests.specs.Completions.{awaited_requests}
@@ -11,8 +8,10 @@ use Rattle.perfect_queues.specs.Completions.{Awaited}
 use Rattle.proof_pure_network.specs.Core.{Core}
 use Rattle.proof_pure_network.specs.Engine.{core_ready}
 use Rattle.proof_pure_network.specs.Jobs.{Closed}
-use Rattle.proof_engine_view.specs.Rows.{Row, IsTable, IsWhole, held_of, jobs_of, posted_rows}
+use Rattle.proof_engine_view.specs.Rows.{Row, IsTable, held_of, jobs_of, posted_rows}
 use Rattle.proof_engine_view.specs.Seen.{awaited_seen}
+use Rattle.proof_engine_view.specs.Transfers.{Announcements}
+use Rattle.proof_engine_view.specs.UnderWay.{AreUnderWay}
 
 -- a request that wasn't answered: its row stands under its key
 pub record IsNamed (rows : List Row) (q : Request) : Type 0 where
@@ -26,23 +25,17 @@ abbrev pub IsBlocked : List Row → Option engine.Awaited → Option Awaited →
 IsBlocked rows None b = b ≡ None
 IsBlocked rows (Some a) b = (b ≡ Some (awaited_seen a)) × All (IsNamed rows) (awaited_requests a)
 
--- No large message is under way, in either direction: none is offered, none is collected, and each message that waits for its
--- receive is whole. So it is for now, since no send has more than 1,024 bytes
-pub record AreSmall (t : transfers.State) (unexpected : List Message) : Type 0 where
-  pub offers : t.offers ≡ []
-  pub collections : t.collections ≡ []
-  pub whole : AllByRecursion IsWhole unexpected
-
 -- The rank holds the requests and messages of the network's core and is blocked on the same; and both know the ranks alike:
--- `known` is what the rank's sessions know, the incarnation of each rank by its number
-pub record IsShown (c : CoreState) (known : List ℕ) (core : Core) : Type 0 where
+-- `known` is what the rank's sessions know, the incarnation of each rank by its number. `a` is what was announced on the links
+-- from and to it, by which large messages have their numbers
+pub record IsShown (a : Announcements) (c : CoreState) (known : List ℕ) (core : Core) : Type 0 where
   pub rows : List Row
   pub jobs : core.jobs ≡ jobs_of rows
   pub count : length rows ≡ c.serial
   pub table : IsTable c.slots rows
   pub posted : c.queues.posted ≡ posted_rows rows
-  pub held : core.held ≡ map held_of c.queues.unexpected
-  pub small : AreSmall c.transfers c.queues.unexpected
+  pub held : core.held ≡ map (held_of a.from) c.queues.unexpected
+  pub under_way : AreUnderWay a known c.place rows c.transfers c.queues.unexpected
   pub blocked : IsBlocked rows c.blocked core.blocked
   -- the blocked call's answer isn't ready
   pub pending : core_ready core ≡ None

@@ -1,6 +1,7 @@
 -- A world of engines follows the pure network: its opening, its calls, its ticks and its restarts.
 use Rattle.std.proofs.Common.{◌≡◌, ℕ, zero, suc, ◌+◌, ◌<◌, List, [], ◌∷◌, ◌++◌, Option, Some, None, refl, sym, ap, subst, ◌∙◌, arith, append-nil}
 use Rattle.std.specs.Prelude.{slice_get, slice_set}
+use Rattle.std.specs.List.{AllByRecursion}
 use Rattle.std.proofs.lemmas.Option.{same_Some}
 use Rattle.perfect_queues.specs.Events.{Entry, Restarted, call_and_reply, told}
 use Rattle.perfect_queues.specs.Refusals.{fault}
@@ -12,9 +13,9 @@ use Rattle.rank_calls.specs.declared.call.Reply.{Reply}
 use Rattle.rank_core.specs.CoreState.{CoreState}
 use Rattle.rank_calls.specs.Calls.{IsWithin}
 use Rattle.rank_core.specs.Calls.{call_fault, call_frame}
-use Rattle.rank_calls.specs.Frames.{FrameFor}
+use Rattle.rank_calls.specs.Frames.{FrameFor, as_list}
 use Rattle.requests.specs.declared.answer.Answer.{Answer}
-use Rattle.sessions.specs.Events.{after_event}
+use Rattle.sessions.specs.Events.{Sending, after_event}
 use Rattle.sessions.specs.SessionsState.{SessionsState}
 use Rattle.engine.specs.Calls.{IsAnswered, frame_limit, sendings_of}
 use Rattle.engine.specs.EngineState.{EngineState, emptied, opening}
@@ -25,22 +26,26 @@ use Rattle.proof_pure_network.specs.Frames.{Frame}
 use Rattle.proof_pure_network.specs.Held.{blank}
 use Rattle.proof_pure_network.specs.Links.{Link, accept_all}
 use Rattle.proof_pure_network.specs.Network.{Ask, Happening, Network, Restarts, happens, here, new_network, run}
-use Rattle.proof_engine_view.specs.Frames.{sent_by}
 use Rattle.proof_engine_view.specs.Seen.{call_seen, told_call, told_completion}
-use Rattle.proof_engine_view.specs.Shown.{AreSmall, IsShown}
+use Rattle.proof_engine_view.specs.Shown.{IsShown}
+use Rattle.proof_engine_view.specs.Standing.{AreSent, CanLeave, all_gone}
+use Rattle.proof_engine_view.specs.Transfers.{Announcements, after_out, announced_in, announcements_of}
+use Rattle.proof_engine_view.proofs.Growing.{sent_more}
+use Rattle.proof_pure_network.specs.Announced.{MeetingsStand}
+use Rattle.proof_pure_network.proofs.MeetingLaws.{meetings_stand}
 use Rattle.proof_engine_steps.specs.Steps.{CallsAreShown, IsCalled, OpeningIsShown}
-use Rattle.proof_link_truth.specs.Events.{EventsAreTrue, IsAt, LeavesTrue, OpeningIsTrue, RestartsAreTrue, TicksAreTrue, all_addressed, no_links, opening_sessions}
+use Rattle.proof_link_truth.specs.Events.{EventsAreTrue, IsAt, LeavesTrue, MaySendAll, OpeningIsTrue, RestartsAreTrue, TicksAreTrue, all_addressed, no_links, opening_sessions}
 use Rattle.proof_link_truth.specs.Links as below
 use Rattle.proof_link_truth.specs.Truth.{AreTrue}
 use Rattle.proof_link_truth.specs.Wire.{at, place_of}
 use Rattle.proof_network_bridge.specs.Carried.{AreCarried}
 use Rattle.proof_network_bridge.specs.Following.{CallsFollow, LeavesFollowed, OpeningFollows, RestartsFollow, TicksFollow, next_place}
 use Rattle.proof_network_bridge.specs.Joined.{IsClean, IsFollowed, IsJoined, opening_engines, sessions_in}
-use Rattle.proof_network_bridge.proofs.Carried.{AreSent, accept_all_alike}
-use Rattle.proof_network_bridge.proofs.Carrying.{call_may_send, call_sent}
+use Rattle.proof_network_bridge.proofs.Carried.{accept_all_alike}
+use Rattle.proof_network_bridge.proofs.Carrying.{all_same, listed, may_send}
 use Rattle.proof_network_bridge.proofs.Halves.{answered, frame_event, frame_free, frame_keeps, leaves_engines, neither_fault, sessions_set, sessions_there}
 use Rattle.proof_network_bridge.proofs.Networks.{IsAfter, anew, asked, restarts, run_push}
-use Rattle.proof_network_bridge.proofs.Worlds.{IsHeld, clean_emptied, held_at, held_emptied, joined_after, joined_anew, joined_still, place_is}
+use Rattle.proof_network_bridge.proofs.Worlds.{IsHeld, OnlyFrom, after_grows, clean_emptied, held_at, held_emptied, held_out, joined_after, joined_anew, joined_still, only_out, place_is}
 
 -- ---- the opening
 
@@ -57,19 +62,20 @@ opening_halves n a zero = refl
 opening_halves n a (suc k) = ap (λ (ss : List SessionsState). (opening (place_of n (at a 0))).sessions ∷ ss) (opening_halves n (suc a) k)
 
 -- an engine at its start holds what a new core holds, and nothing is to be taken out of it
-record IsNew (e : EngineState) (core : Core) : Type 0 where
-  held : IsHeld e core
+record IsNew (a : Announcements) (e : EngineState) (core : Core) : Type 0 where
+  held : IsHeld a e core
   clean : IsClean e
 
-new_is : OpeningIsShown → (p : Place) → p.endpoint.rank < p.size → IsNew (opening p) (new_core p.endpoint)
-new_is shows p within = record { held = record { shown = shows p within; placed = refl }; clean = record { out = refl; completion = refl } }
+new_is : OpeningIsShown → (p : Place) (a : Announcements) → p.endpoint.rank < p.size → ((d : Endpoint) → a.to d ≡ []) → IsNew a (opening p) (new_core p.endpoint)
+new_is shows p a within none = record { held = record { shown = shows p a within none; placed = refl }; clean = record { out = refl; completion = refl } }
 
-opening_is : OpeningIsShown → (n r : ℕ) (e : EngineState) → slice_get (opening_engines n 0 n) r ≡ Some e → IsNew e (new_core (at r 0))
+opening_is : OpeningIsShown → (n r : ℕ) (e : EngineState) → slice_get (opening_engines n 0 n) r ≡ Some e → IsNew (announcements_of new_network.link (at r 0)) e (new_core (at r 0))
 opening_is shows n r e is =
     let start : 0 + r ≡ r = omega arith in
     let found = opening_at n 0 n r e is in
     let here_is : e ≡ opening (place_of n (at r 0)) = found.1 ∙ ap (λ (x : ℕ). opening (place_of n (at x 0))) start in
-    subst (λ (g : EngineState). IsNew g (new_core (at r 0))) (sym here_is) (new_is shows (place_of n (at r 0)) found.0)
+    subst (λ (g : EngineState). IsNew (announcements_of new_network.link (at r 0)) g (new_core (at r 0))) (sym here_is)
+    (new_is shows (place_of n (at r 0)) (announcements_of new_network.link (at r 0)) found.0 (λ d. refl))
 
 pub opening_follows : OpeningIsShown → OpeningIsTrue → OpeningFollows
 opening_follows shows truth n few =
@@ -93,16 +99,17 @@ opening_follows shows truth n few =
 pub followed_after : (n r : ℕ) (engines : List EngineState) (datagrams : List (ℕ × List ℕ)) (history entries : List Entry) (mid : EngineState) (h : Happening) (core : Core)
     (carried : below.Links) (links : Endpoint → Endpoint → Link) (f : IsFollowed n engines datagrams history) →
     IsAfter (run n f.happenings new_network) (happens n (run n f.happenings new_network) h) (here (run n f.happenings new_network) r) core links entries →
-    AreCarried carried links → LeavesTrue n (sessions_in engines) datagrams r mid.sessions carried (run n f.happenings new_network).current → IsHeld mid core →
+    AreCarried carried links → OnlyFrom (here (run n f.happenings new_network) r) (run n f.happenings new_network).link links →
+    LeavesTrue n (sessions_in engines) datagrams r mid.sessions carried (run n f.happenings new_network).current → IsHeld (announcements_of links (here (run n f.happenings new_network) r)) mid core →
     LeavesFollowed n engines datagrams r mid (history ++ entries)
-followed_after n r engines datagrams history entries mid h core carried links f a alike truth held =
+followed_after n r engines datagrams history entries mid h core carried links f a alike only truth held =
     let w : Network = run n f.happenings new_network in
     let pushed : run n (f.happenings ++ h ∷ []) new_network ≡ happens n w h = run_push n f.happenings h new_network in
     record {
       happenings = f.happenings ++ h ∷ [];
       joined = subst (λ (w' : Network). IsJoined n (slice_set engines r (emptied mid)) (datagrams ++ mid.sessions.out) w') (sym pushed)
-          (joined_after n r engines datagrams (datagrams ++ mid.sessions.out) w (happens n w h) (emptied mid) core carried links entries f.joined a alike
-          (leaves_engines n r engines datagrams mid carried w.current truth) (held_emptied mid core held) (clean_emptied mid));
+          (joined_after n r engines datagrams (datagrams ++ mid.sessions.out) w (happens n w h) (emptied mid) core carried links entries f.joined a alike only
+          (leaves_engines n r engines datagrams mid carried w.current truth) (held_emptied (announcements_of links (here w r)) mid core held) (clean_emptied mid));
       seen = ap (λ (w' : Network). w'.history) pushed ∙ a.history_is ∙ ap (λ (es : List Entry). es ++ entries) f.seen;
     }
 
@@ -113,9 +120,9 @@ pub record IsBeside (old new : EngineState) : Type 0 where
   pub place : new.sessions.place ≡ old.sessions.place
 
 -- it leaves what the engine holds
-held_beside : (old new : EngineState) (core : Core) → IsBeside old new → IsHeld old core → IsHeld new core
-held_beside old new core b h = record {
-  shown = subst (λ (known : List ℕ). IsShown new.core known core) (sym b.known) (subst (λ (c : CoreState). IsShown c old.sessions.known core) (sym b.core) h.shown);
+held_beside : (a : Announcements) (old new : EngineState) (core : Core) → IsBeside old new → IsHeld a old core → IsHeld a new core
+held_beside a old new core b h = record {
+  shown = subst (λ (known : List ℕ). IsShown a new.core known core) (sym b.known) (subst (λ (c : CoreState). IsShown a c old.sessions.known core) (sym b.core) h.shown);
   placed = ap (λ (c : CoreState). c.place) b.core ∙ h.placed ∙ sym b.place;
 }
 
@@ -129,7 +136,7 @@ followed_still n r engines datagrams history old mid f there beside truth =
     record {
       happenings = f.happenings;
       joined = joined_still n r engines datagrams (datagrams ++ mid.sessions.out) w (emptied mid) f.joined (leaves_engines n r engines datagrams mid f.joined.carried w.current truth)
-          (held_emptied mid core (held_beside old mid core beside (held_at n r engines datagrams w old f.joined there))) (clean_emptied mid);
+          (held_emptied (announcements_of w.link (here w r)) mid core (held_beside (announcements_of w.link (here w r)) old mid core beside (held_at n r engines datagrams w old f.joined there))) (clean_emptied mid);
       seen = f.seen;
     }
 
@@ -152,16 +159,17 @@ is_at n r engines datagrams w old j there = record { there = sessions_there engi
 -- ---- a call
 
 -- what is said of a call, at its place
-record IsCalledAt (p : Place) (old : CoreState) (known : List ℕ) (core : Core) (call : Call) (reply : Reply) (new : CoreState) : Type 0 where
+record IsCalledAt (a : Announcements) (p : Place) (old : CoreState) (known : List ℕ) (core : Core) (call : Call) (reply : Reply) (new : CoreState) : Type 0 where
   fit : fault p.size (view blank core) (call_seen call) ≡ None
-  shown : IsShown new known (core_settled (called p.endpoint core (call_seen call)).core)
-  sends : IsWithin call → (called p.endpoint core (call_seen call)).out ≡ sent_by known (call_frame old call)
+  shown : IsShown (after_out a (called p.endpoint core (call_seen call)).out) new known (core_settled (called p.endpoint core (call_seen call)).core)
+  sends : AreSent (after_out a (called p.endpoint core (call_seen call)).out) (all_gone known (as_list (call_frame old call))) (called p.endpoint core (call_seen call)).out
+  leaves : AllByRecursion (CanLeave p) (as_list (call_frame old call))
   tells : told p.endpoint (call_and_reply (view blank core) (Some (call_seen call))) (core_ready (called p.endpoint core (call_seen call)).core) ≡ told_call p.endpoint call (Some reply)
 
-called_at : (p : Place) (old : CoreState) (known : List ℕ) (core : Core) (call : Call) (reply : Reply) (new : CoreState) → old.place ≡ p → IsCalled old known core call reply new →
-    IsCalledAt p old known core call reply new
-called_at p old known core call reply new is c =
-    subst (λ (q : Place). IsCalledAt q old known core call reply new) is (record { fit = c.fit; shown = c.shown; sends = c.sends; tells = c.tells })
+called_at : (a : Announcements) (p : Place) (old : CoreState) (known : List ℕ) (core : Core) (call : Call) (reply : Reply) (new : CoreState) → old.place ≡ p → IsCalled a old known core call reply new →
+    IsCalledAt a p old known core call reply new
+called_at a p old known core call reply new is c =
+    subst (λ (q : Place). IsCalledAt a q old known core call reply new) is (record { fit = c.fit; shown = c.shown; sends = c.sends; leaves = c.leaves; tells = c.tells })
 
 -- a call that was answered is followed
 answered_follows : CallsAreShown → EventsAreTrue → (n r : ℕ) (engines : List EngineState) (datagrams : List (ℕ × List ℕ)) (history : List Entry) (old mid : EngineState) (call : Call)
@@ -170,7 +178,7 @@ answered_follows : CallsAreShown → EventsAreTrue → (n r : ℕ) (engines : Li
 answered_follows shows truth n r engines datagrams history old mid call reply f there within gives =
     subst (λ (es : List Entry). LeavesFollowed n engines datagrams r mid (history ++ es)) entries_are
     (followed_after n r engines datagrams history _ mid (Ask r (call_seen call)) (core_settled (called own core (call_seen call)).core)
-    (below.accept_all carried own texts) (accept_all w.link own (called own core (call_seen call)).out) f (asked n r w (call_seen call) place.0 c.fit) alike leaves held)
+    (below.accept_all carried own texts) (accept_all w.link own (called own core (call_seen call)).out) f (asked n r w (call_seen call) place.0 c.fit) alike (only_out w.link own out) leaves held)
   where
     w : Network
     w = run n f.happenings new_network
@@ -187,6 +195,12 @@ answered_follows shows truth n r engines datagrams history old mid call reply f 
     frame : Option FrameFor
     frame = call_frame old.core call
 
+    out : List (Endpoint × Frame)
+    out = (called own core (call_seen call)).out
+
+    a : Announcements
+    a = announcements_of w.link own
+
     carried : below.Links
     carried = f.joined.carried
 
@@ -202,14 +216,11 @@ answered_follows shows truth n r engines datagrams history old mid call reply f 
     free : (call_fault old.core call ≡ None) × (frame_limit old.sessions frame ≡ None)
     free = neither_fault (call_fault old.core call) (frame_limit old.sessions frame) gives.allowed
 
-    small : AreSmall old.core.transfers old.core.queues.unexpected
-    small = (f.joined.shown r old there).small
+    shown : IsCalled a old.core known core call reply mid.core
+    shown = shows a old.core mid.core known core call reply (f.joined.shown r old there) within free.0 gives.core
 
-    shown : IsCalled old.core known core call reply mid.core
-    shown = shows old.core mid.core known core call reply (f.joined.shown r old there) free.0 gives.core
-
-    c : IsCalledAt (place_of n own) old.core known core call reply mid.core
-    c = called_at (place_of n own) old.core known core call reply mid.core core_place shown
+    c : IsCalledAt a (place_of n own) old.core known core call reply mid.core
+    c = called_at a (place_of n own) old.core known core call reply mid.core core_place shown
 
     -- the sessions do just what is done where a frame is sent and nothing is heard
     sessions_are : mid.sessions ≡ after_event old.sessions None (sendings_of frame)
@@ -217,7 +228,7 @@ answered_follows shows truth n r engines datagrams history old mid call reply f 
 
     sent : LeavesTrue n (sessions_in engines) datagrams r (after_event old.sessions None (sendings_of frame)) (below.accept_all carried own texts) w.current
     sent = truth n r (sessions_in engines) datagrams carried w.current old.sessions None (sendings_of frame) f.joined.links (is_at n r engines datagrams w old f.joined there) tt
-        (call_may_send n own old.core call core_place small free.0) (frame_free old.sessions frame free.1)
+        (subst (λ (ss : List Sending). MaySendAll n own.rank ss) (sym (listed frame)) (may_send n own (as_list frame) c.leaves)) (frame_free old.sessions frame free.1)
 
     leaves : LeavesTrue n (sessions_in engines) datagrams r mid.sessions (below.accept_all carried own texts) w.current
     leaves = subst (λ (s : SessionsState). LeavesTrue n (sessions_in engines) datagrams r s (below.accept_all carried own texts) w.current) (sym sessions_are) sent
@@ -225,7 +236,8 @@ answered_follows shows truth n r engines datagrams history old mid call reply f 
     -- what the sessions send stands for what the network's core gives
     alike : AreCarried (below.accept_all carried own texts) (accept_all w.link own (called own core (call_seen call)).out)
     alike = accept_all_alike carried w.link own texts (called own core (call_seen call)).out f.joined.alike
-        (subst (λ (out : List (Endpoint × Frame)). AreSent texts out) (sym (c.sends within)) (call_sent known old.core call small free.0))
+        (sent_more (after_out a out) (announcements_of (accept_all w.link own out) own) texts out (after_grows w.link own out)
+        (subst (λ (ts : List (Endpoint × FrameText)). AreSent (after_out a out) ts out) (sym (ap (all_addressed known) (listed frame) ∙ all_same known (as_list frame))) c.sends))
 
     known_is : mid.sessions.known ≡ known
     known_is = ap (λ (s : SessionsState). s.known) gives.sessions ∙ (frame_keeps old.sessions frame).known
@@ -233,11 +245,11 @@ answered_follows shows truth n r engines datagrams history old mid call reply f 
     stands : mid.sessions.place ≡ old.sessions.place
     stands = ap (λ (s : SessionsState). s.place) gives.sessions ∙ (frame_keeps old.sessions frame).place
 
-    held : IsHeld mid (core_settled (called own core (call_seen call)).core)
-    held = record {
-      shown = subst (λ (k : List ℕ). IsShown mid.core k (core_settled (called own core (call_seen call)).core)) (sym known_is) c.shown;
+    held : IsHeld (announcements_of (accept_all w.link own out) own) mid (core_settled (called own core (call_seen call)).core)
+    held = held_out w.link own out mid (core_settled (called own core (call_seen call)).core) (record {
+      shown = subst (λ (k : List ℕ). IsShown (after_out a out) mid.core k (core_settled (called own core (call_seen call)).core)) (sym known_is) c.shown;
       placed = shown.place ∙ f.joined.placed r old there ∙ sym stands;
-    }
+    })
 
     none : mid.core.completion ≡ None
     none = shown.completion ∙ (f.joined.clean r old there).completion
@@ -267,12 +279,13 @@ ticks_follow truth n r now engines datagrams history old mid f there gives =
 -- ---- a restart
 
 -- the new engine of the rank is one at the next endpoint
-restarted_at : OpeningIsShown → RestartsAreTrue → (n r : ℕ) (engines : List EngineState) (datagrams : List (ℕ × List ℕ)) (w : Network) (old : EngineState) →
+restarted_at : OpeningIsShown → RestartsAreTrue → (n r : ℕ) (engines : List EngineState) (datagrams : List (ℕ × List ℕ)) (w : Network) (old : EngineState) → MeetingsStand w →
     IsJoined n engines datagrams w → slice_get engines r ≡ Some old → w.current r < 65535 →
     IsJoined n (slice_set engines r (opening (place_of n (at r (suc (w.current r)))))) datagrams (anew w r)
-restarted_at shows truth n r engines datagrams w old j there few =
+restarted_at shows truth n r engines datagrams w old meet j there few =
     let next : Place = place_of n (at r (suc (w.current r))) in
-    let new : IsNew (opening next) (new_core next.endpoint) = new_is shows next (place_is n r engines datagrams w old j there).0 in
+    let new : IsNew (announcements_of w.link next.endpoint) (opening next) (new_core next.endpoint) =
+    new_is shows next (announcements_of w.link next.endpoint) (place_is n r engines datagrams w old j there).0 (λ d. ap announced_in (meet.unsent next.endpoint d (omega arith))) in
     joined_anew n r engines datagrams w (opening next) j
     (subst (λ (ss : List SessionsState). AreTrue n ss datagrams j.carried (anew w r).current) (sym (sessions_set engines r (opening next)))
     (truth n r (sessions_in engines) datagrams j.carried w.current old.sessions j.links (sessions_there engines r old there) few)) new.held new.clean
@@ -288,6 +301,6 @@ restarts_follow shows truth n r engines datagrams history old f there few =
       happenings = f.happenings ++ Restarts r ∷ [];
       joined = subst (λ (w' : Network). IsJoined n (slice_set engines r (opening (next_place old.sessions.place))) datagrams w') (sym pushed)
           (subst (λ (p : Place). IsJoined n (slice_set engines r (opening (next_place p))) datagrams (anew w r)) (sym place.1)
-          (restarted_at shows truth n r engines datagrams w old f.joined there room));
+          (restarted_at shows truth n r engines datagrams w old (meetings_stand n f.happenings) f.joined there room));
       seen = ap (λ (w' : Network). w'.history) pushed ∙ ap (λ (es : List Entry). es ++ Restarted r ∷ []) f.seen;
     }

@@ -73,7 +73,7 @@ neither_fault None b h = (refl, h)
 neither_fault (Some e) b h = absurd cc
 
 -- where the engine meets none, the sessions meet none
-no_limit : (o : Option lower.Refused) → fault_of_sessions o ≡ None → o ≡ None
+pub no_limit : (o : Option lower.Refused) → fault_of_sessions o ≡ None → o ≡ None
 no_limit None h = refl
 no_limit (Some e) h = absurd cc
 

@@ -1,42 +1,55 @@
 -- What a world of engines hears, the pure network hears; and what is refused is nothing to it.
-use Rattle.std.proofs.Common.{◌≡◌, ℕ, ◌≤◌, Bool, true, false, nat_lt, List, [], ◌++◌, map, Option, Some, None, is_some, Result, Ok, Err, refl, sym, ap, subst, ◌∙◌, arith}
+use Rattle.std.proofs.Common.{◌≡◌, ℕ, ◌<◌, ◌≤◌, Bool, true, false, nat_lt, List, [], ◌++◌, map, Option, Some, None, Result, Ok, Err, refl, sym, ap, subst, ◌∙◌, arith}
 use Rattle.std.specs.Prelude.{slice_get, slice_index}
+use Rattle.std.specs.List.{AllByRecursion}
 use Rattle.std.proofs.lemmas.Bool.{eqb-false, le-ltb, lt-ltb}
 use Rattle.perfect_queues.specs.Events.{Entry, told}
 use Rattle.vocabulary.specs.declared.endpoint.Endpoint.{Endpoint}
 use Rattle.datagram.specs.Spelling.{FrameText}
 use Rattle.incarnation.specs.declared.place.Place.{Place}
 use Rattle.rank_core.specs.CoreState.{CoreState}
+use Rattle.rank_calls.specs.Frames.{FrameFor}
 use Rattle.rank_calls.specs.Hearing.{NewsText}
-use Rattle.rank_core.specs.Hearing.{after_news}
+use Rattle.rank_core.specs.Hearing.{after_news, news_fault, news_frames}
+use Rattle.rank_calls.specs.declared.refused.Refused.{Refused}
 use Rattle.sessions.specs.declared.heard.Unheard.{Unheard}
-use Rattle.sessions.specs.Events.{Sending, after_event, taught_known}
+use Rattle.sessions.specs.declared.refused.Refused as below_refused
+use Rattle.sessions.specs.Events as below_events
+use Rattle.sessions.specs.Events.{Sending, after_event, event_limit, first_limit, heard_limit, sends_limit, taught_known}
 use Rattle.sessions.specs.Heard.{Acknowledges, Hands, HeardText, Nothing, Repeats, WordText, heard_of}
 use Rattle.sessions.specs.SessionsState.{SessionsState}
-use Rattle.engine.specs.Datagrams.{HearingGives, after_heard, frame_in, news_of}
-use Rattle.engine.specs.Calls.{sending_of}
+use Rattle.engine.specs.Datagrams.{HearingGives, after_heard, frame_in, heard_fault, heard_sendings, news_of}
 use Rattle.engine.specs.EngineState.{EngineState}
+use Rattle.engine.specs.Refusals.{fault_of_sessions}
+use Rattle.proof_pure_network.specs.Announced.{MeetingsStand}
 use Rattle.proof_pure_network.specs.Core.{Core, Effect}
 use Rattle.proof_pure_network.specs.Engine.{came, core_ready, core_settled, met}
 use Rattle.proof_pure_network.specs.Frames.{Frame}
-use Rattle.proof_pure_network.specs.Links.{accept_all, handed_on}
-use Rattle.proof_pure_network.specs.Network.{Network, Word, here, new_network, run}
-use Rattle.proof_engine_view.specs.Frames.{IsOfNetwork, frame_heard, known_after}
+use Rattle.proof_pure_network.specs.Links.{Link, accept_all, handed_on}
+use Rattle.proof_pure_network.specs.Network.{Happening, Network, Word, here, new_network, run}
+use Rattle.proof_pure_network.proofs.MeetingLaws.{meetings_stand}
+use Rattle.proof_engine_view.specs.Frames.{known_after}
 use Rattle.proof_engine_view.specs.Seen.{told_completion}
 use Rattle.proof_engine_view.specs.Shown.{IsShown}
-use Rattle.proof_engine_steps.specs.Steps.{IsFromOther, IsHeard, NewsAreShown, heard_by_core}
+use Rattle.proof_engine_view.specs.Standing.{CanLeave, all_gone}
+use Rattle.proof_engine_view.specs.Standing as standing
+use Rattle.proof_engine_view.specs.Transfers.{Announcements, AnnouncementsGrow, after_out, announced_in, announcements_of}
+use Rattle.proof_engine_view.proofs.Growing.{sent_more}
+use Rattle.proof_engine_steps.specs.Steps.{IsFromOther, IsHeard, IsWithinFields, NewsAreShown, heard_by_core}
+use Rattle.proof_engine_steps.proofs.UnderWay.{others_may_announce}
 use Rattle.proof_link_truth.specs.Events as below
-use Rattle.proof_link_truth.specs.Events.{EventsAreTrue, HearingIsTrue, HearsTruth, IsFromDatagram, IsLesson, IsNext, IsTrueWord, LeavesTrue, RefusalsAreTrue, RestIsTrue, links_heeded}
+use Rattle.proof_link_truth.specs.Events.{EventsAreTrue, HearingIsTrue, HearsTruth, IsFromDatagram, IsLesson, IsNext, IsTrueWord, LeavesTrue, MaySendAll, RefusalsAreTrue, RestIsTrue, all_addressed, links_heeded}
 use Rattle.proof_link_truth.specs.Links as lower
 use Rattle.proof_link_truth.specs.Wire.{place_of}
-use Rattle.proof_network_bridge.specs.Carried.{AreCarried}
+use Rattle.proof_network_bridge.specs.Carried.{AreCarried, announced_by}
 use Rattle.proof_network_bridge.specs.Following.{DatagramsFollow, LeavesFollowed, RefusalsFollow}
 use Rattle.proof_network_bridge.specs.Joined.{IsFollowed, IsJoined, sessions_in}
-use Rattle.proof_network_bridge.proofs.Carried.{IsMeant, handed_alike, next_alike}
+use Rattle.proof_network_bridge.proofs.Carried.{IsMeant, accept_all_alike, handed_alike, next_alike}
+use Rattle.proof_network_bridge.proofs.Carrying.{all_same, may_send}
 use Rattle.proof_network_bridge.proofs.Following.{followed_after, followed_still, is_at}
-use Rattle.proof_network_bridge.proofs.Halves.{Keeps, away_keeps}
+use Rattle.proof_network_bridge.proofs.Halves.{Keeps, away_keeps, neither_fault, no_limit}
 use Rattle.proof_network_bridge.proofs.Networks.{IsWord, heard, learnt}
-use Rattle.proof_network_bridge.proofs.Worlds.{IsHeld, held_at, place_is}
+use Rattle.proof_network_bridge.proofs.Worlds.{IsHeld, handed_grow_out, handed_to_same, held_at, held_out, only_handed, only_out, place_is}
 
 -- ---- what the two halves say of a word
 
@@ -72,6 +85,7 @@ is_from_other n r w old known news place h =
     record {
       there = omega (arith, h.there, size_is);
       apart = λ same. eqb-false news.source.rank r h.apart (same ∙ rank_is);
+      fresh = lesson_fresh news.lesson (slice_index known news.source.rank) news.source.incarnation h.incarnation;
       lesson = lesson_is news.lesson (slice_index known news.source.rank) news.source.incarnation h.incarnation;
     }
 
@@ -91,104 +105,172 @@ record IsLearnt (old : EngineState) (s : Endpoint) (lesson : Bool) (t : Sessions
   place : t.place ≡ old.sessions.place
 
 -- it holds what the network's core holds
-held_after : (old : EngineState) (core : Core) (s : Endpoint) (lesson : Bool) (t : SessionsState) (b : Option FrameText) (x : Effect) → IsHeld old core →
-    heard_by_core core s (frame_heard b) ≡ x → IsHeard old.core old.sessions.known core (news s lesson b) → IsLearnt old s lesson t →
-    IsHeld (after old s lesson t b) (core_settled x.core)
-held_after old core s lesson t b x held is h learnt_now = record {
-  shown = subst (λ (e : Effect). IsShown (after_news old.core (news s lesson b)) t.known (core_settled e.core)) is
-      (subst (λ (known : List ℕ). IsShown (after_news old.core (news s lesson b)) known (core_settled (heard_by_core core s (frame_heard b)).core)) (sym learnt_now.known) h.shown);
-  placed = h.place ∙ held.placed ∙ sym learnt_now.place;
+held_after : (a : Announcements) (old : EngineState) (core : Core) (s : Endpoint) (lesson : Bool) (t : SessionsState) (b : Option FrameText) (x : Option Frame) → old.core.place ≡ old.sessions.place →
+    IsHeard a old.core old.sessions.known core (news s lesson b) x → IsLearnt old s lesson t →
+    IsHeld (after_out a (heard_by_core core s x).out) (after old s lesson t b) (core_settled (heard_by_core core s x).core)
+held_after a old core s lesson t b x placed h learnt_now = record {
+  shown = subst (λ (known : List ℕ). IsShown (after_out a (heard_by_core core s x).out) (after_news old.core (news s lesson b)) known (core_settled (heard_by_core core s x).core)) (sym learnt_now.known) h.shown;
+  placed = h.place ∙ placed ∙ sym learnt_now.place;
 }
 
 -- what is seen of it
-told_after : (old : EngineState) (core : Core) (own : Endpoint) (s : Endpoint) (lesson : Bool) (t : SessionsState) (b : Option FrameText) (x : Effect) →
-    old.core.place ≡ old.sessions.place → old.sessions.place.endpoint ≡ own → heard_by_core core s (frame_heard b) ≡ x → IsHeard old.core old.sessions.known core (news s lesson b) →
-    told own None (core_ready x.core) ≡ told_completion old.sessions.place.endpoint (after_news old.core (news s lesson b)).completion
-told_after old core own s lesson t b x placed stands is h =
-    subst (λ (e : Effect). told own None (core_ready e.core) ≡ told_completion old.sessions.place.endpoint (after_news old.core (news s lesson b)).completion) is
-    (ap (λ (d : Endpoint). told d None (core_ready (heard_by_core core s (frame_heard b)).core)) (sym (ap (λ (p : Place). p.endpoint) placed ∙ stands)) ∙ h.tells
-    ∙ ap (λ (p : Place). told_completion p.endpoint (after_news old.core (news s lesson b)).completion) placed)
+told_after : (a : Announcements) (old : EngineState) (core : Core) (own : Endpoint) (s : Endpoint) (lesson : Bool) (t : SessionsState) (b : Option FrameText) (x : Option Frame) →
+    old.core.place ≡ old.sessions.place → old.sessions.place.endpoint ≡ own → IsHeard a old.core old.sessions.known core (news s lesson b) x →
+    told own None (core_ready (heard_by_core core s x).core) ≡ told_completion old.sessions.place.endpoint (after_news old.core (news s lesson b)).completion
+told_after a old core own s lesson t b x placed stands h =
+    ap (λ (d : Endpoint). told d None (core_ready (heard_by_core core s x).core)) (sym (ap (λ (p : Place). p.endpoint) placed ∙ stands)) ∙ h.tells
+    ∙ ap (λ (p : Place). told_completion p.endpoint (after_news old.core (news s lesson b)).completion) placed
 
--- a word without a frame
+-- a word without a frame: nothing is sent for it
 plainly : (n r : ℕ) (engines : List EngineState) (datagrams : List (ℕ × List ℕ)) (history : List Entry) (old : EngineState) (f : IsFollowed n engines datagrams history) →
     slice_get engines r ≡ Some old → (s : Endpoint) (lesson : Bool) (t : SessionsState) → IsWord n r (run n f.happenings new_network) s →
-    IsHeard old.core old.sessions.known ((run n f.happenings new_network).core (here (run n f.happenings new_network) r)) (news s lesson None) → IsLearnt old s lesson t →
+    IsHeard (announcements_of (run n f.happenings new_network).link (here (run n f.happenings new_network) r)) old.core old.sessions.known
+    ((run n f.happenings new_network).core (here (run n f.happenings new_network) r)) (news s lesson None) None → IsLearnt old s lesson t →
     LeavesTrue n (sessions_in engines) datagrams r t f.joined.carried (run n f.happenings new_network).current →
     LeavesFollowed n engines datagrams r (after old s lesson t None) (history ++ told_completion old.sessions.place.endpoint (after_news old.core (news s lesson None)).completion)
 plainly n r engines datagrams history old f there s lesson t word h learnt_now truth =
     let w : Network = run n f.happenings new_network in
     let own : Endpoint = here w r in
     let core : Core = w.core own in
-    let held : IsHeld old core = held_at n r engines datagrams w old f.joined there in
+    let a : Announcements = announcements_of w.link own in
+    let held : IsHeld a old core = held_at n r engines datagrams w old f.joined there in
     let stands : old.sessions.place.endpoint ≡ own = ap (λ (p : Place). p.endpoint) (place_is n r engines datagrams w old f.joined there).1 in
-    let effect : Effect = heard_by_core core s None in
-    let made = followed_after n r engines datagrams history _ (after old s lesson t None) (Word s r 0) (core_settled (met core s)) f.joined.carried w.link f (learnt n r w s word) f.joined.alike truth
-    (held_after old core s lesson t None effect held refl h learnt_now) in
-    subst (λ (es : List Entry). LeavesFollowed n engines datagrams r (after old s lesson t None) (history ++ es)) (told_after old core own s lesson t None effect held.placed stands refl h) made
+    let made = followed_after n r engines datagrams history _ (after old s lesson t None) (Word s r 0) (core_settled (met core s)) f.joined.carried w.link f (learnt n r w s word) f.joined.alike (only_out w.link own []) truth
+    (held_out w.link own [] (after old s lesson t None) (core_settled (met core s)) (held_after a old core s lesson t None None held.placed h learnt_now)) in
+    subst (λ (es : List Entry). LeavesFollowed n engines datagrams r (after old s lesson t None) (history ++ es)) (told_after a old core own s lesson t None None held.placed stands h) made
 
--- a word with the next frame of its link
+-- a word with the next frame of its link, for which frames may be sent
 with_frame : (n r : ℕ) (engines : List EngineState) (datagrams : List (ℕ × List ℕ)) (history : List Entry) (old : EngineState) (f : IsFollowed n engines datagrams history) →
-    slice_get engines r ≡ Some old → (s : Endpoint) (lesson : Bool) (t : SessionsState) (b : FrameText) → IsNext f.joined.carried s (here (run n f.happenings new_network) r) b →
+    slice_get engines r ≡ Some old → (s : Endpoint) (lesson : Bool) (t : SessionsState) (b : FrameText) (x : Frame) →
+    slice_get ((run n f.happenings new_network).link s (here (run n f.happenings new_network) r)).accepted ((run n f.happenings new_network).link s (here (run n f.happenings new_network) r)).handed ≡ Some x →
     IsWord n r (run n f.happenings new_network) s →
-    IsHeard old.core old.sessions.known ((run n f.happenings new_network).core (here (run n f.happenings new_network) r)) (news s lesson (Some b)) → IsLearnt old s lesson t →
-    LeavesTrue n (sessions_in engines) datagrams r t (lower.handed_on f.joined.carried s (here (run n f.happenings new_network) r)) (run n f.happenings new_network).current →
+    IsHeard (announcements_of (run n f.happenings new_network).link (here (run n f.happenings new_network) r)) old.core old.sessions.known
+    ((run n f.happenings new_network).core (here (run n f.happenings new_network) r)) (news s lesson (Some b)) (Some x) → IsLearnt old s lesson t →
+    LeavesTrue n (sessions_in engines) datagrams r t
+    (lower.accept_all (lower.handed_on f.joined.carried s (here (run n f.happenings new_network) r)) (here (run n f.happenings new_network) r)
+    (all_gone (known_after lesson old.sessions.known s) (news_frames old.core (news s lesson (Some b))))) (run n f.happenings new_network).current →
     LeavesFollowed n engines datagrams r (after old s lesson t (Some b)) (history ++ told_completion old.sessions.place.endpoint (after_news old.core (news s lesson (Some b))).completion)
-with_frame n r engines datagrams history old f there s lesson t b next word h learnt_now truth =
+with_frame n r engines datagrams history old f there s lesson t b x next word h learnt_now truth =
     let w : Network = run n f.happenings new_network in
     let own : Endpoint = here w r in
     let core : Core = w.core own in
-    let held : IsHeld old core = held_at n r engines datagrams w old f.joined there in
+    let a : Announcements = announcements_of w.link own in
+    let held : IsHeld a old core = held_at n r engines datagrams w old f.joined there in
     let stands : old.sessions.place.endpoint ≡ own = ap (λ (p : Place). p.endpoint) (place_is n r engines datagrams w old f.joined there).1 in
-    let meant : IsMeant (w.link s own).accepted (w.link s own).handed b = next_alike (f.joined.carried s own) (w.link s own) b (f.joined.alike s own) next.next in
-    let effect : Effect = came (met core s) s meant.frame in
-    let effect_is : heard_by_core core s (frame_heard (Some b)) ≡ effect = ap (heard_by_core core s) meant.stands in
-    let silent : effect.out ≡ [] = ap (λ (e : Effect). e.out) (sym effect_is) ∙ h.sends in
-    let made = followed_after n r engines datagrams history _ (after old s lesson t (Some b)) (Word s r 1) (core_settled effect.core) (lower.handed_on f.joined.carried s own)
-    (accept_all (handed_on w.link s own) own effect.out) f (heard n r w s meant.frame word meant.there)
-    (subst (λ (out : List (Endpoint × Frame)). AreCarried (lower.handed_on f.joined.carried s own) (accept_all (handed_on w.link s own) own out)) (sym silent)
-    (handed_alike f.joined.carried w.link s own f.joined.alike)) truth
-    (held_after old core s lesson t (Some b) effect held effect_is h learnt_now) in
+    let effect : Effect = came (met core s) s x in
+    let texts : List (Endpoint × FrameText) = all_gone (known_after lesson old.sessions.known s) (news_frames old.core (news s lesson (Some b))) in
+    let handed : Endpoint → Endpoint → Link = handed_on w.link s own in
+    let final : Announcements = announcements_of (accept_all handed own effect.out) own in
+    let grows : AnnouncementsGrow (after_out a effect.out) final = handed_grow_out w.link s own effect.out in
+    let alike : AreCarried (lower.accept_all (lower.handed_on f.joined.carried s own) own texts) (accept_all handed own effect.out) =
+    accept_all_alike (lower.handed_on f.joined.carried s own) handed own texts effect.out (handed_alike f.joined.carried w.link s own f.joined.alike)
+    (sent_more (after_out a effect.out) final texts effect.out grows h.sends) in
+    let before : IsHeld (after_out a effect.out) (after old s lesson t (Some b)) (core_settled effect.core) = held_after a old core s lesson t (Some b) (Some x) held.placed h learnt_now in
+    let made = followed_after n r engines datagrams history _ (after old s lesson t (Some b)) (Word s r 1) (core_settled effect.core) (lower.accept_all (lower.handed_on f.joined.carried s own) own texts)
+    (accept_all handed own effect.out) f (heard n r w s x word next) alike (only_handed w.link s own effect.out) truth
+    (record {
+      shown = others_may_announce (after_out a effect.out) final (after_news old.core (news s lesson (Some b))) t.known (core_settled effect.core) before.shown grows (λ d. handed_to_same w.link s own effect.out d);
+      placed = before.placed;
+    }) in
     subst (λ (es : List Entry). LeavesFollowed n engines datagrams r (after old s lesson t (Some b)) (history ++ es))
-    (told_after old core own s lesson t (Some b) effect held.placed stands effect_is h) made
-
--- any word
-by_word : (n r : ℕ) (engines : List EngineState) (datagrams : List (ℕ × List ℕ)) (history : List Entry) (old : EngineState) (f : IsFollowed n engines datagrams history) →
-    slice_get engines r ≡ Some old → (s : Endpoint) (lesson : Bool) (t : SessionsState) (x : WordText) →
-    IsTrueWord f.joined.carried s (here (run n f.happenings new_network) r) x → IsWord n r (run n f.happenings new_network) s →
-    IsHeard old.core old.sessions.known ((run n f.happenings new_network).core (here (run n f.happenings new_network) r)) (news s lesson (frame_in x)) → IsLearnt old s lesson t →
-    LeavesTrue n (sessions_in engines) datagrams r t (links_heeded f.joined.carried s (here (run n f.happenings new_network) r) x) (run n f.happenings new_network).current →
-    LeavesFollowed n engines datagrams r (after old s lesson t (frame_in x))
-    (history ++ told_completion old.sessions.place.endpoint (after_news old.core (news s lesson (frame_in x))).completion)
-by_word n r engines datagrams history old f there s lesson t (Acknowledges number) says word h learnt_now truth = plainly n r engines datagrams history old f there s lesson t word h learnt_now truth
-by_word n r engines datagrams history old f there s lesson t Repeats says word h learnt_now truth = plainly n r engines datagrams history old f there s lesson t word h learnt_now truth
-by_word n r engines datagrams history old f there s lesson t (Hands b) says word h learnt_now truth = with_frame n r engines datagrams history old f there s lesson t b says word h learnt_now truth
-by_word n r engines datagrams history old f there s lesson t Nothing says word h learnt_now truth = plainly n r engines datagrams history old f there s lesson t word h learnt_now truth
+    (told_after a old core own s lesson t (Some b) (Some x) held.placed stands h) made
 
 -- ---- a datagram that is taken in
 
--- a frame that a link hands up is one of the network: what the link carries stands for the network's
-word_of_network : (links : lower.Links) (w : Network) (s d : Endpoint) (x : WordText) → AreCarried links w.link → IsTrueWord links s d x → IsOfNetwork (frame_in x)
-word_of_network links w s d (Acknowledges number) alike says = tt
-word_of_network links w s d Repeats alike says = tt
-word_of_network links w s d Nothing alike says = tt
-word_of_network links w s d (Hands b) alike says =
-    let meant : IsMeant (w.link s d).accepted (w.link s d).handed b = next_alike (links s d) (w.link s d) b (alike s d) says.next in
-    ap (λ (o : Option Frame). is_some o) meant.stands
+-- what is heard of a word: with the frame that the link hands up, if it hands one up
+abbrev WordHeard : Network → (own s : Endpoint) → EngineState → (lesson : Bool) → WordText → Type 0
+WordHeard w own s old lesson (Acknowledges number) = IsHeard (announcements_of w.link own) old.core old.sessions.known (w.core own) (news s lesson None) None
+WordHeard w own s old lesson Repeats = IsHeard (announcements_of w.link own) old.core old.sessions.known (w.core own) (news s lesson None) None
+WordHeard w own s old lesson Nothing = IsHeard (announcements_of w.link own) old.core old.sessions.known (w.core own) (news s lesson None) None
+WordHeard w own s old lesson (Hands b) =
+    (x : Frame) × (slice_get (w.link s own).accepted (w.link s own).handed ≡ Some x)
+    × IsHeard (announcements_of w.link own) old.core old.sessions.known (w.core own) (news s lesson (Some b)) (Some x)
+
+-- it may come, and so it is heard
+word_heard : NewsAreShown → (n r : ℕ) (hs : List Happening) (carried : lower.Links) (old : EngineState) (s : Endpoint) (lesson : Bool) (x : WordText) → AreCarried carried (run n hs new_network).link →
+    IsHeld (announcements_of (run n hs new_network).link (here (run n hs new_network) r)) old ((run n hs new_network).core (here (run n hs new_network) r)) → old.core.completion ≡ None →
+    IsFromOther old.core old.sessions.known (news s lesson (frame_in x)) → IsTrueWord carried s (here (run n hs new_network) r) x → news_fault old.core (news s lesson (frame_in x)) ≡ None →
+    WordHeard (run n hs new_network) (here (run n hs new_network) r) s old lesson x
+word_heard shows n r hs carried old s lesson x alike held free other says taken = go x other says taken
+  where
+    w : Network
+    w = run n hs new_network
+
+    own : Endpoint
+    own = here w r
+
+    a : Announcements
+    a = announcements_of w.link own
+
+    m : MeetingsStand w
+    m = meetings_stand n hs
+
+    shown : (b : Option FrameText) (f : Option Frame) → IsFromOther old.core old.sessions.known (news s lesson b) → standing.IsMeant a s b f → IsWithinFields b → news_fault old.core (news s lesson b) ≡ None →
+        IsHeard a old.core old.sessions.known (w.core own) (news s lesson b) f
+    shown b f other meant within taken = shows a old.core old.sessions.known (w.core own) (news s lesson b) f held.shown free (record {
+      other = other;
+      meant = meant;
+      within = within;
+      taken = taken;
+      once = λ e k i j x y at ix aj iy. m.once e own k i j x y at ix aj iy;
+      untold = λ d late. ap announced_in (m.untold own d (subst (λ (k : ℕ). k < d.incarnation) (sym (held.shown.known_alike d.rank)) late));
+    })
+
+    go : (x : WordText) → IsFromOther old.core old.sessions.known (news s lesson (frame_in x)) → IsTrueWord carried s own x → news_fault old.core (news s lesson (frame_in x)) ≡ None → WordHeard w own s old lesson x
+    go (Acknowledges number) other says taken = shown None None other tt tt taken
+    go Repeats other says taken = shown None None other tt tt taken
+    go Nothing other says taken = shown None None other tt tt taken
+    go (Hands b) other says taken =
+        let meant : IsMeant (announced_by w.link s own) (announced_by w.link own s) (w.link s own).accepted (w.link s own).handed b =
+        next_alike (announced_by w.link s own) (announced_by w.link own s) (carried s own) (w.link s own) b (alike s own) says.next in
+        (meant.frame, meant.there, shown (Some b) (Some meant.frame) other meant.stands says.carried.width taken)
+
+-- the frames that the rank gives for it can leave
+word_leaves : (w : Network) (own s : Endpoint) (old : EngineState) (lesson : Bool) (x : WordText) → WordHeard w own s old lesson x → AllByRecursion (CanLeave old.core.place) (news_frames old.core (news s lesson (frame_in x)))
+word_leaves w own s old lesson (Acknowledges number) h = h.leaves
+word_leaves w own s old lesson Repeats h = h.leaves
+word_leaves w own s old lesson Nothing h = h.leaves
+word_leaves w own s old lesson (Hands b) h = h.2.leaves
+
+-- any word, with what is sent for it
+by_word : (n r : ℕ) (engines : List EngineState) (datagrams : List (ℕ × List ℕ)) (history : List Entry) (old : EngineState) (f : IsFollowed n engines datagrams history) →
+    slice_get engines r ≡ Some old → (s : Endpoint) (lesson : Bool) (t : SessionsState) (x : WordText) → IsWord n r (run n f.happenings new_network) s →
+    WordHeard (run n f.happenings new_network) (here (run n f.happenings new_network) r) s old lesson x → IsLearnt old s lesson t →
+    LeavesTrue n (sessions_in engines) datagrams r t
+    (lower.accept_all (links_heeded f.joined.carried s (here (run n f.happenings new_network) r) x) (here (run n f.happenings new_network) r)
+    (all_gone (known_after lesson old.sessions.known s) (news_frames old.core (news s lesson (frame_in x))))) (run n f.happenings new_network).current →
+    LeavesFollowed n engines datagrams r (after old s lesson t (frame_in x))
+    (history ++ told_completion old.sessions.place.endpoint (after_news old.core (news s lesson (frame_in x))).completion)
+by_word n r engines datagrams history old f there s lesson t (Acknowledges number) word h learnt_now truth = plainly n r engines datagrams history old f there s lesson t word h learnt_now truth
+by_word n r engines datagrams history old f there s lesson t Repeats word h learnt_now truth = plainly n r engines datagrams history old f there s lesson t word h learnt_now truth
+by_word n r engines datagrams history old f there s lesson t (Hands b) word h learnt_now truth = with_frame n r engines datagrams history old f there s lesson t b h.0 h.1 word h.2 learnt_now truth
+by_word n r engines datagrams history old f there s lesson t Nothing word h learnt_now truth = plainly n r engines datagrams history old f there s lesson t word h learnt_now truth
+
+-- what neither of two limits refuses, the second doesn't
+second_none : (a b : Option below_refused.Refused) → first_limit a b ≡ None → b ≡ None
+second_none None b h = h
+second_none (Some e) b h = absurd cc
 
 -- what is heard in it is followed
 heard_follows : NewsAreShown → HearingIsTrue → EventsAreTrue → (n r : ℕ) (engines : List EngineState) (datagrams : List (ℕ × List ℕ)) (history : List Entry) (old : EngineState) (h : HeardText) →
-    (f : IsFollowed n engines datagrams history) → slice_get engines r ≡ Some old → IsFromDatagram datagrams r old.sessions h →
+    (f : IsFollowed n engines datagrams history) → slice_get engines r ≡ Some old → IsFromDatagram datagrams r old.sessions h → heard_fault old h ≡ None →
     LeavesFollowed n engines datagrams r (after_heard old h) (history ++ told_completion old.sessions.place.endpoint (after_heard old h).core.completion)
-heard_follows shows hearing events n r engines datagrams history old h f there comes =
-    subst (λ (ss : List Sending). LeavesFollowed n engines datagrams r (record { core = after_news old.core (news_of h); sessions = after_event old.sessions (Some h) ss })
-    (history ++ told_completion old.sessions.place.endpoint (after_news old.core (news_of h)).completion)) (sym (ap (map sending_of) seen.gives))
-    (by_word n r engines datagrams history old f there h.source h.lesson (after_event old.sessions (Some h) []) h.word truth.word
+heard_follows shows hearing events n r engines datagrams history old h f there comes fine =
+    by_word n r engines datagrams history old f there h.source h.lesson (after_event old.sessions (Some h) sendings) h.word
     (is_word n r engines datagrams w old h.source h.lesson f.joined there truth.heard) seen
-    (record { known = known_alike h.lesson old.sessions.known h.source; place = refl })
-    (events n r (sessions_in engines) datagrams f.joined.carried w.current old.sessions (Some h) [] f.joined.links here_is comes tt refl))
+    (record { known = known_alike h.lesson old.sessions.known h.source; place = refl }) leaves
   where
     w : Network
     w = run n f.happenings new_network
+
+    own : Endpoint
+    own = here w r
+
+    frames : List FrameFor
+    frames = news_frames old.core (news_of h)
+
+    sendings : List Sending
+    sendings = heard_sendings old h
 
     here_is : below.IsAt (sessions_in engines) r old.sessions
     here_is = is_at n r engines datagrams w old f.joined there
@@ -196,13 +278,30 @@ heard_follows shows hearing events n r engines datagrams history old h f there c
     truth : HearsTruth n r w.current old.sessions f.joined.carried h
     truth = hearing n r (sessions_in engines) datagrams f.joined.carried w.current old.sessions h f.joined.links here_is comes
 
-    stands : old.core.place ≡ place_of n (here w r)
+    stands : old.core.place ≡ place_of n own
     stands = f.joined.placed r old there ∙ (place_is n r engines datagrams w old f.joined there).1
 
-    seen : IsHeard old.core old.sessions.known (w.core (here w r)) (news_of h)
-    seen = shows old.core old.sessions.known (w.core (here w r)) (news_of h) (f.joined.shown r old there) (f.joined.clean r old there).completion
-        (is_from_other n r w old.core old.sessions.known (news_of h) stands truth.heard)
-        (word_of_network f.joined.carried w h.source (here w r) h.word f.joined.alike truth.word)
+    free : (news_fault old.core (news_of h) ≡ None) × (fault_of_sessions (event_limit old.sessions (Some h) sendings) ≡ None)
+    free = neither_fault (news_fault old.core (news_of h)) (fault_of_sessions (event_limit old.sessions (Some h) sendings)) fine
+
+    seen : WordHeard w own h.source old h.lesson h.word
+    seen = word_heard shows n r f.happenings f.joined.carried old h.source h.lesson h.word f.joined.alike (held_at n r engines datagrams w old f.joined there) (f.joined.clean r old there).completion
+        (is_from_other n r w old.core old.sessions.known (news_of h) stands truth.heard) truth.word free.0
+
+    limit : sends_limit (below_events.after_heard old.sessions (Some h)) sendings ≡ None
+    limit = second_none (heard_limit old.sessions (Some h)) (sends_limit (below_events.after_heard old.sessions (Some h)) sendings) (no_limit (event_limit old.sessions (Some h) sendings) free.1)
+
+    may : MaySendAll n own.rank sendings
+    may = may_send n own frames (subst (λ (p : Place). AllByRecursion (CanLeave p) frames) stands (word_leaves w own h.source old h.lesson h.word seen))
+
+    gone : all_addressed (below_events.after_heard old.sessions (Some h)).known sendings ≡ all_gone (known_after h.lesson old.sessions.known h.source) frames
+    gone = all_same (below_events.after_heard old.sessions (Some h)).known frames ∙ ap (λ (k : List ℕ). all_gone k frames) (known_alike h.lesson old.sessions.known h.source)
+
+    leaves : LeavesTrue n (sessions_in engines) datagrams r (after_event old.sessions (Some h) sendings)
+        (lower.accept_all (links_heeded f.joined.carried h.source own h.word) own (all_gone (known_after h.lesson old.sessions.known h.source) frames)) w.current
+    leaves = subst (λ (ts : List (Endpoint × FrameText)). LeavesTrue n (sessions_in engines) datagrams r (after_event old.sessions (Some h) sendings)
+        (lower.accept_all (links_heeded f.joined.carried h.source own h.word) own ts) w.current) gone
+        (events n r (sessions_in engines) datagrams f.joined.carried w.current old.sessions (Some h) sendings f.joined.links here_is comes may limit)
 
 pub datagrams_follow : NewsAreShown → HearingIsTrue → EventsAreTrue → DatagramsFollow
 datagrams_follow shows hearing events n r number bytes engines datagrams history old mid f there emitted gives = go (heard_of old.sessions bytes) refl gives
@@ -211,7 +310,7 @@ datagrams_follow shows hearing events n r number bytes engines datagrams history
         → LeavesFollowed n engines datagrams r mid (history ++ told_completion old.sessions.place.endpoint mid.core.completion)
     go (Ok h) is g =
         subst (λ (e : EngineState). LeavesFollowed n engines datagrams r e (history ++ told_completion old.sessions.place.endpoint e.core.completion)) (sym g.1)
-        (heard_follows shows hearing events n r engines datagrams history old h f there (record { number = number; bytes = bytes; there = emitted; hears = is }))
+        (heard_follows shows hearing events n r engines datagrams history old h f there (record { number = number; bytes = bytes; there = emitted; hears = is }) g.0)
     go (Err u) is g = absurd (let e = g.1 in cc)
 
 -- ---- a datagram that is refused

@@ -22,6 +22,8 @@ use Rattle.proof_pure_network.specs.Network.{Network, new_network, run}
 use Rattle.proof_pure_network.proofs.QuietKept.{is_run}
 use Rattle.proof_engine_view.specs.Seen.{call_meant, call_seen}
 use Rattle.proof_engine_view.specs.Shown.{IsShown}
+use Rattle.proof_engine_view.specs.Transfers.{Announcements, announcements_of}
+use Rattle.proof_network_bridge.specs.Carried.{announced_by}
 use Rattle.proof_engine_steps.specs.Refused.{AllowedCallsAreFaultless, FaultsHaveReasons, HasReason, IsFaultless, IsReason, RoomIsAReason}
 use Rattle.proof_link_truth.specs.Events as below
 use Rattle.proof_link_truth.specs.Events.{IdleIsStill, Knows}
@@ -49,17 +51,17 @@ knows_too : (n : ℕ) (engines : List EngineState) (datagrams : List (ℕ × Lis
     s.incarnation ≡ w.current s.rank → (w.core s).known d.rank ≡ d.incarnation → Knows (sessions_in engines) s.rank d
 knows_too n engines datagrams w s d j current knows t there =
     let o : IsOf engines s.rank t = engine_there engines s.rank t there in
-    let shown : IsShown o.engine.core o.engine.sessions.known (w.core s) =
-    subst (λ (i : ℕ). IsShown o.engine.core o.engine.sessions.known (w.core (at s.rank i))) (sym current) (j.shown s.rank o.engine o.there) in
+    let shown : IsShown (announcements_of w.link s) o.engine.core o.engine.sessions.known (w.core s) =
+    subst (λ (i : ℕ). IsShown (announcements_of w.link (at s.rank i)) o.engine.core o.engine.sessions.known (w.core (at s.rank i))) (sym current) (j.shown s.rank o.engine o.there) in
     ap (λ (x : SessionsState). slice_index x.known d.rank) (sym o.sessions_are) ∙ sym (shown.known_alike d.rank) ∙ knows
 
 -- ---- the faults of calls
 
 -- the core of an engine's endpoint holds what the engine's core holds
 shown_there : (n r : ℕ) (engines : List EngineState) (datagrams : List (ℕ × List ℕ)) (w : Network) (e : EngineState) → IsJoined n engines datagrams w →
-    slice_get engines r ≡ Some e → IsShown e.core e.sessions.known (w.core e.sessions.place.endpoint)
+    slice_get engines r ≡ Some e → IsShown (announcements_of w.link e.sessions.place.endpoint) e.core e.sessions.known (w.core e.sessions.place.endpoint)
 shown_there n r engines datagrams w e j there =
-    subst (λ (p : Place). IsShown e.core e.sessions.known (w.core p.endpoint)) (sym (place_is n r engines datagrams w e j there).1) (j.shown r e there)
+    subst (λ (p : Place). IsShown (announcements_of w.link p.endpoint) e.core e.sessions.known (w.core p.endpoint)) (sym (place_is n r engines datagrams w e j there).1) (j.shown r e there)
 
 -- the fault of a call is the same by the engine's size and by the world's
 fault_there : (n r : ℕ) (engines : List EngineState) (datagrams : List (ℕ × List ℕ)) (w : Network) (e : EngineState) (core : Core) (c : machine_calls.Call) → IsJoined n engines datagrams w →
@@ -68,22 +70,22 @@ fault_there n r engines datagrams w e core c j there =
     ap (λ (p : Place). fault p.size (view blank core) c) (j.placed r e there ∙ (place_is n r engines datagrams w e j there).1)
 
 -- a refusal by the first of two faults, or for want of memory
-refused_by : FaultsHaveReasons → RoomIsAReason → (e : EngineState) (core : Core) (call : Call) (why : Refused) → IsShown e.core e.sessions.known core →
+refused_by : FaultsHaveReasons → RoomIsAReason → (a : Announcements) (e : EngineState) (core : Core) (call : Call) (why : Refused) → IsShown a e.core e.sessions.known core →
     (found limit : Option Refused) → call_fault e.core call ≡ found → frame_limit e.sessions (call_frame e.core call) ≡ limit → WhyRefused (first_fault found limit) call why →
     HasReason e.core core call why
-refused_by faults room e core call why shown (Some x) limit is at_limit reason = faults e.core e.sessions.known core call why shown (is ∙ ap Some (sym reason))
-refused_by faults room e core call why shown None (Some x) is at_limit reason =
-    room e.core e.sessions.known core call why shown is (inl (reason ∙ frame_full e.sessions (call_frame e.core call) x at_limit))
-refused_by faults room e core call why shown None None is at_limit reason = room e.core e.sessions.known core call why shown is (inr reason.0)
+refused_by faults room a e core call why shown (Some x) limit is at_limit reason = faults a e.core e.sessions.known core call why shown (is ∙ ap Some (sym reason))
+refused_by faults room a e core call why shown None (Some x) is at_limit reason =
+    room a e.core e.sessions.known core call why shown is (inl (reason ∙ frame_full e.sessions (call_frame e.core call) x at_limit))
+refused_by faults room a e core call why shown None None is at_limit reason = room a e.core e.sessions.known core call why shown is (inr reason.0)
 
 -- what an engine refuses, it refuses for a reason that the machine has too
 refuses_too : FaultsHaveReasons → RoomIsAReason → (n r : ℕ) (engines : List EngineState) (datagrams : List (ℕ × List ℕ)) (w : Network) (e mid : EngineState) (call back : Call) (why : Refused)
     (found : Option ℕ) → IsJoined n engines datagrams w → slice_get engines r ≡ Some e → CallGives e call (replies.Refused why back) mid →
-    found ≡ fault n (view blank (w.core e.sessions.place.endpoint)) (call_meant e.core call) → IsReason found call why
+    found ≡ fault n (view blank (w.core e.sessions.place.endpoint)) (call_meant e.core call) → IsReason found why
 refuses_too faults room n r engines datagrams w e mid call back why found j there gives is =
     let core : Core = w.core e.sessions.place.endpoint in
-    subst (λ (o : Option ℕ). IsReason o call why) (fault_there n r engines datagrams w e core (call_meant e.core call) j there ∙ sym is)
-    (refused_by faults room e core call why (shown_there n r engines datagrams w e j there) (call_fault e.core call) (frame_limit e.sessions (call_frame e.core call)) refl refl gives.reason)
+    subst (λ (o : Option ℕ). IsReason o why) (fault_there n r engines datagrams w e core (call_meant e.core call) j there ∙ sym is)
+    (refused_by faults room (announcements_of w.link e.sessions.place.endpoint) e core call why (shown_there n r engines datagrams w e j there) (call_fault e.core call) (frame_limit e.sessions (call_frame e.core call)) refl refl gives.reason)
 
 -- what an engine takes, the machine finds no fault with
 takes_too : AllowedCallsAreFaultless → (n r : ℕ) (engines : List EngineState) (datagrams : List (ℕ × List ℕ)) (w : Network) (e mid : EngineState) (call : Call) (reply : Reply)
@@ -94,7 +96,7 @@ takes_too faultless n r engines datagrams w e mid call reply found j there taken
     let answer : IsAnswered e call reply mid = answered e mid call reply taken gives in
     let free = neither_fault (call_fault e.core call) (frame_limit e.sessions (call_frame e.core call)) answer.allowed in
     subst (λ (o : Option ℕ). IsFaultless o e.core call) (fault_there n r engines datagrams w e core (call_seen call) j there ∙ sym is)
-    (faultless e.core e.sessions.known core call (shown_there n r engines datagrams w e j there) free.0)
+    (faultless (announcements_of w.link e.sessions.place.endpoint) e.core e.sessions.known core call (shown_there n r engines datagrams w e j there) free.0)
 
 -- ---- the run
 
@@ -115,7 +117,7 @@ following_is_run idle faults room faultless n engines datagrams history f =
       takes = λ r e mid call reply there taken gives.
           takes_too faultless n r engines datagrams w e mid call reply _ f.joined there taken gives (m.faults e.sessions.place.endpoint (call_seen call));
       quiet = λ still. m.quiet (λ s d s_is d_is d_knows s_knows.
-          none_in_flight (f.joined.carried s d) (w.link s d) (f.joined.alike s d)
+          none_in_flight (announced_by w.link s d) (announced_by w.link d s) (f.joined.carried s d) (w.link s d) (f.joined.alike s d)
           (idle n (sessions_in engines) datagrams f.joined.carried w.current f.joined.links (quiet_below engines still) s d s_is d_is
           (knows_too n engines datagrams w s d f.joined s_is s_knows) (knows_too n engines datagrams w d s f.joined d_is d_knows)));
     }

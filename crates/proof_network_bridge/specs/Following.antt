@@ -130,11 +130,12 @@ pub record IsSeenOfMachine (n : ℕ) (engines : List EngineState) (history : Lis
   pub knows :
       (r : ℕ) (e : EngineState) → slice_get engines r ≡ Some e → (x : ℕ) →
       ((after_run machine_state.opening events).at e.sessions.place.endpoint).known x ≡ slice_index e.sessions.known x
-  -- a call that the engine refuses has the machine's first fault there, by its number, or one of the other reasons
+  -- a call that the engine refuses has the machine's first fault there, by its number; or the machine finds none, and the number is
+  -- 13 or 14
   pub refuses :
       (r : ℕ) (e mid : EngineState) (call back : Call) (why : Refused) → slice_get engines r ≡ Some e →
       CallGives e call (replies.Refused why back) mid →
-      IsReason (fault n ((after_run machine_state.opening events).at e.sessions.place.endpoint) (call_meant e.core call)) call why
+      IsReason (fault n ((after_run machine_state.opening events).at e.sessions.place.endpoint) (call_meant e.core call)) why
   -- the machine finds no fault with a call that the engine takes
   pub takes :
       (r : ℕ) (e mid : EngineState) (call : Call) (reply : Reply) → slice_get engines r ≡ Some e → IsTaken reply →

@@ -7,6 +7,7 @@ use Rattle.perfect_queues.specs.Events.{Entry}
 use Rattle.proof_pure_network.specs.Core.{new_core}
 use Rattle.proof_pure_network.specs.Network.{Happening, Network, here, new_network, run}
 use Rattle.proof_engine_view.specs.Shown.{IsShown}
+use Rattle.proof_engine_view.specs.Transfers.{announcements_of}
 use Rattle.proof_link_truth.specs.Links.{Links}
 use Rattle.proof_link_truth.specs.Truth.{AreTrue}
 use Rattle.proof_link_truth.specs.Wire.{at, place_of}
@@ -27,12 +28,14 @@ pub record IsClean (e : EngineState) : Type 0 where
   pub completion : e.core.completion ≡ None
 
 -- Sessions and datagrams tell of the links, and what those carry stands for what the network's links carry; and each engine's
--- core holds what the core of its rank's current endpoint holds, with what its sessions know
+-- core holds what the core of its rank's current endpoint holds, with what its sessions know, under the numbers that its links give
 pub record IsJoined (n : ℕ) (engines : List EngineState) (datagrams : List (ℕ × List ℕ)) (w : Network) : Type 0 where
   pub carried : Links
   pub links : AreTrue n (sessions_in engines) datagrams carried w.current
   pub alike : AreCarried carried w.link
-  pub shown : (r : ℕ) (e : EngineState) → slice_get engines r ≡ Some e → IsShown e.core e.sessions.known (w.core (here w r))
+  pub shown :
+      (r : ℕ) (e : EngineState) → slice_get engines r ≡ Some e →
+      IsShown (announcements_of w.link (here w r)) e.core e.sessions.known (w.core (here w r))
   -- both halves of an engine stand at one place
   pub placed : (r : ℕ) (e : EngineState) → slice_get engines r ≡ Some e → e.core.place ≡ e.sessions.place
   pub clean : (r : ℕ) (e : EngineState) → slice_get engines r ≡ Some e → IsClean e

@@ -33,3 +33,4 @@ pub mod Pieces
 pub mod AnnouncedAs
 pub mod AgreeKept
 pub mod TransferLaws
+pub mod MeetingLaws

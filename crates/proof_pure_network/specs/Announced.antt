@@ -5,7 +5,7 @@ use Rattle.vocabulary.specs.declared.basic_type.BasicType.{BasicType}
 use Rattle.vocabulary.specs.declared.endpoint.Endpoint.{Endpoint}
 use Rattle.proof_pure_network.specs.Frames.{Cts, Data, Eager, Frame, Rts}
 use Rattle.proof_pure_network.specs.Held.{Held, Part}
-use Rattle.proof_pure_network.specs.Jobs.{Collecting, Offering, is_collecting}
+use Rattle.proof_pure_network.specs.Jobs.{Collecting, Job, Offering, is_collecting}
 use Rattle.proof_pure_network.specs.Links.{Link, handed_up}
 use Rattle.proof_pure_network.specs.Network.{Network}
 use Rattle.proof_pure_network.specs.Transfers.{cut}
@@ -68,3 +68,11 @@ pub record TransfersStand (w : Network) : Type 0 where
 pub record LinksGrow (old new : Endpoint → Endpoint → Link) : Type 0 where
   pub accepted : (s d : Endpoint) → Begins (old s d).accepted (new s d).accepted
   pub handed : (s d : Endpoint) → (old s d).handed ≤ (new s d).handed
+
+-- What a rank's core rests on, of the whole network: no two requests of an endpoint collect one transfer; nothing was sent to an
+-- endpoint that its sender doesn't know; and one that has not come has sent nothing
+pub record MeetingsStand (w : Network) : Type 0 where
+  pub once : (s d : Endpoint) (k i j : ℕ) (x y : Job) → slice_get (w.core d).jobs i ≡ Some x → is_collecting s k x ≡ true →
+      slice_get (w.core d).jobs j ≡ Some y → is_collecting s k y ≡ true → i ≡ j
+  pub untold : (s d : Endpoint) → (w.core s).known d.rank < d.incarnation → (w.link s d).accepted ≡ []
+  pub unsent : (s d : Endpoint) → w.current s.rank < s.incarnation → (w.link s d).accepted ≡ []

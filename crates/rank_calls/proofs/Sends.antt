@@ -5,7 +5,7 @@ use Rattle.std.proofs.lemmas.Grind.{common_steps}
 use Rattle.vocabulary.specs.BasicTypes.{size_of}
 use Rattle.vocabulary.specs.declared.envelope.Source.{Source}
 use Rattle.vocabulary.specs.declared.envelope.Source.TheVariants.{Any, Rank, Null}
-use Rattle.vocabulary.specs.Limits.{eager_limit, send_limit}
+use Rattle.vocabulary.specs.Limits.{send_limit}
 use Rattle.datatypes.specs.Contents.{Contents, bytes_of}
 use Rattle.datatypes.specs.ContentLaws.{length-bytes_of, sizes}
 use Rattle.perfect_queues.specs.Buffers.{differs_in_type, is_too_short}
@@ -28,10 +28,10 @@ pub long_enough : (p : Place) (s : Send) → send_fault p s ≡ None → is_too_
 unfolding send_fault
 long_enough p s none = grind (arith, common_steps, none)
 
--- it has few bytes
-few_bytes : (p : Place) (s : Send) → send_fault p s ≡ None → byte_count s.from ≤ eager_limit
+-- it has no more bytes than a message may have
+pub within_limit : (p : Place) (s : Send) → send_fault p s ≡ None → byte_count s.from ≤ send_limit
 unfolding send_fault
-few_bytes p s none = grind (arith, common_steps, none)
+within_limit p s none = grind (arith, common_steps, none)
 
 -- it has a tag
 has_tag : (p : Place) (s : Send) → send_fault p s ≡ None → is_no_tag s.tag ≡ false
@@ -69,10 +69,6 @@ there_at n Any g there = tt
 there_at n Null g there = tt
 there_at n (Rank to) None there = tt
 there_at n (Rank to) (Some tag) there = grind (arith, common_steps, there)
-
--- it has no more bytes than a message may have
-pub within_limit : (p : Place) (s : Send) → send_fault p s ≡ None → byte_count s.from ≤ send_limit
-within_limit p s none = omega (arith, few_bytes p s none)
 
 -- what it sends may be sent
 pub is_sendable : (p : Place) (s : Send) → send_fault p s ≡ None → IfSome (destination s.target s.tag) (λ (d : Destination). IsSendable d.tag (sent_from s.from))

@@ -23,13 +23,13 @@ use Rattle.rank_calls.specs.declared.refused.Refused.{Refused}
 use Rattle.rank_calls.specs.declared.refused.Refused.TheVariants as refusals
 use Rattle.rendezvous.specs.State.{State, after_begin, is_full_to, next_to}
 
--- The first rule that a send breaks: buffer and layout differ in basic type; for now it has more than 1,024 bytes, also to
+-- The first rule that a send breaks: buffer and layout differ in basic type; it has more than 1,048,576 bytes, also to
 -- the own rank and to the null process; the buffer is too short; the tag is above the highest, or the wildcard; there is no
 -- such rank, or it is any rank.
 unfoldable pub send_fault : Place → Send → Option Refused
 send_fault p s =
     if differs_in_type (handed_of s.from) then Some refusals.WrongType
-    else (if nat_lt eager_limit (byte_count s.from) then Some refusals.Count
+    else (if nat_lt send_limit (byte_count s.from) then Some refusals.Count
     else (if is_too_short (handed_of s.from) then Some refusals.Count
     else (if is_no_tag s.tag then Some refusals.Tag
     else (if is_no_target p.size s.target then Some refusals.Rank

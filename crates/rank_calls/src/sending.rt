@@ -20,7 +20,7 @@ use incarnation::Place;
 use match_queues::{Body, Message};
 use rendezvous::Transfers;
 use requests::Region;
-use vocabulary::{EAGER_LIMIT, Source};
+use vocabulary::{EAGER_LIMIT, SEND_LIMIT, Source};
 
 /// A frame for a rank.
 #[derive(Clone, Copy, Debug)]
@@ -67,7 +67,7 @@ pub fn fault_of(place: Place, send: &Send) -> Option<Refused>
     if send.from.differs_in_type() {
         return Some(Refused::WrongType);
     }
-    if send.from.is_above(EAGER_LIMIT) {
+    if send.from.is_above(SEND_LIMIT) {
         return Some(Refused::Count);
     }
     if send.from.is_too_short() {

@@ -110,7 +110,7 @@ impl Core {
 
     /// The first rule or limit that a call meets: 6 (an earlier call is blocked, there is no such request, a list names one
     /// twice, or what is cancelled is no receive), 2 (buffer and layout are of different basic types, or a receive names a
-    /// place twice), 1 (for now more than 1,024 bytes of data in a send, or the buffer is too short), 3 (the tag is above
+    /// place twice), 1 (more than 1,048,576 bytes of data in a send, or the buffer is too short), 3 (the tag is above
     /// the greatest, or the wildcard in a send), 5 (no such rank, or any rank in a send), 13 (65,536 requests are there, no
     /// serial is left, or no number of a transfer to the rank). It takes no memory (MPI 3.1, 3.2.2, 3.7 and 4.1.11).
     pub fn fault_of(&self, call: &Call) -> Option<Refused>

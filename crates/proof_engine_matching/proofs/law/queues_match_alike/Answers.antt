@@ -1,3 +1,4 @@
+use Rattle.proof_engine_matching.proofs.AnnouncedLemmas.{announcements_agree}
 use Rattle.proof_engine_matching.proofs.ArrivalLemmas.{arrivals_match}
 use Rattle.proof_engine_matching.proofs.PostLemmas.{posts_match}
 use Rattle.proof_engine_matching.proofs.EndingLemmas.{outcomes_agree}
@@ -11,3 +12,6 @@ returns-clause-posts c = posts_match
 
 pub returns-clause-outcomes : goal.returns-clause-outcomes
 returns-clause-outcomes c = outcomes_agree
+
+pub returns-clause-announcements : goal.returns-clause-announcements
+returns-clause-announcements c = announcements_agree

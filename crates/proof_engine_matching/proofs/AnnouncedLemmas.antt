@@ -1,0 +1,86 @@
+-- A receive that is matched with an announced message collects it or ends, alike.
+use Rattle.std.proofs.Common.{◌≡◌, ℕ, Bool, true, false, ◌&&◌, nat_le, List, length, Option, Some, None, refl, sym, ap, ap₂, subst, ◌∙◌, if◌then◌else◌}
+use Rattle.layouts.specs.Buffers.{is_same_type}
+use Rattle.vocabulary.specs.declared.endpoint.Endpoint.{Endpoint}
+use Rattle.vocabulary.specs.declared.envelope.Source.TheVariants.{Rank}
+use Rattle.vocabulary.specs.declared.envelope.Status.{Status}
+use Rattle.datatypes.specs.Contents.{Contents}
+use Rattle.perfect_queues.specs.Buffers.{Handed, places_in}
+use Rattle.perfect_queues.specs.Outcomes as machine
+use Rattle.perfect_queues.specs.Receives.{Receive}
+use Rattle.perfect_queues.specs.Receives as receives
+use Rattle.match_queues.specs.declared.envelope.Announcement.{Announcement}
+use Rattle.match_queues.specs.declared.envelope.Body.{Body}
+use Rattle.match_queues.specs.declared.envelope.Body.TheVariants.{Announced}
+use Rattle.match_queues.specs.declared.envelope.Message.{Message}
+use Rattle.requests.specs.Regions.{handed_by, handed_of}
+use Rattle.requests.specs.Table.{has_room, matched_progress}
+use Rattle.requests.specs.declared.outcome.Failure.TheVariants.{Truncated, WrongType}
+use Rattle.requests.specs.declared.outcome.Outcome.TheVariants as outcomes
+use Rattle.requests.specs.declared.region.Places.{Places}
+use Rattle.requests.specs.declared.region.Places.TheVariants.{All, Copies}
+use Rattle.requests.specs.declared.region.Region.{Region}
+use Rattle.requests.specs.declared.table.Progress.TheVariants.{Collecting, Finished}
+use Rattle.rank_calls.specs.Receiving.{status_of}
+use Rattle.proof_pure_network.specs.Held.{Held, count_of, fits}
+use Rattle.proof_pure_network.specs.Jobs.{matched_job, matched_part}
+use Rattle.proof_engine_view.specs.Rows.{Fits, IsMatched, IsOnWorld, body_seen, held_of}
+use Rattle.proof_engine_view.specs.Transfers.{Transfer}
+use Rattle.proof_engine_matching.specs.Matches.{AnnouncedAlike, AnnouncementsAgree}
+
+-- whatever its places are, a region has its buffer
+same_buffer : (b : Contents) (p : Places) → (handed_by b p).buffer ≡ b
+same_buffer b All = refl
+same_buffer b (Copies layout copies) = refl
+
+pub handed_buffer : (r : Region) → (handed_of r).buffer ≡ r.buffer
+handed_buffer r = same_buffer r.buffer r.places
+
+-- by whether the types are one and whether there is room
+ends_so : (p : Receive) (r : Region) (h : Held) (st : Status) (n : ℕ) (same room : Bool) → IsMatched (record { into = r; status = st }) p h →
+    machine.status_by p h.sender.rank h.tag n ≡ st → p.into.buffer.values ≡ r.buffer.values → is_same_type p.into.buffer.basic h.basic ≡ same →
+    Fits (if same && room then Collecting (record { into = r; status = st }) else Finished (outcomes.Ended (if same then Truncated else WrongType) st r.buffer))
+    (matched_part p h n (same && room))
+ends_so p r h st n true true m s v e = m
+ends_so p r h st n true false m s v e =
+    ap (λ (t : Bool). machine.Ended (if t then 10 else 2) (machine.status_by p h.sender.rank h.tag n) p.into.buffer.values) e
+    ∙ ap₂ (λ (x : Status) (ys : List ℕ). machine.Ended 10 x ys) s v
+ends_so p r h st n false room m s v e =
+    ap (λ (t : Bool). machine.Ended (if t then 10 else 2) (machine.status_by p h.sender.rank h.tag n) p.into.buffer.values) e
+    ∙ ap₂ (λ (x : Status) (ys : List ℕ). machine.Ended 2 x ys) s v
+
+-- a message with this body
+abbrev with_body : Message → Body → Message
+with_body m b = record m { body = b }
+
+-- whether there is room
+wanted_alike : (p : Receive) (r : Region) (a : Announcement) → p.into ≡ handed_of r → receives.has_room p a.basic a.count ≡ has_room r a.basic a.count
+wanted_alike p r a is =
+    ap (λ (h : Handed). is_same_type h.buffer.basic a.basic && nat_le a.count (length (places_in h))) is
+    ∙ ap (λ (b : Contents). is_same_type b.basic a.basic && nat_le a.count (length (places_in (handed_of r)))) (handed_buffer r)
+
+-- what is left of the receive
+announced_fits : (from : Endpoint → List Transfer) (p : Receive) (r : Region) (m : Message) (a : Announcement) → p.into ≡ handed_of r → IsOnWorld p →
+    fits p (held_of from (with_body m (Announced a))) ≡ true →
+    Fits (matched_progress r (status_of (with_body m (Announced a))) a.basic)
+    (matched_job p (held_of from (with_body m (Announced a))) (body_seen (from m.sender) (Announced a)))
+announced_fits from p r m a is world accepts =
+    subst (λ (b : Bool). Fits (matched_progress r (status_of (with_body m (Announced a))) a.basic) (matched_part p h a.count b)) (sym (wanted_alike p r a is))
+    (ends_so p r h (status_of (with_body m (Announced a))) a.count (is_same_type r.buffer.basic a.basic) (nat_le a.count (length (places_in (handed_of r))))
+    (record { into = is; on_world = world; accepts = accepts; status = refl })
+    (ap (λ (g : Option (List ℕ)). machine.status_by (record p { group = g }) m.sender.rank m.tag a.count) world.group)
+    (ap (λ (x : Handed). x.buffer.values) is ∙ ap (λ (b : Contents). b.values) (handed_buffer r))
+    (ap (λ (x : Handed). is_same_type x.buffer.basic a.basic) is ∙ ap (λ (b : Contents). is_same_type b.basic a.basic) (handed_buffer r)))
+  where
+    h : Held
+    h = held_of from (with_body m (Announced a))
+
+-- the law of announced messages
+pub announcements_agree : AnnouncementsAgree
+announcements_agree from p r m a body is world accepts =
+    record {
+      wanted = wanted_alike p r a is;
+      fits = subst (λ (b : Body). fits p (held_of from (with_body m b)) ≡ true →
+          Fits (matched_progress r (status_of (with_body m b)) a.basic) (matched_job p (held_of from (with_body m b)) (body_seen (from m.sender) b)))
+          (sym body) (announced_fits from p r m a is world) accepts;
+    }

@@ -1,0 +1,52 @@
+-- A large message is announced: its request offers it under the next number.
+use Rattle.std.proofs.Common.{◌≡◌, ◌≢◌, ℕ, zero, suc, ◌+◌, ◌*◌, ◌<◌, ◌≤◌, ◌==◌, ◌&&◌, Bool, true, false, List, [], ◌∷◌, ◌++◌, length, map, Option, Some, None, if◌then◌else◌, slice_get, slice_set, refl, sym, ap, ◌∙◌, subst, arith, ◌⊎◌, inl, inr, append-nil}
+use Rattle.std.proofs.lemmas.Bool.{ne_eqb, eq-eqb}
+use Rattle.std.proofs.lemmas.List.{length-append}
+use Rattle.std.proofs.lemmas.Option.{same_Some}
+use Rattle.vocabulary.specs.Endpoints.{is_same}
+use Rattle.vocabulary.specs.declared.endpoint.Endpoint.{Endpoint}
+use Rattle.perfect_queues.proofs.EndpointLemmas.{same_refl}
+use Rattle.proof_pure_network.specs.Announced.{Begins}
+use Rattle.proof_pure_network.specs.Frames.{Frame, Rts}
+use Rattle.proof_pure_network.proofs.JobLemmas.{push_at}
+use Rattle.vocabulary.specs.declared.basic_type.BasicType.{BasicType}
+use Rattle.datagram.specs.Spelling.{RequestFrame, RequestText}
+use Rattle.datagram.specs.declared.kinds.Plane.TheVariants.{PointToPoint}
+use Rattle.datatypes.specs.Contents.{Contents}
+use Rattle.rank_calls.specs.Sending.{request_frame}
+use Rattle.proof_engine_view.specs.Standing.{StandsFor}
+use Rattle.proof_engine_view.specs.Transfers.{Announcements, Transfer, after_out, announced_in, frames_to}
+
+-- the transfer that a send announces
+abbrev pub transfer_of : (serial : ℕ) → Contents → Transfer
+transfer_of serial c = record { serial = serial; basic = c.basic; count = length c.values }
+
+-- what was announced to whom it goes, once it is announced
+pub announced_there : (a : Announcements) (d : Endpoint) (context tag serial : ℕ) (c : Contents) →
+    (after_out a ((d, Rts context tag c.basic serial (length c.values)) ∷ [])).to d ≡ a.to d ++ transfer_of serial c ∷ []
+announced_there a d context tag serial c = go (is_same d d) (same_refl d)
+  where
+    go : (t : Bool) → t ≡ true →
+        a.to d ++ announced_in (if t then Rts context tag c.basic serial (length c.values) ∷ [] else []) ≡ a.to d ++ transfer_of serial c ∷ []
+    go true is = refl
+    go false is = absurd cc
+
+-- and to another rank
+pub announced_elsewhere : (a : Announcements) (d x : Endpoint) (frame : Frame) → (x.rank ≡ d.rank → ⊥) → (after_out a ((d, frame) ∷ [])).to x ≡ a.to x
+announced_elsewhere a d x frame apart = go (x.rank == d.rank) (ne_eqb x.rank d.rank apart)
+  where
+    go : (t : Bool) → t ≡ false → a.to x ++ announced_in (if t && (x.incarnation == d.incarnation) then frame ∷ [] else []) ≡ a.to x
+    go false is = append-nil (a.to x)
+    go true is = absurd cc
+
+-- its frame stands for the network's, if its number is how many were announced before
+pub request_stands : (a : Announcements) (d : Endpoint) (number tag serial : ℕ) (c : Contents) (back : List Transfer) → number ≡ length (a.to d) →
+    StandsFor ((after_out a ((d, Rts 0 tag c.basic serial (length c.values)) ∷ [])).to d) back (request_frame number tag c) (Rts 0 tag c.basic serial (length c.values))
+request_stands a d number tag serial c back is =
+    record {
+      serial = serial;
+      plane = refl;
+      announced = ap (λ (ts : List Transfer). slice_get ts number) (announced_there a d 0 tag serial c)
+          ∙ (ap (λ (k : ℕ). slice_get (a.to d ++ transfer_of serial c ∷ []) k) is ∙ push_at (a.to d) (transfer_of serial c));
+      frame_is = refl;
+    }
