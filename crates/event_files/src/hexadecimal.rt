@@ -36,7 +36,7 @@ pub(crate) fn bytes_of(alloc: Global, word: &[u8]) -> Result<Bytes, LineError>
         let low = required_digit(word[2 * place + 1])?;
         bytes.push(16 * high + low)?;
     }
-    Ok(Bytes::from_vec(bytes))
+    Ok(Bytes::from_vec(bytes)?)
 }
 
 fn required_digit(byte: u8) -> Result<u8, LineError>

@@ -101,7 +101,10 @@ fn look(alloc: Global, sender: &mut Sender) -> ([Option<(u64, u64)>; 2], [bool; 
 
 /// Whether the frame of this number is held, whose only byte is its number.
 fn is_held(sender: &Sender, number: u8) -> bool {
-    sender.frame(u64::from(number)) == Some([number].as_slice())
+    match sender.frame(u64::from(number)) {
+        Some(frame) => frame.as_slice() == [number].as_slice(),
+        None => false,
+    }
 }
 
 #[test]

@@ -6,8 +6,7 @@
 
 mod envelope;
 mod queues;
-mod refused;
 
 pub use envelope::{Announcement, Body, Message, Receive};
 pub use queues::{Arrival, Queues, oldest_is_taken};
-pub use refused::OutOfMemory;
+pub use vocabulary::OutOfMemory;

@@ -13,10 +13,10 @@ ghost use Rattle.match_queues.specs.declared.envelope.Receive.{Receive};
 ghost use Rattle.match_queues.specs.declared.envelope.Message.{Message};
 
 use crate::envelope::{Message, Receive, is_former, names};
-use crate::refused::OutOfMemory;
 use std::alloc::Global;
 use std::collections::VecDeque;
 use std::marker::Model;
+use vocabulary::OutOfMemory;
 
 /// What a rank has posted and not yet received, and what came and was not yet wanted. The oldest stand first.
 #[derive(Debug, Drop)]

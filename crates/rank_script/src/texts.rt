@@ -16,7 +16,7 @@ pub(crate) fn error_line(alloc: Global, number: u8) -> Result<Bytes, AllocError>
     ensures { IfOk result (λ line. line ≡ error_line number) }
 {
     let text = format!(in alloc; "error {number}")?;
-    Ok(Bytes::from_vec(text.into_bytes()))
+    Bytes::from_vec(text.into_bytes())
 }
 
 /// `source S tag T count C`
@@ -25,7 +25,7 @@ pub(crate) fn status_line(alloc: Global, status: Status) -> Result<Bytes, AllocE
 {
     let status = StatusText { status };
     let text = format!(in alloc; "{status}")?;
-    Ok(Bytes::from_vec(text.into_bytes()))
+    Bytes::from_vec(text.into_bytes())
 }
 
 /// `pending`
@@ -56,7 +56,7 @@ pub(crate) fn error_lines(alloc: Global, number: u8, numbers: &[u8]) -> Result<B
     let further = further_errors(alloc, numbers)?;
     let mut text = Vec::from_slice(alloc, first.as_slice())?;
     text.extend_from_slice(&further)?;
-    Ok(Bytes::from_vec(text))
+    Bytes::from_vec(text)
 }
 
 /// The number of copies, or `undefined`
@@ -65,7 +65,7 @@ pub(crate) fn count_line(alloc: Global, copies: Option<u64>) -> Result<Bytes, Al
 {
     let count = CountText { copies };
     let text = format!(in alloc; "{count}")?;
-    Ok(Bytes::from_vec(text.into_bytes()))
+    Bytes::from_vec(text.into_bytes())
 }
 
 /// The text without its first byte.

@@ -142,14 +142,14 @@ impl Sender {
     }
 
     /// The bytes of frame `n`, where it is kept.
-    pub fn frame(&self, n: u64) -> Option<&[u8]>
+    pub fn frame(&self, n: u64) -> Option<&Bytes>
         ensures { option_copied result ≡ frame_at self.now n }
     {
         if n < self.lowest {
             return None;
         }
         let frame = self.frames.get((n - self.lowest) as usize)?;
-        Some(frame.bytes.as_slice())
+        Some(&frame.bytes)
     }
 
     /// The numbers of the frames that are out and were last sent 20 ms or more before now, in

@@ -1,6 +1,7 @@
 -- The pieces in which data go: 1,024 bytes each, and the last one what is left (our own).
 use Rattle.std.specs.Prelude.{ℕ, ◌+◌, ◌*◌, ◌/◌, ◌%◌, min, List, map, length, take, drop}
 use Rattle.std.specs.List.{range_with_len}
+use Rattle.vocabulary.specs.Limits.{eager_limit}
 
 -- the first bytes of a list, as many as one piece has
 abbrev pub first_piece : (size : ℕ) → List ℕ → List ℕ
@@ -20,7 +21,7 @@ pieces_by size bytes = map (piece_at size bytes) (range_with_len 0 (piece_count 
 
 -- so many bytes go in one piece; the last one may have fewer
 abbrev pub piece_bytes : ℕ
-piece_bytes = 1024
+piece_bytes = eager_limit
 
 -- the pieces, in order
 abbrev pub pieces_of : List ℕ → List (ℕ × List ℕ)

@@ -5,12 +5,10 @@ ghost use Rattle.vocabulary.specs.BasicTypes.{size_of};
 ghost use Rattle.rendezvous.specs.Collecting.{Collecting, beginning, is_from, takes, is_whole, with_piece};
 ghost use Rattle.rendezvous.specs.Collected.{collected_of};
 
-use crate::piece::PIECE_BYTES;
-use crate::refused::OutOfMemory;
 use datatypes::Buffer;
 use std::alloc::Global;
 use std::marker::Model;
-use vocabulary::BasicType;
+use vocabulary::{BasicType, EAGER_LIMIT, OutOfMemory};
 
 /// A message for which this rank asked, and of whose data so much has come.
 #[derive(Debug, Drop)]
@@ -106,7 +104,7 @@ impl Collection {
     pub fn takes(&self, offset: u32, bytes: &[u8]) -> bool
         ensures { result ≡ takes self.now offset bytes.now }
     {
-        let due = (self.total - self.bytes.len()).min(PIECE_BYTES);
+        let due = (self.total - self.bytes.len()).min(EAGER_LIMIT);
         !bytes.is_empty() && offset as usize == self.bytes.len() && bytes.len() == due
     }
 

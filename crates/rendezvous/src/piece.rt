@@ -5,12 +5,9 @@ ghost use Rattle.vocabulary.specs.BasicTypes.{size_of};
 ghost use Rattle.datatypes.specs.Contents.{bytes_of};
 ghost use Rattle.rendezvous.specs.Pieces.{piece_at, pieces_of, piece_count, piece_bytes};
 
-use crate::refused::OutOfMemory;
 use datatypes::Buffer;
 use std::alloc::Global;
-
-/// So many bytes go in one piece; the last one of a message may have fewer.
-pub const PIECE_BYTES: usize = 1024;
+use vocabulary::{EAGER_LIMIT, OutOfMemory};
 
 /// A piece of a message's data.
 #[derive(Clone, Copy, Debug)]
@@ -26,12 +23,12 @@ fn piece_at(contents: &[u8], number: usize) -> Option<Piece<'_>>
     requires { number < piece_count piece_bytes contents.now }
     ensures { IfSome result (λ p. (p.offset, p.bytes.now) ≡ piece_at piece_bytes contents.now number) }
 {
-    let start = number * PIECE_BYTES;
+    let start = number * EAGER_LIMIT;
     let Ok(offset) = u32::try_from(start) else {
         return None;
     };
     let (_, rest) = contents.split_at(start);
-    let (bytes, _) = rest.split_at(rest.len().min(PIECE_BYTES));
+    let (bytes, _) = rest.split_at(rest.len().min(EAGER_LIMIT));
     Some(Piece { offset, bytes })
 }
 
@@ -39,7 +36,7 @@ fn piece_at(contents: &[u8], number: usize) -> Option<Piece<'_>>
 fn cut(alloc: Global, contents: &[u8]) -> Result<Vec<Piece<'_>>, OutOfMemory>
     ensures { IfOk result (λ pieces. map (λ p. (p.offset, p.bytes.now)) pieces.items ≡ pieces_of contents.now) }
 {
-    let count = contents.len().div_ceil(PIECE_BYTES);
+    let count = contents.len().div_ceil(EAGER_LIMIT);
     let Ok(mut pieces) = Vec::with_capacity(alloc, count) else {
         return Err(OutOfMemory {});
     };
@@ -66,5 +63,5 @@ pub fn pieces(alloc: Global, elements: &Buffer) -> Result<Vec<Piece<'_>>, OutOfM
 pub fn piece_count(elements: &Buffer) -> usize
     ensures { result ≡ length (pieces_of (bytes_of (size_of elements.now.basic) elements.now.values)) }
 {
-    elements.as_bytes().len().div_ceil(PIECE_BYTES)
+    elements.as_bytes().len().div_ceil(EAGER_LIMIT)
 }

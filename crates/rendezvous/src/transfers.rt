@@ -8,10 +8,10 @@ ghost use Rattle.rendezvous.specs.State.{State, fresh, is_full_to, is_full_from,
 
 use crate::collection::{Collected, Collection};
 use crate::offer::Offer;
-use crate::refused::OutOfMemory;
 use datatypes::Buffer;
 use std::alloc::Global;
 use std::marker::Model;
+use vocabulary::OutOfMemory;
 
 /// How many transfers there were in the sessions with one rank, in each direction.
 #[derive(Clone, Copy, Debug, Default, PartialEq, Eq)]

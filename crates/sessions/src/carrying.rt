@@ -125,13 +125,11 @@ impl Sessions {
             peers::accept_at(&mut self.peers, rank, bytes)?;
             return Ok(());
         }
-        let copy = Bytes::from_slice(self.alloc, bytes.as_slice()).map_err(
-            |_| Refused::OutOfMemory,
-        )?;
+        let shared = bytes.share().map_err(|_| Refused::OutOfMemory)?;
         self.out.reserve(1).map_err(|_| Refused::OutOfMemory)?;
         peers::accept_at(&mut self.peers, rank, bytes)?;
         // Nothing fails from here on.
-        self.out.push((rank, copy)).unwrap();
+        self.out.push((rank, shared)).unwrap();
         Ok(())
     }
 
@@ -177,8 +175,8 @@ impl Sessions {
         ensures err { IfErr result (λ e. e ≡ Refused.OutOfMemory) }
     {
         let sender = &peers::peer_at(&self.peers, rank).sender;
-        let mut copies = peers::entering_copies(self.alloc, rank, sender, n)?;
-        match self.out.append(&mut copies) {
+        let mut frames = peers::entering_frames(self.alloc, rank, sender, n)?;
+        match self.out.append(&mut frames) {
             Ok(()) => Ok(()),
             Err(_) => Err(Refused::OutOfMemory),
         }

@@ -108,26 +108,26 @@ pub(crate) fn begin_anew_at(peers: &mut Vec<Peer>, rank: u16) -> Peer
 }
 
 /// The frames of these numbers, as they go out to a rank.
-pub(crate) fn copies_of(
+pub(crate) fn frames_of(
     alloc: Global,
     target: u16,
     sender: &Sender,
     numbers: &[u64],
 ) -> Result<Vec<(u16, Bytes)>, Refused>
-    ensures ok { IfOk result (λ copies. copies.items ≡ frames_out target sender.now numbers.now) }
-    ensures few { IfOk result (λ copies. vec_len copies ≤ length numbers.now) }
+    ensures ok { IfOk result (λ frames. frames.items ≡ frames_out target sender.now numbers.now) }
+    ensures few { IfOk result (λ frames. vec_len frames ≤ length numbers.now) }
     ensures err { IfErr result (λ e. e ≡ Refused.OutOfMemory) }
 {
-    let mut copies = Vec::new(alloc);
+    let mut frames = Vec::new(alloc);
     for number in numbers {
         if let Some(frame) = sender.frame(*number) {
-            let copy = Bytes::from_slice(alloc, frame).map_err(|_| Refused::OutOfMemory)?;
-            copies
-                .push((target, copy))
+            let shared = frame.share().map_err(|_| Refused::OutOfMemory)?;
+            frames
+                .push((target, shared))
                 .map_err(|_| Refused::OutOfMemory)?;
         }
     }
-    Ok(copies)
+    Ok(frames)
 }
 
 #[tactic(auto, using(crate::proofs::PeerLemmas::range_more))]
@@ -142,65 +142,65 @@ fn numbers_in(alloc: Global, range: Range<u64>) -> Result<Vec<u64>, AllocError>
 }
 
 /// The frames that an acknowledgement of all frames below `n` brings into the window, as they go out to a rank.
-pub(crate) fn entering_copies(
+pub(crate) fn entering_frames(
     alloc: Global,
     target: u16,
     sender: &Sender,
     n: u64,
 ) -> Result<Vec<(u16, Bytes)>, Refused>
     requires { n ≤ out_end sender.now }
-    ensures ok { IfOk result (λ copies. copies.items ≡ frames_out target sender.now (entered_on_ack sender.now n)) }
-    ensures few { IfOk result (λ copies. vec_len copies ≤ 64) }
+    ensures ok { IfOk result (λ frames. frames.items ≡ frames_out target sender.now (entered_on_ack sender.now n)) }
+    ensures few { IfOk result (λ frames. vec_len frames ≤ 64) }
     ensures err { IfErr result (λ e. e ≡ Refused.OutOfMemory) }
 {
     let range = sender.entering(n);
     match numbers_in(alloc, range) {
-        Ok(numbers) => copies_of(alloc, target, sender, &numbers),
+        Ok(numbers) => frames_of(alloc, target, sender, &numbers),
         Err(_) => Err(Refused::OutOfMemory),
     }
 }
 
 /// The frames of one session that are due at this time, as they go out to its rank.
 #[tactic(auto, using(crate::proofs::PeerLemmas::few_due))]
-fn due_copies_of(
+fn due_frames_of(
     alloc: Global,
     rank: u16,
     peer: &Peer,
     now: u64,
 ) -> Result<Vec<(u16, Bytes)>, Refused>
     requires { peer.now.sender.clock ≤ now }
-    ensures ok { IfOk result (λ copies.
-        copies.items ≡ frames_out rank peer.now.sender (due_at peer.now.sender now)) }
-    ensures few { IfOk result (λ copies. vec_len copies ≤ 64) }
+    ensures ok { IfOk result (λ frames.
+        frames.items ≡ frames_out rank peer.now.sender (due_at peer.now.sender now)) }
+    ensures few { IfOk result (λ frames. vec_len frames ≤ 64) }
     ensures err { IfErr result (λ e. e ≡ Refused.OutOfMemory) }
 {
     match peer.sender.due(now) {
-        Ok(numbers) => copies_of(alloc, rank, &peer.sender, &numbers),
+        Ok(numbers) => frames_of(alloc, rank, &peer.sender, &numbers),
         Err(_) => Err(Refused::OutOfMemory),
     }
 }
 
 /// The frames that are due at this time, by rising rank.
 #[tactic(auto, using(crate::proofs::PeerLemmas::due_out_more))]
-pub(crate) fn due_copies(
+pub(crate) fn due_frames(
     alloc: Global,
     peers: &[Peer],
     now: u64,
 ) -> Result<Vec<(u16, Bytes)>, Refused>
     requires small { length peers.now ≤ 256 }
     requires clocks { All (λ p. p.sender.clock ≤ now) peers.now }
-    ensures ok { IfOk result (λ copies. copies.items ≡ due_out 0 peers.now now) }
-    ensures few { IfOk result (λ copies. vec_len copies ≤ 64 * length peers.now) }
+    ensures ok { IfOk result (λ frames. frames.items ≡ due_out 0 peers.now now) }
+    ensures few { IfOk result (λ frames. vec_len frames ≤ 64 * length peers.now) }
     ensures err { IfErr result (λ e. e ≡ Refused.OutOfMemory) }
 {
-    let mut copies = Vec::new(alloc);
+    let mut frames = Vec::new(alloc);
     for (rank, peer) in peers.iter().enumerate() {
-        let mut due = due_copies_of(alloc, rank as u16, peer, now)?;
-        if copies.append(&mut due).is_err() {
+        let mut due = due_frames_of(alloc, rank as u16, peer, now)?;
+        if frames.append(&mut due).is_err() {
             return Err(Refused::OutOfMemory);
         }
     }
-    Ok(copies)
+    Ok(frames)
 }
 
 fn mark_each_sent(peers: &mut [Peer], now: u64)

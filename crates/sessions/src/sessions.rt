@@ -116,15 +116,15 @@ impl Sessions {
         if now < self.clock {
             return Err(Refused::ClockBack);
         }
-        let mut copies = peers::due_copies(self.alloc, &self.peers, now)?;
+        let mut frames = peers::due_frames(self.alloc, &self.peers, now)?;
         self.out
-            .reserve(copies.len())
+            .reserve(frames.len())
             .map_err(|_| Refused::OutOfMemory)?;
         // Nothing fails from here on.
         peers::mark_all_sent(&mut self.peers, now);
         self.clock = now;
         self.out
-            .append(&mut copies)
+            .append(&mut frames)
             .map_err(|_| Refused::OutOfMemory)
     }
 

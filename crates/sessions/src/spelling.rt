@@ -30,7 +30,7 @@ fn bytes_of(alloc: Global, datagram: &Datagram) -> Result<Bytes, Refused>
 {
     let mut bytes = Vec::new(alloc);
     match datagram::write(datagram, &mut bytes) {
-        Ok(()) => Ok(Bytes::from_vec(bytes)),
+        Ok(()) => Bytes::from_vec(bytes).map_err(|_| Refused::OutOfMemory),
         Err(_) => Err(Refused::OutOfMemory),
     }
 }

@@ -83,8 +83,7 @@ impl Event {
             Event::Call(rank, call) => Ok(Event::Call(*rank, call.try_clone(alloc)?)),
             Event::Deliver(number) => Ok(Event::Deliver(*number)),
             Event::Stray(rank, bytes) => {
-                let copy = Bytes::from_slice(alloc, bytes.as_slice())?;
-                Ok(Event::Stray(*rank, copy))
+                Ok(Event::Stray(*rank, bytes.share()?))
             }
             Event::Tick(rank, now) => Ok(Event::Tick(*rank, *now)),
             Event::Restart(rank) => Ok(Event::Restart(*rank)),
