@@ -42,7 +42,7 @@ use Rattle.proof_engine_steps.proofs.Waking.{Holding}
 
 -- What a large send to another rank rests on: the rank is one of the job, the tag is allowed, the elements are so many, of the
 -- width of their type, and a number is left
-pub record MayAnnounce (old : CoreState) (to tag : ℕ) (c : Contents) : Type 0 where
+record MayAnnounce (old : CoreState) (to tag : ℕ) (c : Contents) : Type 0 where
   pub there : to < old.place.size
   pub apart : to ≡ old.place.endpoint.rank → ⊥
   pub low : tag ≤ highest_tag
@@ -52,7 +52,7 @@ pub record MayAnnounce (old : CoreState) (to tag : ℕ) (c : Contents) : Type 0 
   pub free : is_full_to old.transfers.numbers to ≡ false
 
 -- one that meets no rule and no limit may
-pub may_announce : (old : CoreState) (s : Send) (to tag : ℕ) → s.target ≡ Rank to → s.tag ≡ Some tag → (to == old.place.endpoint.rank) ≡ false → KeepsRules old.place s → IsWithin (calls.Isend s) →
+may_announce : (old : CoreState) (s : Send) (to tag : ℕ) → s.target ≡ Rank to → s.tag ≡ Some tag → (to == old.place.endpoint.rank) ≡ false → KeepsRules old.place s → IsWithin (calls.Isend s) →
     is_large (sent_from s.from) ≡ true → free_fault old (calls.Isend s) ≡ None → MayAnnounce old to tag (sent_from s.from)
 may_announce old s to tag target_is tag_is other kept within large fine =
     record {
@@ -74,7 +74,7 @@ rows_counted : (a : Announcements) (old : CoreState) (known : List ℕ) (core : 
 rows_counted a old known core shown = sym (ap (λ (js : List Job). length js) shown.jobs ∙ length-map shown.rows (λ (r : Row). r.job))
 
 -- its request is there, and offers the message that is announced
-pub large_holds : (a : Announcements) (old : CoreState) (known : List ℕ) (core : Core) (q : Request) (new : CoreState) (to tag : ℕ) (c : Contents) → (shown : IsShown a old known core) → MayAnnounce old to tag c →
+large_holds : (a : Announcements) (old : CoreState) (known : List ℕ) (core : Core) (q : Request) (new : CoreState) (to tag : ℕ) (c : Contents) → (shown : IsShown a old known core) → MayAnnounce old to tag c →
     IsOffering old to c q new →
     Holding (after_out a (announcement_of core (endpoint_of known to) 0 tag c.basic c.values ∷ [])) (offering_rank old to q c new) known (core_offering core (endpoint_of known to) c.basic c.values)
     (shown.rows ++ offering_row q.key (endpoint_of known to) c ∷ [])

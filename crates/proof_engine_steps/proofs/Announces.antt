@@ -35,12 +35,12 @@ use Rattle.proof_engine_steps.proofs.UnderWay.{row_of}
 
 -- ---- NUMBERS
 
--- a session whose number is not the last has one more
+-- a session in which one more transfer can begin has not the greatest number
 below_last : (found : Option Numbers) → has_none_to found ≡ false → (n : Numbers) → found ≡ Some n → n.begun ≢ most_transfers
 below_last None full n is = absurd (none-some n is)
 below_last (Some m) full n is = eqb-false n.begun most_transfers (subst (λ (x : Numbers). (x.begun == most_transfers) ≡ false) (same_Some m n is) full)
 
--- the numbers of a session that is there are those at its place
+-- the session with a rank that is there
 number_at : (ns : List Numbers) (rank : ℕ) → rank < length ns → slice_get ns rank ≡ Some (slice_index_or ns rank fresh)
 number_at [] rank inside = absurd (omega arith)
 number_at (n ∷ ns) zero inside = refl
@@ -50,8 +50,8 @@ number_at (n ∷ ns) (suc rank) inside = number_at ns rank (omega arith)
 one_more : (n most : ℕ) → n ≤ most → n ≢ most → n + 1 ≤ most
 one_more n most le ne = omega arith
 
--- the next number of a session in which no further transfer was refused is not the last
-pub next_below : (ns : List Numbers) (rank : ℕ) → rank < length ns → is_full_to ns rank ≡ false → next_to ns rank ≤ most_transfers → next_to ns rank + 1 ≤ most_transfers
+-- so its next number can be one more
+next_below : (ns : List Numbers) (rank : ℕ) → rank < length ns → is_full_to ns rank ≡ false → next_to ns rank ≤ most_transfers → next_to ns rank + 1 ≤ most_transfers
 next_below ns rank inside free le =
     one_more (next_to ns rank) most_transfers le (below_last (slice_get ns rank) free (slice_index_or ns rank fresh) (number_at ns rank inside))
 
@@ -90,7 +90,7 @@ most_begun ns to rank inside below le (inl e) =
 most_begun ns to rank inside below le (inr ne) = subst (λ (m : ℕ). m ≤ most_transfers) (sym (next_elsewhere ns to rank ne)) le
 
 -- the numbers once a transfer to another rank is announced
-pub begun_numbered :
+begun_numbered :
     (a : Announcements) (known : List ℕ) (p : Place) (ns : List Numbers) (to context tag serial : ℕ) (c : Contents) → IsNumbered a.to known p ns → to < p.size → (to ≡ p.endpoint.rank → ⊥) →
     is_full_to ns to ≡ false →
     IsNumbered (after_out a ((endpoint_of known to, Rts context tag c.basic serial (length c.values)) ∷ [])).to known p (with_begun ns to)
@@ -113,14 +113,14 @@ apart_pushed (y ∷ ys) x apart none =
     (All_append (λ (z : ℕ). z ≡ y → ⊥) ys (x ∷ []) apart.0 ((λ e. none.0 (sym e)), tt), apart_pushed ys x apart.1 none.1)
 
 -- a key under which nothing stands is none of a request that is under way
-pub row_elsewhere : (slots : List (Option Entry)) (rows : List Row) (k key fresh_key : ℕ) (job : Job) → IsTable slots rows → ((slot : Option Entry) → Stands slot k job → Holds slot k job) →
+row_elsewhere : (slots : List (Option Entry)) (rows : List Row) (k key fresh_key : ℕ) (job : Job) → IsTable slots rows → ((slot : Option Entry) → Stands slot k job → Holds slot k job) →
     slice_get rows k ≡ Some (row_of key job) → slot_at slots fresh_key ≡ None → key ≡ fresh_key → ⊥
 row_elsewhere slots rows k key fresh_key job table held row free e =
     let h : Holds (slot_at slots key) k job = held (slot_at slots key) (table.stands k (row_of key job) row) in
     none-some h.entry (sym (ap (slot_at slots) e ∙ free) ∙ h.there)
 
 -- so an offer's is none
-pub offers_elsewhere : (slots : List (Option Entry)) (rows : List Row) (to : Endpoint → List Transfer) (known : List ℕ) (key : ℕ) (offers : List Offer) → IsTable slots rows → slot_at slots key ≡ None →
+offers_elsewhere : (slots : List (Option Entry)) (rows : List Row) (to : Endpoint → List Transfer) (known : List ℕ) (key : ℕ) (offers : List Offer) → IsTable slots rows → slot_at slots key ≡ None →
     AllByRecursion (IsOfferOf to known rows) offers → AllByRecursion (λ (y : ℕ). y ≡ key → ⊥) (offer_keys offers)
 offers_elsewhere slots rows to known key [] table free all = tt
 offers_elsewhere slots rows to known key (o ∷ os) table free all = (
@@ -147,7 +147,7 @@ row_before (y ∷ ys) r zero x h = inl h
 row_before (y ∷ ys) r (suc k) x h = row_before ys r k x h
 
 -- what is offered stays so as rows are added, and as more is announced
-pub offers_more : (to to' : Endpoint → List Transfer) (known : List ℕ) (rows rows' : List Row) (offers : List Offer) → ((d : Endpoint) → Begins (to d) (to' d)) → Begins rows rows' →
+offers_more : (to to' : Endpoint → List Transfer) (known : List ℕ) (rows rows' : List Row) (offers : List Offer) → ((d : Endpoint) → Begins (to d) (to' d)) → Begins rows rows' →
     AllByRecursion (IsOfferOf to known rows) offers → AllByRecursion (IsOfferOf to' known rows') offers
 offers_more to to' known rows rows' [] grow more all = tt
 offers_more to to' known rows rows' (o ∷ os) grow more all = (
@@ -163,7 +163,7 @@ offers_more to to' known rows rows' (o ∷ os) grow more all = (
 )
 
 -- and what is collected as rows are added
-pub collections_more : (from : Endpoint → List Transfer) (known : List ℕ) (rows rows' : List Row) (collections : List rendezvous.Collecting) → Begins rows rows' →
+collections_more : (from : Endpoint → List Transfer) (known : List ℕ) (rows rows' : List Row) (collections : List rendezvous.Collecting) → Begins rows rows' →
     AllByRecursion (IsCollectionOf from known rows) collections → AllByRecursion (IsCollectionOf from known rows') collections
 collections_more from known rows rows' [] more all = tt
 collections_more from known rows rows' (c ∷ cs) more all = (

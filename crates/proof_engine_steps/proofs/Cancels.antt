@@ -33,7 +33,7 @@ use Rattle.proof_engine_view.specs.Rows.{Fits, Holds, Row, held_of, posted_job, 
 use Rattle.proof_engine_view.specs.Seen.{outcome_seen, own_serial, request_by}
 use Rattle.proof_engine_view.specs.Shown.{IsShown}
 use Rattle.proof_engine_view.specs.Transfers.{Announcements}
-use Rattle.proof_engine_steps.proofs.Found.{HasRow, finished_row, row_of, waiting_of}
+use Rattle.proof_engine_steps.proofs.Found.{CollectsFor, HasRow, OffersValues, collecting_of, finished_row, offering_of, row_of, waiting_of}
 use Rattle.proof_engine_steps.proofs.Meant.{IsMeant}
 use Rattle.proof_engine_matching.proofs.Positions.{position_here, position_later, remove_first}
 use Rattle.proof_engine_steps.proofs.RefusedWaits.{cancel_faultless, cancel_present}
@@ -65,19 +65,11 @@ dropped_still (j ∷ js) (suc k) x h s = ap (λ (ys : List Job). j ∷ ys) (drop
 
 -- so does a receive that collects
 collecting_stays : (w : Matched) (j : Job) → Fits (progresses.Collecting w) j → dropped j ≡ j
-collecting_stays w (Waiting p) f = absurd f
-collecting_stays w (Collecting p m got) f = refl
-collecting_stays w (Offering d basic values) f = absurd f
-collecting_stays w (Over x) f = absurd f
-collecting_stays w Closed f = absurd f
+collecting_stays w j f = let c : CollectsFor w j = collecting_of w j f in ap dropped c.is ∙ sym c.is
 
 -- and a send that offers
 offering_stays : (j : Job) → Fits progresses.Offering j → dropped j ≡ j
-offering_stays (Waiting p) f = absurd f
-offering_stays (Collecting p m got) f = absurd f
-offering_stays (Offering d basic values) f = refl
-offering_stays (Over x) f = absurd f
-offering_stays Closed f = absurd f
+offering_stays j f = let o : OffersValues j = offering_of j f in ap dropped o.is ∙ sym o.is
 
 -- ---- the queue
 

@@ -95,10 +95,6 @@ piece_there from known rows cs s d frame due all known_so i =
 abbrev pub with_it : rendezvous.Collecting → DataText → rendezvous.Collecting
 with_it c d = with_piece c d.bytes
 
--- the values with those of the piece
-abbrev pub got_after : (from : Endpoint → List Transfer) (known : List ℕ) (rows : List Row) (cs : List rendezvous.Collecting) (s : Endpoint) (d : DataText) (frame : Frame) → IsPieceOf from known rows cs s d frame → List ℕ
-got_after from known rows cs s d frame x = x.stands.got ++ x.values
-
 -- all bytes are there where all values are
 pub whole_alike : (from : Endpoint → List Transfer) (known : List ℕ) (rows : List Row) (cs : List rendezvous.Collecting) (s : Endpoint) (d : DataText) (frame : Frame) (x : IsPieceOf from known rows cs s d frame) →
     is_whole (with_it x.collection d) ≡ (length (x.stands.got ++ x.values) == count_of x.stands.message.body)

@@ -1,4 +1,4 @@
--- A send of a rank: to itself, where its request is there and then its message comes to its own queues; or to whomever else.
+-- A send of a rank, by where it goes: one to the rank itself starts its request, and then its message comes to its own queues.
 use Rattle.std.proofs.Common.{◌≡◌, ℕ, ◌+◌, Bool, true, false, List, [], ◌∷◌, ◌++◌, Option, Some, None, ◌==◌, refl, sym, ap, ap₂, subst, ◌∙◌}
 use Rattle.std.proofs.lemmas.Bool.{and_from, eq-eqb, eqb-true}
 use Rattle.datatypes.specs.Contents.{Contents}

@@ -18,18 +18,17 @@ use Rattle.requests.specs.declared.awaited.Awaited.{Awaited}
 use Rattle.requests.specs.declared.awaited.Awaited.TheVariants as awaiteds
 use Rattle.requests.specs.declared.outcome.Outcome.{Outcome}
 use Rattle.requests.specs.declared.outcome.Outcome.TheVariants as outcomes
-use Rattle.requests.specs.declared.table.Matched.{Matched}
 use Rattle.requests.specs.declared.table.Progress.{Progress}
 use Rattle.requests.specs.declared.table.Progress.TheVariants.{Receiving, Finished}
 use Rattle.requests.specs.declared.table.Progress.TheVariants as progresses
 use Rattle.requests.specs.declared.table.Request.{Request}
 use Rattle.rank_core.specs.CoreState.{CoreState}
-use Rattle.proof_engine_view.specs.Rows.{Fits, Row, Stands}
+use Rattle.proof_engine_view.specs.Rows.{Row, Stands}
 use Rattle.proof_engine_view.specs.Seen.{awaited_by, is_foreign, outcome_seen, own_serial, request_by, requests_by, serial_meant}
 use Rattle.proof_engine_view.specs.Shown.{IsShown}
 use Rattle.proof_engine_view.specs.Transfers.{Announcements}
 use Rattle.proof_engine_steps.proofs.Foreign.{foreign_of, held_own, meant_foreign, meant_own}
-use Rattle.proof_engine_steps.proofs.Found.{HasRow, finished_row, row_of, waiting_of}
+use Rattle.proof_engine_steps.proofs.Found.{CollectsFor, HasRow, OffersValues, collecting_of, finished_row, offering_of, row_of, waiting_of}
 
 -- ---- one request
 
@@ -115,24 +114,6 @@ standing_seen links old known core q shown = go (progress_at old.slots q.key q.s
     absent true f e = at old.serial None (meant_foreign old q f) (slice_get_past shown.rows old.serial (omega (arith, shown.count)))
     absent false f e = own f e (slice_get shown.rows q.serial) refl
 
-    -- a receive that collects is one to both
-    collects : (w : Matched) → progress_at old.slots q.key q.serial ≡ Some (progresses.Collecting w) → (j : Job) → slice_get shown.rows q.serial ≡ Some (record { key = q.key; job = j }) →
-        Fits (progresses.Collecting w) j → standing_at core (serial_meant old q) ≡ rules.Receiving
-    collects w e (Waiting p) h f = absurd f
-    collects w e (Collecting p m got) h f = at q.serial (Some (record { key = q.key; job = Collecting p m got })) (held_own old q (progresses.Collecting w) e) h
-    collects w e (Offering d basic values) h f = absurd f
-    collects w e (Over x) h f = absurd f
-    collects w e Closed h f = absurd f
-
-    -- and a send that offers is a send
-    offers : progress_at old.slots q.key q.serial ≡ Some progresses.Offering → (j : Job) → slice_get shown.rows q.serial ≡ Some (record { key = q.key; job = j }) →
-        Fits progresses.Offering j → standing_at core (serial_meant old q) ≡ rules.Sends
-    offers e (Waiting p) h f = absurd f
-    offers e (Collecting p m got) h f = absurd f
-    offers e (Offering d basic values) h f = at q.serial (Some (record { key = q.key; job = Offering d basic values })) (held_own old q progresses.Offering e) h
-    offers e (Over x) h f = absurd f
-    offers e Closed h f = absurd f
-
     go : (g : Option Progress) → progress_at old.slots q.key q.serial ≡ g → standing_at core (serial_meant old q) ≡ standing_of g
     go None e = absent (is_foreign old.slots q) refl e
     go (Some (Receiving b)) e =
@@ -141,10 +122,14 @@ standing_seen links old known core q shown = go (progress_at old.slots q.key q.s
         at q.serial (Some (record { key = q.key; job = Waiting p.0 })) (held_own old q (Receiving b) e) (r.there ∙ ap (λ (j : Job). Some (record { key = q.key; job = j })) p.1)
     go (Some (progresses.Collecting w)) e =
         let r : HasRow shown.rows q.serial q.key (progresses.Collecting w) = row_of old.slots shown.rows q.serial q.key (progresses.Collecting w) shown.table e in
-        collects w e r.job r.there r.fits
+        let c : CollectsFor w r.job = collecting_of w r.job r.fits in
+        at q.serial (Some (record { key = q.key; job = Collecting c.receive c.message c.got })) (held_own old q (progresses.Collecting w) e)
+        (r.there ∙ ap (λ (j : Job). Some (record { key = q.key; job = j })) c.is)
     go (Some progresses.Offering) e =
         let r : HasRow shown.rows q.serial q.key progresses.Offering = row_of old.slots shown.rows q.serial q.key progresses.Offering shown.table e in
-        offers e r.job r.there r.fits
+        let o : OffersValues r.job = offering_of r.job r.fits in
+        at q.serial (Some (record { key = q.key; job = Offering o.target o.basic o.values })) (held_own old q progresses.Offering e)
+        (r.there ∙ ap (λ (j : Job). Some (record { key = q.key; job = j })) o.is)
     go (Some (Finished o)) e =
         at q.serial (Some (record { key = q.key; job = Over (outcome_seen o) })) (held_own old q (Finished o) e) (finished_row old.slots shown.rows q o shown.table e)
 

@@ -50,9 +50,11 @@ abbrev pub history_seen : List Entry → List machine.Entry
 history_seen entries = flat_map entry_seen entries
 
 -- THE HEADLINE. There is a run of the machine of perfect queues, among as many ranks, whose visible history is the world's.
--- It ends with each rank at the incarnation of its engine, which knows there what its engine knows; a call that its engine
+-- The machine knows no frames: a message is one message there, whether it went whole, or was announced and went in pieces. The
+-- run ends with each rank at the incarnation of its engine, which knows there what its engine knows; a call that its engine
 -- refuses has a reason there, and one that it takes has no fault; and where the world is quiet, the run has come to a state
--- that meets the machine's quiet clause
+-- that meets the machine's quiet clause: no message that a receive accepts still waits, and no message that was matched is
+-- unfinished on either side
 pub record IsRunOfPerfectQueues (w : WorldState) : Type 0 where
   pub run_events : List machine.Event
   pub run : IsRun (length w.engines) opening run_events
@@ -64,12 +66,11 @@ pub record IsRunOfPerfectQueues (w : WorldState) : Type 0 where
       (r : ℕ) (e : EngineState) → slice_get w.engines r ≡ Some e → (x : ℕ) →
       ((after_run opening run_events).at e.sessions.place.endpoint).known x ≡ slice_index e.sessions.known x
   -- a call that the engine refuses has the machine's first fault, by its number; or the machine finds none, and the number is
-  -- 13 or 14; or the engine is narrower for now, whatever the machine finds (`IsReason`). A request of another engine is there
-  -- one that was never given (`call_meant`)
+  -- 13 or 14 (`IsReason`). A request of another engine is there one that was never given (`call_meant`)
   pub refuses :
       (r : ℕ) (e mid : EngineState) (call back : Call) (why : Refused) → slice_get w.engines r ≡ Some e →
       CallGives e call (replies.Refused why back) mid →
-      IsReason (fault (length w.engines) ((after_run opening run_events).at e.sessions.place.endpoint) (call_meant e.core call)) call why
+      IsReason (fault (length w.engines) ((after_run opening run_events).at e.sessions.place.endpoint) (call_meant e.core call)) why
   -- a call that the engine takes names no request of another engine, and the machine finds no fault with it
   pub takes :
       (r : ℕ) (e mid : EngineState) (call : Call) (reply : Reply) → slice_get w.engines r ≡ Some e → IsTaken reply →

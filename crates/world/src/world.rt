@@ -198,11 +198,11 @@ impl World {
     ///
     /// What is seen in it, calls with their replies, completions and restarts, is a run of the machine of perfect queues,
     /// which has come to rest where the world is quiet (MPI 3.1, 3.5, 3.7, 3.8.4 and 3.11; restarts are this project's own).
-    /// With a call that a rank would take now the machine finds no fault. With one that it would refuse the machine finds the
-    /// same fault first; or it finds none, and the number is 13 or 14; or, whatever the machine finds, the call is a send of
-    /// more than 1,024 bytes, for which the rank's engine is too narrow for now. In each session that ever was, what was handed
-    /// up is a beginning of what was accepted, and every frame below the lowest unacknowledged number was handed up (`law`,
-    /// which the datagrams pin for former incarnations too; `sessions` says it in numbers of ranks that know each other).
+    /// A message is one message there, however it went: whole, or announced and in pieces. With a call that a rank would take
+    /// now the machine finds no fault. With one that it would refuse the machine finds the same fault first; or it finds none,
+    /// and the number is 13 or 14. In each session that ever was, what was handed up is a beginning of what was accepted, and
+    /// every frame below the lowest unacknowledged number was handed up (`law`, which the datagrams pin for former incarnations
+    /// too; `sessions` says it in numbers of ranks that know each other).
     pub fn history(&self) -> &[Entry]
         ensures entries { result.now ≡ self.now.history }
         ensures headline { IsRunOfPerfectQueues self.now }
