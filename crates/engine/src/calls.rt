@@ -95,11 +95,13 @@ impl Engine {
     ///
     /// Refused is the first that holds of: 6 (an earlier call is blocked, there is no such request, a list names one twice,
     /// or what is cancelled is no receive), 2 (buffer and layout are of different basic types, or a receive names a place
-    /// twice), 1 (for now more than 1,024 bytes of data in a send, or the buffer is too short), 3 (the tag is above the
-    /// greatest, or the wildcard in a send), 5 (no such rank, or any rank in a send), 13 (65,536 requests are there, or a
-    /// number would come round), 14. A refusal hands the call back, and changes nothing. A send to the own rank (MPI 3.1,
-    /// 3.2.4) or to the null process (3.11) emits no datagram. A receive that takes a message which was announced answers
-    /// it: its data are to come where the receive has their type and places for them, and else it has ended without them.
+    /// twice), 1 (more than 1,048,576 bytes of data in a send, or the buffer is too short), 3 (the tag is above the
+    /// greatest, or the wildcard in a send), 5 (no such rank, or any rank in a send), 13 (65,536 requests are there, no
+    /// number is left for a large message to the rank, or a number would come round), 14. A refusal hands the call back,
+    /// and changes nothing. A send to the own rank (MPI 3.1, 3.2.4) or to the null process (3.11) emits no datagram; one of
+    /// more than 1,024 bytes to another rank is announced, and finished once that rank answers. A receive that takes a
+    /// message which was announced answers it: its data are to come where the receive has their type and places for them,
+    /// and else it has ended without them.
     pub fn call(&mut self, call: Call) -> Reply
         ensures exact { CallGives self.old call result self.new }
         ensures within { IsTaken result → IsWithin call }
