@@ -16,13 +16,15 @@ use Rattle.requests.specs.declared.outcome.Outcome.TheVariants as outcomes
 use Rattle.requests.specs.declared.region.Region.{Region}
 use Rattle.requests.specs.declared.table.Entry.{Entry}
 use Rattle.requests.specs.declared.table.Progress.{Progress}
+use Rattle.requests.specs.declared.table.Matched.{Matched}
 use Rattle.requests.specs.declared.table.Progress.TheVariants.{Receiving, Finished}
+use Rattle.requests.specs.declared.table.Progress.TheVariants as progresses
 use Rattle.requests.specs.declared.table.Request.{Request}
-use Rattle.proof_engine_view.specs.Rows.{IsTable, Row, Stands, jobs_of}
+use Rattle.proof_engine_view.specs.Rows.{IsMatched, IsTable, Row, Stands, jobs_of}
 use Rattle.proof_engine_view.specs.Seen.{answer_seen, awaited_seen, outcome_seen, own_serial, requests_by}
 use Rattle.proof_engine_view.specs.Shown.{IsNamed}
 use Rattle.proof_engine_steps.proofs.RowLemmas.{job_at, over_row}
-use Rattle.proof_engine_steps.proofs.Settling.{progress_over, progress_waiting}
+use Rattle.proof_engine_steps.proofs.Settling.{progress_collecting, progress_offering, progress_over, progress_waiting}
 
 -- ---- what the machine sees
 
@@ -139,6 +141,13 @@ named_same_outcome table rows t q h = subst (λ (key : ℕ). SayTheSame (rank.ou
     by_job (Over x) e s =
         let g : (o : Outcome) × (progress_at table h.row.key q.serial ≡ Some (Finished o)) × (x ≡ outcome_seen o) = progress_over table rows q.serial h.row.key x t (here (Over x) e) in
         over_row rows q.serial h.row.key x (here (Over x) e) ∙ (ap Some g.2 ∙ ap (λ (o : Option Progress). option_map outcome_seen (rank.finished_with o)) (sym g.1))
-    by_job (Collecting p m got) e s = absurd (subst (λ (j : Job). Stands (slot_at table h.row.key) q.serial j) e s)
-    by_job (Offering d basic values) e s = absurd (subst (λ (j : Job). Stands (slot_at table h.row.key) q.serial j) e s)
+    by_job (Collecting p m got) e s =
+        let g : (w : Matched) × (progress_at table h.row.key q.serial ≡ Some (progresses.Collecting w)) × IsMatched w p m =
+        progress_collecting table rows q.serial h.row.key p m got t (here (Collecting p m got) e) in
+        ap job_outcome (job_at rows q.serial h.row.key (Collecting p m got) (here (Collecting p m got) e)) ∙
+        ap (λ (o : Option Progress). option_map outcome_seen (rank.finished_with o)) (sym g.1)
+    by_job (Offering d basic values) e s =
+        ap job_outcome (job_at rows q.serial h.row.key (Offering d basic values) (here (Offering d basic values) e)) ∙
+        ap (λ (o : Option Progress). option_map outcome_seen (rank.finished_with o))
+        (sym (progress_offering table rows q.serial h.row.key d basic values t (here (Offering d basic values) e)))
     by_job Closed e s = absurd (h.unanswered e)

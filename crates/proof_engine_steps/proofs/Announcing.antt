@@ -1,21 +1,15 @@
 -- A large message is announced: its request offers it under the next number.
-use Rattle.std.proofs.Common.{◌≡◌, ◌≢◌, ℕ, zero, suc, ◌+◌, ◌*◌, ◌<◌, ◌≤◌, ◌==◌, ◌&&◌, Bool, true, false, List, [], ◌∷◌, ◌++◌, length, map, Option, Some, None, if◌then◌else◌, slice_get, slice_set, refl, sym, ap, ◌∙◌, subst, arith, ◌⊎◌, inl, inr, append-nil}
-use Rattle.std.proofs.lemmas.Bool.{ne_eqb, eq-eqb}
-use Rattle.std.proofs.lemmas.List.{length-append}
-use Rattle.std.proofs.lemmas.Option.{same_Some}
+use Rattle.std.proofs.Common.{◌≡◌, ℕ, ◌==◌, ◌&&◌, Bool, true, false, List, [], ◌∷◌, ◌++◌, length, if◌then◌else◌, slice_get, refl, ap, ◌∙◌, append-nil}
+use Rattle.std.proofs.lemmas.Bool.{ne_eqb}
 use Rattle.vocabulary.specs.Endpoints.{is_same}
 use Rattle.vocabulary.specs.declared.endpoint.Endpoint.{Endpoint}
 use Rattle.perfect_queues.proofs.EndpointLemmas.{same_refl}
-use Rattle.proof_pure_network.specs.Announced.{Begins}
 use Rattle.proof_pure_network.specs.Frames.{Frame, Rts}
 use Rattle.proof_pure_network.proofs.JobLemmas.{push_at}
-use Rattle.vocabulary.specs.declared.basic_type.BasicType.{BasicType}
-use Rattle.datagram.specs.Spelling.{RequestFrame, RequestText}
-use Rattle.datagram.specs.declared.kinds.Plane.TheVariants.{PointToPoint}
 use Rattle.datatypes.specs.Contents.{Contents}
 use Rattle.rank_calls.specs.Sending.{request_frame}
 use Rattle.proof_engine_view.specs.Standing.{StandsFor}
-use Rattle.proof_engine_view.specs.Transfers.{Announcements, Transfer, after_out, announced_in, frames_to}
+use Rattle.proof_engine_view.specs.Transfers.{Announcements, Transfer, after_out, announced_in}
 
 -- the transfer that a send announces
 abbrev pub transfer_of : (serial : ℕ) → Contents → Transfer

@@ -6,6 +6,7 @@ use Rattle.perfect_queues.specs.Buffers.{Handed}
 use Rattle.perfect_queues.specs.Outcomes as machine
 use Rattle.perfect_queues.specs.Receives.{Receive}
 use Rattle.vocabulary.specs.declared.envelope.Status.{Status}
+use Rattle.match_queues.specs.declared.envelope.Body.TheVariants as bodies
 use Rattle.match_queues.specs.declared.envelope.Message.{Message}
 use Rattle.match_queues.specs.declared.queues.Arrival.{Arrival}
 use Rattle.match_queues.specs.Arrivals.{arrival_of}
@@ -23,44 +24,50 @@ use Rattle.proof_pure_network.specs.Core.{Core, Effect}
 use Rattle.proof_pure_network.specs.Held.{Held, full}
 use Rattle.proof_pure_network.specs.Jobs.{Job, Over, Waiting, oldest_posted}
 use Rattle.proof_pure_network.specs.Matching.{arrived, arrived_at}
-use Rattle.proof_engine_view.specs.Rows.{Fits, Holds, IsOnWorld, IsTable, IsWhole, Row, held_of, jobs_of, posted_rows}
+use Rattle.proof_engine_view.specs.Rows.{Fits, Holds, IsOnWorld, IsTable, Row, held_of, jobs_of, posted_rows}
 use Rattle.proof_engine_view.specs.Seen.{outcome_seen}
+use Rattle.proof_engine_view.specs.Transfers.{Announcements}
+use Rattle.proof_engine_view.specs.UnderWay.{IsFromLink}
 use Rattle.proof_engine_matching.specs.Matches.{ArrivalsMatch, IsKept, IsMatchedTo, OutcomesAgree}
 use Rattle.proof_engine_steps.proofs.Named.{NamedStay, named_same, named_set}
 use Rattle.proof_engine_steps.proofs.RowLemmas.{set_jobs}
 use Rattle.proof_engine_steps.proofs.Tables.{Says, changed_table, held_at, says_some, set_is_set}
 use Rattle.proof_engine_steps.proofs.Waking.{Holding, known_still}
-use Rattle.proof_engine_steps.proofs.Wholes.{arrival_leaves, arrival_whole, small_with, whole, whole_of}
+use Rattle.proof_engine_steps.proofs.Staying.{same_rows, under_way_with}
+use Rattle.proof_engine_steps.proofs.UnderWay.{SameTransfers, same_set}
+use Rattle.proof_engine_steps.proofs.Wholes.{arrival_keeps, arrival_leaves, whole, whole_of}
 
 -- what a message leaves of the rows
-pub record Arrives (rows : List Row) (slots : List (Option Entry)) (queues : State) (core : Core) (after : Effect) : Type 0 where
+pub record Arrives (links : Announcements) (rows : List Row) (slots : List (Option Entry)) (queues : State) (core : Core) (after : Effect) : Type 0 where
   pub left : List Row
   pub jobs : after.core.jobs ≡ jobs_of left
   pub count : length left ≡ length rows
   pub table : IsTable slots left
   pub posted : queues.posted ≡ posted_rows left
-  pub held : after.core.held ≡ map held_of queues.unexpected
+  pub held : after.core.held ≡ map (held_of links.from) queues.unexpected
   pub blocked : after.core.blocked ≡ core.blocked
   pub known : after.core.known ≡ core.known
   pub sends : after.out ≡ []
   pub waits : NamedStay rows left
+  pub same : SameTransfers rows left
 
 -- it waits behind the others
-arrives_kept : (rows : List Row) (slots : List (Option Entry)) (queues : State) (core : Core) (m : Message) →
-    core.jobs ≡ jobs_of rows → IsTable slots rows → queues.posted ≡ posted_rows rows → core.held ≡ map held_of queues.unexpected →
-    Arrives rows slots (record queues { unexpected = queues.unexpected ++ m ∷ [] }) core (arrived_at core (held_of m) None)
-arrives_kept rows slots queues core m js table po he =
+arrives_kept : (links : Announcements) (rows : List Row) (slots : List (Option Entry)) (queues : State) (core : Core) (m : Message) →
+    core.jobs ≡ jobs_of rows → IsTable slots rows → queues.posted ≡ posted_rows rows → core.held ≡ map (held_of links.from) queues.unexpected →
+    Arrives links rows slots (record queues { unexpected = queues.unexpected ++ m ∷ [] }) core (arrived_at core (held_of links.from m) None)
+arrives_kept links rows slots queues core m js table po he =
     record {
       left = rows;
       jobs = js;
       count = refl;
       table = table;
       posted = po;
-      held = ap (λ (hs : List Held). hs ++ held_of m ∷ []) he ∙ sym (map-append held_of queues.unexpected (m ∷ []));
+      held = ap (λ (hs : List Held). hs ++ held_of links.from m ∷ []) he ∙ sym (map-append (held_of links.from) queues.unexpected (m ∷ []));
       blocked = refl;
       known = refl;
       sends = refl;
       waits = named_same rows;
+      same = same_rows rows;
     }
 
 -- a receive that waits is on world
@@ -83,11 +90,11 @@ says_entry : (t : Entry) (k : ℕ) (j : Job) → t.serial ≡ k → Fits t.progr
 says_entry t k j e f = subst (λ (x : ℕ). Says (Some t) x j) e (says_some t.serial t.progress j f)
 
 -- the receive with serial k takes it
-arrives_matched : OutcomesAgree → (rows : List Row) (slots : List (Option Entry)) (queues : State) (core : Core) (m : Message) (c : Contents) (k key : ℕ) (p : Receive) →
-    core.jobs ≡ jobs_of rows → IsTable slots rows → core.held ≡ map held_of queues.unexpected → slice_get rows k ≡ Some (record { key = key; job = Waiting p }) →
+arrives_matched : OutcomesAgree → (links : Announcements) (rows : List Row) (slots : List (Option Entry)) (queues : State) (core : Core) (m : Message) (c : Contents) (k key : ℕ) (p : Receive) →
+    core.jobs ≡ jobs_of rows → IsTable slots rows → core.held ≡ map (held_of links.from) queues.unexpected → slice_get rows k ≡ Some (record { key = key; job = Waiting p }) →
     ((o : machine.Outcome) → queues.posted ≡ posted_rows (slice_set rows k (record { key = key; job = Over o }))) →
-    Arrives rows (after_finish slots key (status_of (whole m c)) c) queues core (arrived_at core (held_of (whole m c)) (Some (k, p)))
-arrives_matched agree rows slots queues core m c k key p js table he row po =
+    Arrives links rows (after_finish slots key (status_of (whole m c)) c) queues core (arrived_at core (held_of links.from (whole m c)) (Some (k, p)))
+arrives_matched agree links rows slots queues core m c k key p js table he row po =
     record {
       left = slice_set rows k over;
       jobs = ap (λ (ys : List Job). slice_set ys k (Over x)) js ∙ sym (set_jobs rows k key (Over x));
@@ -95,17 +102,18 @@ arrives_matched agree rows slots queues core m c k key p js table he row po =
       table = subst (λ (t : List (Option Entry)). IsTable t (slice_set rows k over)) (sym finish)
           (changed_table slots (slice_set slots key (Some after)) rows k key (Waiting p) (Over x) (Some after) table row (λ e. cc)
           (set_is_set slots key mine.entry (Some after) mine.there)
-          (says_entry after k (Over x) mine.serial_is (finished_fits mine.entry.progress p (status_of (whole m c)) c x mine.fits (agree p (whole m c) c refl (on_world mine.entry.progress p mine.fits)))));
+          (says_entry after k (Over x) mine.serial_is (finished_fits mine.entry.progress p (status_of (whole m c)) c x mine.fits (agree links.from p (whole m c) c refl (on_world mine.entry.progress p mine.fits)))));
       posted = po x;
       held = he;
       blocked = refl;
       known = refl;
       sends = refl;
       waits = named_set rows k key (Waiting p) (Over x) row (λ e. cc);
+      same = same_set rows k key (Waiting p) (Over x) row (λ i. i) (λ i. i);
     }
   where
     x : machine.Outcome
-    x = machine.outcome p (full (held_of (whole m c)) c.values)
+    x = machine.outcome p (full (held_of links.from (whole m c)) c.values)
 
     over : Row
     over = record { key = key; job = Over x }
@@ -120,41 +128,41 @@ arrives_matched agree rows slots queues core m c k key p js table he row po =
     finish = ap (λ (s : Option Entry). entry_after s slots key (status_of (whole m c)) c) mine.there
 
 -- a whole message comes, from a link or from the rank itself
-pub message_arrives : ArrivalsMatch → OutcomesAgree → (rows : List Row) (slots : List (Option Entry)) (queues : State) (core : Core) (m : Message) (c : Contents) →
-    core.jobs ≡ jobs_of rows → IsTable slots rows → queues.posted ≡ posted_rows rows → core.held ≡ map held_of queues.unexpected →
-    Arrives rows (slots_on_arrival slots (arrival_of queues (whole m c))) (after_arrival queues (whole m c)) core (arrived core (held_of (whole m c)))
-message_arrives match agree rows slots queues core m c js table po he = go (match rows queues (whole m c) po)
+pub message_arrives : ArrivalsMatch → OutcomesAgree → (links : Announcements) (rows : List Row) (slots : List (Option Entry)) (queues : State) (core : Core) (m : Message) (c : Contents) →
+    core.jobs ≡ jobs_of rows → IsTable slots rows → queues.posted ≡ posted_rows rows → core.held ≡ map (held_of links.from) queues.unexpected →
+    Arrives links rows (slots_on_arrival slots (arrival_of queues (whole m c))) (after_arrival queues (whole m c)) core (arrived core (held_of links.from (whole m c)))
+message_arrives match agree links rows slots queues core m c js table po he = go (match links.from rows queues (whole m c) po)
   where
-    oldest : (o : Option (ℕ × Receive)) → oldest_posted (held_of (whole m c)) (jobs_of rows) ≡ o → arrived core (held_of (whole m c)) ≡ arrived_at core (held_of (whole m c)) o
-    oldest o e = ap (arrived_at core (held_of (whole m c))) (ap (oldest_posted (held_of (whole m c))) js ∙ e)
+    oldest : (o : Option (ℕ × Receive)) → oldest_posted (held_of links.from (whole m c)) (jobs_of rows) ≡ o → arrived core (held_of links.from (whole m c)) ≡ arrived_at core (held_of links.from (whole m c)) o
+    oldest o e = ap (arrived_at core (held_of links.from (whole m c))) (ap (oldest_posted (held_of links.from (whole m c))) js ∙ e)
 
-    go : IsKept rows queues (whole m c) ⊎ ((k : ℕ) × (key : ℕ) × (p : Receive) × IsMatchedTo rows queues (whole m c) k key p) →
-        Arrives rows (slots_on_arrival slots (arrival_of queues (whole m c))) (after_arrival queues (whole m c)) core (arrived core (held_of (whole m c)))
+    go : IsKept links.from rows queues (whole m c) ⊎ ((k : ℕ) × (key : ℕ) × (p : Receive) × IsMatchedTo links.from rows queues (whole m c) k key p) →
+        Arrives links rows (slots_on_arrival slots (arrival_of queues (whole m c))) (after_arrival queues (whole m c)) core (arrived core (held_of links.from (whole m c)))
     go (inl kept) =
-        subst (λ (f : Effect). Arrives rows (slots_on_arrival slots (arrival_of queues (whole m c))) (after_arrival queues (whole m c)) core f) (sym (oldest None kept.core))
-        (subst (λ (a : Arrival). Arrives rows (slots_on_arrival slots a) (after_arrival queues (whole m c)) core (arrived_at core (held_of (whole m c)) None)) (sym kept.arrival)
-        (subst (λ (s : State). Arrives rows slots s core (arrived_at core (held_of (whole m c)) None)) (sym kept.queues) (arrives_kept rows slots queues core (whole m c) js table po he)))
+        subst (λ (f : Effect). Arrives links rows (slots_on_arrival slots (arrival_of queues (whole m c))) (after_arrival queues (whole m c)) core f) (sym (oldest None kept.core))
+        (subst (λ (a : Arrival). Arrives links rows (slots_on_arrival slots a) (after_arrival queues (whole m c)) core (arrived_at core (held_of links.from (whole m c)) None)) (sym kept.arrival)
+        (subst (λ (s : State). Arrives links rows slots s core (arrived_at core (held_of links.from (whole m c)) None)) (sym kept.queues) (arrives_kept links rows slots queues core (whole m c) js table po he)))
     go (inr t) =
-        let h : IsMatchedTo rows queues (whole m c) t.0 t.1 t.2 = t.3 in
-        subst (λ (f : Effect). Arrives rows (slots_on_arrival slots (arrival_of queues (whole m c))) (after_arrival queues (whole m c)) core f) (sym (oldest (Some (t.0, t.2)) h.core))
-        (subst (λ (a : Arrival). Arrives rows (slots_on_arrival slots a) (after_arrival queues (whole m c)) core (arrived_at core (held_of (whole m c)) (Some (t.0, t.2)))) (sym h.arrival)
-        (arrives_matched agree rows slots (after_arrival queues (whole m c)) core m c t.0 t.1 t.2 js table (he ∙ ap (λ (ms : List Message). map held_of ms) (sym h.unexpected)) h.row h.posted))
+        let h : IsMatchedTo links.from rows queues (whole m c) t.0 t.1 t.2 = t.3 in
+        subst (λ (f : Effect). Arrives links rows (slots_on_arrival slots (arrival_of queues (whole m c))) (after_arrival queues (whole m c)) core f) (sym (oldest (Some (t.0, t.2)) h.core))
+        (subst (λ (a : Arrival). Arrives links rows (slots_on_arrival slots a) (after_arrival queues (whole m c)) core (arrived_at core (held_of links.from (whole m c)) (Some (t.0, t.2)))) (sym h.arrival)
+        (arrives_matched agree links rows slots (after_arrival queues (whole m c)) core m c t.0 t.1 t.2 js table (he ∙ ap (λ (ms : List Message). map (held_of links.from) ms) (sym h.unexpected)) h.row (λ o. h.posted (Over o) refl)))
 
 -- what a message leaves of a rank and of its core, before a blocked call is answered
-pub record IsHeldAfter (rows : List Row) (new : CoreState) (known : List ℕ) (core : Core) (after : Effect) : Type 0 where
+pub record IsHeldAfter (links : Announcements) (rows : List Row) (new : CoreState) (known : List ℕ) (core : Core) (after : Effect) : Type 0 where
   pub left : List Row
-  pub holding : Holding new known after.core left
+  pub holding : Holding links new known after.core left
   pub blocked : after.core.blocked ≡ core.blocked
   pub sends : after.out ≡ []
   pub waits : NamedStay rows left
 
 -- a rank takes a message with these elements into its queues and its slots, and its core takes it too
-elements_hold : ArrivalsMatch → OutcomesAgree → (old : CoreState) (known : List ℕ) (core : Core) (rows : List Row) (m : Message) (c : Contents) → Holding old known core rows →
-    IsHeldAfter rows (rank.arrived old (whole m c)) known core (arrived core (held_of (whole m c)))
+elements_hold : ArrivalsMatch → OutcomesAgree → (links : Announcements) (old : CoreState) (known : List ℕ) (core : Core) (rows : List Row) (m : Message) (c : Contents) → Holding links old known core rows →
+    IsHeldAfter links rows (rank.arrived old (whole m c)) known core (arrived core (held_of links.from (whole m c)))
 unfolding rank.arrived
-elements_hold match agree old known core rows m c h =
-    let a : Arrives rows (slots_on_arrival old.slots (arrival_of old.queues (whole m c))) (after_arrival old.queues (whole m c)) core (arrived core (held_of (whole m c))) =
-    message_arrives match agree rows old.slots old.queues core m c h.jobs h.table h.posted h.held in
+elements_hold match agree links old known core rows m c h =
+    let a : Arrives links rows (slots_on_arrival old.slots (arrival_of old.queues (whole m c))) (after_arrival old.queues (whole m c)) core (arrived core (held_of links.from (whole m c))) =
+    message_arrives match agree links rows old.slots old.queues core m c h.jobs h.table h.posted h.held in
     record {
       left = a.left;
       holding = record {
@@ -163,9 +171,10 @@ elements_hold match agree old known core rows m c h =
         table = a.table;
         posted = a.posted;
         held = a.held;
-        small = small_with old.transfers (transfers_on_arrival old.transfers old.slots (arrival_of old.queues (whole m c))) old.queues.unexpected (after_arrival old.queues (whole m c)).unexpected h.small
-            (arrival_leaves old.transfers old.slots m c (receive_at old.queues.posted (receive_for (whole m c) old.queues.posted))) (arrival_whole old.queues (whole m c) h.small.whole tt);
-        knowing = known_still old.place old.place known core.known (arrived core (held_of (whole m c))).core.known h.knowing refl a.known;
+        under_way = under_way_with links known old.place rows a.left old.transfers (transfers_on_arrival old.transfers old.slots (arrival_of old.queues (whole m c))) old.queues.unexpected
+            (after_arrival old.queues (whole m c)).unexpected h.under_way a.same (arrival_leaves old.transfers old.slots m c (receive_at old.queues.posted (receive_for (whole m c) old.queues.posted)))
+            (arrival_keeps (λ (x : Message). IsFromLink links.from known old.place x x.body) old.queues (whole m c) h.under_way.messages tt);
+        knowing = known_still old.place old.place known core.known (arrived core (held_of links.from (whole m c))).core.known h.knowing refl a.known;
       };
       blocked = a.blocked;
       sends = a.sends;
@@ -173,11 +182,10 @@ elements_hold match agree old known core rows m c h =
     }
 
 -- so it is with each message that is whole
-pub message_holds : ArrivalsMatch → OutcomesAgree → (old : CoreState) (known : List ℕ) (core : Core) (rows : List Row) (m : Message) → IsWhole m → Holding old known core rows →
-    IsHeldAfter rows (rank.arrived old m) known core (arrived core (held_of m))
-message_holds match agree old known core rows m w h =
-    let c : (c : Contents) × (m ≡ whole m c) = whole_of m w in
-    subst (λ (x : Message). IsHeldAfter rows (rank.arrived old x) known core (arrived core (held_of x))) (sym c.1) (elements_hold match agree old known core rows m c.0 h)
+pub message_holds : ArrivalsMatch → OutcomesAgree → (links : Announcements) (old : CoreState) (known : List ℕ) (core : Core) (rows : List Row) (m : Message) (c : Contents) → m.body ≡ bodies.Whole c →
+    Holding links old known core rows → IsHeldAfter links rows (rank.arrived old m) known core (arrived core (held_of links.from m))
+message_holds match agree links old known core rows m c is h =
+    subst (λ (x : Message). IsHeldAfter links rows (rank.arrived old x) known core (arrived core (held_of links.from x))) (sym (whole_of m c is)) (elements_hold match agree links old known core rows m c h)
 
 -- what a message leaves as it was
 pub record Keeps (old new : CoreState) : Type 0 where

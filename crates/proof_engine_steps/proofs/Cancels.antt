@@ -17,14 +17,13 @@ use Rattle.proof_pure_network.specs.Engine.{core_cancels}
 use Rattle.proof_pure_network.specs.Jobs.{Job, Waiting, Collecting, Offering, Over, Closed, dropped}
 use Rattle.requests.specs.Regions.{handed_of}
 use Rattle.requests.specs.Table.{cancelled_by, progress_at, slot_at}
-use Rattle.requests.specs.declared.outcome.Outcome.{Outcome}
 use Rattle.requests.specs.declared.outcome.Outcome.TheVariants as outcomes
 use Rattle.requests.specs.declared.region.Region.{Region}
 use Rattle.requests.specs.declared.table.Entry.{Entry}
+use Rattle.requests.specs.declared.table.Matched.{Matched}
 use Rattle.requests.specs.declared.table.Progress.{Progress}
 use Rattle.requests.specs.declared.table.Progress.TheVariants.{Receiving, Finished}
 use Rattle.requests.specs.declared.table.Progress.TheVariants as progresses
-use Rattle.proof_engine_steps.proofs.Wholes.{small_still}
 use Rattle.requests.specs.declared.table.Request.{Request}
 use Rattle.rank_calls.specs.declared.call.Reply.{Reply}
 use Rattle.rank_calls.specs.declared.call.Reply.TheVariants as replies
@@ -33,6 +32,7 @@ use Rattle.rank_core.specs.Waiting.{Cancels, cancel_fault, cancelled_at}
 use Rattle.proof_engine_view.specs.Rows.{Fits, Holds, Row, held_of, posted_job, posted_rows}
 use Rattle.proof_engine_view.specs.Seen.{outcome_seen, own_serial, request_by}
 use Rattle.proof_engine_view.specs.Shown.{IsShown}
+use Rattle.proof_engine_view.specs.Transfers.{Announcements}
 use Rattle.proof_engine_steps.proofs.Found.{HasRow, finished_row, row_of, waiting_of}
 use Rattle.proof_engine_steps.proofs.Meant.{IsMeant}
 use Rattle.proof_engine_matching.proofs.Positions.{position_here, position_later, remove_first}
@@ -41,6 +41,8 @@ use Rattle.proof_engine_steps.proofs.Regions.{handed_buffer}
 use Rattle.proof_engine_steps.proofs.RowLemmas.{job_at, set_jobs}
 use Rattle.proof_engine_steps.proofs.Settling.{settled_free}
 use Rattle.proof_engine_steps.proofs.Standings.{IsPresent}
+use Rattle.proof_engine_steps.proofs.Staying.{under_way_still}
+use Rattle.proof_engine_steps.proofs.UnderWay.{same_set}
 use Rattle.proof_engine_steps.proofs.Starting.{core_free, shown_free}
 use Rattle.proof_engine_steps.proofs.Tables.{changed_table, held_at, says_some, set_change, set_is_set}
 use Rattle.proof_engine_steps.proofs.Waking.{Holding, holding_of}
@@ -53,13 +55,29 @@ dropped_waiting [] k p h = absurd (none-some (Waiting p) h)
 dropped_waiting (j ∷ js) zero p h = ap (λ (y : Job). dropped y ∷ js) (same_Some j (Waiting p) h)
 dropped_waiting (j ∷ js) (suc k) p h = ap (λ (ys : List Job). j ∷ ys) (dropped_waiting js k p h)
 
--- what is over stays
-dropped_over : (js : List Job) (k : ℕ) (x : ends.Outcome) → slice_get js k ≡ Some (Over x) → changed dropped js k ≡ js
-dropped_over [] k x h = refl
-dropped_over (j ∷ js) zero x h =
-    let e : j ≡ Over x = same_Some j (Over x) h in
-    ap (λ (y : Job). dropped y ∷ js) e ∙ ap (λ (y : Job). y ∷ js) (sym e)
-dropped_over (j ∷ js) (suc k) x h = ap (λ (ys : List Job). j ∷ ys) (dropped_over js k x h)
+-- any other request stays
+dropped_still : (js : List Job) (k : ℕ) (x : Job) → slice_get js k ≡ Some x → dropped x ≡ x → changed dropped js k ≡ js
+dropped_still [] k x h s = refl
+dropped_still (j ∷ js) zero x h s =
+    let e : j ≡ x = same_Some j x h in
+    ap (λ (y : Job). y ∷ js) (ap dropped e ∙ (s ∙ sym e))
+dropped_still (j ∷ js) (suc k) x h s = ap (λ (ys : List Job). j ∷ ys) (dropped_still js k x h s)
+
+-- so does a receive that collects
+collecting_stays : (w : Matched) (j : Job) → Fits (progresses.Collecting w) j → dropped j ≡ j
+collecting_stays w (Waiting p) f = absurd f
+collecting_stays w (Collecting p m got) f = refl
+collecting_stays w (Offering d basic values) f = absurd f
+collecting_stays w (Over x) f = absurd f
+collecting_stays w Closed f = absurd f
+
+-- and a send that offers
+offering_stays : (j : Job) → Fits progresses.Offering j → dropped j ≡ j
+offering_stays (Waiting p) f = absurd f
+offering_stays (Collecting p m got) f = absurd f
+offering_stays (Offering d basic values) f = refl
+offering_stays (Over x) f = absurd f
+offering_stays Closed f = absurd f
 
 -- ---- the queue
 
@@ -146,25 +164,25 @@ cancelled_rows (r ∷ rs) (suc k) key p x h alone = front r.job refl (cancelled_
 
 -- ---- the call
 
--- a finished request stays as it is
-cancel_over : (old : CoreState) (known : List ℕ) (core : Core) (q : Request) (o : Outcome) → IsShown old known core → old.blocked ≡ None → cancel_fault old (Some q) ≡ None →
-    progress_at old.slots q.key q.serial ≡ Some (Finished o) → IsMeant old known core (machine.Cancel (Some q.serial)) replies.Accepted old
-cancel_over old known core q o shown free fine g =
+-- what is no receive that waits stays as it is
+cancel_still : (links : Announcements) (old : CoreState) (known : List ℕ) (core : Core) (q : Request) (j : Job) → (shown : IsShown links old known core) → old.blocked ≡ None → cancel_fault old (Some q) ≡ None →
+    slice_get shown.rows q.serial ≡ Some (record { key = q.key; job = j }) → dropped j ≡ j → IsMeant links old known core (machine.Cancel (Some q.serial)) replies.Accepted old
+cancel_still links old known core q j shown free fine there stays =
     record {
-      fit = cancel_faultless old known core q shown free fine;
+      fit = cancel_faultless links old known core q shown free fine;
       place = refl;
       completion = refl;
-      shown = subst (λ (c : Core). IsShown old known c) (sym (settled_free (core_cancels core (Some q.serial)) (core_free old known core shown free)))
-          (subst (λ (js : List Job). IsShown old known (with_jobs core js)) (sym same) shown);
+      shown = subst (λ (c : Core). IsShown links old known c) (sym (settled_free (core_cancels core (Some q.serial)) (core_free links old known core shown free)))
+          (subst (λ (js : List Job). IsShown links old known (with_jobs core js)) (sym same) shown);
       sends = refl;
       tells = refl;
     }
   where
-    job : slice_get core.jobs q.serial ≡ Some (Over (outcome_seen o))
-    job = ap (λ (js : List Job). slice_get js q.serial) shown.jobs ∙ job_at shown.rows q.serial q.key (Over (outcome_seen o)) (finished_row old.slots shown.rows q o shown.table g)
+    job : slice_get core.jobs q.serial ≡ Some j
+    job = ap (λ (js : List Job). slice_get js q.serial) shown.jobs ∙ job_at shown.rows q.serial q.key j there
 
     same : changed dropped core.jobs q.serial ≡ core.jobs
-    same = dropped_over core.jobs q.serial (outcome_seen o) job
+    same = dropped_still core.jobs q.serial j job stays
 
 -- a receive that waits, with its row
 record IsWaiting (rows : List Row) (q : Request) (b : Region) : Type 0 where
@@ -173,9 +191,9 @@ record IsWaiting (rows : List Row) (q : Request) (b : Region) : Type 0 where
   into : receive.into ≡ handed_of b
 
 -- the row of a receive that waits
-waiting_row : (old : CoreState) (known : List ℕ) (core : Core) (q : Request) (b : Region) → (shown : IsShown old known core) → progress_at old.slots q.key q.serial ≡ Some (Receiving b) →
+waiting_row : (links : Announcements) (old : CoreState) (known : List ℕ) (core : Core) (q : Request) (b : Region) → (shown : IsShown links old known core) → progress_at old.slots q.key q.serial ≡ Some (Receiving b) →
     IsWaiting shown.rows q b
-waiting_row old known core q b shown g =
+waiting_row links old known core q b shown g =
     let r : HasRow shown.rows q.serial q.key (Receiving b) = row_of old.slots shown.rows q.serial q.key (Receiving b) shown.table g in
     let p : (p : receives.Receive) × (r.job ≡ Waiting p) = waiting_of b r.job r.fits in
     record {
@@ -190,9 +208,9 @@ after_dropping c q b =
     record c { slots = cancelled_by c.slots q (Some (Receiving b)); queues = queues.after_cancel c.queues q.key }
 
 -- both hold the same once a receive that waits is cancelled
-cancel_holds : (old : CoreState) (known : List ℕ) (core : Core) (q : Request) (b : Region) → (shown : IsShown old known core) → (w : IsWaiting shown.rows q b) →
-    Holding (after_dropping old q b) known (core_cancels core (Some q.serial)) (slice_set shown.rows q.serial (record { key = q.key; job = Over (ends.Cancelled w.receive.into.buffer.values) }))
-cancel_holds old known core q b shown w =
+cancel_holds : (links : Announcements) (old : CoreState) (known : List ℕ) (core : Core) (q : Request) (b : Region) → (shown : IsShown links old known core) → (w : IsWaiting shown.rows q b) →
+    Holding links (after_dropping old q b) known (core_cancels core (Some q.serial)) (slice_set shown.rows q.serial (record { key = q.key; job = Over (ends.Cancelled w.receive.into.buffer.values) }))
+cancel_holds links old known core q b shown w =
     record {
       jobs = dropped_waiting core.jobs q.serial w.receive job ∙ (ap (λ (js : List Job). slice_set js q.serial (Over x)) shown.jobs ∙ sym (set_jobs shown.rows q.serial q.key (Over x)));
       count = length-set shown.rows q.serial over ∙ shown.count;
@@ -200,9 +218,10 @@ cancel_holds old known core q b shown w =
           (set_is_set old.slots q.key mine.entry (Some after) mine.there) (says_some q.serial (Finished (outcomes.Cancelled b.buffer)) (Over x) values_same);
       posted = cancel_posted old.queues q.key ∙ (ap (λ (ps : List posted.Receive). posted_without ps q.key) shown.posted ∙
           cancelled_rows shown.rows q.serial q.key w.receive x w.there (set_change old.slots shown.rows q.serial q.key (Waiting w.receive) (Over x) shown.table w.there (λ e. cc)).alone);
-      held = shown.held ∙ ap (λ (ms : List Message). map held_of ms) (sym (cancel_unexpected old.queues q.key));
-      small = small_still old.transfers old.transfers old.queues.unexpected (queues.after_cancel old.queues q.key).unexpected shown.small refl (cancel_unexpected old.queues q.key);
-      knowing = (holding_of old known core shown).knowing;
+      held = shown.held ∙ ap (λ (ms : List Message). map (held_of links.from) ms) (sym (cancel_unexpected old.queues q.key));
+      under_way = under_way_still links known old.place old.place shown.rows (slice_set shown.rows q.serial over) old.transfers old.transfers old.queues.unexpected (queues.after_cancel old.queues q.key).unexpected shown.under_way
+          (same_set shown.rows q.serial q.key (Waiting w.receive) (Over x) w.there (λ i. i) (λ i. i)) refl refl (cancel_unexpected old.queues q.key);
+      knowing = (holding_of links old known core shown).knowing;
     }
   where
     x : ends.Outcome
@@ -224,40 +243,45 @@ cancel_holds old known core q b shown w =
     values_same = ap (λ (h : Handed). ends.Cancelled h.buffer.values) w.into ∙ ap (λ (c : Contents). ends.Cancelled c.values) (handed_buffer b)
 
 -- a receive that waits is cancelled
-cancel_waiting : (old : CoreState) (known : List ℕ) (core : Core) (q : Request) (b : Region) → IsShown old known core → old.blocked ≡ None → cancel_fault old (Some q) ≡ None →
-    progress_at old.slots q.key q.serial ≡ Some (Receiving b) → IsMeant old known core (machine.Cancel (Some q.serial)) replies.Accepted (after_dropping old q b)
-cancel_waiting old known core q b shown free fine g =
-    let w : IsWaiting shown.rows q b = waiting_row old known core q b shown g in
-    let core_is : core.blocked ≡ None = core_free old known core shown free in
+cancel_waiting : (links : Announcements) (old : CoreState) (known : List ℕ) (core : Core) (q : Request) (b : Region) → IsShown links old known core → old.blocked ≡ None → cancel_fault old (Some q) ≡ None →
+    progress_at old.slots q.key q.serial ≡ Some (Receiving b) → IsMeant links old known core (machine.Cancel (Some q.serial)) replies.Accepted (after_dropping old q b)
+cancel_waiting links old known core q b shown free fine g =
+    let w : IsWaiting shown.rows q b = waiting_row links old known core q b shown g in
+    let core_is : core.blocked ≡ None = core_free links old known core shown free in
     record {
-      fit = cancel_faultless old known core q shown free fine;
+      fit = cancel_faultless links old known core q shown free fine;
       place = refl;
       completion = refl;
-      shown = subst (λ (c : Core). IsShown (after_dropping old q b) known c) (sym (settled_free (core_cancels core (Some q.serial)) core_is))
-          (shown_free (after_dropping old q b) known (core_cancels core (Some q.serial)) (slice_set shown.rows q.serial (record { key = q.key; job = Over (ends.Cancelled w.receive.into.buffer.values) }))
-          (cancel_holds old known core q b shown w) free core_is);
+      shown = subst (λ (c : Core). IsShown links (after_dropping old q b) known c) (sym (settled_free (core_cancels core (Some q.serial)) core_is))
+          (shown_free links (after_dropping old q b) known (core_cancels core (Some q.serial)) (slice_set shown.rows q.serial (record { key = q.key; job = Over (ends.Cancelled w.receive.into.buffer.values) }))
+          (cancel_holds links old known core q b shown w) free core_is);
       sends = refl;
       tells = refl;
     }
 
 -- what is cancelled by how far it is
-cancel_some : (old : CoreState) (known : List ℕ) (core : Core) (q : Request) → IsShown old known core → old.blocked ≡ None → cancel_fault old (Some q) ≡ None → (o : Option Progress) →
-    progress_at old.slots q.key q.serial ≡ o → IsMeant old known core (machine.Cancel (Some q.serial)) replies.Accepted (cancelled_at old q o)
-cancel_some old known core q shown free fine None g =
+cancel_some : (links : Announcements) (old : CoreState) (known : List ℕ) (core : Core) (q : Request) → IsShown links old known core → old.blocked ≡ None → cancel_fault old (Some q) ≡ None → (o : Option Progress) →
+    progress_at old.slots q.key q.serial ≡ o → IsMeant links old known core (machine.Cancel (Some q.serial)) replies.Accepted (cancelled_at old q o)
+cancel_some links old known core q shown free fine None g =
     let p : IsPresent old q = cancel_present old q fine in
     absurd (none-some p.0 (sym g ∙ p.1))
-cancel_some old known core q shown free fine (Some (Receiving b)) g =
-    subst (λ (ss : List (Option Entry)). IsMeant old known core (machine.Cancel (Some q.serial)) replies.Accepted (record old { slots = ss; queues = queues.after_cancel old.queues q.key }))
-    (sym (ap (cancelled_by old.slots q) g)) (cancel_waiting old known core q b shown free fine g)
-cancel_some old known core q shown free fine (Some (progresses.Collecting w)) g = absurd (row_of old.slots shown.rows q.serial q.key (progresses.Collecting w) shown.table g).fits
-cancel_some old known core q shown free fine (Some progresses.Offering) g = absurd (row_of old.slots shown.rows q.serial q.key progresses.Offering shown.table g).fits
-cancel_some old known core q shown free fine (Some (Finished o)) g = cancel_over old known core q o shown free fine g
+cancel_some links old known core q shown free fine (Some (Receiving b)) g =
+    subst (λ (ss : List (Option Entry)). IsMeant links old known core (machine.Cancel (Some q.serial)) replies.Accepted (record old { slots = ss; queues = queues.after_cancel old.queues q.key }))
+    (sym (ap (cancelled_by old.slots q) g)) (cancel_waiting links old known core q b shown free fine g)
+cancel_some links old known core q shown free fine (Some (progresses.Collecting w)) g =
+    let r : HasRow shown.rows q.serial q.key (progresses.Collecting w) = row_of old.slots shown.rows q.serial q.key (progresses.Collecting w) shown.table g in
+    cancel_still links old known core q r.job shown free fine r.there (collecting_stays w r.job r.fits)
+cancel_some links old known core q shown free fine (Some progresses.Offering) g =
+    let r : HasRow shown.rows q.serial q.key progresses.Offering = row_of old.slots shown.rows q.serial q.key progresses.Offering shown.table g in
+    cancel_still links old known core q r.job shown free fine r.there (offering_stays r.job r.fits)
+cancel_some links old known core q shown free fine (Some (Finished o)) g =
+    cancel_still links old known core q (Over (outcome_seen o)) shown free fine (finished_row old.slots shown.rows q o shown.table g) refl
 
 -- a cancel that breaks no rule
-pub cancel_meant : (old new : CoreState) (known : List ℕ) (core : Core) (q : Option Request) (reply : Reply) → IsShown old known core → old.blocked ≡ None → cancel_fault old q ≡ None → Cancels old q reply new →
-    IsMeant old known core (machine.Cancel (request_by own_serial q)) reply new
-cancel_meant old new known core None reply shown free fine cancels = absurd cc
-cancel_meant old new known core (Some q) reply shown free fine cancels =
-    subst (λ (x : Reply). IsMeant old known core (machine.Cancel (Some q.serial)) x new) (sym cancels.0)
-    (subst (λ (x : CoreState). IsMeant old known core (machine.Cancel (Some q.serial)) replies.Accepted x) (sym cancels.1)
-    (cancel_some old known core q shown free fine (progress_at old.slots q.key q.serial) refl))
+pub cancel_meant : (links : Announcements) (old new : CoreState) (known : List ℕ) (core : Core) (q : Option Request) (reply : Reply) → IsShown links old known core → old.blocked ≡ None → cancel_fault old q ≡ None → Cancels old q reply new →
+    IsMeant links old known core (machine.Cancel (request_by own_serial q)) reply new
+cancel_meant links old new known core None reply shown free fine cancels = absurd cc
+cancel_meant links old new known core (Some q) reply shown free fine cancels =
+    subst (λ (x : Reply). IsMeant links old known core (machine.Cancel (Some q.serial)) x new) (sym cancels.0)
+    (subst (λ (x : CoreState). IsMeant links old known core (machine.Cancel (Some q.serial)) replies.Accepted x) (sym cancels.1)
+    (cancel_some links old known core q shown free fine (progress_at old.slots q.key q.serial) refl))

@@ -4,14 +4,17 @@ use Rattle.std.proofs.lemmas.Bool.{cases_eq}
 use Rattle.std.proofs.lemmas.List.Elements.{filter-append}
 use Rattle.std.proofs.lemmas.Option.{none-some, same_Some, slice_get-map}
 use Rattle.vocabulary.specs.Endpoints.{is_former}
+use Rattle.vocabulary.specs.declared.endpoint.Endpoint.{Endpoint}
 use Rattle.perfect_queues.specs.Outcomes as machine
 use Rattle.perfect_queues.specs.Receives.{Receive, names}
 use Rattle.match_queues.specs.declared.envelope.Message.{Message}
 use Rattle.match_queues.specs.declared.envelope.Receive as queued
 use Rattle.match_queues.specs.State.{keys_naming}
+use Rattle.proof_pure_network.specs.Announced.{IsIn}
 use Rattle.proof_pure_network.specs.Held.{Held}
 use Rattle.proof_pure_network.specs.Jobs.{Job, Waiting, Collecting, Offering, Over, Closed, ended}
 use Rattle.proof_engine_view.specs.Rows.{Row, held_of, jobs_of, posted_job, posted_rows}
+use Rattle.proof_engine_view.specs.Transfers.{Transfer}
 
 -- a row once rank r is learnt at incarnation i
 abbrev pub ended_row : (r i : ℕ) → Row → Row
@@ -66,19 +69,24 @@ posted_left r i (x ∷ xs) =
 -- WHAT IS HELD
 
 -- of a former incarnation nothing is held
-pub held_left : (r i : ℕ) (ms : List Message) →
-    filter (λ (h : Held). not (is_former r i h.sender)) (map held_of ms) ≡ map held_of (filter (λ (m : Message). not (is_former r i m.sender)) ms)
-held_left r i [] = refl
-held_left r i (m ∷ ms) = go (is_former r i m.sender) (held_left r i ms)
+pub held_left : (from : Endpoint → List Transfer) (r i : ℕ) (ms : List Message) →
+    filter (λ (h : Held). not (is_former r i h.sender)) (map (held_of from) ms)
+    ≡ map (held_of from) (filter (λ (m : Message). not (is_former r i m.sender)) ms)
+held_left from r i [] = refl
+held_left from r i (m ∷ ms) = go (is_former r i m.sender) (held_left from r i ms)
   where
-    go : (b : Bool) →
-        filter (λ (h : Held). not (is_former r i h.sender)) (map held_of ms) ≡ map held_of (filter (λ (x : Message). not (is_former r i x.sender)) ms) →
-        cond (not b) (held_of m ∷ filter (λ (h : Held). not (is_former r i h.sender)) (map held_of ms)) (filter (λ (h : Held). not (is_former r i h.sender)) (map held_of ms))
-        ≡ map held_of (cond (not b) (m ∷ filter (λ (x : Message). not (is_former r i x.sender)) ms) (filter (λ (x : Message). not (is_former r i x.sender)) ms))
-    go true e = e
-    go false e = ap (λ (hs : List Held). held_of m ∷ hs) e
+    held : List Held
+    held = filter (λ (h : Held). not (is_former r i h.sender)) (map (held_of from) ms)
 
--- THE KEYS OF RECEIVES THAT NAME THE RANK
+    left : List Message
+    left = filter (λ (x : Message). not (is_former r i x.sender)) ms
+
+    go : (b : Bool) → held ≡ map (held_of from) left →
+        cond (not b) (held_of from m ∷ held) held ≡ map (held_of from) (cond (not b) (m ∷ left) left)
+    go true e = e
+    go false e = ap (λ (hs : List Held). held_of from m ∷ hs) e
+
+-- KEYS
 
 -- the key is one of these
 abbrev pub IsAmong : (key : ℕ) → List ℕ → Type 0
@@ -99,6 +107,39 @@ cases_among key (x ∷ xs) = go (cases_eq key x) (cases_among key xs)
     go (inl e) a = inl (inl e)
     go (inr n) (inl a) = inl (inr a)
     go (inr n) (inr m) = inr (neither n m)
+
+-- it is one of these where it is one of the first
+pub among_first : (key : ℕ) (xs ys : List ℕ) → IsAmong key xs → IsAmong key (xs ++ ys)
+among_first key [] ys h = absurd h
+among_first key (x ∷ xs) ys (inl e) = inl e
+among_first key (x ∷ xs) ys (inr a) = inr (among_first key xs ys a)
+
+-- or one of the later ones
+pub among_later : (key : ℕ) (xs ys : List ℕ) → IsAmong key ys → IsAmong key (xs ++ ys)
+among_later key [] ys h = h
+among_later key (x ∷ xs) ys h = inr (among_later key xs ys h)
+
+-- and it is one of the first or of the later ones
+pub among_either : (key : ℕ) (xs ys : List ℕ) → IsAmong key (xs ++ ys) → IsAmong key xs ⊎ IsAmong key ys
+among_either key [] ys h = inr h
+among_either key (x ∷ xs) ys (inl e) = inl (inl e)
+among_either key (x ∷ xs) ys (inr a) = go (among_either key xs ys a)
+  where
+    go : IsAmong key xs ⊎ IsAmong key ys → IsAmong key (x ∷ xs) ⊎ IsAmong key ys
+    go (inl h) = inl (inr h)
+    go (inr h) = inr h
+
+-- it is one of these where it stands at some place
+pub in_among : (key : ℕ) (xs : List ℕ) → IsIn key xs → IsAmong key xs
+in_among key xs h = at xs h.0 h.1
+  where
+    at : (ys : List ℕ) (place : ℕ) → slice_get ys place ≡ Some key → IsAmong key ys
+    at [] zero e = absurd (none-some key e)
+    at [] (suc place) e = absurd (none-some key e)
+    at (y ∷ ys) zero e = inl (sym (same_Some y key e))
+    at (y ∷ ys) (suc place) e = inr (at ys place e)
+
+-- THE KEYS OF RECEIVES THAT NAME THE RANK
 
 -- a receive under this key waits and names the rank
 pub record IsNaming (rows : List Row) (r key : ℕ) : Type 0 where

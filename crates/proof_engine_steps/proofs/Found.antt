@@ -2,17 +2,21 @@
 use Rattle.std.proofs.Common.{◌≡◌, ℕ, true, List, Option, Some, None, ◌==◌, slice_get, refl, sym, ap, ◌∙◌, subst}
 use Rattle.std.proofs.lemmas.Bool.{eqb-true}
 use Rattle.std.proofs.lemmas.Option.{cond_some, none-some}
+use Rattle.vocabulary.specs.declared.basic_type.BasicType.{BasicType}
+use Rattle.vocabulary.specs.declared.endpoint.Endpoint.{Endpoint}
 use Rattle.perfect_queues.specs.Receives as receives
+use Rattle.proof_pure_network.specs.Held.{Held}
 use Rattle.proof_pure_network.specs.Jobs.{Job, Waiting, Collecting, Offering, Over, Closed}
 use Rattle.requests.specs.Table.{progress_at, progress_of, slot_at}
 use Rattle.requests.specs.declared.outcome.Outcome.{Outcome}
 use Rattle.requests.specs.declared.region.Region.{Region}
 use Rattle.requests.specs.declared.table.Entry.{Entry}
+use Rattle.requests.specs.declared.table.Matched.{Matched}
 use Rattle.requests.specs.declared.table.Progress.{Progress}
 use Rattle.requests.specs.declared.table.Progress.TheVariants.{Receiving, Finished}
 use Rattle.requests.specs.declared.table.Progress.TheVariants as progresses
 use Rattle.requests.specs.declared.table.Request.{Request}
-use Rattle.proof_engine_view.specs.Rows.{Fits, IsRow, IsTable, Row}
+use Rattle.proof_engine_view.specs.Rows.{Fits, IsMatched, IsRow, IsTable, Row}
 use Rattle.proof_engine_view.specs.Seen.{outcome_seen}
 use Rattle.proof_engine_view.specs.Shown.{IsNamed}
 
@@ -57,8 +61,39 @@ over_of o (Offering d basic values) f = absurd f
 over_of o (Over x) f = ap Over f
 over_of o Closed f = absurd f
 
+-- the request is a receive that collects, for this match
+pub record CollectsFor (w : Matched) (j : Job) : Type 0 where
+  pub receive : receives.Receive
+  pub message : Held
+  pub got : List ℕ
+  pub is : j ≡ Collecting receive message got
+  pub alike : IsMatched w receive message
+
+-- a request that is collected is one
+pub collecting_of : (w : Matched) (j : Job) → Fits (progresses.Collecting w) j → CollectsFor w j
+collecting_of w (Waiting p) f = absurd f
+collecting_of w (Collecting p h got) f = record { receive = p; message = h; got = got; is = refl; alike = f }
+collecting_of w (Offering d basic values) f = absurd f
+collecting_of w (Over x) f = absurd f
+collecting_of w Closed f = absurd f
+
+-- the request is a send that offers its values
+pub record OffersValues (j : Job) : Type 0 where
+  pub target : Endpoint
+  pub basic : BasicType
+  pub values : List ℕ
+  pub is : j ≡ Offering target basic values
+
+-- a request that is offered is one
+pub offering_of : (j : Job) → Fits progresses.Offering j → OffersValues j
+offering_of (Waiting p) f = absurd f
+offering_of (Collecting p h got) f = absurd f
+offering_of (Offering d basic values) f = record { target = d; basic = basic; values = values; is = refl }
+offering_of (Over x) f = absurd f
+offering_of Closed f = absurd f
+
 -- one that stands in the table isn't closed
-open_of : (g : Progress) → Fits g Closed → ⊥
+pub open_of : (g : Progress) → Fits g Closed → ⊥
 open_of (Receiving b) f = f
 open_of (progresses.Collecting w) f = f
 open_of progresses.Offering f = f

@@ -1,22 +1,26 @@
 -- A call that starts nothing, by the machine's call that it is.
-use Rattle.std.proofs.Common.{◌≡◌, ℕ, List, [], ◌∷◌, Option, Some, None, refl, sym, ap, ◌∙◌}
+use Rattle.std.proofs.Common.{◌≡◌, ℕ, List, [], ◌∷◌, Option, Some, None, refl, sym, subst, ◌∙◌}
+use Rattle.std.specs.List.{AllByRecursion}
 use Rattle.perfect_queues.specs.Calls as machine
 use Rattle.perfect_queues.specs.Events.{Called, Entry, call_and_reply, told}
 use Rattle.perfect_queues.specs.Refusals.{fault}
 use Rattle.vocabulary.specs.declared.endpoint.Endpoint.{Endpoint}
 use Rattle.proof_pure_network.specs.Core.{Core, view}
 use Rattle.proof_pure_network.specs.Engine.{called, core_ready, core_settled}
+use Rattle.proof_pure_network.specs.Frames.{Frame}
 use Rattle.proof_pure_network.specs.Held.{blank}
 use Rattle.rank_calls.specs.declared.call.Call.{Call}
 use Rattle.rank_calls.specs.declared.call.Reply.{Reply}
 use Rattle.rank_calls.specs.declared.call.Reply.TheVariants as replies
 use Rattle.rank_core.specs.Calls.{call_frame}
 use Rattle.rank_core.specs.CoreState.{CoreState}
-use Rattle.rank_calls.specs.Frames.{FrameFor}
-use Rattle.proof_engine_view.specs.Frames.{sent_by}
+use Rattle.rank_calls.specs.Frames.{FrameFor, as_list}
 use Rattle.proof_engine_view.specs.Seen.{answer_seen, call_seen, told_call}
 use Rattle.proof_engine_view.specs.Shown.{IsShown}
+use Rattle.proof_engine_view.specs.Standing.{AreSent, CanLeave, all_gone}
+use Rattle.proof_engine_view.specs.Transfers.{Announcements, after_out}
 use Rattle.proof_engine_steps.specs.Steps.{IsCalled}
+use Rattle.proof_engine_steps.proofs.Staying.{shown_quiet}
 
 -- what is seen of the machine's call that was answered so
 abbrev pub told_by : Endpoint → machine.Call → Reply → List Entry
@@ -37,25 +41,32 @@ told_same e call replies.Blocked = refl
 told_same e call (replies.Refused why back) = refl
 
 -- what a call leaves that the machine is told as this one
-pub record IsMeant (old : CoreState) (known : List ℕ) (core : Core) (c : machine.Call) (reply : Reply) (new : CoreState) : Type 0 where
+pub record IsMeant (links : Announcements) (old : CoreState) (known : List ℕ) (core : Core) (c : machine.Call) (reply : Reply) (new : CoreState) : Type 0 where
   pub fit : fault old.place.size (view blank core) c ≡ None
   pub place : new.place ≡ old.place
   pub completion : new.completion ≡ old.completion
-  pub shown : IsShown new known (core_settled (called old.place.endpoint core c).core)
+  pub shown : IsShown links new known (core_settled (called old.place.endpoint core c).core)
   pub sends : (called old.place.endpoint core c).out ≡ []
   pub tells :
       told old.place.endpoint (call_and_reply (view blank core) (Some c)) (core_ready (called old.place.endpoint core c).core)
       ≡ told_by old.place.endpoint c reply
 
 -- the rank's call is so
-pub meant_called : (old new : CoreState) (known : List ℕ) (core : Core) (call : Call) (reply : Reply) → call_frame old call ≡ None → IsMeant old known core (call_seen call) reply new →
-    IsCalled old known core call reply new
-meant_called old new known core call reply frame m =
+pub meant_called : (links : Announcements) (old new : CoreState) (known : List ℕ) (core : Core) (call : Call) (reply : Reply) → call_frame old call ≡ None → IsMeant links old known core (call_seen call) reply new →
+    IsCalled links old known core call reply new
+meant_called links old new known core call reply frame m =
     record {
       fit = m.fit;
       place = m.place;
       completion = m.completion;
-      shown = m.shown;
-      sends = λ within. m.sends ∙ sym (ap (λ (f : Option FrameFor). sent_by known f) frame);
+      shown = subst (λ (out : List (Endpoint × Frame)). IsShown (after_out links out) new known settled) (sym m.sends)
+          (shown_quiet links new known settled [] tt m.shown);
+      sends = subst (λ (out : List (Endpoint × Frame)). AreSent (after_out links out) (all_gone known (as_list (call_frame old call))) out) (sym m.sends)
+          (subst (λ (f : Option FrameFor). AreSent (after_out links []) (all_gone known (as_list f)) []) (sym frame) tt);
+      leaves = subst (λ (f : Option FrameFor). AllByRecursion (CanLeave old.place) (as_list f)) (sym frame) tt;
       tells = m.tells ∙ told_same old.place.endpoint call reply;
     }
+  where
+    -- the core once it is settled
+    settled : Core
+    settled = core_settled (called old.place.endpoint core (call_seen call)).core

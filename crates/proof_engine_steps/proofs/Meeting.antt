@@ -1,14 +1,14 @@
 -- A word of an endpoint teaches a rank what it teaches its core in the network.
-use Rattle.std.proofs.Common.{◌≡◌, ℕ, ◌<◌, Bool, true, false, List, map, filter, not, Some, None, if◌then◌else◌, nat_lt, slice_index, refl, sym, ap, ◌∙◌, subst, ◌||◌, ◌==◌}
+use Rattle.std.proofs.Common.{◌≡◌, ℕ, ◌<◌, Bool, true, false, List, ◌++◌, map, filter, not, Some, None, if◌then◌else◌, nat_lt, slice_index, refl, sym, ap, ◌∙◌, subst, ◌||◌, ◌==◌}
 use Rattle.std.proofs.lemmas.Bool.{ltb-true}
 use Rattle.std.proofs.lemmas.List.{length-map}
 use Rattle.vocabulary.specs.Endpoints.{is_former}
 use Rattle.perfect_queues.specs.Outcomes as machine
 use Rattle.perfect_queues.specs.Receives.{names}
 use Rattle.vocabulary.specs.declared.endpoint.Endpoint.{Endpoint}
-use Rattle.match_queues.specs.declared.envelope.Message.{Message}
 use Rattle.match_queues.specs.declared.envelope.Receive as queued
 use Rattle.match_queues.specs.State.{keys_naming}
+use Rattle.rendezvous.specs.State.{keys_with}
 use Rattle.requests.specs.Table.{after_replaces}
 use Rattle.rank_core.specs.CoreState.{CoreState}
 use Rattle.rank_calls.specs.Hearing.{NewsText}
@@ -18,23 +18,17 @@ use Rattle.proof_pure_network.specs.Engine as network
 use Rattle.proof_pure_network.specs.Held.{Held}
 use Rattle.proof_pure_network.specs.Jobs.{Job, Closed, Collecting, Offering, Over, Waiting, ended}
 use Rattle.proof_engine_view.specs.Frames.{known_after}
-use Rattle.proof_engine_view.specs.Rows.{IsTable, Row}
-use Rattle.proof_engine_view.specs.Shown.{IsBlocked, IsShown}
-use Rattle.proof_engine_steps.specs.Steps.{IsFromOther}
+use Rattle.proof_engine_view.specs.Rows.{IsTable, Row, posted_rows}
+use Rattle.proof_engine_view.specs.Shown.{IsShown}
+use Rattle.proof_engine_view.specs.Transfers.{Announcements}
+use Rattle.proof_engine_steps.specs.Steps.{IsFromOther, NoneUntold}
 use Rattle.proof_engine_steps.proofs.Ending.{ended_jobs, ended_row, held_left, posted_left}
 use Rattle.proof_engine_steps.proofs.Knowing.{learnt_known}
+use Rattle.proof_engine_steps.proofs.Learning.{keys_end, learned_under_way}
 use Rattle.proof_engine_steps.proofs.Named.{NamedStay, blocked_stays, named_map}
 use Rattle.proof_engine_steps.proofs.Replacing.{replaced_table}
-use Rattle.proof_engine_steps.proofs.Starting.{holding_of}
-use Rattle.proof_engine_steps.proofs.Waking.{Holding}
-use Rattle.proof_engine_steps.proofs.Wholes.{drop_leaves, keys_small}
-
--- what a rank and its core hold once both learnt, before a blocked call is answered
-pub record HoldBoth (e : CoreState) (known : List ℕ) (core : Core) : Type 0 where
-  pub rows : List Row
-  pub holding : Holding e known core rows
-  pub awaited : IsBlocked rows e.blocked core.blocked
-  pub free : e.completion ≡ None
+use Rattle.proof_engine_steps.proofs.Taking.{HoldBoth}
+use Rattle.proof_engine_steps.proofs.Waking.{Holding, holding_of}
 
 -- a job that a lesson closes was closed
 ended_closed : (r i : ℕ) (j : Job) → ended r i j ≡ Closed → j ≡ Closed
@@ -61,18 +55,20 @@ ended_named : (r i : ℕ) (rows : List Row) → NamedStay rows (map (ended_row r
 ended_named r i rows = named_map (ended_row r i) (λ row. refl) (λ row h. ended_closed r i row.job h) rows
 
 -- both learn a later incarnation of another rank
-learned_holds : (e : CoreState) (known : List ℕ) (core : Core) (rows : List Row) (s : Endpoint) → Holding e known core rows → s.rank < e.place.size →
-    (s.rank ≡ e.place.endpoint.rank → ⊥) → slice_index known s.rank < s.incarnation →
-    Holding (replaced e s) (known_after true known s) (network.learned core s.rank s.incarnation) (map (ended_row s.rank s.incarnation) rows)
-learned_holds e known core rows s h inside apart later =
+learned_holds : (links : Announcements) (e : CoreState) (known : List ℕ) (core : Core) (rows : List Row) (s : Endpoint) → Holding links e known core rows → s.rank < e.place.size →
+    (s.rank ≡ e.place.endpoint.rank → ⊥) → slice_index known s.rank < s.incarnation → NoneUntold links known →
+    Holding links (replaced e s) (known_after true known s) (network.learned core s.rank s.incarnation) (map (ended_row s.rank s.incarnation) rows)
+learned_holds links e known core rows s h inside apart later untold =
     record {
       jobs = ap (λ (js : List Job). map (ended r i) js) h.jobs ∙ ended_jobs r i rows;
       count = length-map rows (ended_row r i) ∙ h.count;
       table = subst (λ (ks : List ℕ). IsTable (after_replaces e.slots ks) (map (ended_row r i) rows))
-          (sym (keys_small e.transfers e.queues.unexpected r (keys_naming r e.queues.posted) h.small ∙ ap (keys_naming r) h.posted)) (replaced_table e.slots rows r i h.table);
+          (sym (ap (λ (ps : List queued.Receive). keys_naming r ps ++ keys_with e.transfers r) h.posted))
+          (replaced_table e.slots rows r i (keys_naming r (posted_rows rows) ++ keys_with e.transfers r) h.table
+          (keys_end links known e.place rows e.slots e.transfers e.queues.unexpected r i h.table h.under_way later));
       posted = ap (λ (ps : List queued.Receive). filter (λ (x : queued.Receive). not (names x.source r)) ps) h.posted ∙ posted_left r i rows;
-      held = ap (λ (hs : List Held). filter (λ (x : Held). not (is_former r i x.sender)) hs) h.held ∙ held_left r i e.queues.unexpected;
-      small = drop_leaves e.transfers e.queues.unexpected r (λ (m : Message). not (is_former r i m.sender)) h.small;
+      held = ap (λ (hs : List Held). filter (λ (x : Held). not (is_former r i x.sender)) hs) h.held ∙ held_left links.from r i e.queues.unexpected;
+      under_way = learned_under_way links known e.place rows e.slots e.transfers e.queues.unexpected r i h.table h.under_way untold h.knowing.width inside later;
       knowing = learnt_known e.place known core.known r i h.knowing inside apart later;
     }
   where
@@ -83,10 +79,10 @@ learned_holds e known core rows s h inside apart later =
     i = s.incarnation
 
 -- what a word of another rank of the job leaves both holding, by whether it is a lesson
-pub met_holds : (e : CoreState) (known : List ℕ) (core : Core) (news : NewsText) → IsShown e known core → e.completion ≡ None → IsFromOther e known news →
-    HoldBoth (taught news.lesson e news.source) (known_after news.lesson known news.source) (network.met core news.source)
-met_holds e known core news shown free other =
-    subst (λ (c : Core). HoldBoth (taught news.lesson e s) (known_after news.lesson known s) c) (sym met_is) (go news.lesson other.lesson)
+pub met_holds : (links : Announcements) (e : CoreState) (known : List ℕ) (core : Core) (news : NewsText) → IsShown links e known core → e.completion ≡ None → IsFromOther e known news → NoneUntold links known →
+    HoldBoth links (taught news.lesson e news.source) (known_after news.lesson known news.source) (network.met core news.source)
+met_holds links e known core news shown free other untold =
+    subst (λ (c : Core). HoldBoth links (taught news.lesson e s) (known_after news.lesson known s) c) (sym met_is) (go news.lesson other.lesson)
   where
     s : Endpoint
     s = news.source
@@ -95,13 +91,13 @@ met_holds e known core news shown free other =
     met_is = ap (λ (b : Bool). if b then network.learned core s.rank s.incarnation else core) (ap (λ (n : ℕ). nat_lt n s.incarnation) (shown.known_alike s.rank) ∙ other.lesson)
 
     go : (b : Bool) → nat_lt (slice_index known s.rank) s.incarnation ≡ b →
-        HoldBoth (taught b e s) (known_after b known s) (if b then network.learned core s.rank s.incarnation else core)
+        HoldBoth links (taught b e s) (known_after b known s) (if b then network.learned core s.rank s.incarnation else core)
     go true later =
         record {
           rows = map (ended_row s.rank s.incarnation) shown.rows;
-          holding = learned_holds e known core shown.rows s (holding_of e known core shown) other.there other.apart (ltb-true (slice_index known s.rank) s.incarnation later);
+          holding = learned_holds links e known core shown.rows s (holding_of links e known core shown) other.there other.apart (ltb-true (slice_index known s.rank) s.incarnation later) untold;
           awaited = blocked_stays shown.rows (map (ended_row s.rank s.incarnation) shown.rows) e.blocked core.blocked core.blocked shown.blocked refl (ended_named s.rank s.incarnation shown.rows);
           free = free;
         }
     go false later =
-        record { rows = shown.rows; holding = holding_of e known core shown; awaited = shown.blocked; free = free }
+        record { rows = shown.rows; holding = holding_of links e known core shown; awaited = shown.blocked; free = free }

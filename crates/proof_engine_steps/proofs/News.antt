@@ -1,157 +1,218 @@
 -- What is heard makes of a rank what it makes of its core in the network.
-use Rattle.std.proofs.Common.{◌≡◌, ℕ, Bool, true, false, List, [], Option, Some, None, is_some, refl, sym, ap, ◌∙◌, subst}
+use Rattle.std.proofs.Common.{◌≡◌, ℕ, ◌<◌, Bool, true, false, List, [], Option, Some, None, refl, sym, ap, ◌∙◌, subst}
+use Rattle.std.specs.List.{AllByRecursion}
+use Rattle.std.proofs.lemmas.Option.{same_Some}
 use Rattle.vocabulary.specs.declared.endpoint.Endpoint.{Endpoint}
-use Rattle.perfect_queues.specs.Events.{told}
+use Rattle.incarnation.specs.declared.place.Place.{Place}
 use Rattle.datagram.specs.declared.kinds.Plane.{Plane}
 use Rattle.datagram.specs.declared.kinds.Plane.TheVariants.{PointToPoint, Collective}
 use Rattle.datagram.specs.Spelling.{EagerText, FrameText, EagerFrame, RequestFrame, ClearFrame, DataFrame}
+use Rattle.match_queues.specs.declared.envelope.Body.TheVariants as bodies
 use Rattle.match_queues.specs.declared.envelope.Message.{Message}
+use Rattle.datatypes.specs.Contents.{values_of}
+use Rattle.vocabulary.specs.BasicTypes.{size_of}
 use Rattle.requests.specs.declared.awaited.Awaited.{Awaited}
 use Rattle.rank_core.specs.CoreState.{CoreState}
-use Rattle.rank_calls.specs.Hearing.{NewsText, message_from, message_of}
-use Rattle.rank_core.specs.Hearing.{after_hearing, after_news, called_for, taught}
+use Rattle.rank_calls.specs.Hearing.{NewsText, heard_fault, message_of, transfers_met}
+use Rattle.rank_core.specs.Hearing.{after_any, after_hearing, after_news, called_for, news_frames, taught}
 use Rattle.rank_core.specs.Sending as rank
 use Rattle.rank_core.specs.Waiting.{woken}
-use Rattle.proof_pure_network.specs.Core.{Core, Effect, effect}
+use Rattle.rendezvous.specs.State as transfers
+use Rattle.proof_pure_network.specs.Core.{Core, Effect}
 use Rattle.proof_pure_network.specs.Engine as network
-use Rattle.proof_pure_network.specs.Engine.{core_ready, core_settled}
+use Rattle.proof_pure_network.specs.Engine.{came, core_settled}
+use Rattle.proof_pure_network.specs.Frames.{Eager, Frame}
 use Rattle.proof_pure_network.specs.Matching.{arrived}
-use Rattle.proof_engine_view.specs.Frames.{IsOfNetwork, frame_heard, known_after, message_seen}
-use Rattle.proof_engine_view.specs.Rows.{IsWhole, held_of}
+use Rattle.proof_engine_view.specs.Frames.{endpoint_of, known_after, message_seen}
+use Rattle.proof_engine_view.specs.Rows.{held_of}
 use Rattle.proof_engine_view.specs.Seen.{told_completion}
 use Rattle.proof_engine_view.specs.Shown.{IsBlocked, IsShown}
+use Rattle.proof_engine_view.specs.Standing.{AreSent, CanLeave, IsMeant, all_gone}
+use Rattle.proof_engine_view.specs.Transfers.{Announcements, Transfer}
 use Rattle.proof_engine_matching.specs.Matches.{ArrivalsMatch, OutcomesAgree}
-use Rattle.proof_engine_steps.specs.Steps.{IsFromOther, NewsAreShown, heard_by_core}
-use Rattle.proof_engine_steps.proofs.Arriving.{IsHeldAfter, arrived_keeps, message_holds}
-use Rattle.proof_engine_steps.proofs.Meeting.{HoldBoth, met_holds}
+use Rattle.proof_engine_steps.specs.Steps.{CollectsOnce, IsWithinFields, MayCome, NewsAreShown, heard_by_core}
+use Rattle.proof_engine_steps.proofs.Arriving.{IsHeldAfter, Keeps, arrived_keeps, message_holds}
+use Rattle.proof_engine_steps.proofs.DueData.{once_met}
+use Rattle.proof_engine_steps.proofs.Meeting.{met_holds}
 use Rattle.proof_engine_steps.proofs.Named.{blocked_stays}
+use Rattle.proof_engine_steps.proofs.SourceKnown.{source_known}
+use Rattle.proof_engine_steps.proofs.Staying.{AreQuiet, sent_then, shown_quiet}
+use Rattle.proof_engine_steps.proofs.Taking.{AnnouncementsAreTaken, AnswersAreTaken, HoldBoth, IsTaken, Meets, MessagesAreTaken, PiecesAreTaken}
 use Rattle.proof_engine_steps.proofs.Waking.{IsSettled, settles, woken_place, woken_still}
 
--- ---- the frame and the message
+-- ---- A WHOLE MESSAGE
 
--- what the network's core makes of a word, by the message that came with it
-abbrev with_message : Core → Endpoint → Option Message → Effect
-with_message core s None = effect (network.met core s) []
-with_message core s (Some m) = arrived (network.met core s) (held_of m)
+-- the frame of the network for which an eager frame stands
+eager_is : (t : EagerText) (plane : Plane) (frame : Frame) → message_seen plane t ≡ Some frame → message_seen PointToPoint t ≡ Some frame
+eager_is t PointToPoint frame h = h
+eager_is t Collective frame h = absurd cc
 
--- and what the rank makes of it
-abbrev arrived_any : CoreState → Option Message → CoreState
-arrived_any c None = c
-arrived_any c (Some m) = rank.arrived c m
-
--- a message that came is whole
-abbrev CameWhole : Option Message → Type 0
-CameWhole None = Unit {0}
-CameWhole (Some m) = IsWhole m
-
--- that of an eager frame is
-eager_whole : (s : Endpoint) (t : EagerText) → IsWhole (message_of s t)
+-- what the core makes of it, by its message
+eager_came : (from : Endpoint → List Transfer) (core : Core) (s : Endpoint) (t : EagerText) (frame : Frame) → message_seen t.plane t ≡ Some frame → came core s frame ≡ arrived core (held_of from (message_of s t))
 unfolding message_of
-eager_whole s t = tt
+eager_came from core s t frame h =
+    let e : Eager t.context t.tag t.basic (values_of (size_of t.basic) t.elements) ≡ frame = same_Some (Eager t.context t.tag t.basic (values_of (size_of t.basic) t.elements)) frame (eager_is t t.plane frame h) in
+    ap (came core s) (sym e)
 
-frame_whole : (s : Endpoint) (frame : Option FrameText) → IsOfNetwork frame → CameWhole (message_from s frame)
-frame_whole s None fine = tt
-frame_whole s (Some (RequestFrame t)) fine = absurd cc
-frame_whole s (Some (ClearFrame t)) fine = absurd cc
-frame_whole s (Some (DataFrame t)) fine = absurd cc
-frame_whole s (Some (EagerFrame t)) fine = eager_whole s t
-
--- an eager message, by its plane
-eager_same : (core : Core) (s : Endpoint) (t : EagerText) (plane : Plane) → t.plane ≡ plane → is_some (message_seen plane t) ≡ true →
-    heard_by_core core s (frame_heard (Some (EagerFrame t))) ≡ with_message core s (message_from s (Some (EagerFrame t)))
+-- its message is whole
+eager_whole : (s : Endpoint) (t : EagerText) → (message_of s t).body ≡ bodies.Whole (record { basic = t.basic; values = values_of (size_of t.basic) t.elements })
 unfolding message_of
-eager_same core s t Collective is fine = absurd cc
-eager_same core s t PointToPoint is fine =
-    ap (λ (p : Plane). heard_by_core core s (message_seen p t)) is
+eager_whole s t = refl
 
--- a frame of the network is that message
-frame_same : (core : Core) (s : Endpoint) (frame : Option FrameText) → IsOfNetwork frame →
-    heard_by_core core s (frame_heard frame) ≡ with_message core s (message_from s frame)
-frame_same core s None fine = refl
-frame_same core s (Some (RequestFrame t)) fine = absurd cc
-frame_same core s (Some (ClearFrame t)) fine = absurd cc
-frame_same core s (Some (DataFrame t)) fine = absurd cc
-frame_same core s (Some (EagerFrame t)) fine = eager_same core s t t.plane refl fine
-
--- it calls for none
-frame_gives : (c : CoreState) (s : Endpoint) (frame : Option FrameText) → IsOfNetwork frame → called_for c s frame ≡ []
-frame_gives c s None fine = refl
-frame_gives c s (Some (RequestFrame t)) fine = absurd cc
-frame_gives c s (Some (ClearFrame t)) fine = absurd cc
-frame_gives c s (Some (DataFrame t)) fine = absurd cc
-frame_gives c s (Some (EagerFrame t)) fine = refl
-
--- ---- before a blocked call is answered
-
--- both hold the same once they learnt, and the message came, if one did
-any_holds : ArrivalsMatch → OutcomesAgree → (old : CoreState) (known : List ℕ) (core : Core) (news : NewsText) (m : Option Message) → CameWhole m →
-    IsShown old known core → old.completion ≡ None → IsFromOther old known news →
-    HoldBoth (arrived_any (taught news.lesson old news.source) m) (known_after news.lesson known news.source) (with_message core news.source m).core
-any_holds match agree old known core news None w shown free other = met_holds old known core news shown free other
-any_holds match agree old known core news (Some m) w shown free other =
-    let b : HoldBoth (taught news.lesson old news.source) (known_after news.lesson known news.source) (network.met core news.source) =
-    met_holds old known core news shown free other in
-    let a : IsHeldAfter b.rows (rank.arrived (taught news.lesson old news.source) m) (known_after news.lesson known news.source) (network.met core news.source) (arrived (network.met core news.source) (held_of m)) =
-    message_holds match agree (taught news.lesson old news.source) (known_after news.lesson known news.source) (network.met core news.source) b.rows m w b.holding in
-    let keeps = arrived_keeps (taught news.lesson old news.source) m in
+-- both take it
+pub messages_are_taken : ArrivalsMatch → OutcomesAgree → MessagesAreTaken
+messages_are_taken match agree links e known core s t frame meets =
     record {
-      rows = a.left;
-      holding = a.holding;
-      awaited = blocked_stays b.rows a.left (rank.arrived (taught news.lesson old news.source) m).blocked (network.met core news.source).blocked (arrived (network.met core news.source) (held_of m)).core.blocked
-          (subst (λ (x : Option Awaited). IsBlocked b.rows x (network.met core news.source).blocked) (sym keeps.blocked) b.awaited) a.blocked a.waits;
-      free = keeps.completion ∙ b.free;
+      both = subst (λ (x : Effect). HoldBoth links (rank.arrived e m) known x.core) (sym same)
+          (record {
+            rows = a.left;
+            holding = a.holding;
+            awaited = blocked_stays meets.both.rows a.left (rank.arrived e m).blocked core.blocked (arrived core (held_of links.from m)).core.blocked
+                (subst (λ (x : Option Awaited). IsBlocked meets.both.rows x core.blocked) (sym keeps.blocked) meets.both.awaited) a.blocked a.waits;
+            free = keeps.completion ∙ meets.both.free;
+          });
+      place = keeps.place;
+      quiet = subst AreQuiet (sym none) tt;
+      sends = subst (λ (out : List (Endpoint × Frame)). AreSent links [] out) (sym none) tt;
+      leaves = tt;
     }
+  where
+    m : Message
+    m = message_of s t
 
--- nothing is sent for it
-any_sends : ArrivalsMatch → OutcomesAgree → (old : CoreState) (known : List ℕ) (core : Core) (news : NewsText) (m : Option Message) → CameWhole m →
-    IsShown old known core → old.completion ≡ None → IsFromOther old known news → (with_message core news.source m).out ≡ []
-any_sends match agree old known core news None w shown free other = refl
-any_sends match agree old known core news (Some m) w shown free other =
-    let b : HoldBoth (taught news.lesson old news.source) (known_after news.lesson known news.source) (network.met core news.source) =
-    met_holds old known core news shown free other in
-    (message_holds match agree (taught news.lesson old news.source) (known_after news.lesson known news.source) (network.met core news.source) b.rows m w b.holding).sends
+    keeps : Keeps e (rank.arrived e m)
+    keeps = arrived_keeps e m
 
--- ---- and then it is answered
+    a : IsHeldAfter links meets.both.rows (rank.arrived e m) known core (arrived core (held_of links.from m))
+    a = message_holds match agree links e known core meets.both.rows m (record { basic = t.basic; values = values_of (size_of t.basic) t.elements }) (eager_whole s t) meets.both.holding
 
--- where nothing came, nothing is to be answered
-after_is : (old : CoreState) (known : List ℕ) (core : Core) (s : Endpoint) (lesson : Bool) (frame : Option FrameText) → IsOfNetwork frame → IsShown old known core →
-    after_hearing lesson frame old s ≡ woken (arrived_any (taught lesson old s) (message_from s frame))
-after_is old known core s true None fine shown = refl
-after_is old known core s false None fine shown = sym (woken_still old known core shown)
-after_is old known core s true (Some (EagerFrame t)) fine shown = refl
-after_is old known core s false (Some (EagerFrame t)) fine shown = refl
-after_is old known core s lesson (Some (RequestFrame t)) fine shown = absurd cc
-after_is old known core s lesson (Some (ClearFrame t)) fine shown = absurd cc
-after_is old known core s lesson (Some (DataFrame t)) fine shown = absurd cc
+    same : came core s frame ≡ arrived core (held_of links.from m)
+    same = eager_came links.from core s t frame meets.stands
+
+    none : (came core s frame).out ≡ []
+    none = ap (λ (x : Effect). x.out) same ∙ a.sends
+
+-- ---- ANY FRAME
+
+-- The laws by which a rank takes what it hears, for each kind of frame
+pub record AreTaken : Type 0 where
+  pub messages : MessagesAreTaken
+  pub announcements : AnnouncementsAreTaken
+  pub answers : AnswersAreTaken
+  pub pieces : PiecesAreTaken
+
+-- what both hold once the frame came, if one did, and what goes out
+record Hears (links : Announcements) (e : CoreState) (known : List ℕ) (core : Core) (s : Endpoint) (text : Option FrameText) (frame : Option Frame) : Type 0 where
+  both : HoldBoth links (after_any e s text) known (heard_by_core core s frame).core
+  place : (after_any e s text).place ≡ e.place
+  quiet : AreQuiet (heard_by_core core s frame).out
+  sends : AreSent links (all_gone known (called_for e s text)) (heard_by_core core s frame).out
+  leaves : AllByRecursion (CanLeave e.place) (called_for e s text)
+
+-- a frame, by its kind
+frame_taken : AreTaken → (links : Announcements) (e : CoreState) (known : List ℕ) (core : Core) (s : Endpoint) (text : FrameText) (frame : Frame) → Meets links e known core s text frame
+    → IsTaken links e known core s text frame
+frame_taken laws links e known core s (EagerFrame t) frame meets = laws.messages links e known core s t frame meets
+frame_taken laws links e known core s (RequestFrame t) frame meets = laws.announcements links e known core s t frame meets
+frame_taken laws links e known core s (ClearFrame t) frame meets = laws.answers links e known core s t frame meets
+frame_taken laws links e known core s (DataFrame t) frame meets = laws.pieces links e known core s t frame meets
+
+-- what comes after the lesson: who spoke is known, and no rule refuses the frame, if one came
+record Comes (links : Announcements) (e : CoreState) (known : List ℕ) (core : Core) (s : Endpoint) (text : Option FrameText) (frame : Option Frame) : Type 0 where
+  both : HoldBoth links e known (network.met core s)
+  sender : s ≡ endpoint_of known s.rank
+  there : s.rank < e.place.size
+  apart : s.rank ≡ e.place.endpoint.rank → ⊥
+  meant : IsMeant links s text frame
+  within : IsWithinFields text
+  taken : heard_fault e.transfers s.rank text ≡ None
+  once : CollectsOnce (network.met core s)
+
+any_taken : AreTaken → (links : Announcements) (e : CoreState) (known : List ℕ) (core : Core) (s : Endpoint) (text : Option FrameText) (frame : Option Frame) → Comes links e known core s text frame
+    → Hears links e known core s text frame
+any_taken laws links e known core s None None c = record { both = c.both; place = refl; quiet = tt; sends = tt; leaves = tt }
+any_taken laws links e known core s None (Some frame) c = absurd c.meant
+any_taken laws links e known core s (Some text) None c = absurd c.meant
+any_taken laws links e known core s (Some text) (Some frame) c =
+    let t : IsTaken links e known (network.met core s) s text frame = frame_taken laws links e known (network.met core s) s text frame (record {
+      both = c.both;
+      sender = c.sender;
+      there = c.there;
+      apart = c.apart;
+      stands = c.meant;
+      within = c.within;
+      taken = c.taken;
+      once = c.once;
+    }) in
+    record { both = t.both; place = t.place; quiet = t.quiet; sends = t.sends; leaves = t.leaves }
+
+-- ---- THE LESSON AND THE FRAME
 
 -- the rank stays at its place
 taught_place : (lesson : Bool) (c : CoreState) (s : Endpoint) → (taught lesson c s).place ≡ c.place
 taught_place true c s = refl
 taught_place false c s = refl
 
-any_place : (c : CoreState) (m : Option Message) → (arrived_any c m).place ≡ c.place
-any_place c None = refl
-any_place c (Some m) = (arrived_keeps c m).place
+-- the frame meets the transfers that the lesson leaves
+taught_transfers : (lesson : Bool) (c : CoreState) (s : Endpoint) → transfers_met lesson c.transfers s.rank ≡ (taught lesson c s).transfers
+taught_transfers true c s = refl
+taught_transfers false c s = refl
+
+-- where nothing came, nothing is to be answered
+after_is : (links : Announcements) (old : CoreState) (known : List ℕ) (core : Core) (s : Endpoint) (lesson : Bool) (text : Option FrameText) → IsShown links old known core →
+    after_hearing lesson text old s ≡ woken (after_any (taught lesson old s) s text)
+after_is links old known core s true None shown = refl
+after_is links old known core s false None shown = sym (woken_still links old known core shown)
+after_is links old known core s true (Some text) shown = refl
+after_is links old known core s false (Some text) shown = refl
+
+-- what comes once the lesson, if there was one, is learnt
+news_come : (links : Announcements) (old : CoreState) (known : List ℕ) (core : Core) (news : NewsText) (frame : Option Frame) → IsShown links old known core → old.completion ≡ None →
+    MayCome links old known core news frame → Comes links (taught news.lesson old news.source) (known_after news.lesson known news.source) core news.source news.frame frame
+news_come links old known core news frame shown free may =
+    record {
+      both = met_holds links old known core news shown free may.other may.untold;
+      sender = sym (source_known old known news shown.width may.other);
+      there = subst (λ (p : Place). s.rank < p.size) (sym (taught_place news.lesson old s)) may.other.there;
+      apart = subst (λ (p : Place). s.rank ≡ p.endpoint.rank → ⊥) (sym (taught_place news.lesson old s)) may.other.apart;
+      meant = may.meant;
+      within = may.within;
+      taken = subst (λ (t : transfers.State). heard_fault t s.rank news.frame ≡ None) (taught_transfers news.lesson old s) may.taken;
+      once = once_met core s may.once;
+    }
+  where
+    s : Endpoint
+    s = news.source
 
 -- whatever is heard, both hold the same
-pub news_are_shown : ArrivalsMatch → OutcomesAgree → NewsAreShown
-news_are_shown match agree old known core news shown free other fine =
-    let s : Endpoint = news.source in
-    let m : Option Message = message_from s news.frame in
-    let w : CameWhole m = frame_whole s news.frame fine in
-    let mid : CoreState = arrived_any (taught news.lesson old s) m in
-    let learnt : List ℕ = known_after news.lesson known s in
-    let after : Core = (with_message core s m).core in
-    let b : HoldBoth mid learnt after = any_holds match agree old known core news m w shown free other in
-    let t : IsSettled mid learnt after = settles mid learnt after b.rows b.holding b.awaited b.free in
-    let new_is : after_news old news ≡ woken mid = after_is old known core s news.lesson news.frame fine shown in
-    let same : heard_by_core core s (frame_heard news.frame) ≡ with_message core s m = frame_same core s news.frame fine in
+pub news_are_shown : AreTaken → NewsAreShown
+news_are_shown laws links old known core news frame shown free may =
     record {
-      place = ap (λ (c : CoreState). c.place) new_is ∙ (woken_place mid ∙ (any_place (taught news.lesson old s) m ∙ taught_place news.lesson old s));
-      shown = subst (λ (e : Effect). IsShown (after_news old news) learnt (core_settled e.core)) (sym same)
-          (subst (λ (c : CoreState). IsShown c learnt (core_settled after)) (sym new_is) t.shown);
-      sends = ap (λ (e : Effect). e.out) same ∙ any_sends match agree old known core news m w shown free other;
-      gives = frame_gives (taught news.lesson old s) s news.frame fine;
-      tells = ap (λ (e : Effect). told old.place.endpoint None (core_ready e.core)) same ∙ (t.tells old.place.endpoint ∙
-          ap (λ (c : CoreState). told_completion old.place.endpoint c.completion) (sym new_is));
+      place = ap (λ (c : CoreState). c.place) new_is ∙ (woken_place mid ∙ (h.place ∙ taught_place news.lesson old s));
+      shown = shown_quiet links (after_news old news) learnt (core_settled after.core) after.out h.quiet
+          (subst (λ (c : CoreState). IsShown links c learnt (core_settled after.core)) (sym new_is) t.shown);
+      sends = sent_then links after.out (all_gone learnt (news_frames old news)) h.sends;
+      leaves = subst (λ (p : Place). AllByRecursion (CanLeave p) (news_frames old news)) (taught_place news.lesson old s) h.leaves;
+      tells = t.tells old.place.endpoint ∙ ap (λ (c : CoreState). told_completion old.place.endpoint c.completion) (sym new_is);
     }
+  where
+    s : Endpoint
+    s = news.source
+
+    learnt : List ℕ
+    learnt = known_after news.lesson known s
+
+    mid : CoreState
+    mid = after_any (taught news.lesson old s) s news.frame
+
+    after : Effect
+    after = heard_by_core core s frame
+
+    h : Hears links (taught news.lesson old s) learnt core s news.frame frame
+    h = any_taken laws links (taught news.lesson old s) learnt core s news.frame frame (news_come links old known core news frame shown free may)
+
+    t : IsSettled links mid learnt after.core
+    t = settles links mid learnt after.core h.both.rows h.both.holding h.both.awaited h.both.free
+
+    new_is : after_news old news ≡ woken mid
+    new_is = after_is links old known core s news.lesson news.frame shown

@@ -1,23 +1,24 @@
 -- A receive of a rank is that of its core in the network.
-use Rattle.std.proofs.Common.{◌≡◌, ℕ, ◌+◌, false, List, [], ◌∷◌, ◌++◌, map, Option, Some, None, if◌then◌else◌, refl, sym, ap, ◌∙◌, subst, append-nil, ◌⊎◌, inl, inr}
-use Rattle.perfect_queues.specs.Calls as machine
-use Rattle.datatypes.specs.Contents.{Contents}
-use Rattle.perfect_queues.specs.Buffers.{is_too_short}
-use Rattle.perfect_queues.specs.Outcomes as ends
-use Rattle.perfect_queues.specs.Refusals as rules
+use Rattle.std.proofs.Common.{◌≡◌, ℕ, ◌+◌, Bool, false, List, [], ◌∷◌, ◌++◌, map, length, Option, Some, None, if◌then◌else◌, refl, sym, ap, ◌∙◌, subst, append-nil, ◌⊎◌, inl, inr}
+use Rattle.std.specs.List.{AllByRecursion}
+use Rattle.vocabulary.specs.declared.endpoint.Endpoint.{Endpoint}
 use Rattle.vocabulary.specs.declared.envelope.Source.{Source}
 use Rattle.vocabulary.specs.declared.envelope.Source.TheVariants as sources
-use Rattle.proof_pure_network.specs.Core.{Core, Effect, view}
-use Rattle.proof_pure_network.specs.Held.{Held, blank, full}
-use Rattle.proof_pure_network.specs.Jobs.{Over, Waiting}
-use Rattle.proof_pure_network.specs.Matching.{found, posted, posted_at}
-use Rattle.proof_pure_network.specs.Matching as matching
+use Rattle.incarnation.specs.declared.place.Place.{Place}
+use Rattle.datatypes.specs.Contents.{Contents}
+use Rattle.perfect_queues.specs.Calls as machine
+use Rattle.perfect_queues.specs.Buffers.{is_too_short}
+use Rattle.perfect_queues.specs.Outcomes as ends
+use Rattle.perfect_queues.specs.Receives as receives
+use Rattle.perfect_queues.specs.Refusals as rules
+use Rattle.match_queues.specs.declared.envelope.Announcement.{Announcement}
 use Rattle.match_queues.specs.declared.envelope.Message.{Message}
 use Rattle.match_queues.specs.declared.envelope.Receive as queued
 use Rattle.match_queues.specs.State.{State, after_post, message_at, message_for}
+use Rattle.rendezvous.specs.State as transfers
 use Rattle.requests.specs.Outcomes.{outcome_of}
 use Rattle.requests.specs.Regions.{handed_of, is_unfit_to_receive}
-use Rattle.requests.specs.Table.{IsSet, is_full}
+use Rattle.requests.specs.Table.{IsSet, has_room, is_full, matched_progress, slot_at}
 use Rattle.requests.specs.declared.outcome.Outcome.TheVariants as outcomes
 use Rattle.requests.specs.declared.table.Progress.TheVariants.{Finished, Receiving}
 use Rattle.requests.specs.declared.table.Request.{Request}
@@ -26,22 +27,35 @@ use Rattle.rank_calls.specs.declared.call.Receive.{Receive}
 use Rattle.rank_calls.specs.declared.call.Reply.TheVariants as replies
 use Rattle.rank_calls.specs.declared.refused.Refused.{Refused}
 use Rattle.rank_calls.specs.declared.refused.Refused.TheVariants as refusals
+use Rattle.rank_calls.specs.Frames.{FrameFor, as_list}
+use Rattle.rank_calls.specs.Receiving.{answer_on_post, collected_if, collecting, posted_by, progress_on_post, status_of, transfers_on_post}
 use Rattle.rank_core.specs.CoreState.{CoreState}
-use Rattle.rank_calls.specs.Receiving.{posted_by, progress_on_post, status_of, transfers_on_post}
-use Rattle.rank_core.specs.Receiving.{IsPosting, IsReceiving, IsReceivingNothing, ReceivesFrom, receive_fault}
-use Rattle.rank_calls.specs.Frames.{FrameFor}
-use Rattle.std.specs.List.{AllByRecursion}
-use Rattle.proof_engine_view.specs.Frames.{sent_by}
-use Rattle.proof_engine_view.specs.Rows.{IsOnWorld, IsWhole, Row, held_of, posted_rows}
+use Rattle.rank_core.specs.Receiving.{IsPosting, IsReceiving, IsReceivingNothing, ReceivesFrom, found_by, receive_fault, receive_frame}
+use Rattle.proof_pure_network.specs.Core.{Core, Effect, view}
+use Rattle.proof_pure_network.specs.Frames.{Frame}
+use Rattle.proof_pure_network.specs.Held.{Held, blank, full}
+use Rattle.proof_pure_network.specs.Jobs.{Over, Waiting}
+use Rattle.proof_pure_network.specs.Matching.{answer, found, posted, posted_at}
+use Rattle.proof_pure_network.specs.Matching as matching
+use Rattle.proof_engine_view.specs.Rows.{IsOnWorld, Row, held_of, posted_job, posted_rows}
 use Rattle.proof_engine_view.specs.Seen.{receive_seen}
 use Rattle.proof_engine_view.specs.Shown.{IsShown}
-use Rattle.proof_engine_matching.specs.Matches.{Finds, FindsNone, OutcomesAgree, PostsMatch}
+use Rattle.proof_engine_view.specs.Standing.{AreSent, CanLeave, all_gone}
+use Rattle.proof_engine_view.specs.Transfers.{Announcements, after_out}
+use Rattle.proof_engine_view.specs.UnderWay.{AreUnderWay, IsFromLink, IsPartOf}
+use Rattle.proof_engine_matching.specs.Matches.{AnnouncedAlike, AnnouncementsAgree, Finds, FindsNone, OutcomesAgree, PostsMatch}
 use Rattle.proof_engine_steps.specs.Steps.{IsCalled}
+use Rattle.proof_engine_steps.proofs.Announces.{collections_elsewhere}
+use Rattle.proof_engine_steps.proofs.Clearing.{answer_leaves, answer_quiet, answer_sent}
+use Rattle.proof_engine_steps.proofs.Collects.{matched_under_way, written_pushed}
+use Rattle.proof_engine_steps.proofs.MatchedRows.{left_by, left_waits}
 use Rattle.proof_engine_steps.proofs.Regions.{handed_buffer}
 use Rattle.proof_engine_steps.proofs.Sends.{Stays}
-use Rattle.proof_engine_steps.proofs.Starting.{core_free, fault_free, holding_of, holding_started, no_fault, serial_told, shown_free, started_call, two_tests}
+use Rattle.proof_engine_steps.proofs.Starting.{core_free, fault_free, holding_of, holding_started, no_fault, none_leave, none_sent, serial_told, shown_free, started_call, two_tests}
+use Rattle.proof_engine_steps.proofs.Staying.{AreQuiet, same_rows, shown_quiet, under_way_still, under_way_with}
+use Rattle.proof_engine_steps.proofs.UnderWay.{row_of, same_pushed}
 use Rattle.proof_engine_steps.proofs.Waking.{Holding}
-use Rattle.proof_engine_steps.proofs.Wholes.{found_whole, post_whole, receive_gives, small_still, small_with, whole, whole_of}
+use Rattle.proof_engine_steps.proofs.Wholes.{announced_as, found_at, post_leaves, whole, whole_or_announced}
 
 -- WHAT A RECEIVE THAT WAS TAKEN MET
 
@@ -75,9 +89,10 @@ post_fit n core v free kept =
 on_world : (v : Receive) → IsOnWorld (receive_seen v)
 on_world v = record { context = refl; group = refl }
 
--- the core's receive, where it doesn't name the null process
-abbrev pub IsPosted : Core → Receive → Type 0
-IsPosted core v = matching.receives core (receive_seen v) v.source ≡ posted core (receive_seen v)
+-- It is posted, in both, where it doesn't name the null process; so what it found is answered
+pub record IsPosted (old : CoreState) (core : Core) (v : Receive) : Type 0 where
+  pub core_is : matching.receives core (receive_seen v) v.source ≡ posted core (receive_seen v)
+  pub frame_is : receive_frame v.source old v ≡ answer_on_post v.into (found_by old v)
 
 -- what both have for the request
 entry_of : (old new : CoreState) (v : Receive) (q : Request) (m : Option Message) → IsPosting old v q new → message_at old.queues.unexpected (message_for (posted_by q.key v) old.queues.unexpected) ≡ m →
@@ -97,21 +112,38 @@ transfers_of : (old new : CoreState) (v : Receive) (q : Request) (m : Option Mes
     new.transfers ≡ transfers_on_post old.transfers v.into q.key m
 transfers_of old new v q m h e = ap (λ (c : CoreState). c.transfers) h.rest ∙ ap (transfers_on_post old.transfers v.into q.key) e
 
+-- the frame that it gives, by the message that was found
+frame_of : (old new : CoreState) (core : Core) (v : Receive) (q : Request) (m : Option Message) → IsPosted old core v →
+    message_at old.queues.unexpected (message_for (posted_by q.key v) old.queues.unexpected) ≡ m → receive_frame v.source old v ≡ answer_on_post v.into m
+frame_of old new core v q m real e = real.frame_is ∙ ap (answer_on_post v.into) e
+
+-- what goes out announces nothing, stands for the core's, and can leave
+record IsGiven (links : Announcements) (known : List ℕ) (p : Place) (f : Option FrameFor) (out : List (Endpoint × Frame)) : Type 0 where
+  quiet : AreQuiet out
+  sends : AreSent (after_out links out) (all_gone known (as_list f)) out
+  leaves : AllByRecursion (CanLeave p) (as_list f)
+
+-- where nothing goes out
+given_nothing : (links : Announcements) (known : List ℕ) (p : Place) (f : Option FrameFor) → f ≡ None → IsGiven links known p f []
+given_nothing links known p f none = record { quiet = tt; sends = none_sent (after_out links []) known f none; leaves = none_leave p f none }
+
 -- a receive is started in both, by what the core makes of it
-receive_started : (old new : CoreState) (known : List ℕ) (core : Core) (v : Receive) (q : Request) (after : Effect) (rows : List Row) → IsShown old known core →
-    old.blocked ≡ None → receive_fault old v ≡ None → q.serial ≡ old.serial → matching.receives core (receive_seen v) v.source ≡ after → Holding new known after.core rows →
-    after.core.blocked ≡ core.blocked → after.out ≡ [] → Stays old new → IsCalled old known core (calls.Irecv v) (replies.Started q) new
-receive_started old new known core v q after rows shown free fine serial is holding same out stays =
-    let core_is : core.blocked ≡ None = core_free old known core shown free in
-    started_call old new known core (calls.Irecv v) q after (record {
+receive_started : (links : Announcements) (old new : CoreState) (known : List ℕ) (core : Core) (v : Receive) (q : Request) (after : Effect) (rows : List Row) → IsShown links old known core →
+    old.blocked ≡ None → receive_fault old v ≡ None → q.serial ≡ old.serial → matching.receives core (receive_seen v) v.source ≡ after → Holding links new known after.core rows →
+    after.core.blocked ≡ core.blocked → Stays old new → IsGiven links known old.place (receive_frame v.source old v) after.out →
+    IsCalled links old known core (calls.Irecv v) (replies.Started q) new
+receive_started links old new known core v q after rows shown free fine serial is holding same stays given =
+    let core_is : core.blocked ≡ None = core_free links old known core shown free in
+    started_call links old new known core (calls.Irecv v) q after (record {
       is = is;
       fit = post_fit old.place.size core v core_is (receive_rules old v fine);
       place = stays.place;
       completion = stays.completion;
       free = same ∙ core_is;
-      shown = shown_free new known after.core rows holding (stays.blocked ∙ free) (same ∙ core_is);
-      sends = λ within. out ∙ sym (ap (λ (f : Option FrameFor). sent_by known f) (receive_gives old v v.source shown.small.whole));
-      reply = ap (λ (n : ℕ). Some (machine.Irecv (receive_seen v), Some (machine.Started n))) (serial_told old known core q shown serial);
+      shown = shown_quiet links new known after.core after.out given.quiet (shown_free links new known after.core rows holding (stays.blocked ∙ free) (same ∙ core_is));
+      sends = given.sends;
+      leaves = given.leaves;
+      reply = ap (λ (n : ℕ). Some (machine.Irecv (receive_seen v), Some (machine.Started n))) (serial_told links old known core q shown serial);
     })
 
 -- what a posted receive leaves of the rank
@@ -120,76 +152,179 @@ post_stays old new v q h =
     record { place = ap (λ (e : CoreState). e.place) h.rest; completion = ap (λ (e : CoreState). e.completion) h.rest; blocked = ap (λ (e : CoreState). e.blocked) h.rest }
 
 -- the core's receive, by the message that was found
-core_posts : (core : Core) (old : State) (v : Receive) (o : Option (List Held × Held × List Held)) → IsPosted core v → core.held ≡ map held_of old.unexpected →
-    found (receive_seen v) (map held_of old.unexpected) ≡ o → matching.receives core (receive_seen v) v.source ≡ posted_at core (receive_seen v) o
-core_posts core old v o real held is = real ∙ ap (posted_at core (receive_seen v)) (ap (found (receive_seen v)) held ∙ is)
+core_posts : (links : Announcements) (core : Core) (old : CoreState) (v : Receive) (o : Option (List Held × Held × List Held)) → IsPosted old core v → core.held ≡ map (held_of links.from) old.queues.unexpected →
+    found (receive_seen v) (map (held_of links.from) old.queues.unexpected) ≡ o → matching.receives core (receive_seen v) v.source ≡ posted_at core (receive_seen v) o
+core_posts links core old v o real held is = real.core_is ∙ ap (posted_at core (receive_seen v)) (ap (found (receive_seen v)) held ∙ is)
 
 -- no message that waits is accepted: the receive waits
-post_waits : (old new : CoreState) (known : List ℕ) (core : Core) (v : Receive) (q : Request) → IsShown old known core → old.blocked ≡ None → receive_fault old v ≡ None →
-    IsPosted core v → IsPosting old v q new → FindsNone old.queues v q.key → IsCalled old known core (calls.Irecv v) (replies.Started q) new
-post_waits old new known core v q shown free fine real h finds =
+post_waits : (links : Announcements) (old new : CoreState) (known : List ℕ) (core : Core) (v : Receive) (q : Request) → IsShown links old known core → old.blocked ≡ None → receive_fault old v ≡ None →
+    IsPosted old core v → IsPosting old v q new → FindsNone links.from old.queues v q.key → IsCalled links old known core (calls.Irecv v) (replies.Started q) new
+post_waits links old new known core v q shown free fine real h finds =
     let qs : new.queues ≡ record old.queues { posted = old.queues.posted ++ posted_by q.key v ∷ [] } = queues_of old new v q h ∙ finds.queues in
-    receive_started old new known core v q (posted_at core (receive_seen v) None) (shown.rows ++ record { key = q.key; job = Waiting (receive_seen v) } ∷ []) shown free fine h.serial
-    (core_posts core old.queues v None real shown.held finds.core)
-    (holding_started old new known core (posted_at core (receive_seen v) None).core shown.rows q.key (Receiving v.into) (Waiting (receive_seen v)) (holding_of old known core shown) h.fresh
+    receive_started links old new known core v q (posted_at core (receive_seen v) None) (shown.rows ++ row_of q.key (Waiting (receive_seen v)) ∷ []) shown free fine h.serial
+    (core_posts links core old v None real shown.held finds.core)
+    (holding_started links links old new known core (posted_at core (receive_seen v) None).core shown.rows q.key (Receiving v.into) (Waiting (receive_seen v)) (holding_of links old known core shown) h.fresh
     (entry_of old new v q None h finds.message) (refl, on_world v) refl (serial_of old new v q h)
     (ap (λ (s : State). s.posted) qs ∙ ap (λ (ps : List queued.Receive). ps ++ posted_by q.key v ∷ []) shown.posted)
-    (shown.held ∙ ap (λ (s : State). map held_of s.unexpected) (sym qs))
-    (small_still old.transfers new.transfers old.queues.unexpected new.queues.unexpected shown.small
-    (transfers_of old new v q None h finds.message) (ap (λ (s : State). s.unexpected) qs))
-    refl (ap (λ (e : CoreState). e.place) h.rest))
-    refl refl (post_stays old new v q h)
+    (shown.held ∙ ap (λ (s : State). map (held_of links.from) s.unexpected) (sym qs))
+    (under_way_still links known old.place new.place shown.rows (shown.rows ++ row_of q.key (Waiting (receive_seen v)) ∷ []) old.transfers new.transfers old.queues.unexpected new.queues.unexpected shown.under_way
+    (same_pushed shown.rows q.key (Waiting (receive_seen v)) (λ i. i)) stays.place (transfers_of old new v q None h finds.message) (ap (λ (s : State). s.unexpected) qs))
+    refl stays.place)
+    refl stays (given_nothing links known old.place (receive_frame v.source old v) (frame_of old new core v q None real finds.message))
+  where
+    stays : Stays old new
+    stays = post_stays old new v q h
 
--- the oldest message that it accepts ends the receive
-post_ends : (old new : CoreState) (known : List ℕ) (core : Core) (v : Receive) (q : Request) (m : Message) (c : Contents) (earlier later : List Held) → OutcomesAgree → IsShown old known core →
-    old.blocked ≡ None → receive_fault old v ≡ None → IsPosted core v → IsPosting old v q new → Finds old.queues v q.key (whole m c) earlier later → IsCalled old known core (calls.Irecv v) (replies.Started q) new
-post_ends old new known core v q m c earlier later agree shown free fine real h finds =
+-- the messages that are left once one was found go on to be from their links
+left_from_links : (links : Announcements) (old : CoreState) (known : List ℕ) (core : Core) (r : queued.Receive) → IsShown links old known core →
+    AllByRecursion (λ (n : Message). IsFromLink links.from known old.place n n.body) (after_post old.queues r).unexpected
+left_from_links links old known core r shown = post_leaves (λ (n : Message). IsFromLink links.from known old.place n n.body) old.queues r shown.under_way.messages
+
+-- the oldest message that it accepts is whole, and ends the receive
+post_ends : (links : Announcements) (old new : CoreState) (known : List ℕ) (core : Core) (v : Receive) (q : Request) (m : Message) (c : Contents) (earlier later : List Held) → OutcomesAgree →
+    IsShown links old known core → old.blocked ≡ None → receive_fault old v ≡ None → IsPosted old core v → IsPosting old v q new → Finds links.from old.queues v q.key (whole m c) earlier later →
+    IsCalled links old known core (calls.Irecv v) (replies.Started q) new
+post_ends links old new known core v q m c earlier later agree shown free fine real h finds =
     let qs : new.queues ≡ after_post old.queues (posted_by q.key v) = queues_of old new v q h in
-    receive_started old new known core v q (posted_at core (receive_seen v) (Some (earlier, held_of (whole m c), later))) (shown.rows ++ record { key = q.key; job = Over x } ∷ []) shown free fine h.serial
-    (core_posts core old.queues v (Some (earlier, held_of (whole m c), later)) real shown.held finds.core)
-    (holding_started old new known core (posted_at core (receive_seen v) (Some (earlier, held_of (whole m c), later))).core shown.rows q.key (Finished (outcome_of (handed_of v.into) (status_of (whole m c)) c)) (Over x)
-    (holding_of old known core shown) h.fresh
-    (entry_of old new v q (Some (whole m c)) h finds.message) (agree (receive_seen v) (whole m c) c refl (on_world v)) refl (serial_of old new v q h)
+    receive_started links old new known core v q after rows' shown free fine h.serial
+    (core_posts links core old v (Some (earlier, held_of links.from (whole m c), later)) real shown.held finds.core)
+    (holding_started links links old new known core after.core shown.rows q.key (Finished (outcome_of (handed_of v.into) (status_of (whole m c)) c)) (Over x)
+    (holding_of links old known core shown) h.fresh
+    (entry_of old new v q (Some (whole m c)) h finds.message) (agree links.from (receive_seen v) (whole m c) c refl (on_world v)) refl (serial_of old new v q h)
     (ap (λ (s : State). s.posted) qs ∙ (finds.posted ∙ (shown.posted ∙ sym (append-nil (posted_rows shown.rows)))))
-    (sym (ap (λ (s : State). map held_of s.unexpected) qs ∙ finds.unexpected))
-    (small_with old.transfers new.transfers old.queues.unexpected new.queues.unexpected shown.small
-    (transfers_of old new v q (Some (whole m c)) h finds.message)
-    (subst (λ (s : State). AllByRecursion IsWhole s.unexpected) (sym qs) (post_whole old.queues (posted_by q.key v) shown.small.whole)))
-    refl (ap (λ (e : CoreState). e.place) h.rest))
-    refl refl (post_stays old new v q h)
+    (sym (ap (λ (s : State). map (held_of links.from) s.unexpected) qs ∙ finds.unexpected))
+    (under_way_still links known old.place new.place rows' rows' old.transfers new.transfers (after_post old.queues (posted_by q.key v)).unexpected new.queues.unexpected
+    (under_way_with links known old.place shown.rows rows' old.transfers old.transfers old.queues.unexpected (after_post old.queues (posted_by q.key v)).unexpected shown.under_way
+    (same_pushed shown.rows q.key (Over x) (λ i. i)) refl (left_from_links links old known core (posted_by q.key v) shown))
+    (same_rows rows') stays.place (transfers_of old new v q (Some (whole m c)) h finds.message) (ap (λ (s : State). s.unexpected) qs))
+    refl stays.place)
+    refl stays (given_nothing links known old.place (receive_frame v.source old v) (frame_of old new core v q (Some (whole m c)) real finds.message))
   where
     x : ends.Outcome
-    x = ends.outcome (receive_seen v) (full (held_of (whole m c)) c.values)
+    x = ends.outcome (receive_seen v) (full (held_of links.from (whole m c)) c.values)
+
+    after : Effect
+    after = posted_at core (receive_seen v) (Some (earlier, held_of links.from (whole m c), later))
+
+    rows' : List Row
+    rows' = shown.rows ++ row_of q.key (Over x) ∷ []
+
+    stays : Stays old new
+    stays = post_stays old new v q h
+
+-- AN ANNOUNCED MESSAGE THAT IS FOUND
+
+-- the core, once it found the message
+abbrev found_part : (links : Announcements) → Core → Receive → Message → Announcement → (earlier later : List Held) → Effect
+found_part links core v m a earlier later = posted_at core (receive_seen v) (Some (earlier, held_of links.from (announced_as m a), later))
+
+-- the rows, with the request that it leaves
+abbrev found_rows : (links : Announcements) → List Row → (key : ℕ) → Receive → Message → Announcement → List Row
+found_rows links rows key v m a = rows ++ row_of key (left_by links.from (receive_seen v) m a) ∷ []
+
+-- the transfers, with what is collected if it is wanted
+abbrev found_transfers : transfers.State → (key : ℕ) → Receive → Message → Announcement → transfers.State
+found_transfers t key v m a = collected_if (has_room v.into a.basic a.count) t (collecting (announced_as m a) a key)
+
+-- it is from its link
+found_part_of : (links : Announcements) (old : CoreState) (known : List ℕ) (core : Core) (v : Receive) (key : ℕ) (m : Message) (a : Announcement) (earlier later : List Held) → IsShown links old known core →
+    Finds links.from old.queues v key (announced_as m a) earlier later → IsPartOf links.from known old.place (announced_as m a) a
+found_part_of links old known core v key m a earlier later shown finds =
+    found_at (λ (n : Message). IsFromLink links.from known old.place n n.body) old.queues.unexpected (message_for (posted_by key v) old.queues.unexpected) (announced_as m a)
+    shown.under_way.messages finds.message
+
+-- both want it alike, and are left by it alike
+found_alike : AnnouncementsAgree → (links : Announcements) (old : CoreState) (v : Receive) (key : ℕ) (m : Message) (a : Announcement) (earlier later : List Held) →
+    Finds links.from old.queues v key (announced_as m a) earlier later → AnnouncedAlike links.from (receive_seen v) v.into (announced_as m a) a
+found_alike agree links old v key m a earlier later finds = agree links.from (receive_seen v) v.into (announced_as m a) a refl refl (on_world v) finds.accepts
+
+-- what is under way then
+found_under_way : (links : Announcements) (old : CoreState) (known : List ℕ) (core : Core) (v : Receive) (key : ℕ) (m : Message) (a : Announcement) → (shown : IsShown links old known core) →
+    slot_at old.slots key ≡ None → IsPartOf links.from known old.place (announced_as m a) a → AnnouncedAlike links.from (receive_seen v) v.into (announced_as m a) a →
+    AreUnderWay links known old.place (found_rows links shown.rows key v m a) (found_transfers old.transfers key v m a) (after_post old.queues (posted_by key v)).unexpected
+found_under_way links old known core v key m a shown fresh part alike =
+    subst (λ (b : Bool). AreUnderWay links known old.place (found_rows links shown.rows key v m a) (collected_if b old.transfers (collecting (announced_as m a) a key)) (after_post old.queues (posted_by key v)).unexpected)
+    alike.wanted
+    (matched_under_way links known old.place shown.rows (found_rows links shown.rows key v m a) old.transfers old.queues.unexpected (after_post old.queues (posted_by key v)).unexpected (announced_as m a) a
+    (length shown.rows) key (receive_seen v) (receives.has_room (receive_seen v) a.basic a.count) shown.under_way part (written_pushed shown.rows key (left_by links.from (receive_seen v) m a))
+    (collections_elsewhere old.slots shown.rows links.from known key old.transfers.collections shown.table fresh shown.under_way.collections)
+    (left_from_links links old known core (posted_by key v) shown))
+
+-- what both hold then
+found_holds : (links : Announcements) (old new : CoreState) (known : List ℕ) (core : Core) (v : Receive) (q : Request) (m : Message) (a : Announcement) (earlier later : List Held) → (shown : IsShown links old known core) →
+    IsPosting old v q new → Finds links.from old.queues v q.key (announced_as m a) earlier later → IsPartOf links.from known old.place (announced_as m a) a →
+    AnnouncedAlike links.from (receive_seen v) v.into (announced_as m a) a → Holding links new known (found_part links core v m a earlier later).core (found_rows links shown.rows q.key v m a)
+found_holds links old new known core v q m a earlier later shown h finds part alike =
+    let qs : new.queues ≡ after_post old.queues (posted_by q.key v) = queues_of old new v q h in
+    let rows' : List Row = found_rows links shown.rows q.key v m a in
+    let waits_not : posted_job q.key (left_by links.from (receive_seen v) m a) ≡ [] =
+    left_waits q.key (receive_seen v) (held_of links.from (announced_as m a)) a.count (receives.has_room (receive_seen v) a.basic a.count) in
+    holding_started links links old new known core (found_part links core v m a earlier later).core shown.rows q.key (matched_progress v.into (status_of (announced_as m a)) a.basic)
+    (left_by links.from (receive_seen v) m a) (holding_of links old known core shown) h.fresh (entry_of old new v q (Some (announced_as m a)) h finds.message) alike.fits refl (serial_of old new v q h)
+    (ap (λ (s : State). s.posted) qs ∙ (finds.posted ∙ (shown.posted ∙ (sym (append-nil (posted_rows shown.rows)) ∙ ap (λ (ps : List queued.Receive). posted_rows shown.rows ++ ps) (sym waits_not)))))
+    (sym (ap (λ (s : State). map (held_of links.from) s.unexpected) qs ∙ finds.unexpected))
+    (under_way_still links known old.place new.place rows' rows' (found_transfers old.transfers q.key v m a) new.transfers (after_post old.queues (posted_by q.key v)).unexpected new.queues.unexpected
+    (found_under_way links old known core v q.key m a shown h.fresh part alike) (same_rows rows') (post_stays old new v q h).place
+    (transfers_of old new v q (Some (announced_as m a)) h finds.message) (ap (λ (s : State). s.unexpected) qs))
+    refl (post_stays old new v q h).place
+
+-- what is answered to its sender
+found_given : (links : Announcements) (old : CoreState) (known : List ℕ) (core : Core) (v : Receive) (m : Message) (a : Announcement) (earlier later : List Held) → IsPartOf links.from known old.place (announced_as m a) a →
+    AnnouncedAlike links.from (receive_seen v) v.into (announced_as m a) a → IsGiven links known old.place (answer_on_post v.into (Some (announced_as m a))) (found_part links core v m a earlier later).out
+found_given links old known core v m a earlier later part alike =
+    record {
+      quiet = answer_quiet (receive_seen v) (held_of links.from (announced_as m a)) (held_of links.from (announced_as m a)).body;
+      sends = answer_sent links (after_out links (found_part links core v m a earlier later).out).to known old.place (receive_seen v) (announced_as m a) a (has_room v.into a.basic a.count) part alike.wanted;
+      leaves = answer_leaves links.from known old.place (announced_as m a) a (has_room v.into a.basic a.count) part;
+    }
+
+-- the oldest message that it accepts was announced: it is collected from then on, or used up
+post_matches : (links : Announcements) (old new : CoreState) (known : List ℕ) (core : Core) (v : Receive) (q : Request) (m : Message) (a : Announcement) (earlier later : List Held) → AnnouncementsAgree →
+    IsShown links old known core → old.blocked ≡ None → receive_fault old v ≡ None → IsPosted old core v → IsPosting old v q new → Finds links.from old.queues v q.key (announced_as m a) earlier later →
+    IsCalled links old known core (calls.Irecv v) (replies.Started q) new
+post_matches links old new known core v q m a earlier later agree shown free fine real h finds =
+    let part : IsPartOf links.from known old.place (announced_as m a) a = found_part_of links old known core v q.key m a earlier later shown finds in
+    let alike : AnnouncedAlike links.from (receive_seen v) v.into (announced_as m a) a = found_alike agree links old v q.key m a earlier later finds in
+    receive_started links old new known core v q (found_part links core v m a earlier later) (found_rows links shown.rows q.key v m a) shown free fine h.serial
+    (core_posts links core old v (Some (earlier, held_of links.from (announced_as m a), later)) real shown.held finds.core)
+    (found_holds links old new known core v q m a earlier later shown h finds part alike) refl (post_stays old new v q h)
+    (subst (λ (f : Option FrameFor). IsGiven links known old.place f (found_part links core v m a earlier later).out) (sym (frame_of old new core v q (Some (announced_as m a)) real finds.message))
+    (found_given links old known core v m a earlier later part alike))
+
+-- WHATEVER IS FOUND
 
 -- a receive that is posted, by whether a message waits that it accepts
-posting_shown : PostsMatch → OutcomesAgree → (old new : CoreState) (known : List ℕ) (core : Core) (v : Receive) (q : Request) → IsShown old known core → old.blocked ≡ None →
-    receive_fault old v ≡ None → IsPosted core v → IsPosting old v q new → IsCalled old known core (calls.Irecv v) (replies.Started q) new
-posting_shown match agree old new known core v q shown free fine real h = go (match old.queues v q.key)
+posting_shown : PostsMatch → OutcomesAgree → AnnouncementsAgree → (links : Announcements) (old new : CoreState) (known : List ℕ) (core : Core) (v : Receive) (q : Request) → IsShown links old known core →
+    old.blocked ≡ None → receive_fault old v ≡ None → IsPosted old core v → IsPosting old v q new → IsCalled links old known core (calls.Irecv v) (replies.Started q) new
+posting_shown match agree alike links old new known core v q shown free fine real h = go (match links.from old.queues v q.key)
   where
-    go : FindsNone old.queues v q.key ⊎ ((m : Message) × (earlier : List Held) × (later : List Held) × Finds old.queues v q.key m earlier later) →
-        IsCalled old known core (calls.Irecv v) (replies.Started q) new
-    go (inl finds) = post_waits old new known core v q shown free fine real h finds
-    go (inr t) =
-        let c : (c : Contents) × (t.0 ≡ whole t.0 c) =
-        whole_of t.0 (found_whole old.queues.unexpected (message_for (posted_by q.key v) old.queues.unexpected) t.0 shown.small.whole t.3.message) in
-        post_ends old new known core v q t.0 c.0 t.1 t.2 agree shown free fine real h (subst (λ (m : Message). Finds old.queues v q.key m t.1 t.2) c.1 t.3)
+    by_body : (m : Message) (earlier later : List Held) → Finds links.from old.queues v q.key m earlier later → ((c : Contents) × (m ≡ whole m c)) ⊎ ((a : Announcement) × (m ≡ announced_as m a)) →
+        IsCalled links old known core (calls.Irecv v) (replies.Started q) new
+    by_body m earlier later finds (inl w) =
+        post_ends links old new known core v q m w.0 earlier later agree shown free fine real h (subst (λ (n : Message). Finds links.from old.queues v q.key n earlier later) w.1 finds)
+    by_body m earlier later finds (inr w) =
+        post_matches links old new known core v q m w.0 earlier later alike shown free fine real h (subst (λ (n : Message). Finds links.from old.queues v q.key n earlier later) w.1 finds)
+
+    go : FindsNone links.from old.queues v q.key ⊎ ((m : Message) × (earlier : List Held) × (later : List Held) × Finds links.from old.queues v q.key m earlier later) →
+        IsCalled links old known core (calls.Irecv v) (replies.Started q) new
+    go (inl finds) = post_waits links old new known core v q shown free fine real h finds
+    go (inr t) = by_body t.0 t.1 t.2 t.3 (whole_or_announced t.0)
 
 -- a receive from the null process is over at once, and its buffer is as it was
-nothing_shown : (old new : CoreState) (known : List ℕ) (core : Core) (v : Receive) (q : Request) → IsShown old known core → old.blocked ≡ None →
-    receive_fault old v ≡ None → v.source ≡ sources.Null → IsReceivingNothing old v q new → IsCalled old known core (calls.Irecv v) (replies.Started q) new
-nothing_shown old new known core v q shown free fine null h =
-    receive_started old new known core v q after (shown.rows ++ record { key = q.key; job = Over x } ∷ []) shown free fine h.serial
+nothing_shown : (links : Announcements) (old new : CoreState) (known : List ℕ) (core : Core) (v : Receive) (q : Request) → IsShown links old known core → old.blocked ≡ None →
+    receive_fault old v ≡ None → v.source ≡ sources.Null → IsReceivingNothing old v q new → IsCalled links old known core (calls.Irecv v) (replies.Started q) new
+nothing_shown links old new known core v q shown free fine null h =
+    receive_started links old new known core v q after (shown.rows ++ row_of q.key (Over x) ∷ []) shown free fine h.serial
     (ap (λ (s : Source). matching.receives core (receive_seen v) s) null)
-    (holding_started old new known core after.core shown.rows q.key (Finished (outcomes.Received ends.null_status v.into.buffer)) (Over x)
-    (holding_of old known core shown) h.fresh h.entry
+    (holding_started links links old new known core after.core shown.rows q.key (Finished (outcomes.Received ends.null_status v.into.buffer)) (Over x)
+    (holding_of links old known core shown) h.fresh h.entry
     (ap (λ (b : Contents). ends.Received ends.null_status b.values) (handed_buffer v.into)) refl (ap (λ (e : CoreState). e.serial) h.rest)
     (ap (λ (e : CoreState). e.queues.posted) h.rest ∙ (shown.posted ∙ sym (append-nil (posted_rows shown.rows))))
-    (shown.held ∙ ap (λ (e : CoreState). map held_of e.queues.unexpected) (sym h.rest))
-    (small_still old.transfers new.transfers old.queues.unexpected new.queues.unexpected shown.small
-    (ap (λ (e : CoreState). e.transfers) h.rest) (ap (λ (e : CoreState). e.queues.unexpected) h.rest))
-    refl (ap (λ (e : CoreState). e.place) h.rest))
-    refl refl
-    (record { place = ap (λ (e : CoreState). e.place) h.rest; completion = ap (λ (e : CoreState). e.completion) h.rest; blocked = ap (λ (e : CoreState). e.blocked) h.rest })
+    (shown.held ∙ ap (λ (e : CoreState). map (held_of links.from) e.queues.unexpected) (sym h.rest))
+    (under_way_still links known old.place new.place shown.rows (shown.rows ++ row_of q.key (Over x) ∷ []) old.transfers new.transfers old.queues.unexpected new.queues.unexpected shown.under_way
+    (same_pushed shown.rows q.key (Over x) (λ i. i)) stays.place (ap (λ (e : CoreState). e.transfers) h.rest) (ap (λ (e : CoreState). e.queues.unexpected) h.rest))
+    refl stays.place)
+    refl stays (given_nothing links known old.place (receive_frame v.source old v) (ap (λ (s : Source). receive_frame s old v) null))
   where
     x : ends.Outcome
     x = ends.Received ends.null_status (handed_of v.into).buffer.values
@@ -197,14 +332,19 @@ nothing_shown old new known core v q shown free fine null h =
     after : Effect
     after = matching.receives core (receive_seen v) sources.Null
 
+    stays : Stays old new
+    stays = record { place = ap (λ (e : CoreState). e.place) h.rest; completion = ap (λ (e : CoreState). e.completion) h.rest; blocked = ap (λ (e : CoreState). e.blocked) h.rest }
+
 -- a receive that meets no rule, by whom it names
-pub post_shown : PostsMatch → OutcomesAgree → (old new : CoreState) (known : List ℕ) (core : Core) (v : Receive) (q : Request) → IsShown old known core → old.blocked ≡ None →
-    receive_fault old v ≡ None → IsReceiving old v q new → IsCalled old known core (calls.Irecv v) (replies.Started q) new
-post_shown match agree old new known core v q shown free fine h = go v.source refl h
+pub post_shown : PostsMatch → OutcomesAgree → AnnouncementsAgree → (links : Announcements) (old new : CoreState) (known : List ℕ) (core : Core) (v : Receive) (q : Request) → IsShown links old known core →
+    old.blocked ≡ None → receive_fault old v ≡ None → IsReceiving old v q new → IsCalled links old known core (calls.Irecv v) (replies.Started q) new
+post_shown match agree alike links old new known core v q shown free fine h = go v.source refl h
   where
-    go : (s : Source) → v.source ≡ s → ReceivesFrom s old v q new → IsCalled old known core (calls.Irecv v) (replies.Started q) new
+    go : (s : Source) → v.source ≡ s → ReceivesFrom s old v q new → IsCalled links old known core (calls.Irecv v) (replies.Started q) new
     go sources.Any is g =
-        posting_shown match agree old new known core v q shown free fine (ap (λ (s : Source). matching.receives core (receive_seen v) s) is) g
+        posting_shown match agree alike links old new known core v q shown free fine
+        (record { core_is = ap (λ (s : Source). matching.receives core (receive_seen v) s) is; frame_is = ap (λ (s : Source). receive_frame s old v) is }) g
     go (sources.Rank r) is g =
-        posting_shown match agree old new known core v q shown free fine (ap (λ (s : Source). matching.receives core (receive_seen v) s) is) g
-    go sources.Null is g = nothing_shown old new known core v q shown free fine is g
+        posting_shown match agree alike links old new known core v q shown free fine
+        (record { core_is = ap (λ (s : Source). matching.receives core (receive_seen v) s) is; frame_is = ap (λ (s : Source). receive_frame s old v) is }) g
+    go sources.Null is g = nothing_shown links old new known core v q shown free fine is g

@@ -16,6 +16,7 @@ use Rattle.rank_core.specs.Calls.{fault_at, free_fault}
 use Rattle.rank_core.specs.CoreState.{CoreState}
 use Rattle.proof_engine_view.specs.Seen.{call_meant, call_seen}
 use Rattle.proof_engine_view.specs.Shown.{IsBlocked, IsShown}
+use Rattle.proof_engine_view.specs.Transfers.{Announcements}
 use Rattle.proof_engine_steps.specs.Refused.{AllowedCallsAreFaultless, FaultsHaveReasons, HasReason, IsFaultless, MachinesFault, NoRoom, RoomIsAReason, fault_seen}
 use Rattle.proof_engine_steps.proofs.Reasons.{reason_is}
 use Rattle.proof_engine_steps.proofs.RefusedReceives.{receive_faultless, receive_reason}
@@ -23,8 +24,8 @@ use Rattle.proof_engine_steps.proofs.RefusedSends.{no_send_fault, send_faultless
 use Rattle.proof_engine_steps.proofs.RefusedWaits.{cancel_reason, cancel_without_fault, test_reason, test_without_fault, wait_reason, wait_without_fault, waitall_without_fault, waitany_without_fault}
 
 -- while an earlier call is blocked, the machine finds the first fault with every call
-blocked_fault : (old : CoreState) (known : List ℕ) (core : Core) (call : Call) (a : rank.Awaited) → IsShown old known core → old.blocked ≡ Some a → fault_seen old core call ≡ Some 6
-blocked_fault old known core call a shown h =
+blocked_fault : (links : Announcements) (old : CoreState) (known : List ℕ) (core : Core) (call : Call) (a : rank.Awaited) → IsShown links old known core → old.blocked ≡ Some a → fault_seen old core call ≡ Some 6
+blocked_fault links old known core call a shown h =
     ap
     (λ (b : Option Awaited).
     rules.fault_by old.place.size (rules.is_held b) (λ k. rules.standing (slice_get (map (request_of blank) core.jobs) k)) (call_meant old call))
@@ -33,46 +34,46 @@ blocked_fault old known core call a shown h =
 -- ---- what meets a rule or a limit
 
 -- while no other call is blocked
-free_reason : (old : CoreState) (known : List ℕ) (core : Core) (call : Call) (why : Refused) → IsShown old known core → old.blocked ≡ None →
+free_reason : (links : Announcements) (old : CoreState) (known : List ℕ) (core : Core) (call : Call) (why : Refused) → IsShown links old known core → old.blocked ≡ None →
     free_fault old call ≡ Some why → HasReason old core call why
-free_reason old known core (calls.Isend s) why shown free fault = send_reason old known core s why shown free fault
-free_reason old known core (calls.Irecv v) why shown free fault = receive_reason old known core v why shown free fault
-free_reason old known core (calls.Wait q) why shown free fault = wait_reason old known core (awaiteds.One q) (calls.Wait q) why shown free fault
-free_reason old known core (calls.Test q) why shown free fault = test_reason old known core q why shown free fault
-free_reason old known core (calls.Waitany qs) why shown free fault = wait_reason old known core (awaiteds.AnyOf qs) (calls.Waitany qs) why shown free fault
-free_reason old known core (calls.Waitall qs) why shown free fault = wait_reason old known core (awaiteds.AllOf qs) (calls.Waitall qs) why shown free fault
-free_reason old known core (calls.Cancel q) why shown free fault = cancel_reason old known core q why shown free fault
+free_reason links old known core (calls.Isend s) why shown free fault = send_reason links old known core s why shown free fault
+free_reason links old known core (calls.Irecv v) why shown free fault = receive_reason links old known core v why shown free fault
+free_reason links old known core (calls.Wait q) why shown free fault = wait_reason links old known core (awaiteds.One q) why shown free fault
+free_reason links old known core (calls.Test q) why shown free fault = test_reason links old known core q why shown free fault
+free_reason links old known core (calls.Waitany qs) why shown free fault = wait_reason links old known core (awaiteds.AnyOf qs) why shown free fault
+free_reason links old known core (calls.Waitall qs) why shown free fault = wait_reason links old known core (awaiteds.AllOf qs) why shown free fault
+free_reason links old known core (calls.Cancel q) why shown free fault = cancel_reason links old known core q why shown free fault
 
 pub faults_have_reasons : FaultsHaveReasons
-faults_have_reasons old known core call why shown fault = go old.blocked refl fault
+faults_have_reasons links old known core call why shown fault = go old.blocked refl fault
   where
     go : (b : Option rank.Awaited) → old.blocked ≡ b → fault_at b old call ≡ Some why → HasReason old core call why
-    go (Some a) e f = reason_is old core call refusals.Request why f (MachinesFault (blocked_fault old known core call a shown e))
-    go None e f = free_reason old known core call why shown e f
+    go (Some a) e f = reason_is old core call refusals.Request why f (MachinesFault (blocked_fault links old known core call a shown e))
+    go None e f = free_reason links old known core call why shown e f
 
 -- ---- what meets none
 
 -- while no other call is blocked
-free_faultless : (old : CoreState) (known : List ℕ) (core : Core) (call : Call) → IsShown old known core → old.blocked ≡ None → free_fault old call ≡ None →
+free_faultless : (links : Announcements) (old : CoreState) (known : List ℕ) (core : Core) (call : Call) → IsShown links old known core → old.blocked ≡ None → free_fault old call ≡ None →
     IsFaultless (rules.fault old.place.size (view blank core) (call_seen call)) old call
-free_faultless old known core (calls.Isend s) shown free fine =
-    record { own = refl; none = send_faultless old known core s shown free (no_send_fault old s fine) }
-free_faultless old known core (calls.Irecv v) shown free fine = record { own = refl; none = receive_faultless old known core v shown free fine }
-free_faultless old known core (calls.Wait q) shown free fine = wait_without_fault old known core q shown free fine
-free_faultless old known core (calls.Test q) shown free fine = test_without_fault old known core q shown free fine
-free_faultless old known core (calls.Waitany qs) shown free fine = waitany_without_fault old known core qs shown free fine
-free_faultless old known core (calls.Waitall qs) shown free fine = waitall_without_fault old known core qs shown free fine
-free_faultless old known core (calls.Cancel q) shown free fine = cancel_without_fault old known core q shown free fine
+free_faultless links old known core (calls.Isend s) shown free fine =
+    record { own = refl; none = send_faultless links old known core s shown free (no_send_fault old s fine) }
+free_faultless links old known core (calls.Irecv v) shown free fine = record { own = refl; none = receive_faultless links old known core v shown free fine }
+free_faultless links old known core (calls.Wait q) shown free fine = wait_without_fault links old known core q shown free fine
+free_faultless links old known core (calls.Test q) shown free fine = test_without_fault links old known core q shown free fine
+free_faultless links old known core (calls.Waitany qs) shown free fine = waitany_without_fault links old known core qs shown free fine
+free_faultless links old known core (calls.Waitall qs) shown free fine = waitall_without_fault links old known core qs shown free fine
+free_faultless links old known core (calls.Cancel q) shown free fine = cancel_without_fault links old known core q shown free fine
 
 pub allowed_calls_are_faultless : AllowedCallsAreFaultless
-allowed_calls_are_faultless old known core call shown fine = go old.blocked refl fine
+allowed_calls_are_faultless links old known core call shown fine = go old.blocked refl fine
   where
     go : (b : Option rank.Awaited) → old.blocked ≡ b → fault_at b old call ≡ None → IsFaultless (rules.fault old.place.size (view blank core) (call_seen call)) old call
     go (Some a) e f = absurd cc
-    go None e f = free_faultless old known core call shown e f
+    go None e f = free_faultless links old known core call shown e f
 
 -- so a limit of the frame, or want of memory, is a reason
 pub room_is_a_reason : AllowedCallsAreFaultless → RoomIsAReason
-room_is_a_reason allowed old known core call why shown fine room =
-    let f : IsFaultless (rules.fault old.place.size (view blank core) (call_seen call)) old call = allowed old known core call shown fine in
+room_is_a_reason allowed links old known core call why shown fine room =
+    let f : IsFaultless (rules.fault old.place.size (view blank core) (call_seen call)) old call = allowed links old known core call shown fine in
     NoRoom room (ap (λ (c : machine.Call). rules.fault old.place.size (view blank core) c) f.own ∙ f.none)

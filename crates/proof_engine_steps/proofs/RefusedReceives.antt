@@ -14,27 +14,28 @@ use Rattle.rank_core.specs.CoreState.{CoreState}
 use Rattle.rank_core.specs.Receiving.{receive_fault}
 use Rattle.proof_engine_view.specs.Seen.{call_seen}
 use Rattle.proof_engine_view.specs.Shown.{IsShown}
+use Rattle.proof_engine_view.specs.Transfers.{Announcements}
 use Rattle.proof_engine_steps.specs.Refused.{HasReason, MachinesFault, NoRoom}
 use Rattle.proof_engine_steps.proofs.Posts.{post_fit, receive_rules}
 use Rattle.proof_engine_steps.proofs.Reasons.{count_fault, limit_met, rank_fault, reason_is, tag_fault, type_fault}
 use Rattle.proof_engine_steps.proofs.Starting.{core_free, fault_free}
 
 -- the machine finds no fault with a receive that meets no rule of the rank's
-pub receive_faultless : (old : CoreState) (known : List ℕ) (core : Core) (v : Receive) → IsShown old known core → old.blocked ≡ None → receive_fault old v ≡ None →
+pub receive_faultless : (links : Announcements) (old : CoreState) (known : List ℕ) (core : Core) (v : Receive) → IsShown links old known core → old.blocked ≡ None → receive_fault old v ≡ None →
     rules.fault old.place.size (view blank core) (call_seen (calls.Irecv v)) ≡ None
-receive_faultless old known core v shown free fine = post_fit old.place.size core v (core_free old known core shown free) (receive_rules old v fine)
+receive_faultless links old known core v shown free fine = post_fit old.place.size core v (core_free links old known core shown free) (receive_rules old v fine)
 
 -- a receive that breaks a rule or meets the limit
-pub receive_reason : (old : CoreState) (known : List ℕ) (core : Core) (v : Receive) (why : Refused) → IsShown old known core → old.blocked ≡ None →
+pub receive_reason : (links : Announcements) (old : CoreState) (known : List ℕ) (core : Core) (v : Receive) (why : Refused) → IsShown links old known core → old.blocked ≡ None →
     receive_fault old v ≡ Some why → HasReason old core (calls.Irecv v) why
 unfolding receive_fault
-receive_reason old known core v why shown free fault = by_type unfit refl fault
+receive_reason links old known core v why shown free fault = by_type unfit refl fault
   where
     n : ℕ
     n = old.place.size
 
     core_is : core.blocked ≡ None
-    core_is = core_free old known core shown free
+    core_is = core_free links old known core shown free
 
     unfit : Bool
     unfit = is_unfit_to_receive (handed_of v.into)

@@ -14,7 +14,6 @@ use Rattle.requests.specs.declared.awaited.Awaited.{Awaited}
 use Rattle.requests.specs.declared.awaited.Awaited.TheVariants as awaiteds
 use Rattle.requests.specs.declared.table.Progress.{Progress}
 use Rattle.requests.specs.declared.table.Request.{Request}
-use Rattle.rank_calls.specs.declared.call.Call.{Call}
 use Rattle.rank_calls.specs.declared.call.Call.TheVariants as calls
 use Rattle.rank_calls.specs.declared.refused.Refused.{Refused}
 use Rattle.rank_calls.specs.declared.refused.Refused.TheVariants as refusals
@@ -22,6 +21,7 @@ use Rattle.rank_core.specs.CoreState.{CoreState}
 use Rattle.rank_core.specs.Waiting.{cancel_fault, wait_fault}
 use Rattle.proof_engine_view.specs.Seen.{awaited_by, awaited_seen, call_seen, own_serial, request_by, serial_meant}
 use Rattle.proof_engine_view.specs.Shown.{IsShown}
+use Rattle.proof_engine_view.specs.Transfers.{Announcements}
 use Rattle.proof_engine_steps.specs.Refused.{HasReason, IsFaultless, IsReason, MachinesFault}
 use Rattle.proof_engine_steps.proofs.Standings.{IsPresent, all_present, awaited_meant, awaited_own, meant_present, neither, receive_seen, request_own, standing_at, wrong_same}
 use Rattle.proof_engine_steps.proofs.Starting.{core_free, fault_free}
@@ -33,9 +33,9 @@ abbrev six_if : Bool → Option ℕ
 six_if b = if b then Some 6 else None
 
 -- both find it broken
-rule_broken : (b : Bool) (found : Option ℕ) (call : Call) (why : Refused) → found ≡ six_if b → (if b then Some refusals.Request else None) ≡ Some why → IsReason found call why
-rule_broken true found call why h f = let is : refusals.Request ≡ why = cc in subst (λ (x : Refused). IsReason found call x) is (MachinesFault h)
-rule_broken false found call why h f = absurd cc
+rule_broken : (b : Bool) (found : Option ℕ) (why : Refused) → found ≡ six_if b → (if b then Some refusals.Request else None) ≡ Some why → IsReason found why
+rule_broken true found why h f = let is : refusals.Request ≡ why = cc in subst (λ (x : Refused). IsReason found x) is (MachinesFault h)
+rule_broken false found why h f = absurd cc
 
 -- both find it kept
 rule_kept : (b : Bool) → (if b then Some refusals.Request else None) ≡ None → b ≡ false
@@ -45,19 +45,19 @@ rule_kept false f = refl
 -- ---- waits
 
 -- the fault that the machine finds with a wait is by the rank's own tests
-wait_found : (old : CoreState) (known : List ℕ) (core : Core) (a : Awaited) → IsShown old known core → old.blocked ≡ None →
+wait_found : (links : Announcements) (old : CoreState) (known : List ℕ) (core : Core) (a : Awaited) → IsShown links old known core → old.blocked ≡ None →
     rules.fault old.place.size (view blank core) (machine.Wait (awaited_by (serial_meant old) a)) ≡ six_if (lists.is_one_absent old.slots (awaited_requests a) || lists.is_twice (awaited_requests a))
-wait_found old known core a shown free =
-    fault_free old.place.size core (machine.Wait (awaited_by (serial_meant old) a)) (core_free old known core shown free) ∙
+wait_found links old known core a shown free =
+    fault_free old.place.size core (machine.Wait (awaited_by (serial_meant old) a)) (core_free links old known core shown free) ∙
     (ap (λ (ks : List ℕ). six_if (rules.is_one_missing (standing_at core) ks || rules.is_twice ks)) (awaited_meant (serial_meant old) a) ∙
-    ap six_if (wrong_same old known core shown (awaited_requests a)))
+    ap six_if (wrong_same links old known core shown (awaited_requests a)))
 
 -- a wait that breaks a rule
-pub wait_reason : (old : CoreState) (known : List ℕ) (core : Core) (a : Awaited) (call : Call) (why : Refused) → IsShown old known core → old.blocked ≡ None → wait_fault old a ≡ Some why →
-    IsReason (rules.fault old.place.size (view blank core) (machine.Wait (awaited_by (serial_meant old) a))) call why
-wait_reason old known core a call why shown free fault =
+pub wait_reason : (links : Announcements) (old : CoreState) (known : List ℕ) (core : Core) (a : Awaited) (why : Refused) → IsShown links old known core → old.blocked ≡ None → wait_fault old a ≡ Some why →
+    IsReason (rules.fault old.place.size (view blank core) (machine.Wait (awaited_by (serial_meant old) a))) why
+wait_reason links old known core a why shown free fault =
     rule_broken (lists.is_one_absent old.slots (awaited_requests a) || lists.is_twice (awaited_requests a))
-    (rules.fault old.place.size (view blank core) (machine.Wait (awaited_by (serial_meant old) a))) call why (wait_found old known core a shown free) fault
+    (rules.fault old.place.size (view blank core) (machine.Wait (awaited_by (serial_meant old) a))) why (wait_found links old known core a shown free) fault
 
 -- where a wait breaks none, all that it names is there
 pub wait_present : (old : CoreState) (a : Awaited) → wait_fault old a ≡ None → AllByRecursion (IsPresent old) (awaited_requests a)
@@ -67,16 +67,16 @@ wait_present old a fine =
     (rule_kept (lists.is_one_absent old.slots (awaited_requests a) || lists.is_twice (awaited_requests a)) fine)).0
 
 -- the machine finds no fault with what it means
-wait_none : (old : CoreState) (known : List ℕ) (core : Core) (a : Awaited) → IsShown old known core → old.blocked ≡ None → wait_fault old a ≡ None →
+wait_none : (links : Announcements) (old : CoreState) (known : List ℕ) (core : Core) (a : Awaited) → IsShown links old known core → old.blocked ≡ None → wait_fault old a ≡ None →
     rules.fault old.place.size (view blank core) (machine.Wait (awaited_by (serial_meant old) a)) ≡ None
-wait_none old known core a shown free fine =
-    wait_found old known core a shown free ∙ ap six_if (rule_kept (lists.is_one_absent old.slots (awaited_requests a) || lists.is_twice (awaited_requests a)) fine)
+wait_none links old known core a shown free fine =
+    wait_found links old known core a shown free ∙ ap six_if (rule_kept (lists.is_one_absent old.slots (awaited_requests a) || lists.is_twice (awaited_requests a)) fine)
 
 -- nor with what is seen of it
-pub wait_faultless : (old : CoreState) (known : List ℕ) (core : Core) (a : Awaited) → IsShown old known core → old.blocked ≡ None → wait_fault old a ≡ None →
+pub wait_faultless : (links : Announcements) (old : CoreState) (known : List ℕ) (core : Core) (a : Awaited) → IsShown links old known core → old.blocked ≡ None → wait_fault old a ≡ None →
     rules.fault old.place.size (view blank core) (machine.Wait (awaited_seen a)) ≡ None
-wait_faultless old known core a shown free fine =
-    ap (λ (x : completions.Awaited). rules.fault old.place.size (view blank core) (machine.Wait x)) (sym (awaited_own old a (wait_present old a fine))) ∙ wait_none old known core a shown free fine
+wait_faultless links old known core a shown free fine =
+    ap (λ (x : completions.Awaited). rules.fault old.place.size (view blank core) (machine.Wait x)) (sym (awaited_own old a (wait_present old a fine))) ∙ wait_none links old known core a shown free fine
 
 -- ---- tests
 
@@ -93,16 +93,16 @@ test_is_wait n core r free = fault_free n core (machine.Test r) free ∙ (go r �
     go None = refl
     go (Some k) = sym (ap six_if (or_nothing (rules.is_missing (standing_at core k))))
 
-pub test_reason : (old : CoreState) (known : List ℕ) (core : Core) (q : Option Request) (why : Refused) → IsShown old known core → old.blocked ≡ None → wait_fault old (awaiteds.One q) ≡ Some why →
+pub test_reason : (links : Announcements) (old : CoreState) (known : List ℕ) (core : Core) (q : Option Request) (why : Refused) → IsShown links old known core → old.blocked ≡ None → wait_fault old (awaiteds.One q) ≡ Some why →
     HasReason old core (calls.Test q) why
-test_reason old known core q why shown free fault =
-    subst (λ (x : Option ℕ). IsReason x (calls.Test q) why) (sym (test_is_wait old.place.size core (request_by (serial_meant old) q) (core_free old known core shown free)))
-    (wait_reason old known core (awaiteds.One q) (calls.Test q) why shown free fault)
+test_reason links old known core q why shown free fault =
+    subst (λ (x : Option ℕ). IsReason x why) (sym (test_is_wait old.place.size core (request_by (serial_meant old) q) (core_free links old known core shown free)))
+    (wait_reason links old known core (awaiteds.One q) why shown free fault)
 
-pub test_faultless : (old : CoreState) (known : List ℕ) (core : Core) (q : Option Request) → IsShown old known core → old.blocked ≡ None → wait_fault old (awaiteds.One q) ≡ None →
+pub test_faultless : (links : Announcements) (old : CoreState) (known : List ℕ) (core : Core) (q : Option Request) → IsShown links old known core → old.blocked ≡ None → wait_fault old (awaiteds.One q) ≡ None →
     rules.fault old.place.size (view blank core) (machine.Test (request_by own_serial q)) ≡ None
-test_faultless old known core q shown free fine =
-    test_is_wait old.place.size core (request_by own_serial q) (core_free old known core shown free) ∙ wait_faultless old known core (awaiteds.One q) shown free fine
+test_faultless links old known core q shown free fine =
+    test_is_wait old.place.size core (request_by own_serial q) (core_free links old known core shown free) ∙ wait_faultless links old known core (awaiteds.One q) shown free fine
 
 -- ---- cancels
 
@@ -112,20 +112,20 @@ turned true = refl
 turned false = refl
 
 -- the fault that the machine finds with a cancel is by the rank's own test
-cancel_found : (old : CoreState) (known : List ℕ) (core : Core) (q : Request) → IsShown old known core → old.blocked ≡ None →
+cancel_found : (links : Announcements) (old : CoreState) (known : List ℕ) (core : Core) (q : Request) → IsShown links old known core → old.blocked ≡ None →
     rules.fault old.place.size (view blank core) (machine.Cancel (Some (serial_meant old q))) ≡ six_if (not (table.is_receive (progress_at old.slots q.key q.serial)))
-cancel_found old known core q shown free =
-    fault_free old.place.size core (machine.Cancel (Some (serial_meant old q))) (core_free old known core shown free) ∙
-    ap (λ (b : Bool). six_if (not b)) (receive_seen old known core q shown)
+cancel_found links old known core q shown free =
+    fault_free old.place.size core (machine.Cancel (Some (serial_meant old q))) (core_free links old known core shown free) ∙
+    ap (λ (b : Bool). six_if (not b)) (receive_seen links old known core q shown)
 
-pub cancel_reason : (old : CoreState) (known : List ℕ) (core : Core) (q : Option Request) (why : Refused) → IsShown old known core → old.blocked ≡ None → cancel_fault old q ≡ Some why →
+pub cancel_reason : (links : Announcements) (old : CoreState) (known : List ℕ) (core : Core) (q : Option Request) (why : Refused) → IsShown links old known core → old.blocked ≡ None → cancel_fault old q ≡ Some why →
     HasReason old core (calls.Cancel q) why
-cancel_reason old known core None why shown free fault =
-    rule_broken true (rules.fault old.place.size (view blank core) (machine.Cancel None)) (calls.Cancel None) why
-    (fault_free old.place.size core (machine.Cancel None) (core_free old known core shown free)) fault
-cancel_reason old known core (Some q) why shown free fault =
-    rule_broken (not (table.is_receive (progress_at old.slots q.key q.serial))) (rules.fault old.place.size (view blank core) (machine.Cancel (Some (serial_meant old q)))) (calls.Cancel (Some q)) why
-    (cancel_found old known core q shown free) (sym (turned (table.is_receive (progress_at old.slots q.key q.serial))) ∙ fault)
+cancel_reason links old known core None why shown free fault =
+    rule_broken true (rules.fault old.place.size (view blank core) (machine.Cancel None)) why
+    (fault_free old.place.size core (machine.Cancel None) (core_free links old known core shown free)) fault
+cancel_reason links old known core (Some q) why shown free fault =
+    rule_broken (not (table.is_receive (progress_at old.slots q.key q.serial))) (rules.fault old.place.size (view blank core) (machine.Cancel (Some (serial_meant old q)))) why
+    (cancel_found links old known core q shown free) (sym (turned (table.is_receive (progress_at old.slots q.key q.serial))) ∙ fault)
 
 -- a receive that is there
 receive_there : (old : CoreState) (q : Request) → (b : Bool) → table.is_receive (progress_at old.slots q.key q.serial) ≡ b → (if b then None else Some refusals.Request) ≡ None → IsPresent old q
@@ -141,44 +141,44 @@ pub cancel_present : (old : CoreState) (q : Request) → cancel_fault old (Some 
 cancel_present old q fine = receive_there old q (table.is_receive (progress_at old.slots q.key q.serial)) refl fine
 
 -- the machine finds no fault with what it means
-cancel_none : (old : CoreState) (known : List ℕ) (core : Core) (q : Request) → IsShown old known core → old.blocked ≡ None → cancel_fault old (Some q) ≡ None →
+cancel_none : (links : Announcements) (old : CoreState) (known : List ℕ) (core : Core) (q : Request) → IsShown links old known core → old.blocked ≡ None → cancel_fault old (Some q) ≡ None →
     rules.fault old.place.size (view blank core) (machine.Cancel (Some (serial_meant old q))) ≡ None
-cancel_none old known core q shown free fine =
-    cancel_found old known core q shown free ∙
+cancel_none links old known core q shown free fine =
+    cancel_found links old known core q shown free ∙
     ap six_if (rule_kept (not (table.is_receive (progress_at old.slots q.key q.serial))) (sym (turned (table.is_receive (progress_at old.slots q.key q.serial))) ∙ fine))
 
 -- nor with what is seen of it
-pub cancel_faultless : (old : CoreState) (known : List ℕ) (core : Core) (q : Request) → IsShown old known core → old.blocked ≡ None → cancel_fault old (Some q) ≡ None →
+pub cancel_faultless : (links : Announcements) (old : CoreState) (known : List ℕ) (core : Core) (q : Request) → IsShown links old known core → old.blocked ≡ None → cancel_fault old (Some q) ≡ None →
     rules.fault old.place.size (view blank core) (machine.Cancel (Some q.serial)) ≡ None
-cancel_faultless old known core q shown free fine =
-    ap (λ (k : ℕ). rules.fault old.place.size (view blank core) (machine.Cancel (Some k))) (sym (meant_present old q (cancel_present old q fine))) ∙ cancel_none old known core q shown free fine
+cancel_faultless links old known core q shown free fine =
+    ap (λ (k : ℕ). rules.fault old.place.size (view blank core) (machine.Cancel (Some k))) (sym (meant_present old q (cancel_present old q fine))) ∙ cancel_none links old known core q shown free fine
 
 -- ---- calls that break no rule
 
 -- a wait, whatever its form
-waits_without_fault : (old : CoreState) (known : List ℕ) (core : Core) (a : Awaited) → IsShown old known core → old.blocked ≡ None → wait_fault old a ≡ None →
+waits_without_fault : (links : Announcements) (old : CoreState) (known : List ℕ) (core : Core) (a : Awaited) → IsShown links old known core → old.blocked ≡ None → wait_fault old a ≡ None →
     (machine.Wait (awaited_by (serial_meant old) a) ≡ machine.Wait (awaited_seen a)) × (rules.fault old.place.size (view blank core) (machine.Wait (awaited_seen a)) ≡ None)
-waits_without_fault old known core a shown free fine = (ap machine.Wait (awaited_own old a (wait_present old a fine)), wait_faultless old known core a shown free fine)
+waits_without_fault links old known core a shown free fine = (ap machine.Wait (awaited_own old a (wait_present old a fine)), wait_faultless links old known core a shown free fine)
 
-pub wait_without_fault : (old : CoreState) (known : List ℕ) (core : Core) (q : Option Request) → IsShown old known core → old.blocked ≡ None → wait_fault old (awaiteds.One q) ≡ None →
+pub wait_without_fault : (links : Announcements) (old : CoreState) (known : List ℕ) (core : Core) (q : Option Request) → IsShown links old known core → old.blocked ≡ None → wait_fault old (awaiteds.One q) ≡ None →
     IsFaultless (rules.fault old.place.size (view blank core) (call_seen (calls.Wait q))) old (calls.Wait q)
-wait_without_fault old known core q shown free fine = let w = waits_without_fault old known core (awaiteds.One q) shown free fine in record { own = w.0; none = w.1 }
+wait_without_fault links old known core q shown free fine = let w = waits_without_fault links old known core (awaiteds.One q) shown free fine in record { own = w.0; none = w.1 }
 
-pub waitany_without_fault : (old : CoreState) (known : List ℕ) (core : Core) (qs : List (Option Request)) → IsShown old known core → old.blocked ≡ None → wait_fault old (awaiteds.AnyOf qs) ≡ None →
+pub waitany_without_fault : (links : Announcements) (old : CoreState) (known : List ℕ) (core : Core) (qs : List (Option Request)) → IsShown links old known core → old.blocked ≡ None → wait_fault old (awaiteds.AnyOf qs) ≡ None →
     IsFaultless (rules.fault old.place.size (view blank core) (call_seen (calls.Waitany qs))) old (calls.Waitany qs)
-waitany_without_fault old known core qs shown free fine = let w = waits_without_fault old known core (awaiteds.AnyOf qs) shown free fine in record { own = w.0; none = w.1 }
+waitany_without_fault links old known core qs shown free fine = let w = waits_without_fault links old known core (awaiteds.AnyOf qs) shown free fine in record { own = w.0; none = w.1 }
 
-pub waitall_without_fault : (old : CoreState) (known : List ℕ) (core : Core) (qs : List (Option Request)) → IsShown old known core → old.blocked ≡ None → wait_fault old (awaiteds.AllOf qs) ≡ None →
+pub waitall_without_fault : (links : Announcements) (old : CoreState) (known : List ℕ) (core : Core) (qs : List (Option Request)) → IsShown links old known core → old.blocked ≡ None → wait_fault old (awaiteds.AllOf qs) ≡ None →
     IsFaultless (rules.fault old.place.size (view blank core) (call_seen (calls.Waitall qs))) old (calls.Waitall qs)
-waitall_without_fault old known core qs shown free fine = let w = waits_without_fault old known core (awaiteds.AllOf qs) shown free fine in record { own = w.0; none = w.1 }
+waitall_without_fault links old known core qs shown free fine = let w = waits_without_fault links old known core (awaiteds.AllOf qs) shown free fine in record { own = w.0; none = w.1 }
 
-pub test_without_fault : (old : CoreState) (known : List ℕ) (core : Core) (q : Option Request) → IsShown old known core → old.blocked ≡ None → wait_fault old (awaiteds.One q) ≡ None →
+pub test_without_fault : (links : Announcements) (old : CoreState) (known : List ℕ) (core : Core) (q : Option Request) → IsShown links old known core → old.blocked ≡ None → wait_fault old (awaiteds.One q) ≡ None →
     IsFaultless (rules.fault old.place.size (view blank core) (call_seen (calls.Test q))) old (calls.Test q)
-test_without_fault old known core q shown free fine =
-    record { own = ap machine.Test (request_own old q (wait_present old (awaiteds.One q) fine)); none = test_faultless old known core q shown free fine }
+test_without_fault links old known core q shown free fine =
+    record { own = ap machine.Test (request_own old q (wait_present old (awaiteds.One q) fine)); none = test_faultless links old known core q shown free fine }
 
-pub cancel_without_fault : (old : CoreState) (known : List ℕ) (core : Core) (q : Option Request) → IsShown old known core → old.blocked ≡ None → cancel_fault old q ≡ None →
+pub cancel_without_fault : (links : Announcements) (old : CoreState) (known : List ℕ) (core : Core) (q : Option Request) → IsShown links old known core → old.blocked ≡ None → cancel_fault old q ≡ None →
     IsFaultless (rules.fault old.place.size (view blank core) (call_seen (calls.Cancel q))) old (calls.Cancel q)
-cancel_without_fault old known core None shown free fine = absurd cc
-cancel_without_fault old known core (Some q) shown free fine =
-    record { own = ap (λ (k : ℕ). machine.Cancel (Some k)) (meant_present old q (cancel_present old q fine)); none = cancel_faultless old known core q shown free fine }
+cancel_without_fault links old known core None shown free fine = absurd cc
+cancel_without_fault links old known core (Some q) shown free fine =
+    record { own = ap (λ (k : ℕ). machine.Cancel (Some k)) (meant_present old q (cancel_present old q fine)); none = cancel_faultless links old known core q shown free fine }

@@ -5,18 +5,18 @@ use Rattle.std.proofs.lemmas.Option.{none-some, same_Some, slice_get-map}
 use Rattle.datatypes.specs.Contents.{Contents}
 use Rattle.perfect_queues.specs.Buffers.{Handed}
 use Rattle.perfect_queues.specs.Outcomes as machine
-use Rattle.perfect_queues.specs.Receives.{Receive, names}
-use Rattle.match_queues.specs.State.{keys_naming}
 use Rattle.requests.specs.Table.{after_replace, after_replaces, replaced_entry, replaced_progress, slot_at, slot_replaced}
 use Rattle.requests.specs.declared.table.Entry.{Entry}
 use Rattle.requests.specs.declared.table.Progress.{Progress}
 use Rattle.requests.specs.declared.table.Progress.TheVariants.{Receiving, Finished}
 use Rattle.requests.specs.declared.table.Progress.TheVariants as progresses
 use Rattle.proof_pure_network.specs.Jobs.{Job, Waiting, Collecting, Offering, Over, Closed, ended}
-use Rattle.proof_engine_view.specs.Rows.{Fits, Holds, IsRow, IsTable, Row, Stands, posted_rows}
-use Rattle.proof_engine_steps.proofs.Ending.{IsAmong, IsNaming, cases_among, ended_at, ended_row, named_at, naming_among}
+use Rattle.proof_engine_view.specs.Rows.{Fits, Holds, IsRow, IsTable, Row, Stands}
+use Rattle.proof_engine_steps.proofs.Ending.{IsAmong, cases_among, ended_at, ended_row}
+use Rattle.proof_engine_steps.proofs.EndingKeys.{AreEnding, IsEnding, ends_by}
+use Rattle.proof_engine_steps.proofs.Found.{open_of}
 use Rattle.proof_engine_steps.proofs.Regions.{handed_buffer}
-use Rattle.proof_engine_steps.proofs.Tables.{held_at, set_is_set}
+use Rattle.proof_engine_steps.proofs.Tables.{closed_stands, ended_or_held, held_stands, one_request, set_is_set}
 
 -- ONE KEY
 
@@ -81,134 +81,117 @@ replaces_among (x ∷ xs) slots key h = go (cases_eq key x) (cases_among key xs)
 
 -- THE TABLE
 
--- how far it is says that it has ended, where its receive named the rank
-fits_replaced : (g : Progress) (r i : ℕ) (job : Job) → Fits g job →
-    ((p : Receive) → job ≡ Waiting p → names p.source r ≡ true) → Fits (replaced_progress g) (ended r i job)
-fits_replaced (Receiving b) r i (Waiting p) f named =
-    subst (λ (x : Bool). Fits (replaced_progress (Receiving b)) (if x then Over (machine.Replaced (Some p.into.buffer.values)) else Waiting p)) (sym (named p refl))
+-- how far it is says that it has ended, where it ends
+fits_replaced : (g : Progress) (r i : ℕ) (job : Job) → Fits g job → ends_by r i job ≡ true → Fits (replaced_progress g) (ended r i job)
+fits_replaced (Receiving b) r i (Waiting p) f e =
+    subst (λ (x : Bool). Fits (replaced_progress (Receiving b)) (if x then Over (machine.Replaced (Some p.into.buffer.values)) else Waiting p)) (sym e)
     (ap (λ (h : Handed). machine.Replaced (Some h.buffer.values)) f.0 ∙ ap (λ (c : Contents). machine.Replaced (Some c.values)) (handed_buffer b))
-fits_replaced (Receiving b) r i (Collecting p h got) f named = absurd f
-fits_replaced (Receiving b) r i (Offering d basic values) f named = absurd f
-fits_replaced (Receiving b) r i (Over x) f named = absurd f
-fits_replaced (Receiving b) r i Closed f named = absurd f
-fits_replaced (progresses.Collecting w) r i job f named = absurd f
-fits_replaced progresses.Offering r i job f named = absurd f
-fits_replaced (Finished o) r i (Waiting p) f named = absurd f
-fits_replaced (Finished o) r i (Collecting p h got) f named = absurd f
-fits_replaced (Finished o) r i (Offering d basic values) f named = absurd f
-fits_replaced (Finished o) r i (Over x) f named = f
-fits_replaced (Finished o) r i Closed f named = absurd f
+fits_replaced (Receiving b) r i (Collecting p h got) f e = absurd f
+fits_replaced (Receiving b) r i (Offering d basic values) f e = absurd f
+fits_replaced (Receiving b) r i (Over x) f e = absurd f
+fits_replaced (Receiving b) r i Closed f e = absurd f
+fits_replaced (progresses.Collecting w) r i (Waiting p) f e = absurd f
+fits_replaced (progresses.Collecting w) r i (Collecting p h got) f e =
+    subst (λ (x : Bool). Fits (replaced_progress (progresses.Collecting w)) (if x then Over (machine.Replaced (Some p.into.buffer.values)) else Collecting p h got)) (sym e)
+    (ap (λ (y : Handed). machine.Replaced (Some y.buffer.values)) f.into ∙ ap (λ (c : Contents). machine.Replaced (Some c.values)) (handed_buffer w.into))
+fits_replaced (progresses.Collecting w) r i (Offering d basic values) f e = absurd f
+fits_replaced (progresses.Collecting w) r i (Over x) f e = absurd f
+fits_replaced (progresses.Collecting w) r i Closed f e = absurd f
+fits_replaced progresses.Offering r i (Waiting p) f e = absurd f
+fits_replaced progresses.Offering r i (Collecting p h got) f e = absurd f
+fits_replaced progresses.Offering r i (Offering d basic values) f e =
+    subst (λ (x : Bool). Fits (replaced_progress progresses.Offering) (if x then Over (machine.Replaced None) else Offering d basic values)) (sym e) refl
+fits_replaced progresses.Offering r i (Over x) f e = absurd f
+fits_replaced progresses.Offering r i Closed f e = absurd f
+fits_replaced (Finished o) r i (Waiting p) f e = absurd f
+fits_replaced (Finished o) r i (Collecting p h got) f e = absurd f
+fits_replaced (Finished o) r i (Offering d basic values) f e = absurd f
+fits_replaced (Finished o) r i (Over x) f e = f
+fits_replaced (Finished o) r i Closed f e = absurd f
 
--- how far it is stays, where its receive doesn't name the rank
-fits_kept : (g : Progress) (r i : ℕ) (job : Job) → Fits g job →
-    ((p : Receive) → job ≡ Waiting p → names p.source r ≡ false) → Fits g (ended r i job)
-fits_kept (Receiving b) r i (Waiting p) f named =
-    subst (λ (x : Bool). Fits (Receiving b) (if x then Over (machine.Replaced (Some p.into.buffer.values)) else Waiting p)) (sym (named p refl)) f
-fits_kept (Receiving b) r i (Collecting p h got) f named = absurd f
-fits_kept (Receiving b) r i (Offering d basic values) f named = absurd f
-fits_kept (Receiving b) r i (Over x) f named = absurd f
-fits_kept (Receiving b) r i Closed f named = absurd f
-fits_kept (progresses.Collecting w) r i job f named = absurd f
-fits_kept progresses.Offering r i job f named = absurd f
-fits_kept (Finished o) r i (Waiting p) f named = absurd f
-fits_kept (Finished o) r i (Collecting p h got) f named = absurd f
-fits_kept (Finished o) r i (Offering d basic values) f named = absurd f
-fits_kept (Finished o) r i (Over x) f named = f
-fits_kept (Finished o) r i Closed f named = absurd f
+-- a request that doesn't end stays as it was
+ended_kept : (r i : ℕ) (job : Job) → ends_by r i job ≡ false → ended r i job ≡ job
+ended_kept r i (Waiting p) e = ap (λ (x : Bool). if x then Over (machine.Replaced (Some p.into.buffer.values)) else Waiting p) e
+ended_kept r i (Collecting p h got) e =
+    ap (λ (x : Bool). if x then Over (machine.Replaced (Some p.into.buffer.values)) else Collecting p h got) e
+ended_kept r i (Offering d basic values) e = ap (λ (x : Bool). if x then Over (machine.Replaced None) else Offering d basic values) e
+ended_kept r i (Over x) e = refl
+ended_kept r i Closed e = refl
 
--- one serial has one job
-same_job : (rows : List Row) (k j key : ℕ) (a b : Job) → k ≡ j → slice_get rows k ≡ Some (record { key = key; job = a }) →
-    slice_get rows j ≡ Some (record { key = key; job = b }) → a ≡ b
-same_job rows k j key a b e h g =
-    ap (λ (x : Row). x.job) (same_Some (record { key = key; job = a }) (record { key = key; job = b }) (sym h ∙ (ap (slice_get rows) e ∙ g)))
-
--- the receive that a key belongs to
-same_receive : (slots : List (Option Entry)) (rows : List Row) (k key r : ℕ) (p : Receive) → IsTable slots rows →
-    slice_get rows k ≡ Some (record { key = key; job = Waiting p }) → IsNaming rows r key →
-    names p.source r ≡ true
-same_receive slots rows k key r p table h n =
-    let a : Holds (slot_at slots key) k (Waiting p) = held_at slots rows k key (Waiting p) table h (λ e. cc) in
-    let b : Holds (slot_at slots key) n.serial (Waiting n.receive) = held_at slots rows n.serial key (Waiting n.receive) table n.there (λ e. cc) in
-    let one : a.entry ≡ b.entry = same_Some a.entry b.entry (sym a.there ∙ b.there) in
-    let e : k ≡ n.serial = sym a.serial_is ∙ (ap (λ (t : Entry). t.serial) one ∙ b.serial_is) in
-    let j : Waiting p ≡ Waiting n.receive = same_job rows k n.serial key (Waiting p) (Waiting n.receive) e h n.there in
-    let s : p ≡ n.receive = cc in
-    subst (λ (x : Receive). names x.source r ≡ true) (sym s) n.named
+-- so how far it is says the same
+fits_kept : (g : Progress) (r i : ℕ) (job : Job) → Fits g job → ends_by r i job ≡ false → Fits g (ended r i job)
+fits_kept g r i job f e = subst (λ (j : Job). Fits g j) (sym (ended_kept r i job e)) f
 
 -- true is not false
 only_true : (b : Bool) → (b ≡ true → ⊥) → b ≡ false
 only_true true n = absurd (n refl)
 only_true false n = refl
 
--- a receive under one of the keys names the rank
-names_true : (slots : List (Option Entry)) (rows : List Row) (r k key : ℕ) (p : Receive) → IsTable slots rows →
-    slice_get rows k ≡ Some (record { key = key; job = Waiting p }) → IsAmong key (keys_naming r (posted_rows rows)) →
-    names p.source r ≡ true
-names_true slots rows r k key p table h a = same_receive slots rows k key r p table h (named_at r rows key a)
+-- a closed request doesn't end
+ends_open : (r i : ℕ) (job : Job) → ends_by r i job ≡ true → job ≡ Closed → ⊥
+ends_open r i job e c =
+    let f : false ≡ true = sym (ap (ends_by r i) c) ∙ e in
+    absurd cc
 
--- a receive under none of them doesn't
-names_false : (rows : List Row) (r k key : ℕ) (p : Receive) →
-    slice_get rows k ≡ Some (record { key = key; job = Waiting p }) → (IsAmong key (keys_naming r (posted_rows rows)) → ⊥) →
-    names p.source r ≡ false
-names_false rows r k key p h n = only_true (names p.source r) (λ e. n (naming_among r rows k key p h e))
+-- a request under one of the keys ends
+ends_true : (slots : List (Option Entry)) (rows : List Row) (r i k key : ℕ) (job : Job) (keys : List ℕ) → IsTable slots rows → AreEnding rows r i keys →
+    slice_get rows k ≡ Some (record { key = key; job = job }) → (job ≡ Closed → ⊥) → IsAmong key keys → ends_by r i job ≡ true
+ends_true slots rows r i k key job keys table are at live a =
+    let n : IsEnding rows r i key = are.only key a in
+    let one : (k ≡ n.serial) × (job ≡ n.job) = one_request slots rows k n.serial key job n.job table at live n.there (ends_open r i n.job n.ends) in
+    ap (ends_by r i) one.1 ∙ n.ends
+
+-- a request under none of them doesn't
+ends_false : (rows : List Row) (r i k key : ℕ) (job : Job) (keys : List ℕ) → AreEnding rows r i keys →
+    slice_get rows k ≡ Some (record { key = key; job = job }) → (IsAmong key keys → ⊥) → ends_by r i job ≡ false
+ends_false rows r i k key job keys are at n = only_true (ends_by r i job) (λ e. n (are.each k key job at e))
 
 -- the slot of a row, by whether its key is one of them
-holds_replaced : (slots : List (Option Entry)) (rows : List Row) (r i k key : ℕ) (job : Job) → IsTable slots rows →
-    slice_get rows k ≡ Some (record { key = key; job = job }) → Holds (slot_at slots key) k job →
-    Holds (slot_at (after_replaces slots (keys_naming r (posted_rows rows))) key) k (ended r i job)
-holds_replaced slots rows r i k key job table at h = go (cases_among key keys)
+holds_replaced : (slots : List (Option Entry)) (rows : List Row) (r i k key : ℕ) (job : Job) (keys : List ℕ) → IsTable slots rows → AreEnding rows r i keys →
+    slice_get rows k ≡ Some (record { key = key; job = job }) → (job ≡ Closed → ⊥) → Holds (slot_at slots key) k job →
+    Holds (slot_at (after_replaces slots keys) key) k (ended r i job)
+holds_replaced slots rows r i k key job keys table are at live h = go (cases_among key keys)
   where
-    keys : List ℕ
-    keys = keys_naming r (posted_rows rows)
-
-    row_is : (p : Receive) → job ≡ Waiting p → slice_get rows k ≡ Some (record { key = key; job = Waiting p })
-    row_is p e = at ∙ ap (λ (j : Job). Some (record { key = key; job = j })) e
-
     go : IsAmong key keys ⊎ (IsAmong key keys → ⊥) → Holds (slot_at (after_replaces slots keys) key) k (ended r i job)
     go (inl a) =
         record {
           entry = replaced_entry h.entry;
           there = replaces_among keys slots key a ∙ ap (λ (s : Option Entry). option_map replaced_entry s) h.there;
           serial_is = h.serial_is;
-          fits = fits_replaced h.entry.progress r i job h.fits (λ p e. names_true slots rows r k key p table (row_is p e) a);
+          fits = fits_replaced h.entry.progress r i job h.fits (ends_true slots rows r i k key job keys table are at live a);
         }
     go (inr n) =
         record {
           entry = h.entry;
           there = replaces_apart keys slots key n ∙ h.there;
           serial_is = h.serial_is;
-          fits = fits_kept h.entry.progress r i job h.fits (λ p e. names_false rows r k key p (row_is p e) n);
+          fits = fits_kept h.entry.progress r i job h.fits (ends_false rows r i k key job keys are at n);
         }
 
--- what holds the job stands for it, where it is a receive that waits or is over
-stands_replaced : (slots : List (Option Entry)) (rows : List Row) (r i k key : ℕ) (job : Job) → IsTable slots rows →
-    slice_get rows k ≡ Some (record { key = key; job = job }) →
-    Stands (slot_at (after_replaces slots (keys_naming r (posted_rows rows))) key) k (ended r i job)
-stands_replaced slots rows r i k key (Waiting p) table at =
-    go (names p.source r) (holds_replaced slots rows r i k key (Waiting p) table at (table.stands k (record { key = key; job = Waiting p }) at))
+-- a row's slot holds what has become of it
+stands_replaced : (slots : List (Option Entry)) (rows : List Row) (r i k key : ℕ) (job : Job) (keys : List ℕ) → IsTable slots rows → AreEnding rows r i keys →
+    slice_get rows k ≡ Some (record { key = key; job = job }) → Stands (slot_at (after_replaces slots keys) key) k (ended r i job)
+stands_replaced slots rows r i k key job keys table are at =
+    go (ended_or_held (slot_at slots key) k job (table.stands k (record { key = key; job = job }) at))
   where
-    go : (b : Bool) →
-        Holds (slot_at (after_replaces slots (keys_naming r (posted_rows rows))) key) k (if b then Over (machine.Replaced (Some p.into.buffer.values)) else Waiting p) →
-        Stands (slot_at (after_replaces slots (keys_naming r (posted_rows rows))) key) k (if b then Over (machine.Replaced (Some p.into.buffer.values)) else Waiting p)
-    go true h = h
-    go false h = h
-stands_replaced slots rows r i k key (Collecting p h got) table at = absurd (table.stands k (record { key = key; job = Collecting p h got }) at)
-stands_replaced slots rows r i k key (Offering d basic values) table at = absurd (table.stands k (record { key = key; job = Offering d basic values }) at)
-stands_replaced slots rows r i k key (Over x) table at = holds_replaced slots rows r i k key (Over x) table at (table.stands k (record { key = key; job = Over x }) at)
-stands_replaced slots rows r i k key Closed table at = tt
+    after : Option Entry
+    after = slot_at (after_replaces slots keys) key
 
--- the table stands for what has ended
-pub replaced_table : (slots : List (Option Entry)) (rows : List Row) (r i : ℕ) → IsTable slots rows →
-    IsTable (after_replaces slots (keys_naming r (posted_rows rows))) (map (ended_row r i) rows)
-replaced_table slots rows r i table =
+    go : (job ≡ Closed) ⊎ Holds (slot_at slots key) k job → Stands after k (ended r i job)
+    go (inl e) = closed_stands after k (ended r i job) (ap (ended r i) e)
+    go (inr h) =
+        held_stands after k (ended r i job)
+        (holds_replaced slots rows r i k key job keys table are at (λ e. open_of h.entry.progress (subst (λ (j : Job). Fits h.entry.progress j) e h.fits)) h)
+
+-- where these are the keys of the requests that end, the table stands for what has become of them
+pub replaced_table : (slots : List (Option Entry)) (rows : List Row) (r i : ℕ) (keys : List ℕ) → IsTable slots rows → AreEnding rows r i keys →
+    IsTable (after_replaces slots keys) (map (ended_row r i) rows)
+replaced_table slots rows r i keys table are =
     record {
       stands = λ k row h. stands k row (slice_get rows k) refl (sym (slice_get-map (ended_row r i) rows k) ∙ h);
       entries = λ key t h. entries key t (cases_among key keys) h;
     }
   where
-    keys : List ℕ
-    keys = keys_naming r (posted_rows rows)
-
     after : List (Option Entry)
     after = after_replaces slots keys
 
@@ -216,10 +199,9 @@ replaced_table slots rows r i table =
         Stands (slot_at after row.key) k row.job
     stands k row None e h = absurd (none-some row h)
     stands k row (Some x) e h =
-        subst (λ (y : Row). Stands (slot_at after y.key) k y.job) (same_Some (ended_row r i x) row h) (stands_replaced slots rows r i k x.key x.job table e)
+        subst (λ (y : Row). Stands (slot_at after y.key) k y.job) (same_Some (ended_row r i x) row h) (stands_replaced slots rows r i k x.key x.job keys table are e)
 
-    there : (key : ℕ) (t : Entry) (x : IsRow rows key t) →
-        slice_get rows t.serial ≡ Some (record { key = key; job = x.row.job })
+    there : (key : ℕ) (t : Entry) (x : IsRow rows key t) → slice_get rows t.serial ≡ Some (record { key = key; job = x.row.job })
     there key t x = x.there ∙ ap (λ (n : ℕ). Some (record { key = n; job = x.row.job })) x.key_is
 
     kept : (key : ℕ) (t : Entry) → (IsAmong key keys → ⊥) → IsRow rows key t → IsRow (map (ended_row r i) rows) key t
@@ -228,19 +210,18 @@ replaced_table slots rows r i table =
           row = ended_row r i x.row;
           there = ended_at r i rows t.serial x.row x.there;
           key_is = x.key_is;
-          fits = fits_kept t.progress r i x.row.job x.fits
-              (λ p e. names_false rows r t.serial key p (there key t x ∙ ap (λ (j : Job). Some (record { key = key; job = j })) e) n);
+          fits = fits_kept t.progress r i x.row.job x.fits (ends_false rows r i t.serial key x.row.job keys are (there key t x) n);
         }
 
-    replaced : (key : ℕ) (t : Entry) → IsAmong key keys → IsRow rows key t →
-        IsRow (map (ended_row r i) rows) key (replaced_entry t)
+    replaced : (key : ℕ) (t : Entry) → IsAmong key keys → IsRow rows key t → IsRow (map (ended_row r i) rows) key (replaced_entry t)
     replaced key t a x =
         record {
           row = ended_row r i x.row;
           there = ended_at r i rows t.serial x.row x.there;
           key_is = x.key_is;
           fits = fits_replaced t.progress r i x.row.job x.fits
-              (λ p e. names_true slots rows r t.serial key p table (there key t x ∙ ap (λ (j : Job). Some (record { key = key; job = j })) e) a);
+              (ends_true slots rows r i t.serial key x.row.job keys table are (there key t x)
+              (λ e. open_of t.progress (subst (λ (j : Job). Fits t.progress j) e x.fits)) a);
         }
 
     among : (key : ℕ) (t : Entry) (s : Option Entry) → slot_at slots key ≡ s → IsAmong key keys →

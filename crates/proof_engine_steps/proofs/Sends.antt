@@ -1,9 +1,9 @@
 -- A send of a rank to another one, or to the null process, is that of its core in the network.
-use Rattle.vocabulary.specs.Limits.{eager_limit, send_limit}
-use Rattle.std.proofs.Common.{◌≡◌, ℕ, ◌+◌, ◌*◌, ◌≤◌, Bool, true, false, List, [], ◌∷◌, ◌++◌, length, Option, Some, None, if◌then◌else◌, ◌==◌, ◌||◌, ap₂, nat_le, nat_lt, slice_index, refl, sym, ap, ◌∙◌, subst, arith, append-nil}
-use Rattle.std.proofs.lemmas.Bool.{and_left, le-leb, le-ltb, ltb-false, or_left}
+use Rattle.vocabulary.specs.Limits.{eager_limit, highest_tag, send_limit}
+use Rattle.std.proofs.Common.{◌≡◌, ℕ, ◌+◌, ◌*◌, ◌<◌, ◌≤◌, Bool, true, false, List, [], ◌∷◌, ◌++◌, length, Option, Some, None, if◌then◌else◌, ◌==◌, ◌||◌, ap₂, nat_le, nat_lt, slice_index, refl, sym, ap, ◌∙◌, subst, arith, append-nil}
+use Rattle.std.specs.List.{AllByRecursion}
+use Rattle.std.proofs.lemmas.Bool.{and_left, eqb-false, le-leb, le-ltb, leb-false, ltb-false, or_left}
 use Rattle.vocabulary.specs.BasicTypes.{size_of}
-use Rattle.datatypes.specs.Contents.{Contents}
 use Rattle.vocabulary.specs.declared.envelope.Source.{Source}
 use Rattle.vocabulary.specs.declared.envelope.Source.TheVariants.{Null, Rank}
 use Rattle.perfect_queues.specs.Buffers.{data_of, differs_in_type, is_too_short}
@@ -15,7 +15,7 @@ use Rattle.vocabulary.specs.declared.basic_type.BasicType.{BasicType}
 use Rattle.vocabulary.specs.declared.endpoint.Endpoint.{Endpoint}
 use Rattle.proof_pure_network.specs.Core.{Core, Effect, effect, view}
 use Rattle.proof_pure_network.specs.Engine.{pushed_over, sends, sends_to}
-use Rattle.proof_pure_network.specs.Frames.{Eager}
+use Rattle.proof_pure_network.specs.Frames.{Eager, Frame}
 use Rattle.proof_pure_network.specs.Held.{blank}
 use Rattle.proof_pure_network.specs.Jobs.{Over}
 use Rattle.requests.specs.Regions.{byte_count, handed_of, sent_from}
@@ -28,21 +28,27 @@ use Rattle.rank_calls.specs.declared.call.Send.{Send}
 use Rattle.incarnation.specs.declared.place.Place.{Place}
 use Rattle.rank_calls.specs.declared.refused.Refused.{Refused}
 use Rattle.rank_calls.specs.declared.refused.Refused.TheVariants as refusals
-use Rattle.datatypes.specs.ContentLaws.{sizes, values_of-bytes_of}
+use Rattle.datatypes.specs.ContentLaws.{length-bytes_of, sizes, values_of-bytes_of}
+use Rattle.datatypes.specs.Contents.{AreWithin, Contents, bytes_of, values_of}
 use Rattle.rank_calls.specs.Calls.{IsWithin}
 use Rattle.rank_core.specs.CoreState.{CoreState}
+use Rattle.rank_calls.specs.Frames.{FrameFor, as_list}
 use Rattle.rank_calls.specs.Sending.{announced_to, destination, eager_frame, frame_to, frame_unless, is_large, offered_by, progress_of_send, rank_to, request_frame, send_fault}
 use Rattle.rank_core.specs.Sending.{IsSending, arrived_at_itself, arrived_if, frame_of}
 use Rattle.rendezvous.specs.State.{next_to}
 use Rattle.requests.specs.Table.{IsSet, slot_at}
 use Rattle.requests.specs.declared.table.Entry.{Entry}
-use Rattle.proof_engine_view.specs.Frames.{endpoint_of, sent_by}
+use Rattle.proof_engine_view.specs.Frames.{endpoint_of}
 use Rattle.proof_engine_view.specs.Rows.{Row, posted_rows}
 use Rattle.proof_engine_view.specs.Seen.{call_seen}
 use Rattle.proof_engine_view.specs.Shown.{IsShown}
+use Rattle.proof_engine_view.specs.Standing.{AreSent, CanLeave, all_gone}
+use Rattle.proof_engine_view.specs.Transfers.{Announcements, after_out}
 use Rattle.proof_engine_steps.specs.Steps.{IsCalled}
 use Rattle.proof_engine_steps.proofs.Regions.{handed_buffer}
-use Rattle.proof_engine_steps.proofs.Starting.{core_free, fault_free, holding_of, holding_started, no_fault, serial_told, shown_free, started_call, two_tests}
+use Rattle.proof_engine_steps.proofs.Starting.{core_free, fault_free, holding_of, holding_started, no_fault, none_leave, none_sent, serial_told, shown_free, started_call, two_tests}
+use Rattle.proof_engine_steps.proofs.Staying.{AreQuiet, shown_quiet, under_way_still}
+use Rattle.proof_engine_steps.proofs.UnderWay.{same_pushed}
 use Rattle.proof_engine_steps.proofs.Waking.{Holding}
 
 -- WHAT A SEND THAT WAS TAKEN MET
@@ -56,7 +62,7 @@ one_test false x h = refl
 -- job or the null process
 pub record KeepsRules (p : Place) (s : Send) : Type 0 where
   pub one_type : differs_in_type (handed_of s.from) ≡ false
-  pub few : byte_count s.from ≤ 1024
+  pub few : byte_count s.from ≤ send_limit
   pub long : is_too_short (handed_of s.from) ≡ false
   pub low : rules.is_no_tag s.tag ≡ false
   pub inside : rules.is_no_target p.size s.target ≡ false
@@ -65,24 +71,31 @@ pub send_rules : (p : Place) (s : Send) → send_fault p s ≡ None → KeepsRul
 unfolding send_fault
 send_rules p s fine =
     let last : Option Refused = if rules.is_no_target p.size s.target then Some refusals.Rank else None in
-    let t = two_tests (differs_in_type (handed_of s.from)) (nat_lt 1024 (byte_count s.from)) refusals.WrongType refusals.Count
+    let t = two_tests (differs_in_type (handed_of s.from)) (nat_lt send_limit (byte_count s.from)) refusals.WrongType refusals.Count
     (if is_too_short (handed_of s.from) then Some refusals.Count else (if rules.is_no_tag s.tag then Some refusals.Tag else last)) fine in
     let u = two_tests (is_too_short (handed_of s.from)) (rules.is_no_tag s.tag) refusals.Count refusals.Tag last t.2 in
     record {
       one_type = t.0;
-      few = ltb-false 1024 (byte_count s.from) t.1;
+      few = ltb-false send_limit (byte_count s.from) t.1;
       long = u.0;
       low = u.1;
       inside = one_test (rules.is_no_target p.size s.target) refusals.Rank u.2;
     }
 
 -- so many bytes, in a buffer that is long enough or isn't, are as many as the machine allows
-pub send_count : (s : Send) (b : Bool) → byte_count s.from ≤ 1024 → is_too_short (handed_of s.from) ≡ b →
+pub send_count : (s : Send) (b : Bool) → byte_count s.from ≤ send_limit → is_too_short (handed_of s.from) ≡ b →
     (nat_lt send_limit (length (data_of (handed_of s.from)) * size_of (handed_of s.from).buffer.basic) || is_too_short (handed_of s.from)) ≡ b
 send_count s b few long =
     ap₂ (λ (x y : Bool). x || y)
     (ap (λ (c : Contents). nat_lt send_limit (length (data_of (handed_of s.from)) * size_of c.basic)) (handed_buffer s.from)
-    ∙ le-ltb send_limit (byte_count s.from) (omega (arith, few))) long
+    ∙ le-ltb send_limit (byte_count s.from) few) long
+
+-- too many bytes are more than the machine allows, whatever the buffer
+pub send_over : (s : Send) → nat_lt send_limit (byte_count s.from) ≡ true →
+    (nat_lt send_limit (length (data_of (handed_of s.from)) * size_of (handed_of s.from).buffer.basic) || is_too_short (handed_of s.from)) ≡ true
+send_over s over =
+    ap (λ (x : Bool). x || is_too_short (handed_of s.from))
+    (ap (λ (c : Contents). nat_lt send_limit (length (data_of (handed_of s.from)) * size_of c.basic)) (handed_buffer s.from) ∙ over)
 
 -- no rule of the machine is broken
 pub send_fit : (p : Place) (core : Core) (s : Send) → core.blocked ≡ None → KeepsRules p s →
@@ -115,14 +128,14 @@ core_sends core own to i c tag basic values other small known =
     eager = machine.is_eager own d basic values
 
 -- what is sent of a region
-called_send : (core : Core) (own : Endpoint) (s : Send) →
+pub called_send : (core : Core) (own : Endpoint) (s : Send) →
     sends_to own core rules.world s.target s.tag (handed_of s.from).buffer.basic (data_of (handed_of s.from)) ≡ core_sent own core s.target s.tag (sent_from s.from)
 called_send core own s =
     ap (λ (b : Contents). sends_to own core rules.world s.target s.tag b.basic (data_of (handed_of s.from))) (handed_buffer s.from)
 
 -- THE RANK'S SEND
 
--- what a send that goes in one frame leaves: its request is finished
+-- what a send leaves whose message isn't announced: its request is finished
 pub record IsSmallSending (old : CoreState) (s : Send) (q : Request) (new : CoreState) : Type 0 where
   pub fresh : slot_at old.slots q.key ≡ None
   pub serial : q.serial ≡ old.serial
@@ -130,13 +143,9 @@ pub record IsSmallSending (old : CoreState) (s : Send) (q : Request) (new : Core
   pub entry : IsSet old.slots started q.key (Some (record { serial = old.serial; progress = Finished Sent }))
   pub rest : new ≡ arrived_at_itself (record old { slots = started; serial = old.serial + 1 }) (destination s.target s.tag) (sent_from s.from)
 
--- elements that are so few go in one frame
-few_small : (s : Send) → byte_count s.from ≤ 1024 → is_large (sent_from s.from) ≡ false
-few_small s few = le-ltb 1024 (byte_count s.from) few
-
--- each send that breaks no rule is such a one
-pub small_sending : (old new : CoreState) (s : Send) (q : Request) → KeepsRules old.place s → IsSending old s q new → IsSmallSending old s q new
-small_sending old new s q kept sent =
+-- each send whose message isn't announced is such a one
+pub small_sending : (old new : CoreState) (s : Send) (q : Request) → announced_to old.place s ≡ None → IsSending old s q new → IsSmallSending old s q new
+small_sending old new s q none sent =
     record {
       fresh = sent.fresh;
       serial = sent.serial;
@@ -145,17 +154,29 @@ small_sending old new s q kept sent =
       rest = subst (λ (a : Option ℕ). new ≡ arrived_at_itself (record old { slots = sent.started; serial = old.serial + 1; transfers = offered_by old.transfers a q.key (sent_from s.from) })
           (destination s.target s.tag) (sent_from s.from)) none sent.rest;
     }
+
+-- nothing is announced that goes in one frame
+pub announced_small : (p : Place) (s : Send) → is_large (sent_from s.from) ≡ false → announced_to p s ≡ None
+announced_small p s small = ap (λ (b : Bool). if b then rank_to p (destination s.target s.tag) else None) small
+
+-- nor what goes to no other rank
+pub announced_nowhere : (p : Place) (s : Send) → rank_to p (destination s.target s.tag) ≡ None → announced_to p s ≡ None
+announced_nowhere p s nowhere = go (is_large (sent_from s.from))
   where
-    none : announced_to old.place s ≡ None
-    none = ap (λ (b : Bool). if b then rank_to old.place (destination s.target s.tag) else None) (few_small s kept.few)
+    go : (b : Bool) → (if b then rank_to p (destination s.target s.tag) else None) ≡ None
+    go true = nowhere
+    go false = refl
 
 -- its request is there, and is over
-pub send_holds : (old : CoreState) (known : List ℕ) (core : Core) (s : Send) (q : Request) (new : CoreState) → (shown : IsShown old known core) → (sent : IsSmallSending old s q new) →
-    Holding (record old { slots = sent.started; serial = old.serial + 1 }) known (pushed_over core) (shown.rows ++ record { key = q.key; job = Over ends.Sent } ∷ [])
-send_holds old known core s q new shown sent =
-    holding_started old (record old { slots = sent.started; serial = old.serial + 1 }) known core (pushed_over core) shown.rows q.key (Finished Sent) (Over ends.Sent)
-    (holding_of old known core shown) sent.fresh sent.entry refl refl refl
-    (shown.posted ∙ sym (append-nil (posted_rows shown.rows))) shown.held shown.small refl refl
+pub send_holds : (links : Announcements) (old : CoreState) (known : List ℕ) (core : Core) (s : Send) (q : Request) (new : CoreState) → (shown : IsShown links old known core) → (sent : IsSmallSending old s q new) →
+    Holding links (record old { slots = sent.started; serial = old.serial + 1 }) known (pushed_over core) (shown.rows ++ record { key = q.key; job = Over ends.Sent } ∷ [])
+send_holds links old known core s q new shown sent =
+    holding_started links links old (record old { slots = sent.started; serial = old.serial + 1 }) known core (pushed_over core) shown.rows q.key (Finished Sent) (Over ends.Sent)
+    (holding_of links old known core shown) sent.fresh sent.entry refl refl refl
+    (shown.posted ∙ sym (append-nil (posted_rows shown.rows))) shown.held
+    (under_way_still links known old.place old.place shown.rows (shown.rows ++ record { key = q.key; job = Over ends.Sent } ∷ []) old.transfers old.transfers old.queues.unexpected old.queues.unexpected shown.under_way
+    (same_pushed shown.rows q.key (Over ends.Sent) (λ i. i)) refl refl refl)
+    refl refl
 
 -- what such a send leaves of the rank but for its requests and queues
 pub record Stays (old new : CoreState) : Type 0 where
@@ -163,74 +184,120 @@ pub record Stays (old new : CoreState) : Type 0 where
   pub completion : new.completion ≡ old.completion
   pub blocked : new.blocked ≡ old.blocked
 
--- a send that was started, by what the core makes of it
-pub send_started : (old new : CoreState) (known : List ℕ) (core : Core) (s : Send) (q : Request) (after : Effect) (rows : List Row) → IsShown old known core → old.blocked ≡ None →
-    KeepsRules old.place s → q.serial ≡ old.serial → core_sent old.place.endpoint core s.target s.tag (sent_from s.from) ≡ after → Holding new known after.core rows →
-    after.core.blocked ≡ core.blocked → Stays old new → (IsWithin (calls.Isend s) → after.out ≡ sent_by known (frame_of old s)) →
-    IsCalled old known core (calls.Isend s) (replies.Started q) new
-send_started old new known core s q after rows shown free kept serial is holding same stays out =
-    let core_is : core.blocked ≡ None = core_free old known core shown free in
-    started_call old new known core (calls.Isend s) q after (record {
+-- A send that was started and announces nothing, by what the core makes of it
+pub send_started : (links : Announcements) (old new : CoreState) (known : List ℕ) (core : Core) (s : Send) (q : Request) (after : Effect) (rows : List Row) → IsShown links old known core → old.blocked ≡ None →
+    KeepsRules old.place s → q.serial ≡ old.serial → core_sent old.place.endpoint core s.target s.tag (sent_from s.from) ≡ after → Holding links new known after.core rows →
+    after.core.blocked ≡ core.blocked → Stays old new → AreQuiet after.out → AreSent (after_out links after.out) (all_gone known (as_list (frame_of old s))) after.out →
+    AllByRecursion (CanLeave old.place) (as_list (frame_of old s)) → IsCalled links old known core (calls.Isend s) (replies.Started q) new
+send_started links old new known core s q after rows shown free kept serial is holding same stays quiet out leave =
+    let core_is : core.blocked ≡ None = core_free links old known core shown free in
+    started_call links old new known core (calls.Isend s) q after (record {
       is = called_send core old.place.endpoint s ∙ is;
       fit = send_fit old.place core s core_is kept;
       place = stays.place;
       completion = stays.completion;
       free = same ∙ core_is;
-      shown = shown_free new known after.core rows holding (stays.blocked ∙ free) (same ∙ core_is);
+      shown = shown_quiet links new known after.core after.out quiet (shown_free links new known after.core rows holding (stays.blocked ∙ free) (same ∙ core_is));
       sends = out;
-      reply = ap (λ (n : ℕ). Some (call_seen (calls.Isend s), Some (machine.Started n))) (serial_told old known core q shown serial);
+      leaves = leave;
+      reply = ap (λ (n : ℕ). Some (call_seen (calls.Isend s), Some (machine.Started n))) (serial_told links old known core q shown serial);
     })
 
 -- the same, where nothing comes to the own rank
-away_shown : (old new : CoreState) (known : List ℕ) (core : Core) (s : Send) (q : Request) (after : Effect) → (shown : IsShown old known core) → old.blocked ≡ None →
+away_shown : (links : Announcements) (old new : CoreState) (known : List ℕ) (core : Core) (s : Send) (q : Request) (after : Effect) → (shown : IsShown links old known core) → old.blocked ≡ None →
     KeepsRules old.place s → (sent : IsSmallSending old s q new) → new ≡ record old { slots = sent.started; serial = old.serial + 1 } →
     core_sent old.place.endpoint core s.target s.tag (sent_from s.from) ≡ after → after.core ≡ pushed_over core →
-    (IsWithin (calls.Isend s) → after.out ≡ sent_by known (frame_of old s)) →
-    IsCalled old known core (calls.Isend s) (replies.Started q) new
-away_shown old new known core s q after shown free kept sent rest is left out =
-    send_started old new known core s q after (shown.rows ++ record { key = q.key; job = Over ends.Sent } ∷ []) shown free kept sent.serial is
-    (subst (λ (c : Core). Holding new known c (shown.rows ++ record { key = q.key; job = Over ends.Sent } ∷ [])) (sym left)
-    (subst (λ (e : CoreState). Holding e known (pushed_over core) (shown.rows ++ record { key = q.key; job = Over ends.Sent } ∷ [])) (sym rest)
-    (send_holds old known core s q new shown sent)))
+    AreQuiet after.out → AreSent (after_out links after.out) (all_gone known (as_list (frame_of old s))) after.out → AllByRecursion (CanLeave old.place) (as_list (frame_of old s)) →
+    IsCalled links old known core (calls.Isend s) (replies.Started q) new
+away_shown links old new known core s q after shown free kept sent rest is left quiet out leave =
+    send_started links old new known core s q after (shown.rows ++ record { key = q.key; job = Over ends.Sent } ∷ []) shown free kept sent.serial is
+    (subst (λ (c : Core). Holding links new known c (shown.rows ++ record { key = q.key; job = Over ends.Sent } ∷ [])) (sym left)
+    (subst (λ (e : CoreState). Holding links e known (pushed_over core) (shown.rows ++ record { key = q.key; job = Over ends.Sent } ∷ [])) (sym rest)
+    (send_holds links old known core s q new shown sent)))
     (ap (λ (c : Core). c.blocked) left)
     (record { place = ap (λ (e : CoreState). e.place) rest; completion = ap (λ (e : CoreState). e.completion) rest; blocked = ap (λ (e : CoreState). e.blocked) rest })
-    out
+    quiet out leave
 
 -- a send to the null process
-pub null_send_shown : (old new : CoreState) (known : List ℕ) (core : Core) (s : Send) (q : Request) → IsShown old known core → old.blocked ≡ None →
-    s.target ≡ Null → KeepsRules old.place s → IsSmallSending old s q new → IsCalled old known core (calls.Isend s) (replies.Started q) new
-null_send_shown old new known core s q shown free is kept sent =
-    away_shown old new known core s q (effect (pushed_over core) []) shown free kept sent
+pub null_send_shown : (links : Announcements) (old new : CoreState) (known : List ℕ) (core : Core) (s : Send) (q : Request) → IsShown links old known core → old.blocked ≡ None →
+    s.target ≡ Null → KeepsRules old.place s → IsSending old s q new → IsCalled links old known core (calls.Isend s) (replies.Started q) new
+null_send_shown links old new known core s q shown free is kept is_sent =
+    away_shown links old new known core s q (effect (pushed_over core) []) shown free kept sent
     (sent.rest ∙ ap (λ (t : Source). arrived_at_itself (record old { slots = sent.started; serial = old.serial + 1 }) (destination t s.tag) (sent_from s.from)) is)
-    (ap (λ (t : Source). core_sent old.place.endpoint core t s.tag (sent_from s.from)) is) refl
-    (λ within. sym (ap (λ (t : Source). sent_by known (frame_to old.place old.transfers (destination t s.tag) (sent_from s.from))) is))
+    (ap (λ (t : Source). core_sent old.place.endpoint core t s.tag (sent_from s.from)) is) refl tt
+    (none_sent (after_out links []) known (frame_of old s) none) (none_leave old.place (frame_of old s) none)
+  where
+    sent : IsSmallSending old s q new
+    sent = small_sending old new s q (announced_nowhere old.place s (ap (λ (t : Source). rank_to old.place (destination t s.tag)) is)) is_sent
 
--- the frame that is sent is that of the network, where each element has the width of its type
-send_seen : (old : CoreState) (known : List ℕ) (s : Send) (to tag : ℕ) → s.target ≡ Rank to → s.tag ≡ Some tag → (to == old.place.endpoint.rank) ≡ false →
-    byte_count s.from ≤ 1024 → IsWithin (calls.Isend s) →
-    (endpoint_of known to, Eager rules.world tag (sent_from s.from).basic (sent_from s.from).values) ∷ [] ≡ sent_by known (frame_of old s)
-send_seen old known s to tag target_is tag_is other few within =
-    sym (ap₂ (λ (t : Source) (g : Option ℕ). sent_by known (frame_to old.place old.transfers (destination t g) (sent_from s.from))) target_is tag_is
-    ∙ ap (λ (b : Bool). sent_by known (frame_unless b old.transfers (record { rank = to; tag = tag }) (sent_from s.from))) other
-    ∙ ap (λ (b : Bool). sent_by known (Some (record { rank = to; frame = if b then request_frame (next_to old.transfers.numbers to) tag (sent_from s.from) else eager_frame tag (sent_from s.from) })))
-    (few_small s few)
-    ∙ ap (λ (values : List ℕ). (endpoint_of known to, Eager rules.world tag (sent_from s.from).basic values) ∷ [])
-    (values_of-bytes_of (size_of (sent_from s.from).basic) (sent_from s.from).values (sizes (sent_from s.from).basic).positive within))
+    none : frame_of old s ≡ None
+    none = ap (λ (t : Source). frame_to old.place old.transfers (destination t s.tag) (sent_from s.from)) is
 
--- a send to another rank
-pub other_send_shown : (old new : CoreState) (known : List ℕ) (core : Core) (s : Send) (q : Request) (to tag : ℕ) → IsShown old known core → old.blocked ≡ None →
-    s.target ≡ Rank to → s.tag ≡ Some tag → (to == old.place.endpoint.rank) ≡ false → KeepsRules old.place s → IsSmallSending old s q new →
-    IsCalled old known core (calls.Isend s) (replies.Started q) new
-other_send_shown old new known core s q to tag shown free target_is tag_is other kept sent =
-    away_shown old new known core s q (effect (pushed_over core) ((endpoint_of known to, Eager rules.world tag c.basic c.values) ∷ [])) shown free kept sent
+-- THE FRAME OF A SMALL SEND
+
+-- its rank and its frame
+abbrev eager_for : (to tag : ℕ) → Contents → FrameFor
+eager_for to tag c = record { rank = to; frame = eager_frame tag c }
+
+-- elements that go in one frame go in an eager one
+small_frame : (old : CoreState) (s : Send) (to tag : ℕ) → s.target ≡ Rank to → s.tag ≡ Some tag → (to == old.place.endpoint.rank) ≡ false → is_large (sent_from s.from) ≡ false →
+    frame_of old s ≡ Some (eager_for to tag (sent_from s.from))
+small_frame old s to tag target_is tag_is other small =
+    ap₂ (λ (t : Source) (g : Option ℕ). frame_to old.place old.transfers (destination t g) (sent_from s.from)) target_is tag_is
+    ∙ (ap (λ (b : Bool). frame_unless b old.transfers (record { rank = to; tag = tag }) (sent_from s.from)) other
+    ∙ ap (λ (b : Bool). Some (record { rank = to; frame = if b then request_frame (next_to old.transfers.numbers to) tag (sent_from s.from) else eager_frame tag (sent_from s.from) })) small)
+
+-- it can leave the rank
+eager_leaves : (p : Place) (to tag : ℕ) (c : Contents) → to < p.size → (to ≡ p.endpoint.rank → ⊥) → tag ≤ highest_tag → length c.values * size_of c.basic ≤ eager_limit → CanLeave p (eager_for to tag c)
+eager_leaves p to tag c there apart low count =
+    let sized : length (bytes_of (size_of c.basic) c.values) ≡ length c.values * size_of c.basic = length-bytes_of (size_of c.basic) c.values in
+    let size : 0 < size_of c.basic = (sizes c.basic).positive in
+    let least : length c.values ≤ length c.values * size_of c.basic = grind arith in
+    record {
+      there = there;
+      apart = apart;
+      fits = record { tag = low; size = sized; limit = omega (arith, sized, count); plane = tt };
+      width = record { context = omega arith; count = omega (arith, least, count) };
+    }
+
+-- it stands for the network's, where each element has the width of its type
+eager_stands : (tag : ℕ) (c : Contents) → AreWithin (size_of c.basic) c.values →
+    ◌≡◌ {A = Option Frame} (Some (Eager rules.world tag c.basic (values_of (size_of c.basic) (bytes_of (size_of c.basic) c.values)))) (Some (Eager rules.world tag c.basic c.values))
+eager_stands tag c within = ap (λ (values : List ℕ). Some (Eager rules.world tag c.basic values)) (values_of-bytes_of (size_of c.basic) c.values (sizes c.basic).positive within)
+
+-- a small send to another rank
+pub other_send_shown : (links : Announcements) (old new : CoreState) (known : List ℕ) (core : Core) (s : Send) (q : Request) (to tag : ℕ) → IsShown links old known core → old.blocked ≡ None →
+    s.target ≡ Rank to → s.tag ≡ Some tag → (to == old.place.endpoint.rank) ≡ false → KeepsRules old.place s → IsWithin (calls.Isend s) → is_large (sent_from s.from) ≡ false → IsSending old s q new →
+    IsCalled links old known core (calls.Isend s) (replies.Started q) new
+other_send_shown links old new known core s q to tag shown free target_is tag_is other kept within small is_sent =
+    away_shown links old new known core s q (effect (pushed_over core) ((endpoint_of known to, Eager rules.world tag c.basic c.values) ∷ [])) shown free kept sent
     (sent.rest ∙ ap₂ (λ (t : Source) (g : Option ℕ). arrived_at_itself started (destination t g) c) target_is tag_is ∙
     ap (λ (b : Bool). arrived_if b started (record { rank = to; tag = tag }) c) other)
     (ap₂ (λ (t : Source) (g : Option ℕ). core_sent old.place.endpoint core t g c) target_is tag_is ∙
-    core_sends core old.place.endpoint to (slice_index known to) rules.world tag c.basic c.values other (le-leb (length c.values * size_of c.basic) 1024 kept.few) (shown.known_alike to))
-    refl (send_seen old known s to tag target_is tag_is other kept.few)
+    core_sends core old.place.endpoint to (slice_index known to) rules.world tag c.basic c.values other (le-leb (length c.values * size_of c.basic) eager_limit few) (shown.known_alike to))
+    refl (tt, tt)
+    (subst (λ (f : Option FrameFor). AreSent (after_out links ((endpoint_of known to, Eager rules.world tag c.basic c.values) ∷ [])) (all_gone known (as_list f)) ((endpoint_of known to, Eager rules.world tag c.basic c.values) ∷ []))
+    (sym frame) (refl, eager_stands tag c within, tt))
+    (subst (λ (f : Option FrameFor). AllByRecursion (CanLeave old.place) (as_list f)) (sym frame)
+    (eager_leaves old.place to tag c there (eqb-false to old.place.endpoint.rank other) low few, tt))
   where
     c : Contents
     c = sent_from s.from
+
+    sent : IsSmallSending old s q new
+    sent = small_sending old new s q (announced_small old.place s small) is_sent
+
+    few : length c.values * size_of c.basic ≤ eager_limit
+    few = ltb-false eager_limit (length c.values * size_of c.basic) small
+
+    frame : frame_of old s ≡ Some (eager_for to tag c)
+    frame = small_frame old s to tag target_is tag_is other small
+
+    there : to < old.place.size
+    there = leb-false old.place.size to (sym (ap (rules.is_no_target old.place.size) target_is) ∙ kept.inside)
+
+    low : tag ≤ highest_tag
+    low = ltb-false highest_tag tag (sym (ap rules.is_no_tag tag_is) ∙ kept.low)
 
     -- the rank once the request was started
     started : CoreState

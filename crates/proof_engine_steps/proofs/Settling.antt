@@ -1,20 +1,24 @@
 -- How a core answers its blocked call, and what an engine does then.
 use Rattle.std.proofs.Common.{◌≡◌, ℕ, Bool, List, Option, Some, None, if◌then◌else◌, slice_get, option_and_then, refl, ap, ◌∙◌}
 use Rattle.std.proofs.lemmas.Bool.{eq-eqb}
+use Rattle.vocabulary.specs.declared.basic_type.BasicType.{BasicType}
+use Rattle.vocabulary.specs.declared.endpoint.Endpoint.{Endpoint}
 use Rattle.perfect_queues.specs.Completions.{Awaited, completion}
 use Rattle.perfect_queues.specs.Outcomes as machine
 use Rattle.perfect_queues.specs.Receives.{Receive}
 use Rattle.proof_pure_network.specs.Core.{Core}
 use Rattle.proof_pure_network.specs.Engine.{core_ready, core_settled, core_settled_by}
-use Rattle.proof_pure_network.specs.Jobs.{Job, Waiting, Over, over_at}
+use Rattle.proof_pure_network.specs.Held.{Held}
+use Rattle.proof_pure_network.specs.Jobs.{Job, Waiting, Collecting, Offering, Over, over_at}
 use Rattle.requests.specs.declared.outcome.Outcome.{Outcome}
 use Rattle.requests.specs.declared.region.Region.{Region}
 use Rattle.requests.specs.declared.table.Entry as slots
+use Rattle.requests.specs.declared.table.Matched.{Matched}
 use Rattle.requests.specs.declared.table.Progress.{Progress}
 use Rattle.requests.specs.declared.table.Progress.TheVariants.{Receiving, Finished}
 use Rattle.requests.specs.declared.table.Progress.TheVariants as progresses
 use Rattle.requests.specs.Table.{progress_at, progress_of, slot_at}
-use Rattle.proof_engine_view.specs.Rows.{Fits, Holds, IsTable, Row}
+use Rattle.proof_engine_view.specs.Rows.{Fits, Holds, IsMatched, IsTable, Row}
 use Rattle.proof_engine_view.specs.Seen.{outcome_seen}
 use Rattle.proof_engine_steps.proofs.Tables.{held_at}
 
@@ -60,6 +64,26 @@ fits_over (progresses.Collecting w) x f = absurd f
 fits_over progresses.Offering x f = absurd f
 fits_over (Finished o) x f = record { outcome = o; is = refl; seen = f }
 
+-- a receive that collects is one that is collected, for the same match
+pub record IsCollected (g : Progress) (p : Receive) (h : Held) : Type 0 where
+  pub matched : Matched
+  pub is : g ≡ progresses.Collecting matched
+  pub alike : IsMatched matched p h
+
+-- its progress is that it is collected
+pub fits_collecting : (g : Progress) (p : Receive) (h : Held) (got : List ℕ) → Fits g (Collecting p h got) → IsCollected g p h
+fits_collecting (Receiving b) p h got f = absurd f
+fits_collecting (progresses.Collecting w) p h got f = record { matched = w; is = refl; alike = f }
+fits_collecting progresses.Offering p h got f = absurd f
+fits_collecting (Finished o) p h got f = absurd f
+
+-- the progress of a send that offers is that it is offered
+pub fits_offering : (g : Progress) (d : Endpoint) (basic : BasicType) (values : List ℕ) → Fits g (Offering d basic values) → g ≡ progresses.Offering
+fits_offering (Receiving b) d basic values f = absurd f
+fits_offering (progresses.Collecting w) d basic values f = absurd f
+fits_offering progresses.Offering d basic values f = refl
+fits_offering (Finished o) d basic values f = absurd f
+
 -- what the table says of a receive that waits
 pub progress_waiting : (table : List (Option slots.Entry)) (rows : List Row) (k key : ℕ) (p : Receive) → IsTable table rows → slice_get rows k ≡ Some (record { key = key; job = Waiting p }) →
     (b : Region) × (progress_at table key k ≡ Some (Receiving b))
@@ -75,3 +99,18 @@ progress_over table rows k key x t h =
     let m : Holds (slot_at table key) k (Over x) = held_at table rows k key (Over x) t h (λ e. cc) in
     let r : IsFinished m.entry.progress x = fits_over m.entry.progress x m.fits in
     (r.outcome, progress_row table key k (Over x) m ∙ ap Some r.is, r.seen)
+
+-- what the table says of a receive that collects
+pub progress_collecting : (table : List (Option slots.Entry)) (rows : List Row) (k key : ℕ) (p : Receive) (h : Held) (got : List ℕ) → IsTable table rows →
+    slice_get rows k ≡ Some (record { key = key; job = Collecting p h got }) → (w : Matched) × (progress_at table key k ≡ Some (progresses.Collecting w)) × IsMatched w p h
+progress_collecting table rows k key p h got t at =
+    let m : Holds (slot_at table key) k (Collecting p h got) = held_at table rows k key (Collecting p h got) t at (λ e. cc) in
+    let r : IsCollected m.entry.progress p h = fits_collecting m.entry.progress p h got m.fits in
+    (r.matched, progress_row table key k (Collecting p h got) m ∙ ap Some r.is, r.alike)
+
+-- what the table says of a send that offers
+pub progress_offering : (table : List (Option slots.Entry)) (rows : List Row) (k key : ℕ) (d : Endpoint) (basic : BasicType) (values : List ℕ) → IsTable table rows →
+    slice_get rows k ≡ Some (record { key = key; job = Offering d basic values }) → progress_at table key k ≡ Some progresses.Offering
+progress_offering table rows k key d basic values t at =
+    let m : Holds (slot_at table key) k (Offering d basic values) = held_at table rows k key (Offering d basic values) t at (λ e. cc) in
+    progress_row table key k (Offering d basic values) m ∙ ap Some (fits_offering m.entry.progress d basic values m.fits)

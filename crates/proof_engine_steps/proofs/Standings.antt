@@ -18,14 +18,16 @@ use Rattle.requests.specs.declared.awaited.Awaited.{Awaited}
 use Rattle.requests.specs.declared.awaited.Awaited.TheVariants as awaiteds
 use Rattle.requests.specs.declared.outcome.Outcome.{Outcome}
 use Rattle.requests.specs.declared.outcome.Outcome.TheVariants as outcomes
+use Rattle.requests.specs.declared.table.Matched.{Matched}
 use Rattle.requests.specs.declared.table.Progress.{Progress}
 use Rattle.requests.specs.declared.table.Progress.TheVariants.{Receiving, Finished}
 use Rattle.requests.specs.declared.table.Progress.TheVariants as progresses
 use Rattle.requests.specs.declared.table.Request.{Request}
 use Rattle.rank_core.specs.CoreState.{CoreState}
-use Rattle.proof_engine_view.specs.Rows.{Row, Stands}
+use Rattle.proof_engine_view.specs.Rows.{Fits, Row, Stands}
 use Rattle.proof_engine_view.specs.Seen.{awaited_by, is_foreign, outcome_seen, own_serial, request_by, requests_by, serial_meant}
 use Rattle.proof_engine_view.specs.Shown.{IsShown}
+use Rattle.proof_engine_view.specs.Transfers.{Announcements}
 use Rattle.proof_engine_steps.proofs.Foreign.{foreign_of, held_own, meant_foreign, meant_own}
 use Rattle.proof_engine_steps.proofs.Found.{HasRow, finished_row, row_of, waiting_of}
 
@@ -80,9 +82,9 @@ abbrev pub standing_at : Core → ℕ → rules.Standing
 standing_at core k = rules.standing (slice_get (map (request_of blank) core.jobs) k)
 
 -- by the row with the serial
-standing_row : (old : CoreState) (known : List ℕ) (core : Core) (k : ℕ) (o : Option Row) → (shown : IsShown old known core) → slice_get shown.rows k ≡ o →
+standing_row : (links : Announcements) (old : CoreState) (known : List ℕ) (core : Core) (k : ℕ) (o : Option Row) → (shown : IsShown links old known core) → slice_get shown.rows k ≡ o →
     standing_at core k ≡ rules.standing (option_map (request_of blank) (option_map (λ (r : Row). r.job) o))
-standing_row old known core k o shown h =
+standing_row links old known core k o shown h =
     ap rules.standing (slice_get-map (request_of blank) core.jobs k ∙
     ap (λ (x : Option Job). option_map (request_of blank) x)
     (ap (λ (js : List Job). slice_get js k) shown.jobs ∙
@@ -90,20 +92,20 @@ standing_row old known core k o shown h =
 
 -- under the serial that a request means at a rank, the machine sees how far it is; what another engine gave, and what
 -- the table doesn't hold, is missing
-standing_seen : (old : CoreState) (known : List ℕ) (core : Core) (q : Request) → IsShown old known core → standing_at core (serial_meant old q) ≡ standing_of (progress_at old.slots q.key q.serial)
-standing_seen old known core q shown = go (progress_at old.slots q.key q.serial) refl
+standing_seen : (links : Announcements) (old : CoreState) (known : List ℕ) (core : Core) (q : Request) → IsShown links old known core → standing_at core (serial_meant old q) ≡ standing_of (progress_at old.slots q.key q.serial)
+standing_seen links old known core q shown = go (progress_at old.slots q.key q.serial) refl
   where
     at : (k : ℕ) (o : Option Row) → serial_meant old q ≡ k → slice_get shown.rows k ≡ o →
         standing_at core (serial_meant old q) ≡ rules.standing (option_map (request_of blank) (option_map (λ (r : Row). r.job) o))
-    at k o e h = ap (standing_at core) e ∙ standing_row old known core k o shown h
+    at k o e h = ap (standing_at core) e ∙ standing_row links old known core k o shown h
 
     by_job : is_foreign old.slots q ≡ false → progress_at old.slots q.key q.serial ≡ None → (key : ℕ) (j : Job) → slice_get shown.rows q.serial ≡ Some (record { key = key; job = j }) →
         Stands (slot_at old.slots key) q.serial j → standing_at core (serial_meant old q) ≡ rules.Missing
     by_job f e key (Waiting p) h s = absurd (foreign_of old.slots q key (Waiting p) e f s)
     by_job f e key (Over o) h s = absurd (foreign_of old.slots q key (Over o) e f s)
     by_job f e key Closed h s = at q.serial (Some (record { key = key; job = Closed })) (meant_own old q f) h
-    by_job f e key (Collecting p m got) h s = absurd s
-    by_job f e key (Offering d basic values) h s = absurd s
+    by_job f e key (Collecting p m got) h s = absurd (foreign_of old.slots q key (Collecting p m got) e f s)
+    by_job f e key (Offering d basic values) h s = absurd (foreign_of old.slots q key (Offering d basic values) e f s)
 
     own : is_foreign old.slots q ≡ false → progress_at old.slots q.key q.serial ≡ None → (o : Option Row) → slice_get shown.rows q.serial ≡ o → standing_at core (serial_meant old q) ≡ rules.Missing
     own f e None h = at q.serial None (meant_own old q f) h
@@ -113,25 +115,47 @@ standing_seen old known core q shown = go (progress_at old.slots q.key q.serial)
     absent true f e = at old.serial None (meant_foreign old q f) (slice_get_past shown.rows old.serial (omega (arith, shown.count)))
     absent false f e = own f e (slice_get shown.rows q.serial) refl
 
+    -- a receive that collects is one to both
+    collects : (w : Matched) → progress_at old.slots q.key q.serial ≡ Some (progresses.Collecting w) → (j : Job) → slice_get shown.rows q.serial ≡ Some (record { key = q.key; job = j }) →
+        Fits (progresses.Collecting w) j → standing_at core (serial_meant old q) ≡ rules.Receiving
+    collects w e (Waiting p) h f = absurd f
+    collects w e (Collecting p m got) h f = at q.serial (Some (record { key = q.key; job = Collecting p m got })) (held_own old q (progresses.Collecting w) e) h
+    collects w e (Offering d basic values) h f = absurd f
+    collects w e (Over x) h f = absurd f
+    collects w e Closed h f = absurd f
+
+    -- and a send that offers is a send
+    offers : progress_at old.slots q.key q.serial ≡ Some progresses.Offering → (j : Job) → slice_get shown.rows q.serial ≡ Some (record { key = q.key; job = j }) →
+        Fits progresses.Offering j → standing_at core (serial_meant old q) ≡ rules.Sends
+    offers e (Waiting p) h f = absurd f
+    offers e (Collecting p m got) h f = absurd f
+    offers e (Offering d basic values) h f = at q.serial (Some (record { key = q.key; job = Offering d basic values })) (held_own old q progresses.Offering e) h
+    offers e (Over x) h f = absurd f
+    offers e Closed h f = absurd f
+
     go : (g : Option Progress) → progress_at old.slots q.key q.serial ≡ g → standing_at core (serial_meant old q) ≡ standing_of g
     go None e = absent (is_foreign old.slots q) refl e
     go (Some (Receiving b)) e =
         let r : HasRow shown.rows q.serial q.key (Receiving b) = row_of old.slots shown.rows q.serial q.key (Receiving b) shown.table e in
         let p : (p : receives.Receive) × (r.job ≡ Waiting p) = waiting_of b r.job r.fits in
         at q.serial (Some (record { key = q.key; job = Waiting p.0 })) (held_own old q (Receiving b) e) (r.there ∙ ap (λ (j : Job). Some (record { key = q.key; job = j })) p.1)
-    go (Some (progresses.Collecting w)) e = absurd (row_of old.slots shown.rows q.serial q.key (progresses.Collecting w) shown.table e).fits
-    go (Some progresses.Offering) e = absurd (row_of old.slots shown.rows q.serial q.key progresses.Offering shown.table e).fits
+    go (Some (progresses.Collecting w)) e =
+        let r : HasRow shown.rows q.serial q.key (progresses.Collecting w) = row_of old.slots shown.rows q.serial q.key (progresses.Collecting w) shown.table e in
+        collects w e r.job r.there r.fits
+    go (Some progresses.Offering) e =
+        let r : HasRow shown.rows q.serial q.key progresses.Offering = row_of old.slots shown.rows q.serial q.key progresses.Offering shown.table e in
+        offers e r.job r.there r.fits
     go (Some (Finished o)) e =
         at q.serial (Some (record { key = q.key; job = Over (outcome_seen o) })) (held_own old q (Finished o) e) (finished_row old.slots shown.rows q o shown.table e)
 
 -- whether it is missing
-missing_seen : (old : CoreState) (known : List ℕ) (core : Core) (q : Request) → IsShown old known core → rules.is_missing (standing_at core (serial_meant old q)) ≡ lists.is_absent old.slots q
-missing_seen old known core q shown = ap rules.is_missing (standing_seen old known core q shown) ∙ missing_of (progress_at old.slots q.key q.serial)
+missing_seen : (links : Announcements) (old : CoreState) (known : List ℕ) (core : Core) (q : Request) → IsShown links old known core → rules.is_missing (standing_at core (serial_meant old q)) ≡ lists.is_absent old.slots q
+missing_seen links old known core q shown = ap rules.is_missing (standing_seen links old known core q shown) ∙ missing_of (progress_at old.slots q.key q.serial)
 
 -- whether it is a receive
-pub receive_seen : (old : CoreState) (known : List ℕ) (core : Core) (q : Request) → IsShown old known core →
+pub receive_seen : (links : Announcements) (old : CoreState) (known : List ℕ) (core : Core) (q : Request) → IsShown links old known core →
     rules.is_receive (standing_at core (serial_meant old q)) ≡ table.is_receive (progress_at old.slots q.key q.serial)
-receive_seen old known core q shown = ap rules.is_receive (standing_seen old known core q shown) ∙ receive_of (progress_at old.slots q.key q.serial)
+receive_seen links old known core q shown = ap rules.is_receive (standing_seen links old known core q shown) ∙ receive_of (progress_at old.slots q.key q.serial)
 
 -- ---- requests that are there
 
@@ -192,12 +216,12 @@ awaited_meant m (awaiteds.AnyOf rs) = serials_meant m rs
 awaited_meant m (awaiteds.AllOf rs) = serials_meant m rs
 
 -- whether one is missing
-one_missing : (old : CoreState) (known : List ℕ) (core : Core) → IsShown old known core → (qs : List Request) →
+one_missing : (links : Announcements) (old : CoreState) (known : List ℕ) (core : Core) → IsShown links old known core → (qs : List Request) →
     rules.is_one_missing (standing_at core) (map (serial_meant old) qs) ≡ lists.is_one_absent old.slots qs
-one_missing old known core shown [] = refl
-one_missing old known core shown (q ∷ qs) =
-    ap (λ (b : Bool). b || rules.is_one_missing (standing_at core) (map (serial_meant old) qs)) (missing_seen old known core q shown) ∙
-    ap (λ (b : Bool). lists.is_absent old.slots q || b) (one_missing old known core shown qs)
+one_missing links old known core shown [] = refl
+one_missing links old known core shown (q ∷ qs) =
+    ap (λ (b : Bool). b || rules.is_one_missing (standing_at core) (map (serial_meant old) qs)) (missing_seen links old known core q shown) ∙
+    ap (λ (b : Bool). lists.is_absent old.slots q || b) (one_missing links old known core shown qs)
 
 -- two numbers that differ
 differ : (a b : ℕ) → a ≢ b → (a == b) ≡ false
@@ -216,50 +240,50 @@ and_true true b h e = e
 and_true false b h e = absurd cc
 
 -- two requests that are there and have one serial have one key
-one_key : (old : CoreState) (known : List ℕ) (core : Core) (q p : Request) → IsShown old known core → IsPresent old q → IsPresent old p → q.serial ≡ p.serial → q.key ≡ p.key
-one_key old known core q p shown hq hp e =
+one_key : (links : Announcements) (old : CoreState) (known : List ℕ) (core : Core) (q p : Request) → IsShown links old known core → IsPresent old q → IsPresent old p → q.serial ≡ p.serial → q.key ≡ p.key
+one_key links old known core q p shown hq hp e =
     let a : HasRow shown.rows q.serial q.key hq.0 = row_of old.slots shown.rows q.serial q.key hq.0 shown.table hq.1 in
     let b : HasRow shown.rows p.serial p.key hp.0 = row_of old.slots shown.rows p.serial p.key hp.0 shown.table hp.1 in
     ap (λ (r : Row). r.key) (same_Some (record { key = q.key; job = a.job }) (record { key = p.key; job = b.job }) (sym a.there ∙ (ap (slice_get shown.rows) e ∙ b.there)))
 
 -- whether two requests that are there are one
-same_test : (old : CoreState) (known : List ℕ) (core : Core) (q p : Request) → IsShown old known core → IsPresent old q → IsPresent old p →
+same_test : (links : Announcements) (old : CoreState) (known : List ℕ) (core : Core) (q p : Request) → IsShown links old known core → IsPresent old q → IsPresent old p →
     (serial_meant old p == serial_meant old q) ≡ lists.is_same q p
-same_test old known core q p shown hq hp =
+same_test links old known core q p shown hq hp =
     ap (λ (k : ℕ). k == serial_meant old q) (meant_present old p hp) ∙ (ap (λ (k : ℕ). p.serial == k) (meant_present old q hq) ∙ go (cases_eq q.serial p.serial))
   where
     go : (q.serial ≡ p.serial) ⊎ (q.serial ≢ p.serial) → (p.serial == q.serial) ≡ lists.is_same q p
     go (inl e) =
         eq-eqb p.serial q.serial (sym e) ∙
-        sym (and_true (q.key == p.key) (q.serial == p.serial) (eq-eqb q.key p.key (one_key old known core q p shown hq hp e)) (eq-eqb q.serial p.serial e))
+        sym (and_true (q.key == p.key) (q.serial == p.serial) (eq-eqb q.key p.key (one_key links old known core q p shown hq hp e)) (eq-eqb q.serial p.serial e))
     go (inr n) = differ p.serial q.serial (λ e. n (sym e)) ∙ sym (and_false (q.key == p.key) (q.serial == p.serial) (differ q.serial p.serial n))
 
 -- whether one stands later in the list
-later_same : (old : CoreState) (known : List ℕ) (core : Core) (q : Request) → IsShown old known core → IsPresent old q → (qs : List Request) → AllByRecursion (IsPresent old) qs →
+later_same : (links : Announcements) (old : CoreState) (known : List ℕ) (core : Core) (q : Request) → IsShown links old known core → IsPresent old q → (qs : List Request) → AllByRecursion (IsPresent old) qs →
     list_any (λ (k : ℕ). k == serial_meant old q) (map (serial_meant old) qs) ≡ list_any (lists.is_same q) qs
-later_same old known core q shown hq [] h = refl
-later_same old known core q shown hq (p ∷ qs) h =
-    ap (λ (b : Bool). b || list_any (λ (k : ℕ). k == serial_meant old q) (map (serial_meant old) qs)) (same_test old known core q p shown hq h.0) ∙
-    ap (λ (b : Bool). lists.is_same q p || b) (later_same old known core q shown hq qs h.1)
+later_same links old known core q shown hq [] h = refl
+later_same links old known core q shown hq (p ∷ qs) h =
+    ap (λ (b : Bool). b || list_any (λ (k : ℕ). k == serial_meant old q) (map (serial_meant old) qs)) (same_test links old known core q p shown hq h.0) ∙
+    ap (λ (b : Bool). lists.is_same q p || b) (later_same links old known core q shown hq qs h.1)
 
 -- whether one stands twice
-twice_same : (old : CoreState) (known : List ℕ) (core : Core) → IsShown old known core → (qs : List Request) → AllByRecursion (IsPresent old) qs →
+twice_same : (links : Announcements) (old : CoreState) (known : List ℕ) (core : Core) → IsShown links old known core → (qs : List Request) → AllByRecursion (IsPresent old) qs →
     rules.is_twice (map (serial_meant old) qs) ≡ lists.is_twice qs
-twice_same old known core shown [] h = refl
-twice_same old known core shown (q ∷ qs) h =
-    ap (λ (b : Bool). b || rules.is_twice (map (serial_meant old) qs)) (later_same old known core q shown h.0 qs h.1) ∙
-    ap (λ (b : Bool). list_any (lists.is_same q) qs || b) (twice_same old known core shown qs h.1)
+twice_same links old known core shown [] h = refl
+twice_same links old known core shown (q ∷ qs) h =
+    ap (λ (b : Bool). b || rules.is_twice (map (serial_meant old) qs)) (later_same links old known core q shown h.0 qs h.1) ∙
+    ap (λ (b : Bool). list_any (lists.is_same q) qs || b) (twice_same links old known core shown qs h.1)
 
 -- whether a list can't be waited for: one is missing, or stands twice
-pub wrong_same : (old : CoreState) (known : List ℕ) (core : Core) → IsShown old known core → (qs : List Request) →
+pub wrong_same : (links : Announcements) (old : CoreState) (known : List ℕ) (core : Core) → IsShown links old known core → (qs : List Request) →
     (rules.is_one_missing (standing_at core) (map (serial_meant old) qs) || rules.is_twice (map (serial_meant old) qs)) ≡ (lists.is_one_absent old.slots qs || lists.is_twice qs)
-wrong_same old known core shown qs = go (lists.is_one_absent old.slots qs) refl
+wrong_same links old known core shown qs = go (lists.is_one_absent old.slots qs) refl
   where
     ks : List ℕ
     ks = map (serial_meant old) qs
 
     go : (b : Bool) → lists.is_one_absent old.slots qs ≡ b → (rules.is_one_missing (standing_at core) ks || rules.is_twice ks) ≡ (lists.is_one_absent old.slots qs || lists.is_twice qs)
-    go true e = ap (λ (b : Bool). b || rules.is_twice ks) (one_missing old known core shown qs ∙ e) ∙ sym (ap (λ (b : Bool). b || lists.is_twice qs) e)
+    go true e = ap (λ (b : Bool). b || rules.is_twice ks) (one_missing links old known core shown qs ∙ e) ∙ sym (ap (λ (b : Bool). b || lists.is_twice qs) e)
     go false e =
-        ap (λ (b : Bool). b || rules.is_twice ks) (one_missing old known core shown qs) ∙
-        ap (λ (b : Bool). lists.is_one_absent old.slots qs || b) (twice_same old known core shown qs (all_present old qs e))
+        ap (λ (b : Bool). b || rules.is_twice ks) (one_missing links old known core shown qs) ∙
+        ap (λ (b : Bool). lists.is_one_absent old.slots qs || b) (twice_same links old known core shown qs (all_present old qs e))

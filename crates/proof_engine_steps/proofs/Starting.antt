@@ -1,5 +1,6 @@
 -- A call that starts a request: what it leaves of a rank and of its core in the network.
 use Rattle.std.proofs.Common.{◌≡◌, ℕ, ◌+◌, Bool, true, false, List, [], ◌∷◌, ◌++◌, map, length, Option, Some, None, if◌then◌else◌, slice_get, refl, sym, ap, ◌∙◌, subst, arith, length-append}
+use Rattle.std.specs.List.{AllByRecursion}
 use Rattle.std.proofs.lemmas.List.{length-map}
 use Rattle.perfect_queues.specs.Calls as machine
 use Rattle.perfect_queues.specs.Completions.{Awaited}
@@ -16,13 +17,16 @@ use Rattle.requests.specs.declared.table.Request.{Request}
 use Rattle.rank_calls.specs.declared.call.Call.{Call}
 use Rattle.rank_calls.specs.declared.call.Reply.TheVariants as replies
 use Rattle.rank_calls.specs.declared.refused.Refused.{Refused}
-use Rattle.rank_calls.specs.Calls.{IsWithin}
+use Rattle.rank_calls.specs.Frames.{FrameFor, as_list}
+use Rattle.incarnation.specs.declared.place.Place.{Place}
 use Rattle.rank_core.specs.Calls.{call_frame}
 use Rattle.rank_core.specs.CoreState.{CoreState}
 use Rattle.proof_engine_view.specs.Rows.{Fits, Row, held_of, posted_job, posted_rows}
-use Rattle.proof_engine_view.specs.Frames.{sent_by}
 use Rattle.proof_engine_view.specs.Seen.{call_seen}
-use Rattle.proof_engine_view.specs.Shown.{AreSmall, IsBlocked, IsShown}
+use Rattle.proof_engine_view.specs.Shown.{IsBlocked, IsShown}
+use Rattle.proof_engine_view.specs.Standing.{AreSent, CanLeave, all_gone}
+use Rattle.proof_engine_view.specs.Transfers.{Announcements, after_out}
+use Rattle.proof_engine_view.specs.UnderWay.{AreUnderWay}
 use Rattle.proof_engine_steps.specs.Steps.{IsCalled}
 use Rattle.proof_engine_steps.proofs.RowLemmas.{posted_push, push_jobs}
 use Rattle.proof_engine_steps.proofs.Settling.{ready_free, settled_free}
@@ -31,12 +35,12 @@ use Rattle.proof_engine_steps.proofs.Waking.{Holding, known_still, shown_with}
 pub use Rattle.proof_engine_steps.proofs.Waking.{holding_of}
 
 -- where the rank's call is not blocked, the core's isn't
-pub core_free : (e : CoreState) (known : List ℕ) (core : Core) → IsShown e known core → e.blocked ≡ None → core.blocked ≡ None
-core_free e known core s h = subst (λ (b : Option rank.Awaited). IsBlocked s.rows b core.blocked) h s.blocked
+pub core_free : (links : Announcements) (e : CoreState) (known : List ℕ) (core : Core) → IsShown links e known core → e.blocked ≡ None → core.blocked ≡ None
+core_free links e known core s h = subst (λ (b : Option rank.Awaited). IsBlocked s.rows b core.blocked) h s.blocked
 
 -- what is held is shown, where no call is blocked
-pub shown_free : (e : CoreState) (known : List ℕ) (core : Core) (rows : List Row) → Holding e known core rows → e.blocked ≡ None → core.blocked ≡ None → IsShown e known core
-shown_free e known core rows h a b = shown_with e known core rows h (subst (λ (x : Option rank.Awaited). IsBlocked rows x core.blocked) (sym a) b) (ready_free core b)
+pub shown_free : (links : Announcements) (e : CoreState) (known : List ℕ) (core : Core) (rows : List Row) → Holding links e known core rows → e.blocked ≡ None → core.blocked ≡ None → IsShown links e known core
+shown_free links e known core rows h a b = shown_with links e known core rows h (subst (λ (x : Option rank.Awaited). IsBlocked rows x core.blocked) (sym a) b) (ready_free core b)
 
 -- the fault of a call while no other is blocked
 pub fault_free : (n : ℕ) (core : Core) (c : machine.Call) → core.blocked ≡ None → fault n (view blank core) c ≡ fault_by n false (λ k. standing (slice_get (map (request_of blank) core.jobs) k)) c
@@ -53,12 +57,13 @@ two_tests true b x y o h = absurd (grind arith)
 two_tests false true x y o h = absurd (grind arith)
 two_tests false false x y o h = (refl, refl, h)
 
--- one more request, in both
-pub holding_started : (e e' : CoreState) (known : List ℕ) (core core' : Core) (rows : List Row) (key : ℕ) (g : Progress) (job : Job) → Holding e known core rows → slot_at e.slots key ≡ None →
+-- One more request, in both. It may have been announced, so that there is more on the links than before
+pub holding_started : (links links' : Announcements) (e e' : CoreState) (known : List ℕ) (core core' : Core) (rows : List Row) (key : ℕ) (g : Progress) (job : Job) → Holding links e known core rows → slot_at e.slots key ≡ None →
     IsSet e.slots e'.slots key (Some (record { serial = e.serial; progress = g })) → Fits g job → core'.jobs ≡ core.jobs ++ job ∷ [] → e'.serial ≡ e.serial + 1 →
-    e'.queues.posted ≡ posted_rows rows ++ posted_job key job → core'.held ≡ map held_of e'.queues.unexpected → AreSmall e'.transfers e'.queues.unexpected → core'.known ≡ core.known → e'.place ≡ e.place →
-    Holding e' known core' (rows ++ record { key = key; job = job } ∷ [])
-holding_started e e' known core core' rows key g job h fresh set fits js se po he small kn pl =
+    e'.queues.posted ≡ posted_rows rows ++ posted_job key job → core'.held ≡ map (held_of links'.from) e'.queues.unexpected →
+    AreUnderWay links' known e'.place (rows ++ record { key = key; job = job } ∷ []) e'.transfers e'.queues.unexpected → core'.known ≡ core.known → e'.place ≡ e.place →
+    Holding links' e' known core' (rows ++ record { key = key; job = job } ∷ [])
+holding_started links links' e e' known core core' rows key g job h fresh set fits js se po he under kn pl =
     record {
       jobs = js ∙ (ap (λ (ys : List Job). ys ++ job ∷ []) h.jobs ∙ sym (push_jobs rows key job));
       count = length-append rows (record { key = key; job = job } ∷ []) ∙ (ap (λ (n : ℕ). n + 1) h.count ∙ sym se);
@@ -66,36 +71,46 @@ holding_started e e' known core core' rows key g job h fresh set fits js se po h
           (subst (λ (n : ℕ). Says (Some (record { serial = e.serial; progress = g })) n job) (sym h.count) (says_some e.serial g job fits));
       posted = po ∙ sym (posted_push rows key job);
       held = he;
-      small = small;
+      under_way = under;
       knowing = known_still e.place e'.place known core.known core'.known h.knowing pl kn;
     }
 
+-- a call that gives no frame sends none
+pub none_sent : (links : Announcements) (known : List ℕ) (f : Option FrameFor) → f ≡ None → AreSent links (all_gone known (as_list f)) []
+none_sent links known f none = subst (λ (x : Option FrameFor). AreSent links (all_gone known (as_list x)) []) (sym none) tt
+
+pub none_leave : (p : Place) (f : Option FrameFor) → f ≡ None → AllByRecursion (CanLeave p) (as_list f)
+none_leave p f none = subst (λ (x : Option FrameFor). AllByRecursion (CanLeave p) (as_list x)) (sym none) tt
+
 -- the serial that the machine gives
-pub serial_told : (e : CoreState) (known : List ℕ) (core : Core) (q : Request) → IsShown e known core → q.serial ≡ e.serial → length (map (request_of blank) core.jobs) ≡ q.serial
-serial_told e known core q s h =
+pub serial_told : (links : Announcements) (e : CoreState) (known : List ℕ) (core : Core) (q : Request) → IsShown links e known core → q.serial ≡ e.serial → length (map (request_of blank) core.jobs) ≡ q.serial
+serial_told links e known core q s h =
     length-map core.jobs (request_of blank) ∙ (ap (λ (js : List Job). length js) s.jobs ∙ (length-map s.rows (λ (r : Row). r.job) ∙ (s.count ∙ sym h)))
 
 -- what a call that starts a request leaves, while no other is blocked
-pub record IsStart (old : CoreState) (known : List ℕ) (core : Core) (call : Call) (q : Request) (new : CoreState) (after : Effect) : Type 0 where
+pub record IsStart (links : Announcements) (old : CoreState) (known : List ℕ) (core : Core) (call : Call) (q : Request) (new : CoreState) (after : Effect) : Type 0 where
   pub is : called old.place.endpoint core (call_seen call) ≡ after
   pub fit : fault old.place.size (view blank core) (call_seen call) ≡ None
   pub place : new.place ≡ old.place
   pub completion : new.completion ≡ old.completion
   pub free : after.core.blocked ≡ None
-  pub shown : IsShown new known after.core
-  pub sends : IsWithin call → after.out ≡ sent_by known (call_frame old call)
+  -- with what the call announces, if it does
+  pub shown : IsShown (after_out links after.out) new known after.core
+  pub sends : AreSent (after_out links after.out) (all_gone known (as_list (call_frame old call))) after.out
+  pub leaves : AllByRecursion (CanLeave old.place) (as_list (call_frame old call))
   pub reply : call_and_reply (view blank core) (Some (call_seen call)) ≡ Some (call_seen call, Some (machine.Started q.serial))
 
 -- such a call is answered by its serial
-pub started_call : (old new : CoreState) (known : List ℕ) (core : Core) (call : Call) (q : Request) (after : Effect) → IsStart old known core call q new after →
-    IsCalled old known core call (replies.Started q) new
-started_call old new known core call q after s =
+pub started_call : (links : Announcements) (old new : CoreState) (known : List ℕ) (core : Core) (call : Call) (q : Request) (after : Effect) → IsStart links old known core call q new after →
+    IsCalled links old known core call (replies.Started q) new
+started_call links old new known core call q after s =
     record {
       fit = s.fit;
       place = s.place;
       completion = s.completion;
-      shown = subst (λ (f : Effect). IsShown new known (core_settled f.core)) (sym s.is)
-          (subst (λ (c : Core). IsShown new known c) (sym (settled_free after.core s.free)) s.shown);
-      sends = λ within. ap (λ (f : Effect). f.out) s.is ∙ s.sends within;
+      shown = subst (λ (f : Effect). IsShown (after_out links f.out) new known (core_settled f.core)) (sym s.is)
+          (subst (λ (c : Core). IsShown (after_out links after.out) new known c) (sym (settled_free after.core s.free)) s.shown);
+      sends = subst (λ (f : Effect). AreSent (after_out links f.out) (all_gone known (as_list (call_frame old call))) f.out) (sym s.is) s.sends;
+      leaves = s.leaves;
       tells = ap (λ (o : Option (machine.Call × Option machine.Reply)). told old.place.endpoint o (core_ready (called old.place.endpoint core (call_seen call)).core)) s.reply;
     }

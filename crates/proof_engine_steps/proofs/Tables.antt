@@ -7,8 +7,6 @@ use Rattle.proof_pure_network.proofs.JobLemmas.{get_set_same, push_at}
 use Rattle.proof_pure_network.specs.Jobs.{Job, Waiting, Collecting, Offering, Over, Closed}
 use Rattle.requests.specs.declared.table.Entry.{Entry}
 use Rattle.requests.specs.declared.table.Progress.{Progress}
-use Rattle.requests.specs.declared.table.Progress.TheVariants.{Receiving, Finished}
-use Rattle.requests.specs.declared.table.Progress.TheVariants as progresses
 use Rattle.requests.specs.Table.{IsSet, slot_at}
 use Rattle.proof_engine_view.specs.Rows.{Fits, Holds, IsRow, IsTable, Row, Stands}
 
@@ -33,10 +31,18 @@ set_is_set (x ∷ xs) (suc k) t s h = set_later x xs (slice_set xs k s) k s (set
 -- a request has ended, or its slot holds it
 pub ended_or_held : (slot : Option Entry) (k : ℕ) (j : Job) → Stands slot k j → (j ≡ Closed) ⊎ Holds slot k j
 ended_or_held slot k (Waiting p) h = inr h
-ended_or_held slot k (Collecting p m got) h = absurd h
-ended_or_held slot k (Offering d basic values) h = absurd h
+ended_or_held slot k (Collecting p m got) h = inr h
+ended_or_held slot k (Offering d basic values) h = inr h
 ended_or_held slot k (Over x) h = inr h
 ended_or_held slot k Closed h = inl refl
+
+-- what its slot holds stands there
+pub held_stands : (slot : Option Entry) (k : ℕ) (j : Job) → Holds slot k j → Stands slot k j
+held_stands slot k (Waiting p) h = h
+held_stands slot k (Collecting p m got) h = h
+held_stands slot k (Offering d basic values) h = h
+held_stands slot k (Over x) h = h
+held_stands slot k Closed h = tt
 
 -- what stands where nothing is has ended
 pub none_stands : (k : ℕ) (j : Job) → Stands None k j → j ≡ Closed
@@ -58,17 +64,8 @@ pub record Says (slot : Option Entry) (k : ℕ) (job : Job) : Type 0 where
 
 -- an entry that fits its job stands for it
 pub fits_stands : (k : ℕ) (g : Progress) (j : Job) → Fits g j → Stands (Some (record { serial = k; progress = g })) k j
-fits_stands k g (Waiting p) f = record { entry = record { serial = k; progress = g }; there = refl; serial_is = refl; fits = f }
-fits_stands k g (Over x) f = record { entry = record { serial = k; progress = g }; there = refl; serial_is = refl; fits = f }
-fits_stands k g Closed f = tt
-fits_stands k (Receiving b) (Collecting p h got) f = absurd f
-fits_stands k (progresses.Collecting w) (Collecting p h got) f = absurd f
-fits_stands k progresses.Offering (Collecting p h got) f = absurd f
-fits_stands k (Finished o) (Collecting p h got) f = absurd f
-fits_stands k (Receiving b) (Offering d basic values) f = absurd f
-fits_stands k (progresses.Collecting w) (Offering d basic values) f = absurd f
-fits_stands k progresses.Offering (Offering d basic values) f = absurd f
-fits_stands k (Finished o) (Offering d basic values) f = absurd f
+fits_stands k g j f =
+    held_stands (Some (record { serial = k; progress = g })) k j (record { entry = record { serial = k; progress = g }; there = refl; serial_is = refl; fits = f })
 
 -- it says the same
 pub says_some : (k : ℕ) (g : Progress) (j : Job) → Fits g j → Says (Some (record { serial = k; progress = g })) k j
@@ -143,6 +140,16 @@ held_at slots rows k key job table h live = go (ended_or_held (slot_at slots key
     go : (job ≡ Closed) ⊎ Holds (slot_at slots key) k job → Holds (slot_at slots key) k job
     go (inl e) = absurd (live e)
     go (inr x) = x
+
+-- one key has one request that has not ended
+pub one_request : (slots : List (Option Entry)) (rows : List Row) (k j key : ℕ) (job other : Job) → IsTable slots rows → slice_get rows k ≡ Some (record { key = key; job = job }) → job ≢ Closed →
+    slice_get rows j ≡ Some (record { key = key; job = other }) → other ≢ Closed → (k ≡ j) × (job ≡ other)
+one_request slots rows k j key job other table h live g awake =
+    let a : Holds (slot_at slots key) k job = held_at slots rows k key job table h live in
+    let b : Holds (slot_at slots key) j other = held_at slots rows j key other table g awake in
+    let one : a.entry ≡ b.entry = same_Some a.entry b.entry (sym a.there ∙ b.there) in
+    let e : k ≡ j = sym a.serial_is ∙ (ap (λ (t : Entry). t.serial) one ∙ b.serial_is) in
+    (e, ap (λ (x : Row). x.job) (same_Some (record { key = key; job = job }) (record { key = key; job = other }) (sym h ∙ (ap (slice_get rows) e ∙ g))))
 
 -- A REQUEST THAT GOES ON
 

@@ -1,8 +1,8 @@
 -- What is under way stays: while rows change that are no large messages, and while others announce theirs.
-use Rattle.std.proofs.Common.{◌≡◌, ◌≢◌, ℕ, zero, suc, ◌*◌, ◌<◌, ◌≤◌, List, [], ◌∷◌, ◌++◌, length, map, Option, Some, None, slice_get, slice_set, refl, sym, ap, ap₂, ◌∙◌, subst, arith, ◌⊎◌, inl, inr}
+use Rattle.std.proofs.Common.{◌≡◌, ◌≢◌, ℕ, zero, suc, List, [], ◌∷◌, ◌++◌, length, map, Some, slice_get, slice_set, refl, sym, ap, ap₂, ◌∙◌, subst, arith, ◌⊎◌, inl, inr}
 use Rattle.std.specs.List.{AllByRecursion}
 use Rattle.std.proofs.lemmas.Bool.{cases_eq}
-use Rattle.std.proofs.lemmas.Option.{none-some, same_Some, slice_get_within}
+use Rattle.std.proofs.lemmas.Option.{same_Some}
 use Rattle.vocabulary.specs.declared.endpoint.Endpoint.{Endpoint}
 use Rattle.incarnation.specs.declared.place.Place.{Place}
 use Rattle.match_queues.specs.declared.envelope.Body.{Body}
@@ -12,16 +12,12 @@ use Rattle.rendezvous.specs.declared.offer.Offer.{Offer}
 use Rattle.rendezvous.specs.Collecting as rendezvous
 use Rattle.rendezvous.specs.State as transfers
 use Rattle.perfect_queues.proofs.ListLemmas.{get_set_other}
-use Rattle.rank_core.specs.CoreState.{CoreState}
-use Rattle.proof_pure_network.proofs.JobLemmas.{get_set_same, push_at}
-use Rattle.proof_pure_network.specs.Announced.{Begins}
-use Rattle.proof_pure_network.specs.Core.{Core}
+use Rattle.proof_pure_network.proofs.JobLemmas.{get_set_same}
 use Rattle.proof_pure_network.specs.Held as held
 use Rattle.proof_pure_network.specs.Held.{Held, Part}
 use Rattle.proof_pure_network.specs.Jobs.{Job, Waiting, Collecting, Offering, Over, Closed}
 use Rattle.proof_engine_view.specs.Frames.{endpoint_of}
 use Rattle.proof_engine_view.specs.Rows.{Row, body_seen, held_of}
-use Rattle.proof_engine_view.specs.Shown.{IsShown}
 use Rattle.proof_engine_view.specs.Transfers.{Announcements, AnnouncementsGrow, Transfer}
 use Rattle.proof_engine_view.specs.UnderWay.{AreUnderWay, IsCollectionOf, IsFromLink, IsOfferOf}
 use Rattle.proof_engine_view.proofs.Growing.{begun_at, number_more, serial_more}

@@ -20,28 +20,30 @@ use Rattle.rank_core.specs.CoreState.{CoreState}
 use Rattle.rank_core.specs.Waiting.{answered_by, woken, woken_by}
 use Rattle.proof_engine_view.specs.Rows.{IsTable, Row, held_of, jobs_of, posted_rows}
 use Rattle.proof_engine_view.specs.Seen.{answer_seen, awaited_seen, told_completion}
-use Rattle.proof_engine_view.specs.Shown.{AreSmall, IsBlocked, IsNamed, IsShown}
+use Rattle.proof_engine_view.specs.Shown.{IsBlocked, IsNamed, IsShown}
+use Rattle.proof_engine_view.specs.Transfers.{Announcements}
+use Rattle.proof_engine_view.specs.UnderWay.{AreUnderWay}
 use Rattle.proof_engine_steps.proofs.Agreeing.{SayTheSame, completion_seen, completions_same, named_same_outcome, serials_of}
 use Rattle.proof_engine_steps.proofs.Knowing.{IsKnown}
 use Rattle.proof_engine_steps.proofs.Named.{all_follow}
 use Rattle.proof_engine_steps.proofs.Settling.{ready_free}
-use Rattle.proof_engine_steps.proofs.Wholes.{small_still}
+use Rattle.proof_engine_steps.proofs.Staying.{same_without, under_way_still}
 use Rattle.proof_engine_steps.proofs.Using.{jobs_without, length_without, posted_without, rows_without, table_without, used_spent}
 
 -- the rank holds what the network's core holds, whatever its call waits for
-pub record Holding (e : CoreState) (known : List ℕ) (core : Core) (rows : List Row) : Type 0 where
+pub record Holding (links : Announcements) (e : CoreState) (known : List ℕ) (core : Core) (rows : List Row) : Type 0 where
   pub jobs : core.jobs ≡ jobs_of rows
   pub count : length rows ≡ e.serial
   pub table : IsTable e.slots rows
   pub posted : e.queues.posted ≡ posted_rows rows
-  pub held : core.held ≡ map held_of e.queues.unexpected
-  pub small : AreSmall e.transfers e.queues.unexpected
+  pub held : core.held ≡ map (held_of links.from) e.queues.unexpected
+  pub under_way : AreUnderWay links known e.place rows e.transfers e.queues.unexpected
   pub knowing : IsKnown e.place known core.known
 
 -- what is held is shown, with what the call waits for
-pub shown_with : (e : CoreState) (known : List ℕ) (core : Core) (rows : List Row) → Holding e known core rows → IsBlocked rows e.blocked core.blocked → core_ready core ≡ None →
-    IsShown e known core
-shown_with e known core rows h b p =
+pub shown_with : (links : Announcements) (e : CoreState) (known : List ℕ) (core : Core) (rows : List Row) → Holding links e known core rows → IsBlocked rows e.blocked core.blocked → core_ready core ≡ None →
+    IsShown links e known core
+shown_with links e known core rows h b p =
     record {
       rows = rows;
       jobs = h.jobs;
@@ -49,7 +51,7 @@ shown_with e known core rows h b p =
       table = h.table;
       posted = h.posted;
       held = h.held;
-      small = h.small;
+      under_way = h.under_way;
       blocked = b;
       pending = p;
       width = h.knowing.width;
@@ -86,36 +88,37 @@ woken_ready e a answer used h g = ap (woken_by e) h ∙ ap (answered_by e) g
 -- BOTH
 
 -- both say the same of a request that the call waits for
-say_the_same : (e : CoreState) (known : List ℕ) (core : Core) (rows : List Row) → Holding e known core rows → (q : Request) → IsNamed rows q → SayTheSame (outcome_at e.slots) (over_at core.jobs) q
-say_the_same e known core rows h q named =
+say_the_same : (links : Announcements) (e : CoreState) (known : List ℕ) (core : Core) (rows : List Row) → Holding links e known core rows → (q : Request) → IsNamed rows q → SayTheSame (outcome_at e.slots) (over_at core.jobs) q
+say_the_same links e known core rows h q named =
     subst (λ (js : List Job). SayTheSame (outcome_at e.slots) (over_at js) q) (sym h.jobs) (named_same_outcome e.slots rows h.table q named)
 
 -- what the core answers to this is what the rank answers
-pub core_completion : (e : CoreState) (known : List ℕ) (core : Core) (rows : List Row) (a : Awaited) → Holding e known core rows → All (IsNamed rows) (awaited_requests a) →
+pub core_completion : (links : Announcements) (e : CoreState) (known : List ℕ) (core : Core) (rows : List Row) (a : Awaited) → Holding links e known core rows → All (IsNamed rows) (awaited_requests a) →
     machine.completion (over_at core.jobs) (awaited_seen a) ≡ completion_seen (completion e.slots a)
-core_completion e known core rows a h named =
+core_completion links e known core rows a h named =
     completions_same e.slots (over_at core.jobs) a
-    (all_follow (IsNamed rows) (SayTheSame (outcome_at e.slots) (over_at core.jobs)) (say_the_same e known core rows h) (awaited_requests a)
+    (all_follow (IsNamed rows) (SayTheSame (outcome_at e.slots) (over_at core.jobs)) (say_the_same links e known core rows h) (awaited_requests a)
     (recursion_from_All (IsNamed rows) (awaited_requests a) named))
 
 -- so it is with the blocked call
-core_ready_is : (e : CoreState) (known : List ℕ) (core : Core) (rows : List Row) (a : Awaited) → Holding e known core rows → core.blocked ≡ Some (awaited_seen a) →
+core_ready_is : (links : Announcements) (e : CoreState) (known : List ℕ) (core : Core) (rows : List Row) (a : Awaited) → Holding links e known core rows → core.blocked ≡ Some (awaited_seen a) →
     All (IsNamed rows) (awaited_requests a) → core_ready core ≡ completion_seen (completion e.slots a)
-core_ready_is e known core rows a h b named =
-    ap (λ (x : Option machine.Awaited). option_and_then (machine.completion (over_at core.jobs)) x) b ∙ core_completion e known core rows a h named
+core_ready_is links e known core rows a h b named =
+    ap (λ (x : Option machine.Awaited). option_and_then (machine.completion (over_at core.jobs)) x) b ∙ core_completion links e known core rows a h named
 
 -- what the answer uses up is taken out of both
-pub holding_used : (e e' : CoreState) (known : List ℕ) (core core' : Core) (rows : List Row) (a : Awaited) (answer : Answer) (used : List Request) → Holding e known core rows →
+pub holding_used : (links : Announcements) (e e' : CoreState) (known : List ℕ) (core core' : Core) (rows : List Row) (a : Awaited) (answer : Answer) (used : List Request) → Holding links e known core rows →
     completion e.slots a ≡ Some (answer, used) → core'.jobs ≡ all_changed closed core.jobs (serials_of used) → core'.held ≡ core.held → core'.known ≡ core.known →
-    e'.slots ≡ without e.slots used → e'.serial ≡ e.serial → e'.queues ≡ e.queues → e'.transfers ≡ e.transfers → e'.place ≡ e.place → Holding e' known core' (rows_without rows used)
-holding_used e e' known core core' rows a answer used h g js hs kn sl se qu tr pl =
+    e'.slots ≡ without e.slots used → e'.serial ≡ e.serial → e'.queues ≡ e.queues → e'.transfers ≡ e.transfers → e'.place ≡ e.place → Holding links e' known core' (rows_without rows used)
+holding_used links e e' known core core' rows a answer used h g js hs kn sl se qu tr pl =
     record {
       jobs = js ∙ (ap (λ (ys : List Job). all_changed closed ys (serials_of used)) h.jobs ∙ sym (jobs_without used rows));
       count = length_without used rows ∙ (h.count ∙ sym se);
       table = subst (λ (t : List (Option slots.Entry)). IsTable t (rows_without rows used)) (sym sl) (table_without used e.slots rows h.table (used_spent e.slots rows a answer used h.table g));
       posted = ap (λ (q : State). q.posted) qu ∙ (h.posted ∙ sym (posted_without used rows));
-      held = hs ∙ (h.held ∙ ap (λ (q : State). map held_of q.unexpected) (sym qu));
-      small = small_still e.transfers e'.transfers e.queues.unexpected e'.queues.unexpected h.small tr (ap (λ (q : State). q.unexpected) qu);
+      held = hs ∙ (h.held ∙ ap (λ (q : State). map (held_of links.from) q.unexpected) (sym qu));
+      under_way = under_way_still links known e.place e'.place rows (rows_without rows used) e.transfers e'.transfers e.queues.unexpected e'.queues.unexpected h.under_way
+          (same_without used rows) pl tr (ap (λ (q : State). q.unexpected) qu);
       knowing = known_still e.place e'.place known core.known core'.known h.knowing pl kn;
     }
 
@@ -124,42 +127,42 @@ abbrev pub core_answered : Core → List ℕ → Core
 core_answered core ks = record core { jobs = all_changed closed core.jobs ks; blocked = None }
 
 -- the rank is woken as the core is settled
-pub record IsSettled (e : CoreState) (known : List ℕ) (core : Core) : Type 0 where
-  pub shown : IsShown (woken e) known (core_settled core)
+pub record IsSettled (links : Announcements) (e : CoreState) (known : List ℕ) (core : Core) : Type 0 where
+  pub shown : IsShown links (woken e) known (core_settled core)
   pub tells : (a : Endpoint) → told a None (core_ready core) ≡ told_completion a (woken e).completion
 
 -- both, by what they become
-settled_from : (e e' : CoreState) (known : List ℕ) (core core' : Core) (ready : Option (machine.Answer × List ℕ)) → woken e ≡ e' → core_settled core ≡ core' → core_ready core ≡ ready → IsShown e' known core' →
-    ((a : Endpoint) → told a None ready ≡ told_completion a e'.completion) → IsSettled e known core
-settled_from e e' known core core' ready w s r shown tells =
+settled_from : (links : Announcements) (e e' : CoreState) (known : List ℕ) (core core' : Core) (ready : Option (machine.Answer × List ℕ)) → woken e ≡ e' → core_settled core ≡ core' → core_ready core ≡ ready → IsShown links e' known core' →
+    ((a : Endpoint) → told a None ready ≡ told_completion a e'.completion) → IsSettled links e known core
+settled_from links e e' known core core' ready w s r shown tells =
     record {
-      shown = subst (λ (x : CoreState). IsShown x known (core_settled core)) (sym w) (subst (λ (c : Core). IsShown e' known c) (sym s) shown);
+      shown = subst (λ (x : CoreState). IsShown links x known (core_settled core)) (sym w) (subst (λ (c : Core). IsShown links e' known c) (sym s) shown);
       tells = λ a. ap (told a None) r ∙ (tells a ∙ ap (λ (x : CoreState). told_completion a x.completion) (sym w));
     }
 
 -- a rank is woken as its core is settled
-pub settles : (e : CoreState) (known : List ℕ) (core : Core) (rows : List Row) → Holding e known core rows → IsBlocked rows e.blocked core.blocked → e.completion ≡ None → IsSettled e known core
-settles e known core rows h b free = go e.blocked refl b
+pub settles : (links : Announcements) (e : CoreState) (known : List ℕ) (core : Core) (rows : List Row) → Holding links e known core rows → IsBlocked rows e.blocked core.blocked → e.completion ≡ None → IsSettled links e known core
+settles links e known core rows h b free = go e.blocked refl b
   where
-    still : woken e ≡ e → core_ready core ≡ None → IsSettled e known core
-    still w r = settled_from e e known core core None w (ap (core_settled_by core) r) r (shown_with e known core rows h b r) (λ t. ap (told_completion t) (sym free))
+    still : woken e ≡ e → core_ready core ≡ None → IsSettled links e known core
+    still w r = settled_from links e e known core core None w (ap (core_settled_by core) r) r (shown_with links e known core rows h b r) (λ t. ap (told_completion t) (sym free))
 
     ready : (a : Awaited) (answer : Answer) (used : List Request) → e.blocked ≡ Some a → core_ready core ≡ completion_seen (completion e.slots a) → completion e.slots a ≡ Some (answer, used) →
-        IsSettled e known core
+        IsSettled links e known core
     ready a answer used is same g =
         let r : core_ready core ≡ Some (answer_seen answer, serials_of used) = same ∙ ap completion_seen g in
-        settled_from e (answered e answer used) known core (core_answered core (serials_of used)) (Some (answer_seen answer, serials_of used)) (woken_ready e a answer used is g) (ap (core_settled_by core) r) r
-        (shown_with (answered e answer used) known (core_answered core (serials_of used)) (rows_without rows used)
-        (holding_used e (answered e answer used) known core (core_answered core (serials_of used)) rows a answer used h g refl refl refl refl refl refl refl refl) refl refl)
+        settled_from links e (answered e answer used) known core (core_answered core (serials_of used)) (Some (answer_seen answer, serials_of used)) (woken_ready e a answer used is g) (ap (core_settled_by core) r) r
+        (shown_with links (answered e answer used) known (core_answered core (serials_of used)) (rows_without rows used)
+        (holding_used links e (answered e answer used) known core (core_answered core (serials_of used)) rows a answer used h g refl refl refl refl refl refl refl refl) refl refl)
         (λ t. refl)
 
-    wait : (a : Awaited) (o : Option (Answer × List Request)) → e.blocked ≡ Some a → core_ready core ≡ completion_seen (completion e.slots a) → completion e.slots a ≡ o → IsSettled e known core
+    wait : (a : Awaited) (o : Option (Answer × List Request)) → e.blocked ≡ Some a → core_ready core ≡ completion_seen (completion e.slots a) → completion e.slots a ≡ o → IsSettled links e known core
     wait a None is same g = still (woken_pending e a is g) (same ∙ ap completion_seen g)
     wait a (Some t) is same g = ready a t.0 t.1 is same g
 
-    go : (x : Option Awaited) → e.blocked ≡ x → IsBlocked rows x core.blocked → IsSettled e known core
+    go : (x : Option Awaited) → e.blocked ≡ x → IsBlocked rows x core.blocked → IsSettled links e known core
     go None is c = still (woken_free e is) (ready_free core c)
-    go (Some a) is c = wait a (completion e.slots a) is (core_ready_is e known core rows a h c.0 c.1) refl
+    go (Some a) is c = wait a (completion e.slots a) is (core_ready_is links e known core rows a h c.0 c.1) refl
 
 -- ---- what waking leaves
 
@@ -169,26 +172,26 @@ unready None h = refl
 unready (Some t) h = absurd (none-some (answer_seen t.0, serials_of t.1) (sym h))
 
 -- what is shown is held
-pub holding_of : (e : CoreState) (known : List ℕ) (core : Core) → (s : IsShown e known core) → Holding e known core s.rows
-holding_of e known core s =
+pub holding_of : (links : Announcements) (e : CoreState) (known : List ℕ) (core : Core) → (s : IsShown links e known core) → Holding links e known core s.rows
+holding_of links e known core s =
     record {
       jobs = s.jobs;
       count = s.count;
       table = s.table;
       posted = s.posted;
       held = s.held;
-      small = s.small;
+      under_way = s.under_way;
       knowing = record { width = s.width; same = s.known_alike; itself = s.itself };
     }
 
 -- where what is shown stands, nothing changes: no answer is ready
-pub woken_still : (e : CoreState) (known : List ℕ) (core : Core) → IsShown e known core → woken e ≡ e
-woken_still e known core shown = go e.blocked refl shown.blocked
+pub woken_still : (links : Announcements) (e : CoreState) (known : List ℕ) (core : Core) → IsShown links e known core → woken e ≡ e
+woken_still links e known core shown = go e.blocked refl shown.blocked
   where
     go : (b : Option Awaited) → e.blocked ≡ b → IsBlocked shown.rows b core.blocked → woken e ≡ e
     go None b c = woken_free e b
     go (Some a) b c =
-        woken_pending e a b (unready (completion e.slots a) (sym (core_ready_is e known core shown.rows a (holding_of e known core shown) c.0 c.1) ∙ shown.pending))
+        woken_pending e a b (unready (completion e.slots a) (sym (core_ready_is links e known core shown.rows a (holding_of links e known core shown) c.0 c.1) ∙ shown.pending))
 
 place_at : (e : CoreState) (o : Option (Answer × List Request)) → (answered_by e o).place ≡ e.place
 place_at e None = refl

@@ -6,7 +6,6 @@ use Rattle.incarnation.specs.declared.place.Place.{Place}
 use Rattle.incarnation.specs.Knowing as knowing
 use Rattle.rank_calls.specs.declared.call.Call.{Call}
 use Rattle.rank_calls.specs.declared.call.Reply.{Reply}
-use Rattle.rank_calls.specs.declared.refused.Refused.{Refused}
 use Rattle.rank_calls.specs.Calls.{IsWithin}
 use Rattle.rank_core.specs.Calls.{Answers, call_fault, call_frame}
 use Rattle.rank_core.specs.CoreState.{CoreState, opening}

@@ -1,15 +1,13 @@
 -- What a rank's core gives is what its sessions are to send.
-use Rattle.std.proofs.Common.{◌≡◌, ℕ, ◌<◌, List, [], ◌∷◌, map, Option, Some, None, refl, ap, subst, ◌∙◌, arith}
+use Rattle.std.proofs.Common.{◌≡◌, ℕ, List, [], ◌∷◌, map, Option, Some, None, refl, ap}
 use Rattle.std.specs.List.{AllByRecursion}
 use Rattle.std.proofs.lemmas.Bool.{ne_eqb}
 use Rattle.vocabulary.specs.declared.endpoint.Endpoint.{Endpoint}
 use Rattle.datagram.specs.Spelling.{FrameText}
-use Rattle.incarnation.specs.declared.place.Place.{Place}
 use Rattle.rank_calls.specs.Frames.{FrameFor, as_list}
-use Rattle.sessions.specs.Events.{Sending}
 use Rattle.engine.specs.Calls.{sending_of, sendings_of}
 use Rattle.proof_engine_view.specs.Standing.{CanLeave, all_gone, gone_to}
-use Rattle.proof_link_truth.specs.Events.{MaySend, MaySendAll, addressed, all_addressed}
+use Rattle.proof_link_truth.specs.Events.{MaySendAll, all_addressed}
 use Rattle.proof_link_truth.specs.Wire.{place_of}
 
 -- what can leave a rank may be sent

@@ -12,7 +12,7 @@ use Rattle.rank_calls.specs.Calls.{IsTaken}
 use Rattle.rank_calls.specs.Frames.{FrameFor}
 use Rattle.sessions.specs.declared.refused.Refused as lower
 use Rattle.sessions.specs.declared.refused.Refused.TheVariants as lowers
-use Rattle.sessions.specs.Events.{TurnedAway, after_event, is_worn_out, sends_limit}
+use Rattle.sessions.specs.Events.{Sending, TurnedAway, after_event, after_send, after_sends, is_worn_out, sends_limit}
 use Rattle.sessions.specs.Peers.{peer_at}
 use Rattle.sessions.specs.SessionsState.{SessionsState}
 use Rattle.engine.specs.Calls.{CallGives, IsAnswered, after_frame, frame_limit, sendings_of}
@@ -107,6 +107,13 @@ pub record Keeps (old new : SessionsState) : Type 0 where
 pub frame_keeps : (s : SessionsState) (f : Option FrameFor) → Keeps s (after_frame s f)
 frame_keeps s None = record { place = refl; known = refl }
 frame_keeps s (Some f) = record { place = refl; known = refl }
+
+-- and where they send several
+pub sends_keep : (s : SessionsState) (fs : List Sending) → Keeps s (after_sends s fs)
+sends_keep s [] = record { place = refl; known = refl }
+sends_keep s (f ∷ fs) =
+    let rest : Keeps (after_send s f) (after_sends s (f ∷ fs)) = sends_keep (after_send s f) fs in
+    record { place = rest.place; known = rest.known }
 
 -- and where they turn something away
 pub away_keeps : (old new : SessionsState) (to : Option Endpoint) (e why : lower.Refused) → TurnedAway to e old why new → Keeps old new

@@ -1,5 +1,5 @@
 -- What a world of engines hears, the pure network hears; and what is refused is nothing to it.
-use Rattle.std.proofs.Common.{◌≡◌, ℕ, ◌<◌, ◌≤◌, Bool, true, false, nat_lt, List, [], ◌++◌, map, Option, Some, None, Result, Ok, Err, refl, sym, ap, subst, ◌∙◌, arith}
+use Rattle.std.proofs.Common.{◌≡◌, ℕ, ◌<◌, ◌≤◌, Bool, true, false, nat_lt, List, [], ◌++◌, Option, Some, None, Result, Ok, Err, refl, sym, ap, subst, ◌∙◌, arith}
 use Rattle.std.specs.Prelude.{slice_get, slice_index}
 use Rattle.std.specs.List.{AllByRecursion}
 use Rattle.std.proofs.lemmas.Bool.{eqb-false, le-ltb, lt-ltb}
@@ -11,7 +11,6 @@ use Rattle.rank_core.specs.CoreState.{CoreState}
 use Rattle.rank_calls.specs.Frames.{FrameFor}
 use Rattle.rank_calls.specs.Hearing.{NewsText}
 use Rattle.rank_core.specs.Hearing.{after_news, news_fault, news_frames}
-use Rattle.rank_calls.specs.declared.refused.Refused.{Refused}
 use Rattle.sessions.specs.declared.heard.Unheard.{Unheard}
 use Rattle.sessions.specs.declared.refused.Refused as below_refused
 use Rattle.sessions.specs.Events as below_events
@@ -47,7 +46,7 @@ use Rattle.proof_network_bridge.specs.Joined.{IsFollowed, IsJoined, sessions_in}
 use Rattle.proof_network_bridge.proofs.Carried.{IsMeant, accept_all_alike, handed_alike, next_alike}
 use Rattle.proof_network_bridge.proofs.Carrying.{all_same, may_send}
 use Rattle.proof_network_bridge.proofs.Following.{followed_after, followed_still, is_at}
-use Rattle.proof_network_bridge.proofs.Halves.{Keeps, away_keeps, neither_fault, no_limit}
+use Rattle.proof_network_bridge.proofs.Halves.{Keeps, away_keeps, neither_fault, no_limit, sends_keep}
 use Rattle.proof_network_bridge.proofs.Networks.{IsWord, heard, learnt}
 use Rattle.proof_network_bridge.proofs.Worlds.{IsHeld, handed_grow_out, handed_to_same, held_at, held_out, only_handed, only_out, place_is}
 
@@ -258,7 +257,7 @@ heard_follows : NewsAreShown → HearingIsTrue → EventsAreTrue → (n r : ℕ)
 heard_follows shows hearing events n r engines datagrams history old h f there comes fine =
     by_word n r engines datagrams history old f there h.source h.lesson (after_event old.sessions (Some h) sendings) h.word
     (is_word n r engines datagrams w old h.source h.lesson f.joined there truth.heard) seen
-    (record { known = known_alike h.lesson old.sessions.known h.source; place = refl }) leaves
+    (record { known = keeps.known ∙ known_alike h.lesson old.sessions.known h.source; place = keeps.place }) leaves
   where
     w : Network
     w = run n f.happenings new_network
@@ -271,6 +270,9 @@ heard_follows shows hearing events n r engines datagrams history old h f there c
 
     sendings : List Sending
     sendings = heard_sendings old h
+
+    keeps : Keeps (below_events.after_heard old.sessions (Some h)) (after_event old.sessions (Some h) sendings)
+    keeps = sends_keep (below_events.after_heard old.sessions (Some h)) sendings
 
     here_is : below.IsAt (sessions_in engines) r old.sessions
     here_is = is_at n r engines datagrams w old f.joined there

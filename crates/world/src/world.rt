@@ -2,7 +2,8 @@
 
 ghost use Rattle.std.specs.Prelude.{◌≡◌, ◌≤◌, ◌+◌, ◌*◌, [], ◌∷◌, ◌++◌, length, Option, option_map, IfOk, IfErr, IsTrue, slice_get, Err, vec_len, vec_capacity, ◌↔◌, ◌⊎◌};
 ghost use Rattle.rank_calls.specs.declared.refused.Refused.TheVariants as lowers;
-ghost use Rattle.proof_network_bridge.specs.Following.{AreQuiet};
+ghost use Rattle.proof_link_truth.specs.Quiet.{AreQuiet};
+ghost use Rattle.proof_network_bridge.specs.Joined.{sessions_in};
 ghost use Rattle.world.specs.WorldState.{is_outside, opening_world};
 ghost use Rattle.world.specs.Headline.{IsRunOfPerfectQueues, IsSound, SessionsAreInOrder, SessionsAreTrue};
 ghost use Rattle.world.specs.Steps.{StepGives, RunGives, IsNotRun, entry_of, first_of};
@@ -40,8 +41,8 @@ impl Model for World {
     ghost invariant = { λ w. IsSound w.engines.items w.datagrams.items w.history.items };
 }
 
-/// Makes the room that an event may take: 1,025 datagrams for each rank, and an entry.
-fn has_made_room(datagrams: &mut Vec<(u16, Bytes)>, history: &mut Vec<Entry>, size: usize) -> bool
+/// Makes the room that an event may take, 1,025 datagrams for each rank and an entry, and tells whether it could.
+fn make_room(datagrams: &mut Vec<(u16, Bytes)>, history: &mut Vec<Entry>, size: usize) -> bool
     requires { size ≤ 256 }
     ensures datagrams { datagrams.new.items ≡ datagrams.old.items }
     ensures history { history.new.items ≡ history.old.items }
@@ -146,7 +147,7 @@ fn advance(
     if let Some(refused) = fault_at(engines, rank, &event) {
         return Err(plain(Refused::Engine(refused), event));
     }
-    if !has_made_room(datagrams, history, engines.len()) {
+    if !make_room(datagrams, history, engines.len()) {
         return Err(plain(OUT_OF_MEMORY, event));
     }
     // The history keeps the event, and the engine takes a copy of it.
@@ -198,11 +199,11 @@ impl World {
     ///
     /// What is seen in it, calls with their replies, completions and restarts, is a run of the machine of perfect queues,
     /// which has come to rest where the world is quiet (MPI 3.1, 3.5, 3.7, 3.8.4 and 3.11; restarts are this project's own).
-    /// With a call that a rank would take now the machine finds no fault. With one that it would refuse the machine finds the
-    /// same fault first; or it finds none, and the number is 13 or 14; or, whatever the machine finds, the call is a send of
-    /// more than 1,024 bytes, for which the rank's engine is too narrow for now. In each session that ever was, what was handed
-    /// up is a beginning of what was accepted, and every frame below the lowest unacknowledged number was handed up (`law`,
-    /// which the datagrams pin for former incarnations too; `sessions` says it in numbers of ranks that know each other).
+    /// A message is one message there, however it went: whole, or announced and in pieces. With a call that a rank would take
+    /// now the machine finds no fault. With one that it would refuse the machine finds the same fault first; or it finds none,
+    /// and the number is 13 or 14. In each session that ever was, what was handed up is a beginning of what was accepted, and
+    /// every frame below the lowest unacknowledged number was handed up (`law`, which the datagrams pin for former incarnations
+    /// too; `sessions` says it in numbers of ranks that know each other).
     pub fn history(&self) -> &[Entry]
         ensures entries { result.now ≡ self.now.history }
         ensures headline { IsRunOfPerfectQueues self.now }
@@ -215,9 +216,10 @@ impl World {
     /// Whether, of any two ranks that know each other at their present incarnations, no session with the other holds a
     /// frame that waits or is unacknowledged. Left out of account is a session of which one side does not know the other as
     /// it is: with a former incarnation, or with one that was not yet heard of. Between ranks that know each other, then, no
-    /// receive that waits accepts a pending message, and what was matched is finished: see `history`. It takes no memory.
+    /// receive that waits accepts a pending message, and what was matched is finished on both sides: see `history`. It takes
+    /// no memory.
     pub fn is_quiet(&self) -> bool
-        ensures { IsTrue result ↔ AreQuiet self.now.engines }
+        ensures { IsTrue result ↔ AreQuiet (sessions_in self.now.engines) }
     {
         are_quiet(&self.engines)
     }

@@ -1,14 +1,22 @@
+use Rattle.proof_engine_matching.proofs.AnnouncedLemmas.{announcements_agree}
 use Rattle.proof_engine_matching.proofs.ArrivalLemmas.{arrivals_match}
 use Rattle.proof_engine_matching.proofs.EndingLemmas.{outcomes_agree}
 use Rattle.proof_engine_matching.proofs.PostLemmas.{posts_match}
+use Rattle.proof_engine_steps.proofs.AnnouncementsTaken.{announcements_are_taken}
+use Rattle.proof_engine_steps.proofs.AnswersTaken.{answers_are_taken}
 use Rattle.proof_engine_steps.proofs.CallsShown.{calls_are_shown}
-use Rattle.proof_engine_steps.proofs.News.{news_are_shown}
+use Rattle.proof_engine_steps.proofs.News.{messages_are_taken, news_are_shown}
 use Rattle.proof_engine_steps.proofs.OpeningShown.{opening_is_shown}
+use Rattle.proof_engine_steps.proofs.PiecesTaken.{pieces_are_taken}
 use Rattle.proof_engine_steps.proofs.RefusedCalls.{allowed_calls_are_faultless, faults_have_reasons, room_is_a_reason}
+use Rattle.proof_engine_steps.proofs.UnderWay.{others_may_announce}
 use Rattle.proof_engine_steps.proofs.law.engines_are_cores.Goals as goal
 
 pub returns-clause-calls : goal.returns-clause-calls
-returns-clause-calls c = calls_are_shown posts_match arrivals_match outcomes_agree
+returns-clause-calls c = calls_are_shown posts_match arrivals_match outcomes_agree announcements_agree
+
+pub returns-clause-announced : goal.returns-clause-announced
+returns-clause-announced c = others_may_announce
 
 pub returns-clause-faults : goal.returns-clause-faults
 returns-clause-faults c = faults_have_reasons
@@ -20,7 +28,13 @@ pub returns-clause-room : goal.returns-clause-room
 returns-clause-room c = room_is_a_reason allowed_calls_are_faultless
 
 pub returns-clause-news : goal.returns-clause-news
-returns-clause-news c = news_are_shown arrivals_match outcomes_agree
+returns-clause-news c =
+    news_are_shown (record {
+      messages = messages_are_taken arrivals_match outcomes_agree;
+      announcements = announcements_are_taken arrivals_match announcements_agree;
+      answers = answers_are_taken;
+      pieces = pieces_are_taken outcomes_agree;
+    })
 
 pub returns-clause-opening : goal.returns-clause-opening
 returns-clause-opening c = opening_is_shown
