@@ -9,10 +9,10 @@ use Rattle.sessions.specs.declared.refused.Refused.{Refused}
 use Rattle.sessions.specs.declared.heard.Unheard.{Unheard}
 use Rattle.sessions.specs.Events.{Sending, TurnedAway, after_event, after_heard, sends_limit}
 use Rattle.sessions.specs.Heard.{Acknowledges, Hands, HeardText, Nothing, Repeats, WordText, heard_of}
-use Rattle.sessions.specs.Peers.{IsIdlePeer, peer_at}
 use Rattle.sessions.specs.SessionsState.{SessionsState, known_endpoint, opening}
 use Rattle.sessions.specs.Ticks.{after_tick}
 use Rattle.proof_link_truth.specs.Links.{Links, accept_all, handed_on, in_flight}
+use Rattle.proof_link_truth.specs.Quiet.{AreQuiet}
 use Rattle.proof_link_truth.specs.Truth.{AreTrue}
 use Rattle.proof_link_truth.specs.Wire.{CanBeSent, at, place_of}
 
@@ -179,13 +179,6 @@ RestartsAreTrue =
     (with_number current r (suc (current r)))
 
 -- ---- the quiet clause
-
--- of two ranks that know each other as they are now, neither's session with the other holds a frame
-abbrev pub AreQuiet : List SessionsState → Type 0
-AreQuiet sessions =
-    (r x : ℕ) (s t : SessionsState) → slice_get sessions r ≡ Some s → slice_get sessions x ≡ Some t → (x == r) ≡ false →
-    slice_index s.known x ≡ t.place.endpoint.incarnation → slice_index t.known r ≡ s.place.endpoint.incarnation →
-    IsIdlePeer (peer_at s.peers x)
 
 -- whoever stands at rank a knows b
 abbrev pub Knows : List SessionsState → (a : ℕ) → Endpoint → Type 0

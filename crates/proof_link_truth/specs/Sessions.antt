@@ -7,8 +7,7 @@ use Rattle.reliable_link.specs.SenderState.{SenderState}
 use Rattle.sessions.specs.declared.peers.Peer.{Peer}
 use Rattle.sessions.specs.SessionsState.{SessionsState}
 use Rattle.sessions.specs.Peers.{peer_at}
-use Rattle.proof_link_truth.specs.Links.{Link}
-pub use Rattle.proof_link_truth.specs.Links.{Links}
+use Rattle.proof_link_truth.specs.Links.{Link, Links}
 use Rattle.proof_link_truth.specs.Wire.{CanBeSent, at, place_of, wires}
 
 -- no more is handed up than was accepted, each frame can be spelled, and each number has 64 bits

@@ -11,7 +11,6 @@ use Rattle.rank_calls.specs.declared.call.Reply.TheVariants as replies
 use Rattle.rank_calls.specs.declared.refused.Refused.{Refused}
 use Rattle.rank_calls.specs.Calls.{IsTaken}
 use Rattle.rank_core.specs.Calls.{call_fault, call_frame}
-use Rattle.sessions.specs.Peers.{IsIdlePeer, peer_at}
 use Rattle.sessions.specs.SessionsState.{SessionsState}
 use Rattle.engine.specs.Calls.{CallGives, IsAnswered, WhyRefused, frame_limit}
 use Rattle.engine.specs.EngineState.{EngineState}
@@ -25,26 +24,15 @@ use Rattle.proof_engine_view.specs.Shown.{IsShown}
 use Rattle.proof_engine_view.specs.Transfers.{Announcements, announcements_of}
 use Rattle.proof_network_bridge.specs.Carried.{announced_by}
 use Rattle.proof_engine_steps.specs.Refused.{AllowedCallsAreFaultless, FaultsHaveReasons, HasReason, IsFaultless, IsReason, RoomIsAReason}
-use Rattle.proof_link_truth.specs.Events as below
 use Rattle.proof_link_truth.specs.Events.{IdleIsStill, Knows}
 use Rattle.proof_link_truth.specs.Wire.{at}
-use Rattle.proof_network_bridge.specs.Following.{AreQuiet, FollowingIsRun}
+use Rattle.proof_network_bridge.specs.Following.{FollowingIsRun}
 use Rattle.proof_network_bridge.specs.Joined.{IsJoined, sessions_in}
 use Rattle.proof_network_bridge.proofs.Carried.{none_in_flight}
 use Rattle.proof_network_bridge.proofs.Halves.{IsOf, answered, engine_there, frame_full, neither_fault}
 use Rattle.proof_network_bridge.proofs.Worlds.{place_is}
 
 -- ---- the quiet clause
-
--- engines that are quiet have sessions that are
-quiet_below : (engines : List EngineState) → AreQuiet engines → below.AreQuiet (sessions_in engines)
-quiet_below engines quiet r x s t there other apart knows known =
-    let e : IsOf engines r s = engine_there engines r s there in
-    let d : IsOf engines x t = engine_there engines x t other in
-    subst (λ (o : SessionsState). IsIdlePeer (peer_at o.peers x)) e.sessions_are
-    (quiet r x e.engine d.engine e.there d.there apart
-    (ap (λ (o : SessionsState). slice_index o.known x) e.sessions_are ∙ knows ∙ ap (λ (o : SessionsState). o.place.endpoint.incarnation) (sym d.sessions_are))
-    (ap (λ (o : SessionsState). slice_index o.known r) d.sessions_are ∙ known ∙ ap (λ (o : SessionsState). o.place.endpoint.incarnation) (sym e.sessions_are)))
 
 -- what a core knows its rank's sessions know too
 knows_too : (n : ℕ) (engines : List EngineState) (datagrams : List (ℕ × List ℕ)) (w : Network) (s d : Endpoint) → IsJoined n engines datagrams w →
@@ -118,6 +106,6 @@ following_is_run idle faults room faultless n engines datagrams history f =
           takes_too faultless n r engines datagrams w e mid call reply _ f.joined there taken gives (m.faults e.sessions.place.endpoint (call_seen call));
       quiet = λ still. m.quiet (λ s d s_is d_is d_knows s_knows.
           none_in_flight (announced_by w.link s d) (announced_by w.link d s) (f.joined.carried s d) (w.link s d) (f.joined.alike s d)
-          (idle n (sessions_in engines) datagrams f.joined.carried w.current f.joined.links (quiet_below engines still) s d s_is d_is
+          (idle n (sessions_in engines) datagrams f.joined.carried w.current f.joined.links still s d s_is d_is
           (knows_too n engines datagrams w s d f.joined s_is s_knows) (knows_too n engines datagrams w d s f.joined d_is d_knows)));
     }

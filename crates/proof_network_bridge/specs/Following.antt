@@ -1,12 +1,11 @@
 -- A world of engines follows the pure network, event by event.
-use Rattle.std.specs.Prelude.{◌≡◌, ℕ, suc, ◌<◌, ◌≤◌, false, List, [], ◌∷◌, ◌++◌, Some, Ok, Err, slice_get, slice_set, slice_index, ◌==◌}
+use Rattle.std.specs.Prelude.{◌≡◌, ℕ, suc, ◌<◌, ◌≤◌, List, [], ◌∷◌, ◌++◌, Some, Ok, Err, slice_get, slice_set, slice_index}
 use Rattle.incarnation.specs.declared.place.Place.{Place}
 use Rattle.rank_calls.specs.declared.call.Call.{Call}
 use Rattle.rank_calls.specs.declared.call.Reply.{Reply}
 use Rattle.rank_calls.specs.declared.call.Reply.TheVariants as replies
 use Rattle.rank_calls.specs.declared.refused.Refused.{Refused}
 use Rattle.rank_calls.specs.Calls.{IsTaken, IsWithin}
-use Rattle.sessions.specs.Peers.{IsIdlePeer, peer_at}
 use Rattle.engine.specs.Calls.{CallGives}
 use Rattle.engine.specs.Datagrams.{DatagramGives}
 use Rattle.engine.specs.EngineState.{EngineState, emptied, opening}
@@ -19,7 +18,8 @@ use Rattle.perfect_queues.specs.State as machine_state
 use Rattle.perfect_queues.specs.Refusals.{fault}
 use Rattle.proof_engine_view.specs.Seen.{call_meant, call_seen, told_call, told_completion}
 use Rattle.proof_engine_steps.specs.Refused.{IsFaultless, IsReason}
-use Rattle.proof_network_bridge.specs.Joined.{IsFollowed, opening_engines}
+use Rattle.proof_link_truth.specs.Quiet.{AreQuiet}
+use Rattle.proof_network_bridge.specs.Joined.{IsFollowed, opening_engines, sessions_in}
 
 -- ---- what an event is to an engine
 
@@ -38,14 +38,6 @@ TakesTick old now new = TickGives old now (Ok tt) new
 -- the tick is refused for this, and leaves the engine so
 abbrev pub RefusesTick : (old : EngineState) → (now : ℕ) → (why : Refused) → (new : EngineState) → Type 0
 RefusesTick old now why new = TickGives old now (Err why) new
-
--- of two ranks that know each other as they are now, neither's session with the other holds a frame
-abbrev pub AreQuiet : List EngineState → Type 0
-AreQuiet engines =
-    (r x : ℕ) (e d : EngineState) → slice_get engines r ≡ Some e → slice_get engines x ≡ Some d → (x == r) ≡ false →
-    slice_index e.sessions.known x ≡ d.sessions.place.endpoint.incarnation →
-    slice_index d.sessions.known r ≡ e.sessions.place.endpoint.incarnation →
-    IsIdlePeer (peer_at e.sessions.peers x)
 
 -- ---- what it leaves
 
@@ -116,7 +108,7 @@ RestartsFollow =
 
 -- A history is seen of a run of the machine of perfect queues among n ranks. The run ends with each rank at the
 -- incarnation of its engine, which knows there what its engine knows; a call that its engine refuses has a reason there, and
--- one that it takes has no fault; and where the engines are quiet, the run has come to a state that meets the machine's quiet
+-- one that it takes has no fault; and where their sessions are quiet, the run has come to a state that meets the machine's quiet
 -- clause
 pub record IsSeenOfMachine (n : ℕ) (engines : List EngineState) (history : List machine.Entry) : Type 0 where
   pub events : List machine.Event
@@ -141,7 +133,7 @@ pub record IsSeenOfMachine (n : ℕ) (engines : List EngineState) (history : Lis
       (r : ℕ) (e mid : EngineState) (call : Call) (reply : Reply) → slice_get engines r ≡ Some e → IsTaken reply →
       CallGives e call reply mid →
       IsFaultless (fault n ((after_run machine_state.opening events).at e.sessions.place.endpoint) (call_seen call)) e.core call
-  pub quiet : AreQuiet engines → IsAtRest (after_run machine_state.opening events)
+  pub quiet : AreQuiet (sessions_in engines) → IsAtRest (after_run machine_state.opening events)
 
 -- wherever engines follow the network, what was seen of them is seen of a run of the machine
 abbrev pub FollowingIsRun : Type 0

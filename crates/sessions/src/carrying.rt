@@ -41,13 +41,13 @@ fn take_back_each(peers: &mut Vec<Peer>, frames: &[Outgoing])
 }
 
 /// The incarnation of the source is learnt, where it is new.
-fn learn(known: &mut incarnation::Peers, lesson: bool, source: Endpoint)
-    requires { source.rank < known.old.place.size }
-    ensures place { known.new.place ≡ known.old.place }
-    ensures known { known.new.known ≡ taught_known lesson known.old.known source }
+fn learn(knowledge: &mut incarnation::Peers, lesson: bool, source: Endpoint)
+    requires { source.rank < knowledge.old.place.size }
+    ensures place { knowledge.new.place ≡ knowledge.old.place }
+    ensures known { knowledge.new.known ≡ taught_known lesson knowledge.old.known source }
 {
     if lesson {
-        known.learn(source.rank, source.incarnation);
+        knowledge.learn(source.rank, source.incarnation);
     }
 }
 
@@ -71,8 +71,8 @@ impl Sessions {
         ensures { result ≡ known_endpoint (known_after (heard_option heard.entry) self.now.known) rank }
     {
         // The place shows that there is one known incarnation for each rank.
-        let _place = self.known.place();
-        let known = self.known.known(rank);
+        let _place = self.knowledge.place();
+        let known = self.knowledge.known(rank);
         let incarnation = match heard {
             Some(heard) if heard.lesson && heard.source.rank == rank => {
                 known.max(heard.source.incarnation)
@@ -116,7 +116,7 @@ impl Sessions {
         let target = self.endpoint_after(heard, rank);
         let bytes = frame_bytes(
             self.alloc,
-            self.known.place(),
+            self.knowledge.place(),
             target,
             &outgoing.frame,
             number,
@@ -156,7 +156,7 @@ impl Sessions {
         ensures unchanged { OnErr result (self.new ≡ self.old) }
         ensures err { IfErr result (λ e. e ≡ Refused.OutOfMemory) }
     {
-        let ack = ack_bytes(self.alloc, self.known.place(), source, next)?;
+        let ack = ack_bytes(self.alloc, self.knowledge.place(), source, next)?;
         match self.out.push((source.rank, ack)) {
             Ok(()) => Ok(()),
             Err(_) => Err(Refused::OutOfMemory),
@@ -231,8 +231,8 @@ impl Sessions {
         ensures { self.new ≡ settled (Some (heard_text heard.entry)) self.old }
     {
         // The place shows that there is one known incarnation for each rank.
-        let _place = self.known.place();
-        learn(&mut self.known, heard.lesson, heard.source);
+        let _place = self.knowledge.place();
+        learn(&mut self.knowledge, heard.lesson, heard.source);
         heed(&mut self.peers, heard.source.rank, heard.word);
     }
 
@@ -332,7 +332,7 @@ impl Sessions {
         let Some(source) = unheard.reset else {
             return unheard.refused;
         };
-        let Ok(reset) = reset_bytes(self.alloc, self.known.place(), source) else {
+        let Ok(reset) = reset_bytes(self.alloc, self.knowledge.place(), source) else {
             return Refused::OutOfMemory;
         };
         if self.out.push((source.rank, reset)).is_err() {

@@ -141,7 +141,7 @@ impl Sessions {
         ensures can { IfOk result (λ h. CanHear self.now (Some (heard_text h))) }
     {
         // The place shows that there is one known incarnation for each rank.
-        let _place = self.known.place();
+        let _place = self.knowledge.place();
         let datagram = match datagram::read(bytes) {
             Ok(datagram) => datagram,
             Err(refused) => {
@@ -151,7 +151,7 @@ impl Sessions {
                 });
             }
         };
-        match self.known.judge(datagram.header) {
+        match self.knowledge.judge(datagram.header) {
             Ok(Judgement::Current) => self.ask_link(datagram, false),
             Ok(Judgement::Learn(_)) => self.ask_link(datagram, true),
             Err(refused) => unmeant_of(refused, datagram.header.source, &datagram.content),

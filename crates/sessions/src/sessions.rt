@@ -22,7 +22,7 @@ pub struct Sessions {
     /// Where all memory of the sessions comes from.
     pub(crate) alloc: Global,
     /// Where the rank stands, and the incarnation at which it knows each rank.
-    pub(crate) known: incarnation::Peers,
+    pub(crate) knowledge: incarnation::Peers,
     /// The session with each rank, by rank; that with the rank itself stays empty.
     pub(crate) peers: Vec<Peer>,
     /// The time of the last tick, in milliseconds; 0 before the first.
@@ -39,14 +39,14 @@ impl Model for Sessions {
     ghost use Rattle.sessions.specs.Invariant.{IsSound};
 
     ghost view = { λ s. record {
-      place = s.known.place;
-      known = s.known.known;
+      place = s.knowledge.place;
+      known = s.knowledge.known;
       peers = s.peers.items;
       clock = s.clock;
       out = s.out.items;
     } };
 
-    ghost invariant = { λ s. IsSound s.known.place s.peers.items s.clock };
+    ghost invariant = { λ s. IsSound s.knowledge.place s.peers.items s.clock };
 }
 
 /// How a session with another rank stands.
@@ -71,13 +71,13 @@ impl Sessions {
         if let Some(fault) = fault_of_place(place) {
             return Err(fault);
         }
-        let Ok(known) = incarnation::Peers::new(alloc, place) else {
+        let Ok(knowledge) = incarnation::Peers::new(alloc, place) else {
             return Err(Refused::OutOfMemory);
         };
         let peers = peers::new_peers(alloc, place.size)?;
         Ok(Sessions {
             alloc,
-            known,
+            knowledge,
             peers,
             clock: 0,
             out: Vec::new(alloc),
@@ -93,7 +93,7 @@ impl Sessions {
         ensures rank { self.now.place.endpoint.rank < self.now.place.size }
         ensures size { self.now.place.size ≤ 256 }
     {
-        self.known.place()
+        self.knowledge.place()
     }
 
     /// The incarnation at which a rank is known.
@@ -101,7 +101,7 @@ impl Sessions {
         requires { rank < self.now.place.size }
         ensures { result ≡ slice_index self.now.known rank }
     {
-        self.known.known(rank)
+        self.knowledge.known(rank)
     }
 
     /// The clock says `now`, in milliseconds: what was last sent 20 ms or more before is sent again.
@@ -149,12 +149,12 @@ impl Sessions {
     pub fn session(&self, rank: u16) -> Option<Session>
         ensures { SessionGives self.now rank result }
     {
-        if !is_other(self.known.place(), rank) {
+        if !is_other(self.knowledge.place(), rank) {
             return None;
         }
         let idle = peers::peer_at(&self.peers, rank).sender.is_empty();
         Some(Session {
-            incarnation: self.known.known(rank),
+            incarnation: self.knowledge.known(rank),
             idle,
         })
     }

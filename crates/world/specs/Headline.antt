@@ -3,8 +3,8 @@
 -- Its words, and where they stand: the machine's `IsRun`, `after_run`, `seen` (perfect_queues, Runs), `fault` (Refusals) and
 -- `IsAtRest` (Quiet); what is seen of a call, its reply and a completion, `call_seen`, `call_meant`, `told_call` and
 -- `told_completion` (proof_engine_view, Seen); why a call is refused or has no fault, `IsReason` and `IsFaultless`
--- (proof_engine_steps, Refused); when a world is quiet, `AreQuiet` (proof_network_bridge, Following); the links and what sessions and
--- datagrams tell of them, `Links` (Sessions) and `AreTrue` (Truth, with Told and Witness). That a world is sound, `IsSound`
+-- (proof_engine_steps, Refused); when a world is quiet, `AreQuiet` (proof_link_truth, Quiet); the links and what sessions and
+-- datagrams tell of them, `Links` (Links) and `AreTrue` (Truth, with Told and Witness). That a world is sound, `IsSound`
 -- below, is what its proofs carry from event to event
 use Rattle.std.specs.Prelude.{◌≡◌, ℕ, ◌≤◌, false, List, [], ◌∷◌, ◌++◌, length, Option, Some, flat_map, ◌==◌, slice_get, slice_index}
 use Rattle.vocabulary.specs.declared.endpoint.Endpoint.{Endpoint}
@@ -24,9 +24,9 @@ use Rattle.perfect_queues.specs.Runs.{IsRun, after_run, seen}
 use Rattle.perfect_queues.specs.State.{opening}
 use Rattle.proof_engine_steps.specs.Refused.{IsFaultless, IsReason}
 use Rattle.proof_engine_view.specs.Seen.{call_meant, call_seen, told_call, told_completion}
-use Rattle.proof_link_truth.specs.Sessions.{Links}
+use Rattle.proof_link_truth.specs.Links.{Links}
+use Rattle.proof_link_truth.specs.Quiet.{AreQuiet}
 use Rattle.proof_link_truth.specs.Truth.{AreTrue}
-use Rattle.proof_network_bridge.specs.Following.{AreQuiet}
 use Rattle.proof_network_bridge.specs.Joined.{IsFollowed, sessions_in}
 use Rattle.world.specs.WorldState.{WorldState, IsWorld}
 use Rattle.world.specs.declared.event.Entry.{Entry}
@@ -53,8 +53,8 @@ history_seen entries = flat_map entry_seen entries
 -- The machine knows no frames: a message is one message there, whether it went whole, or was announced and went in pieces. The
 -- run ends with each rank at the incarnation of its engine, which knows there what its engine knows; a call that its engine
 -- refuses has a reason there, and one that it takes has no fault; and where the world is quiet, the run has come to a state
--- that meets the machine's quiet clause: no message that a receive accepts still waits, and no message that was matched is
--- unfinished on either side
+-- that meets the machine's quiet clause: between ranks that know each other as they are, no receive that waits accepts a
+-- pending message, and what was matched is finished on both sides, however it went
 pub record IsRunOfPerfectQueues (w : WorldState) : Type 0 where
   pub run_events : List machine.Event
   pub run : IsRun (length w.engines) opening run_events
@@ -76,7 +76,7 @@ pub record IsRunOfPerfectQueues (w : WorldState) : Type 0 where
       (r : ℕ) (e mid : EngineState) (call : Call) (reply : Reply) → slice_get w.engines r ≡ Some e → IsTaken reply →
       CallGives e call reply mid →
       IsFaultless (fault (length w.engines) ((after_run opening run_events).at e.sessions.place.endpoint) (call_seen call)) e.core call
-  pub quiet : AreQuiet w.engines → IsAtRest (after_run opening run_events)
+  pub quiet : AreQuiet (sessions_in w.engines) → IsAtRest (after_run opening run_events)
 
 -- THE LAW OF A SESSION, for all sessions that ever were. For each two endpoints there are the frames that the one's side
 -- accepted, and how many of them were handed up at the other: a beginning. Each engine's sessions hold just these, all below

@@ -1,13 +1,13 @@
 //! Whether anything is still on its way between the ranks of a world.
 
 ghost use Rattle.std.specs.Prelude.{◌↔◌, All, IsTrue};
-ghost use Rattle.world.specs.Quiet.{AreQuietTowards, IsQuietTowards};
+ghost use Rattle.world.specs.Quiet.{AreQuietIfOthers, IsQuietIfOther};
 
 use engine::Engine;
 
 /// Whether an engine's session with another one holds no frame, or one of them does not know the other as it is now.
 fn is_quiet_towards(engine: &Engine, other: &Engine) -> bool
-    ensures { IsTrue result ↔ IsQuietTowards engine.now other.now }
+    ensures { IsTrue result ↔ IsQuietIfOther engine.now other.now }
 {
     let own = engine.place().endpoint;
     let there = other.place().endpoint;
@@ -23,14 +23,14 @@ fn is_quiet_towards(engine: &Engine, other: &Engine) -> bool
 
 /// Whether an engine is quiet towards each of these.
 fn is_quiet_with(engine: &Engine, engines: &[Engine]) -> bool
-    ensures { IsTrue result ↔ All (IsQuietTowards engine.now) engines.now }
+    ensures { IsTrue result ↔ All (IsQuietIfOther engine.now) engines.now }
 {
     engines.iter().all(|other| is_quiet_towards(engine, other))
 }
 
 /// Whether each of these engines is quiet towards each of them.
 pub fn are_quiet(engines: &[Engine]) -> bool
-    ensures { IsTrue result ↔ AreQuietTowards engines.now }
+    ensures { IsTrue result ↔ AreQuietIfOthers engines.now }
 {
     engines.iter().all(|engine| is_quiet_with(engine, engines))
 }

@@ -2,7 +2,8 @@
 
 ghost use Rattle.std.specs.Prelude.{◌≡◌, ◌≤◌, ◌+◌, ◌*◌, [], ◌∷◌, ◌++◌, length, Option, option_map, IfOk, IfErr, IsTrue, slice_get, Err, vec_len, vec_capacity, ◌↔◌, ◌⊎◌};
 ghost use Rattle.rank_calls.specs.declared.refused.Refused.TheVariants as lowers;
-ghost use Rattle.proof_network_bridge.specs.Following.{AreQuiet};
+ghost use Rattle.proof_link_truth.specs.Quiet.{AreQuiet};
+ghost use Rattle.proof_network_bridge.specs.Joined.{sessions_in};
 ghost use Rattle.world.specs.WorldState.{is_outside, opening_world};
 ghost use Rattle.world.specs.Headline.{IsRunOfPerfectQueues, IsSound, SessionsAreInOrder, SessionsAreTrue};
 ghost use Rattle.world.specs.Steps.{StepGives, RunGives, IsNotRun, entry_of, first_of};
@@ -40,8 +41,8 @@ impl Model for World {
     ghost invariant = { λ w. IsSound w.engines.items w.datagrams.items w.history.items };
 }
 
-/// Makes the room that an event may take: 1,025 datagrams for each rank, and an entry.
-fn has_made_room(datagrams: &mut Vec<(u16, Bytes)>, history: &mut Vec<Entry>, size: usize) -> bool
+/// Makes the room that an event may take, 1,025 datagrams for each rank and an entry, and tells whether it could.
+fn make_room(datagrams: &mut Vec<(u16, Bytes)>, history: &mut Vec<Entry>, size: usize) -> bool
     requires { size ≤ 256 }
     ensures datagrams { datagrams.new.items ≡ datagrams.old.items }
     ensures history { history.new.items ≡ history.old.items }
@@ -146,7 +147,7 @@ fn advance(
     if let Some(refused) = fault_at(engines, rank, &event) {
         return Err(plain(Refused::Engine(refused), event));
     }
-    if !has_made_room(datagrams, history, engines.len()) {
+    if !make_room(datagrams, history, engines.len()) {
         return Err(plain(OUT_OF_MEMORY, event));
     }
     // The history keeps the event, and the engine takes a copy of it.
@@ -215,9 +216,10 @@ impl World {
     /// Whether, of any two ranks that know each other at their present incarnations, no session with the other holds a
     /// frame that waits or is unacknowledged. Left out of account is a session of which one side does not know the other as
     /// it is: with a former incarnation, or with one that was not yet heard of. Between ranks that know each other, then, no
-    /// receive that waits accepts a pending message, and what was matched is finished: see `history`. It takes no memory.
+    /// receive that waits accepts a pending message, and what was matched is finished on both sides: see `history`. It takes
+    /// no memory.
     pub fn is_quiet(&self) -> bool
-        ensures { IsTrue result ↔ AreQuiet self.now.engines }
+        ensures { IsTrue result ↔ AreQuiet (sessions_in self.now.engines) }
     {
         are_quiet(&self.engines)
     }

@@ -27,19 +27,19 @@ returns-in-Some-clause-exact c =
     (asked_and_refused (record { engines = c.args.engines.now.items; datagrams = c.args.datagrams.now.items; history = c.args.history.now.items; datagram_room = vec_capacity c.args.datagrams.now; entry_room = vec_capacity c.args.history.now }) _ _ _ _ _ _ _ (fault_as _ _ _ _ _ _ (c.len.ensures ∙ c.args.engines.now.ok.0) c.deref.ensures.value c.in-Ok.ensures.allowed)
     c.deref-2.ensures.value c.deref.ensures.value c.in-Ok.ensures.target c.fault_at.ensures c.in-Some.is c.plain-in-Some.ensures.refused)
 
-pub returns-then-not-has_made_room-clause-exact : goal.returns-then-not-has_made_room-clause-exact
-returns-then-not-has_made_room-clause-exact c =
+pub returns-then-not-make_room-clause-exact : goal.returns-then-not-make_room-clause-exact
+returns-then-not-make_room-clause-exact c =
     refused_plainly (record { engines = c.args.engines.now.items; datagrams = c.args.datagrams.now.items; history = c.args.history.now.items; datagram_room = vec_capacity c.args.datagrams.now; entry_room = vec_capacity c.args.history.now }) _ _ _ _ _ _ _
-    c.requires refl c.has_made_room.ensures.datagrams c.has_made_room.ensures.history
-    c.plain-then-not-has_made_room.ensures.reset c.plain-then-not-has_made_room.ensures.event
+    c.requires refl c.make_room.ensures.datagrams c.make_room.ensures.history
+    c.plain-then-not-make_room.ensures.reset c.plain-then-not-make_room.ensures.event
     (ForRoom (fault_as _ _ _ _ _ _ (c.len.ensures ∙ c.args.engines.now.ok.0) c.deref.ensures.value c.in-Ok.ensures.allowed) (none_asked _ _ _ _ _ _ _ c.deref-2.ensures.value c.deref.ensures.value c.in-Ok.ensures.target c.fault_at.ensures c.in_default.is)
-    (inl (had_no_room _ _ _ _ c.has_made_room.result (c.len-2.ensures ∙ c.args.engines.now.ok.0) c.args.datagrams.now.ok.0 c.args.history.now.ok.0 c.has_made_room.ensures.enough (grind (arith, common_steps))))
-    c.plain-then-not-has_made_room.ensures.refused refl)
+    (inl (had_no_room _ _ _ _ c.make_room.result (c.len-2.ensures ∙ c.args.engines.now.ok.0) c.args.datagrams.now.ok.0 c.args.history.now.ok.0 c.make_room.ensures.enough (grind (arith, common_steps))))
+    c.plain-then-not-make_room.ensures.refused refl)
 
 pub returns-in_default-try_clone-clause-exact : goal.returns-in_default-try_clone-clause-exact
 returns-in_default-try_clone-clause-exact c =
     refused_plainly (record { engines = c.args.engines.now.items; datagrams = c.args.datagrams.now.items; history = c.args.history.now.items; datagram_room = vec_capacity c.args.datagrams.now; entry_room = vec_capacity c.args.history.now }) _ _ _ _ _ _ _
-    c.requires refl c.has_made_room.ensures.datagrams c.has_made_room.ensures.history
+    c.requires refl c.make_room.ensures.datagrams c.make_room.ensures.history
     c.plain-in_default-try_clone.ensures.reset c.plain-in_default-try_clone.ensures.event
     (ForRoom (fault_as _ _ _ _ _ _ (c.len.ensures ∙ c.args.engines.now.ok.0) c.deref.ensures.value c.in-Ok.ensures.allowed)
     (none_asked _ _ _ _ _ _ _ c.deref-2.ensures.value c.deref.ensures.value c.in-Ok.ensures.target c.fault_at.ensures c.in_default.is)
@@ -48,26 +48,26 @@ returns-in_default-try_clone-clause-exact c =
 pub returns-in-Ok-run_event-clause-sound : goal.returns-in-Ok-run_event-clause-sound
 returns-in-Ok-run_event-clause-sound c =
     sound_same _ _ _ _ _ _ refl
-    (c.note.ensures.numbered ∙ ap (λ (x : List (ℕ × List ℕ)). x ++ c.in-Ok-run_event.given.out.items) c.has_made_room.ensures.datagrams)
+    (c.note.ensures.numbered ∙ ap (λ (x : List (ℕ × List ℕ)). x ++ c.in-Ok-run_event.given.out.items) c.make_room.ensures.datagrams)
     (grind (arith, common_steps))
     (event_sound c.args.engines.now.items c.run_event.new.engines.items c.args.datagrams.now.items c.args.history.now.items c.args.event (gave_in c.in-Ok-run_event.given)
     c.requires (fault_as _ _ _ _ _ _ (c.len.ensures ∙ c.args.engines.now.ok.0) c.deref.ensures.value c.in-Ok.ensures.allowed)
-    (rw (c.deref-3.ensures.value, c.has_made_room.ensures.datagrams, c.in-Ok-try_clone.ensures.copy) at c.in-Ok-run_event.ensures.exact) c.in-Ok-run_event.ensures.world)
+    (rw (c.deref-3.ensures.value, c.make_room.ensures.datagrams, c.in-Ok-try_clone.ensures.copy) at c.in-Ok-run_event.ensures.exact) c.in-Ok-run_event.ensures.world)
 
 pub returns-in-Err-run_event-clause-sound : goal.returns-in-Err-run_event-clause-sound
 returns-in-Err-run_event-clause-sound c =
     sound_same _ _ _ _ _ _ c.in-Err-run_event.ensures.unchanged
-    (c.refuse.ensures.numbered ∙ ap (λ (x : List (ℕ × List ℕ)). x ++ c.in-Err-run_event.rejected.out.items) c.has_made_room.ensures.datagrams)
-    c.has_made_room.ensures.history
+    (c.refuse.ensures.numbered ∙ ap (λ (x : List (ℕ × List ℕ)). x ++ c.in-Err-run_event.rejected.out.items) c.make_room.ensures.datagrams)
+    c.make_room.ensures.history
     (refusal_sound c.args.engines.now.items c.args.datagrams.now.items c.args.history.now.items c.args.event (refusal_in c.in-Err-run_event.rejected)
     c.requires (fault_as _ _ _ _ _ _ (c.len.ensures ∙ c.args.engines.now.ok.0) c.deref.ensures.value c.in-Ok.ensures.allowed)
-    (rw (c.deref-3.ensures.value, c.has_made_room.ensures.datagrams, c.in-Ok-try_clone.ensures.copy, c.in-Err-run_event.ensures.unchanged) at c.in-Err-run_event.ensures.exact))
+    (rw (c.deref-3.ensures.value, c.make_room.ensures.datagrams, c.in-Ok-try_clone.ensures.copy, c.in-Err-run_event.ensures.unchanged) at c.in-Err-run_event.ensures.exact))
 
 pub returns-in-Err-run_event-clause-exact : goal.returns-in-Err-run_event-clause-exact
 returns-in-Err-run_event-clause-exact c =
     refused_so (record { engines = c.args.engines.now.items; datagrams = c.args.datagrams.now.items; history = c.args.history.now.items; datagram_room = vec_capacity c.args.datagrams.now; entry_room = vec_capacity c.args.history.now }) _ _ _ _ _ _ _
     c.in-Err-run_event.rejected.out.items c.requires c.in-Err-run_event.ensures.unchanged
-    (c.refuse.ensures.numbered ∙ ap (λ (x : List (ℕ × List ℕ)). x ++ c.in-Err-run_event.rejected.out.items) c.has_made_room.ensures.datagrams)
-    c.has_made_room.ensures.history (grind (arith, common_steps)) c.refuse.ensures.event
+    (c.refuse.ensures.numbered ∙ ap (λ (x : List (ℕ × List ℕ)). x ++ c.in-Err-run_event.rejected.out.items) c.make_room.ensures.datagrams)
+    c.make_room.ensures.history (grind (arith, common_steps)) c.refuse.ensures.event
     (ByTheEngine (refusal_in c.in-Err-run_event.rejected) (fault_as _ _ _ _ _ _ (c.len.ensures ∙ c.args.engines.now.ok.0) c.deref.ensures.value c.in-Ok.ensures.allowed) c.refuse.ensures.refused refl
-    (rw (c.deref-3.ensures.value, c.has_made_room.ensures.datagrams, c.in-Ok-try_clone.ensures.copy, c.in-Err-run_event.ensures.unchanged) at c.in-Err-run_event.ensures.exact))
+    (rw (c.deref-3.ensures.value, c.make_room.ensures.datagrams, c.in-Ok-try_clone.ensures.copy, c.in-Err-run_event.ensures.unchanged) at c.in-Err-run_event.ensures.exact))
