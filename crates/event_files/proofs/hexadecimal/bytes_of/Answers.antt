@@ -29,4 +29,4 @@ loop-place-preserved c =
 pub returns : goal.returns
 returns c =
     let le : length c.args.word.now ≤ 2 * c.loop-place.place = omega (arith, c.loop-place-test.false, c.if-word-ne0.false) in
-    rw c.from_vec.ensures (pairs_done c.loop-place.bytes.items c.args.word.now c.loop-place.place le c.loop-place.invariant)
+    rw c.in_ok-from_vec.ensures (pairs_done c.loop-place.bytes.items c.args.word.now c.loop-place.place le c.loop-place.invariant)
