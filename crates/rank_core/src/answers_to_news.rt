@@ -12,10 +12,10 @@ ghost use Rattle.rank_calls.specs.declared.refused.Refused.TheVariants as refusa
 
 use crate::rank::Core;
 use datagram::{ClearToSend, Clearance, Data, Frame, RequestToSend};
+use match_queues::Message;
 use rank_calls::{
     Addressed, News, Ready, Refused, announced_of, answer_to_match, data_frames, list_of,
 };
-use match_queues::Message;
 use rendezvous::piece_count;
 use vocabulary::Endpoint;
 

@@ -16,5 +16,5 @@ pub use collection::{Collected, Collection};
 pub use laws::{offers_are_handed_out_once, pieces_are_whole, transfers_are_whole_or_nothing};
 pub use offer::Offer;
 pub use piece::{Piece, piece_count, pieces};
-pub use vocabulary::OutOfMemory;
 pub use transfers::{Numbers, Transfers};
+pub use vocabulary::OutOfMemory;

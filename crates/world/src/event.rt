@@ -82,9 +82,7 @@ impl Event {
         match self {
             Event::Call(rank, call) => Ok(Event::Call(*rank, call.try_clone(alloc)?)),
             Event::Deliver(number) => Ok(Event::Deliver(*number)),
-            Event::Stray(rank, bytes) => {
-                Ok(Event::Stray(*rank, bytes.share()?))
-            }
+            Event::Stray(rank, bytes) => { Ok(Event::Stray(*rank, bytes.share()?)) }
             Event::Tick(rank, now) => Ok(Event::Tick(*rank, *now)),
             Event::Restart(rank) => Ok(Event::Restart(*rank)),
         }
