@@ -406,7 +406,7 @@ fn numbers_of_refusals(rt: HostRuntime) {
     for (refused, number) in [
         (Refused::Rank, 5),
         (Refused::of_datagram(datagram::Refused::Short), 21),
-        (Refused::of_judging(incarnation::Refused::StaleSource), 28),
+        (Refused::StaleSource, 28),
         (Refused::StaleTarget, 29),
     ] {
         assert_eq!(rt; refused.number(), number);

@@ -2,8 +2,6 @@
 use Rattle.std.specs.Prelude.{◌≡◌, ℕ, Option, Some, None}
 use Rattle.datagram.specs.declared.refused.Refused as lower
 use Rattle.datagram.specs.declared.refused.Refused.TheVariants as lowers
-use Rattle.incarnation.specs.declared.refused.Refused as judging
-use Rattle.incarnation.specs.declared.refused.Refused.TheVariants as judgings
 use Rattle.rank_calls.specs.declared.refused.Refused.{Refused}
 use Rattle.rank_calls.specs.declared.refused.Refused.TheVariants.{Count, WrongType, Tag, Rank, Request, Limit, OutOfMemory, Short, Magic, Version, Kind, Length, ForeignJob, NotForMe, StaleSource, StaleTarget, BadFrame, OutOfWindow, ClockBack}
 
@@ -38,15 +36,6 @@ of_datagram lowers.Version = Version
 of_datagram lowers.Kind = Kind
 of_datagram lowers.Length = Length
 of_datagram lowers.BadFrame = BadFrame
-
--- the refusal of a datagram by its endpoints
-abbrev pub of_judging : judging.Refused → Refused
-of_judging judgings.Limit = Limit
-of_judging judgings.OutOfMemory = OutOfMemory
-of_judging judgings.ForeignJob = ForeignJob
-of_judging judgings.NotForMe = NotForMe
-of_judging judgings.StaleSource = StaleSource
-of_judging judgings.StaleTarget = StaleTarget
 
 -- A refusal is by the first rule that is broken; where none is, only for want of memory.
 abbrev pub IsRefusal : Option Refused → Refused → Type 0

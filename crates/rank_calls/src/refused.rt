@@ -1,7 +1,7 @@
 //! Why a rank refused an event.
 
 ghost use Rattle.std.specs.Prelude.{◌≡◌};
-ghost use Rattle.rank_calls.specs.Refusals.{number_of_refusal, of_datagram, of_judging};
+ghost use Rattle.rank_calls.specs.Refusals.{number_of_refusal, of_datagram};
 
 use thiserror::Error;
 
@@ -110,20 +110,6 @@ impl Refused {
             datagram::Refused::Kind => Refused::Kind,
             datagram::Refused::Length => Refused::Length,
             datagram::Refused::BadFrame => Refused::BadFrame,
-        }
-    }
-
-    /// The refusal of a datagram by its endpoints.
-    pub fn of_judging(refused: incarnation::Refused) -> Refused
-        ensures { result ≡ of_judging refused }
-    {
-        match refused {
-            incarnation::Refused::Limit => Refused::Limit,
-            incarnation::Refused::OutOfMemory => Refused::OutOfMemory,
-            incarnation::Refused::ForeignJob => Refused::ForeignJob,
-            incarnation::Refused::NotForMe => Refused::NotForMe,
-            incarnation::Refused::StaleSource => Refused::StaleSource,
-            incarnation::Refused::StaleTarget => Refused::StaleTarget,
         }
     }
 }
