@@ -177,6 +177,9 @@ def rows():
             for copies in ("", "3*", "0*"):
                 text = f"world 1\n0 buf a {kind} {copies}{value}\n0 isend q world 0 0 a\n0 buf b {kind} 4*1\n"
                 found.append((text + "0 irecv r world 0 0 b\n0 wait r\n").encode())
+    for target in ("0", "1", "null"):
+        text = f"world 2\n0 buf a uint8 1048576*7\n0 isend q world {target} 0 a\n0 test q\n0 buf a uint8 1048577*7\n0 isend r world {target} 0 a\n"
+        found.append(text.encode())
     found += [b"", b"\n", b"# x", b"world 1", b"world 1\n", b"world 1\n\n", b"\n\nworld 1\n0 wait null"]
     return found
 

@@ -1,5 +1,8 @@
 """Makes the few long files that reach a limit: they come seldom, since each takes as long as a hundred others."""
 
+import making
+from reading import ANY, TYPES
+
 
 def many_requests(random):
     """As many requests at one time as there may be, and one more; then one is answered."""
@@ -46,6 +49,29 @@ def whole_crowd(random):
     return lines + ["tick 7 20", "tick 255 19", "restart 255", "deliver 254"]
 
 
+def largest_messages(random):
+    """Messages of the greatest length both ways at once; now and then a datagram is lost, and sent again."""
+    maker = making.Maker(random, "queues")
+    kinds = [random.choice(["int32", "uint64"]) for _ in range(2)]
+    for rank, kind in enumerate(kinds):
+        maker.add(f"{rank} isend q world {1 - rank} 1 {maker.a_buffer(rank, kind, 2**20 // TYPES[kind][0])}")
+        target = maker.a_buffer(1 - rank, kind, 2**20 // TYPES[kind][0] + random.choice([0, 1]))
+        maker.add(f"{1 - rank} irecv r world {random.choice([ANY, rank])} 1 {target}")
+    now = 0
+    for step in range(12000):
+        if not maker.new:
+            now += 20
+            maker.add(f"tick 0 {now}")
+            maker.add(f"tick 1 {now}")
+            if not maker.new:
+                break
+        elif random.random() < 0.002:
+            maker.new.pop(0)
+        else:
+            maker.deliver(maker.new.pop(0))
+    return maker.lines + [f"{rank} wait {name}" for rank in range(2) for name in ("q", "r")]
+
+
 def a_long_file(random):
-    lines = random.choice([many_requests, many_restarts, many_frames, whole_crowd])(random)
+    lines = random.choice([many_requests, many_restarts, many_frames, whole_crowd, largest_messages])(random)
     return ("\n".join(lines) + "\n").encode()

@@ -15,7 +15,8 @@ from rules import NotSet
 MIXED = {
     "send": 22, "receive": 18, "wait": 12, "deliver_new": 26, "deliver_any": 8, "deliver_late": 3, "lose": 3,
     "tick": 5, "restart": 1, "stray": 1, "refused_call": 3, "refused_event": 2, "set_buffer": 2, "rename": 0.3, "unblock": 6,
-    "test": 5, "cancel": 2, "wait_for_several": 5, "set_layout": 2,
+    "test": 5, "cancel": 2, "wait_for_several": 5, "set_layout": 2, "bring_some": 2,
+    "restart_in_the_middle": 0.5, "cancel_in_the_middle": 0.5,
 }
 THEMES = {
     "mixed": (30, {}),
@@ -29,7 +30,13 @@ THEMES = {
     "crowd": (4, {"restart": 2}),
     "several": (10, {"wait_for_several": 30, "receive": 34, "send": 28, "cancel": 6, "test": 12}),
     "layouts": (10, {"set_layout": 14, "receive": 26, "send": 26}),
+    "large": (24, {"send": 14, "receive": 16, "deliver_new": 30, "bring_some": 14, "deliver_any": 10, "lose": 4, "tick": 8, "cancel": 4, "test": 8,
+                   "restart_in_the_middle": 3, "cancel_in_the_middle": 4}),
+    "large_restarts": (8, {"send": 14, "receive": 16, "deliver_new": 30, "bring_some": 8, "deliver_any": 12, "restart": 5, "deliver_late": 6,
+                           "restart_in_the_middle": 12}),
 }
+SHARE_OF_LARGE = {"large": 0.65, "large_restarts": 0.65, "restarts": 0.2, "losses": 0.15, "several": 0.1, "wildcards": 0.1, "window": 0.1}
+LARGE_BYTES = [1025, 1025, 1026, 1032, 2048, 2049, 3072, 5000, 5000]
 TAGS = [0, 1, 2, 7]
 
 
@@ -112,6 +119,15 @@ class Maker:
     def a_length(self):
         return self.random.choices([0, 1, 2, 3, 5], [1, 6, 3, 2, 1])[0]
 
+    def a_large_length(self, kind):
+        """How many elements a large message has: mostly a few KiB, now and then more than go out at one time."""
+        is_usual = self.random.random() < 0.97
+        count = self.random.choice(LARGE_BYTES if is_usual else [20000, 66000, 70000])
+        return -(-count // TYPES[kind][0])
+
+    def is_large(self):
+        return self.random.random() < SHARE_OF_LARGE.get(self.theme, 0.03)
+
     def a_buffer(self, rank, kind=None, length=None):
         """Sets a buffer that isn't lent, and gives its name."""
         kind = self.a_type() if kind is None else kind
@@ -120,7 +136,10 @@ class Maker:
         name = self.a_name("b")
         while name in lent:
             name = self.a_name("b")
-        if length > 4 or self.random.random() < 0.1:
+        if length > 100:
+            cuts = sorted(self.random.randint(0, length) for _ in range(5))
+            words = [f"{end - start}*{self.a_value(kind)}" for start, end in zip([0] + cuts, cuts + [length]) if end > start]
+        elif length > 4 or self.random.random() < 0.1:
             first = self.random.randint(0, length)
             words = [f"{first}*{self.a_value(kind)}", f"{length - first}*{self.a_value(kind)}"]
         else:
@@ -188,7 +207,10 @@ class Maker:
     def send(self):
         rank = self.a_rank()
         target = rank if self.size == 1 or self.random.random() < 0.06 else self.another(rank)
-        if self.random.random() < 0.04:
+        if self.is_large():
+            kind = self.random.choice(list(TYPES))
+            buffer = self.a_buffer(rank, kind, self.a_large_length(kind))
+        elif self.random.random() < 0.04:
             kind = self.a_type()
             buffer = self.a_buffer(rank, kind, 1024 // TYPES[kind][0])
         else:
@@ -226,8 +248,8 @@ class Maker:
             self.add(f"{rank} irecv {self.a_name('r')} world {source} {tag} {buffer}{ending}")
 
     def a_message_for(self, rank):
-        messages = [self.world.datagrams[number].message for number in self.new[-30:]
-                    if self.world.datagrams[number].target == rank and self.world.datagrams[number].kind == "EAGER"]
+        messages = [self.world.datagrams[number].frame.message for number in self.new[-30:]
+                    if self.world.datagrams[number].target == rank and self.world.datagrams[number].kind in ("EAGER", "RTS")]
         messages += self.world.ranks[rank].unexpected[:5]
         return self.random.choice(messages) if messages else None
 
@@ -259,6 +281,58 @@ class Maker:
         name = self.random.choice(waiting) if waiting and self.random.random() < 0.7 else self.a_request(rank)
         self.add(f"{rank} cancel {name}")
 
+    def half_received(self):
+        """Each receive whose data are on their way, with its rank and the rank that they come from."""
+        return [(rank.number, other, half.receive) for rank in self.world.ranks for other, session in rank.sessions.items()
+                for half in session.collections.values()]
+
+    def a_half_received(self):
+        """One of these, or a new one where there is none and the network brings all."""
+        if not self.half_received():
+            rank = self.a_rank()
+            source = self.another(rank)
+            if source == rank or self.size == 1 or self.world.ranks[source].blocked is not None:
+                return None
+            kind = self.random.choice(list(TYPES))
+            length = self.a_large_length(kind)
+            into, tag = self.a_buffer(rank, kind, length), self.random.choice([11, 12])
+            self.add(f"{rank} irecv {self.a_name('r')} world {self.random.choice([ANY, source])} {tag} {into}")
+            self.add(f"{source} isend {self.a_name('q')} world {rank} {tag} {self.a_buffer(source, kind, length)}")
+            self.bring(source, rank, self.random.choice([3, 5, 5, 6, 7, 8]))
+        halves = self.half_received()
+        return self.random.choice(halves) if halves else None
+
+    def name_of(self, rank, request):
+        names = self.world.names_of(rank).requests
+        return next((name for name, named in names.items() if named is request), NULL)
+
+    def cancel_in_the_middle(self):
+        """A cancel of a receive that was matched, whose data are on their way."""
+        half = self.a_half_received()
+        if half is not None:
+            rank, source, receive = half
+            self.add(f"{rank} cancel {self.name_of(rank, receive)}")
+            if self.random.random() < 0.5:
+                self.bring(source, rank)
+                self.add(f"{rank} test {self.name_of(rank, receive)}")
+
+    def restart_in_the_middle(self):
+        """A rank whose large message is on its way is started anew, and its target learns of it, mostly; then a half receive is looked at."""
+        half = self.a_half_received()
+        announced = [(rank.number, message.source, None) for rank in self.world.ranks for message in rank.unexpected
+                     if message.transfer is not None]
+        choices = announced[:3] + ([] if half is None else [half] * 3)
+        if not choices or self.is_over:
+            return
+        rank, source, receive = self.random.choice(choices)
+        self.add(f"restart {source}")
+        buffer = self.a_buffer(source)
+        self.add(f"{source} isend {self.a_name('q')} world {rank} {self.a_tag()} {buffer}")
+        if self.random.random() < 0.9:
+            self.bring(source, rank)
+        if receive is not None and not self.is_over:
+            self.add(f"{rank} {self.random.choice(['wait', 'test'])} {self.name_of(rank, receive)}")
+
     def wait_for_several(self):
         """A wait for any or all of a list, in which now and then one stands twice."""
         rank = self.a_rank()
@@ -277,8 +351,11 @@ class Maker:
         if not blocked:
             return
         rank = self.random.choice(blocked)
-        receive = self.awaited_receive(rank)
+        receive = self.awaited(rank)
         if receive is None:
+            return
+        if not receive.is_receive():
+            self.receive_from(rank, receive)
             return
         source = self.another(rank) if receive.source == ANY and self.size > 1 else receive.source
         if source in (rank, ANY) or self.world.ranks[source].blocked is not None:
@@ -287,19 +364,39 @@ class Maker:
         tag = self.a_tag() if receive.tag == ANY or self.random.random() < 0.1 else receive.tag
         kind = self.a_type() if self.random.random() < 0.15 else receive.type
         shorter = self.random.choices([-1, 0, 1], [1, 6, 2])[0]
-        buffer = self.a_buffer(source, kind, min(1024 // TYPES[kind][0], max(0, len(receive.places) - shorter)))
+        buffer = self.a_buffer(source, kind, min(6000 // TYPES[kind][0], max(0, len(receive.places) - shorter)))
         if not self.is_over:
             self.add(f"{source} isend {self.a_name('q')} world {rank} {tag} {buffer}")
             self.bring(source, rank)
 
-    def awaited_receive(self, rank):
-        """A receive that a blocked rank waits for, one of several."""
+    def awaited(self, rank):
+        """An operation that a blocked rank waits for, one of several."""
         waiting = [request for request in self.world.ranks[rank].blocked.requests if request is not None and request.outcome is None]
         return self.random.choice(waiting) if waiting else None
 
-    def bring(self, source, rank):
+    def receive_from(self, rank, send):
+        """The rank that a blocked send goes to takes its message, and the network brings all of it."""
+        if self.world.ranks[send.target].blocked is not None:
+            self.restart_one_of([send.target])
+            return
+        unanswered = self.world.ranks[rank].session(send.target).unanswered.values()
+        message = next(message for request, message in unanswered if request is send)
+        shorter = self.random.choices([-1, 0, 1], [1, 6, 2])[0]
+        buffer = self.a_buffer(send.target, message.type, len(message.values) + shorter)
+        if not self.is_over:
+            tag = self.random.choice([ANY, message.tag])
+            self.add(f"{send.target} irecv {self.a_name('r')} world {self.random.choice([ANY, rank])} {tag} {buffer}")
+            self.bring(rank, send.target)
+
+    def bring_some(self):
+        """The network brings what is on its way between two ranks, of which one sent the oldest datagram."""
+        if self.new:
+            datagram = self.world.datagrams[self.new[0]]
+            self.bring(datagram.source, datagram.target)
+
+    def bring(self, source, rank, count=None):
         """Delivers what is on its way between two ranks, the oldest first."""
-        for _ in range(12):
+        for _ in range(self.random.choice([12, 40]) if count is None else count):
             here = [number for number in self.new
                     if {self.world.datagrams[number].source, self.world.datagrams[number].target} == {source, rank}]
             if not here or self.is_over:
@@ -342,8 +439,8 @@ class Maker:
             rank = self.random.choice([self.size, self.size + 3, 256, 2**32])
         sends = self.random.random() < 0.55
         if sends and (kind == "long" or (kind == "several" and self.random.random() < 0.3)):
-            length = self.random.choice([1024, 1025, 1100, 2000])
-        buffer = self.a_buffer(rank, "uint8" if length else None, length)
+            length = self.random.choices([128, 129, 2**17, 2**17 + 1], [1, 1, 0.3, 12])[0]
+        buffer = self.a_buffer(rank, "uint64" if length else None, length)
         if sends:
             if kind == "tag" and self.random.random() < 0.4:
                 tag = ANY
@@ -441,7 +538,7 @@ def fill_queues(maker):
 
 def finish(maker):
     """Delivers what is on its way, and waits for what is finished, so that most outcomes are seen."""
-    for _ in range(min(60, len(maker.new))):
+    for _ in range(200 if maker.theme.startswith("large") else min(60, len(maker.new))):
         maker.deliver_new()
     for rank in range(min(maker.size, 8)):
         for _ in range(4):

@@ -3,8 +3,8 @@
 It shares nothing with the Rattle code: one Python class for a rank, lists for its queues and its sessions, and no memory that
 could be wanting. `answer(text)` is what `mpisim` must print on a file.
 
-The rules that are narrower for now stand in constants and in functions of their own (`fault_of_send`, `fault_of_receive`), so
-that they are found when a rule grows.
+The limits stand in constants, and what a call can break in functions of their own (`fault_of_send`, `fault_of_receive`), so that
+they are found when a rule grows.
 """
 
 from dataclasses import dataclass, field
@@ -17,6 +17,7 @@ MAGIC = bytes.fromhex("4d505544")
 HEADER = 32
 LONGEST_BODY = 1200
 MOST_EAGER_BYTES = 1024
+PIECE_BYTES = 1024
 MOST_BYTES = 2**20
 HIGHEST_TAG = 2**31 - 1
 WINDOW = 64
@@ -29,18 +30,45 @@ LAST_INCARNATION = 65535
 
 @dataclass
 class Message:
-    """What a send puts on its way: its envelope and its elements."""
+    """What a send puts on its way: its envelope and its elements, and the number of its transfer where it is only announced."""
 
     source: int
     incarnation: int
     tag: int
     type: str
     values: list
+    transfer: object = None
+
+
+@dataclass
+class Frame:
+    """What goes under one number of a session: a message (EAGER), the announcement of one (RTS), the answer to one (CTS), or some of
+    the elements of one (DATA), of which the first stands at `start` in the message."""
+
+    kind: str
+    message: object = None
+    transfer: object = None
+    is_wanted: bool = False
+    start: int = 0
+    values: list = field(default_factory=list)
+
+
+@dataclass
+class Collection:
+    """A receive that was matched with an announced message, and what has come of its data."""
+
+    receive: object
+    message: Message
+    values: list = field(default_factory=list)
+
+    def due(self):
+        """How many elements the next frame of data has."""
+        return min(len(self.message.values) - len(self.values), PIECE_BYTES // TYPES[self.message.type][0])
 
 
 @dataclass
 class Datagram:
-    """What an engine emitted, from one endpoint to another; only a frame has a message."""
+    """What an engine emitted, from one endpoint to another; an acknowledgement and a reset have no frame."""
 
     source: int
     source_incarnation: int
@@ -48,7 +76,7 @@ class Datagram:
     target_incarnation: int
     kind: str
     sequence: int
-    message: object = None
+    frame: object = None
 
     def text(self, number):
         return (f"+{number} {self.source}.{self.source_incarnation}>{self.target}.{self.target_incarnation}"
@@ -59,10 +87,14 @@ class Datagram:
 class Session:
     """One rank's side of what passes between its endpoint and another one, in both directions."""
 
-    frames: list = field(default_factory=list)  # every message that was accepted for sending, by its sequence
+    frames: list = field(default_factory=list)  # every frame that was accepted for sending, by its sequence
     sent_at: list = field(default_factory=list)  # when each frame that came into the window was last sent
     lowest: int = 0  # the lowest number that isn't acknowledged
     next: int = 0  # the number that is taken next from the other side
+    transfers: int = 0  # how many messages were announced to the other side
+    unanswered: dict = field(default_factory=dict)  # those without an answer: the send and its message, by the transfer
+    announced: int = 0  # how many messages the other side announced
+    collections: dict = field(default_factory=dict)  # the receives whose data are to come, by the transfer
 
     def fill_window(self, now):
         """Emits what has room in the window, and gives the numbers."""
@@ -87,6 +119,7 @@ class Request:
     places: object = None  # where in the buffer a receive puts its data, in order
     source: object = None
     tag: object = None
+    target: object = None  # where a send goes
 
     def is_receive(self):
         return self.values is not None
@@ -173,18 +206,34 @@ def accepts(receive, message):
     return receive.source in (ANY, message.source) and receive.tag in (ANY, message.tag)
 
 
-def finish(receive, message):
-    """How a receive ends by the message that it was matched with (MPI 3.1, 3.2.4 and 3.3.1)."""
-    status = f"source {message.source} tag {message.tag} count {len(message.values)}"
+def fault_of_match(receive, message):
+    """The number that a receive ends with where it gets nothing of the message that it was matched with (MPI 3.1, 3.2.4 and 3.3.1)."""
     if receive.type != message.type:
-        receive.outcome = f"error 2 {status}"
-    elif len(message.values) > len(receive.places):
-        receive.outcome = f"error 10 {status}"
-    else:
-        receive.outcome = status
-        receive.values = list(receive.values)
-        for place, value in zip(receive.places, message.values):
-            receive.values[place] = value
+        return 2
+    return 10 if len(message.values) > len(receive.places) else None
+
+
+def status_of(message):
+    return f"source {message.source} tag {message.tag} count {len(message.values)}"
+
+
+def fill(receive, message, values):
+    """A receive ends with these elements of its message in its first places."""
+    receive.outcome = status_of(message)
+    receive.values = list(receive.values)
+    for place, value in zip(receive.places, values):
+        receive.values[place] = value
+
+
+def pieces_of(message):
+    """The frames of data of an announced message, in order."""
+    step = PIECE_BYTES // TYPES[message.type][0]
+    return [Frame("DATA", transfer=message.transfer, start=start, values=message.values[start:start + step])
+            for start in range(0, len(message.values), step)]
+
+
+def byte_count(message):
+    return len(message.values) * TYPES[message.type][0]
 
 
 def text_of(request):
@@ -372,14 +421,23 @@ class World:
         if event.target == NULL:
             return f"request {request.serial}", [], None
         message = Message(rank.number, rank.incarnation, event.tag, kind, [values[place] for place in layout.places(copies)])
-        emitted = []
         if event.target == rank.number:
             self.arrive(rank, message)
-        else:
-            session = rank.session(event.target)
-            session.frames.append(message)
-            emitted = self.frames(rank, event.target, session.fill_window(rank.clock))
-        return f"request {request.serial}", emitted, None
+            return f"request {request.serial}", [], None
+        session = rank.session(event.target)
+        session.frames.append(self.first_frame(session, request, event.target, message))
+        return f"request {request.serial}", self.in_window(rank, event.target), None
+
+    @staticmethod
+    def first_frame(session, request, target, message):
+        """A message goes whole; a large one is announced, and its send isn't finished before that is answered."""
+        if byte_count(message) <= MOST_EAGER_BYTES:
+            return Frame("EAGER", message)
+        message.transfer = session.transfers
+        session.transfers += 1
+        session.unanswered[message.transfer] = (request, message)
+        request.outcome, request.target = None, target
+        return Frame("RTS", message, message.transfer)
 
     def on_irecv(self, event):
         kind, values = self.buffer(event)
@@ -397,9 +455,9 @@ class World:
         names.lent.add(event.buffer)
         if event.source == NULL:
             request.outcome = "source null tag any count 0"
-        else:
-            self.post(rank, request)
-        return f"request {request.serial}", [], None
+            return f"request {request.serial}", [], None
+        answered = self.post(rank, request)
+        return f"request {request.serial}", [] if answered is None else self.in_window(rank, answered), None
 
     def named(self, rank, name):
         """The request of a name that is set; None is the null request."""
@@ -454,12 +512,12 @@ class World:
         return "; ".join(texts) if texts else "done"
 
     def on_cancel(self, event):
-        """Only a receive is cancelled, and it only ends where it waits (MPI 3.1, 3.8.4)."""
+        """Only a receive is cancelled, and it only ends where it waits for a message (MPI 3.1, 3.8.4)."""
         request = self.named(event.rank, event.request)
         rank = self.caller(event.rank)
         if request is None or not request.is_receive():
             raise RefusedEvent(6)
-        if request.outcome is None:
+        if any(receive is request for receive in rank.posted):
             request.outcome = "cancelled"
             rank.posted = [receive for receive in rank.posted if receive is not request]
         return "done", [], None
@@ -467,7 +525,7 @@ class World:
     def fault_of_send(self, event, kind, values, layout, copies):
         if layout.type != kind:
             return 2
-        if layout.count(copies) * TYPES[kind][0] > MOST_EAGER_BYTES or layout.room(copies) > len(values):
+        if layout.count(copies) * TYPES[kind][0] > MOST_BYTES or layout.room(copies) > len(values):
             return 1
         if event.tag == ANY or event.tag > HIGHEST_TAG:
             return 3
@@ -514,23 +572,38 @@ class World:
 
     # Matching: the oldest that fits (MPI 3.1, 3.5).
 
-    @staticmethod
-    def post(rank, receive):
+    def post(self, rank, receive):
+        """Takes the oldest message that the receive accepts, or lets it wait; gives the rank that is answered, if one is."""
         for place, message in enumerate(rank.unexpected):
             if accepts(receive, message):
                 del rank.unexpected[place]
-                finish(receive, message)
-                return
+                return self.match(rank, receive, message)
         rank.posted.append(receive)
+        return None
 
-    @staticmethod
-    def arrive(rank, message):
+    def arrive(self, rank, message):
         for place, receive in enumerate(rank.posted):
             if accepts(receive, message):
                 del rank.posted[place]
-                finish(receive, message)
+                self.match(rank, receive, message)
                 return
         rank.unexpected.append(message)
+
+    @staticmethod
+    def match(rank, receive, message):
+        """A receive takes a message: a whole one at once, while an announced one is answered, and its data come later."""
+        fault = fault_of_match(receive, message)
+        if fault is not None:
+            receive.outcome = f"error {fault} {status_of(message)}"
+        if message.transfer is None:
+            if fault is None:
+                fill(receive, message, message.values)
+            return None
+        session = rank.session(message.source)
+        session.frames.append(Frame("CTS", transfer=message.transfer, is_wanted=fault is None))
+        if fault is None:
+            session.collections[message.transfer] = Collection(receive, message)
+        return message.source
 
     # The network.
 
@@ -573,6 +646,7 @@ class World:
         learns = datagram.source_incarnation > known
         session = Session() if learns else rank.session(datagram.source)
         self.check(self.fault_of_sequence(session, datagram))
+        self.check(self.fault_of_transfer(session, datagram))
         if learns:
             self.learn(rank, datagram.source, datagram.source_incarnation)
         emitted = self.handle(rank, datagram)
@@ -581,10 +655,25 @@ class World:
     @staticmethod
     def fault_of_sequence(session, datagram):
         """A frame behind the next one, and an acknowledgement of what wasn't sent, are outside the window."""
-        if datagram.kind == "EAGER" and datagram.sequence > session.next:
+        if datagram.frame is not None and datagram.sequence > session.next:
             return 31
         if datagram.kind == "ACK" and datagram.sequence > len(session.sent_at):
             return 31
+        return None
+
+    @staticmethod
+    def fault_of_transfer(session, datagram):
+        """The next frame announces the next transfer, answers one that has no answer, or brings the data that are due."""
+        frame = datagram.frame
+        if frame is None or datagram.sequence < session.next or frame.kind == "EAGER":
+            return None
+        if frame.kind == "RTS":
+            return None if frame.transfer == session.announced else 30
+        if frame.kind == "CTS":
+            return None if frame.transfer in session.unanswered else 30
+        collection = session.collections.get(frame.transfer)
+        if collection is None or frame.start != len(collection.values) or len(frame.values) != collection.due():
+            return 30
         return None
 
     @staticmethod
@@ -598,6 +687,9 @@ class World:
     def learn(rank, other, incarnation):
         """The other rank was started anew: what was under way between the two is over."""
         rank.known[other] = incarnation
+        former = rank.session(other)
+        for request in [send for send, _ in former.unanswered.values()] + [half.receive for half in former.collections.values()]:
+            request.outcome = "error 11"
         rank.sessions[other] = Session()
         for receive in rank.posted:
             if receive.source == other:
@@ -609,15 +701,33 @@ class World:
     def handle(self, rank, datagram):
         """Takes a datagram in that is neither refused nor late, and gives what goes out."""
         session = rank.session(datagram.source)
-        if datagram.kind == "EAGER":
+        if datagram.frame is not None:
             if datagram.sequence == session.next:
                 session.next += 1
-                self.arrive(rank, datagram.message)
-            return [self.to(rank, datagram.source, "ACK", session.next)]
+                self.take(rank, session, datagram.frame)
+            return [self.to(rank, datagram.source, "ACK", session.next)] + self.in_window(rank, datagram.source)
         if datagram.kind == "ACK":
             session.lowest = max(session.lowest, datagram.sequence)
-            return self.frames(rank, datagram.source, session.fill_window(rank.clock))
+            return self.in_window(rank, datagram.source)
         return []
+
+    def take(self, rank, session, frame):
+        """The next frame of a session is taken: a message arrives, an announcement is answered, or data come."""
+        if frame.kind == "EAGER":
+            self.arrive(rank, frame.message)
+        elif frame.kind == "RTS":
+            session.announced += 1
+            self.arrive(rank, frame.message)
+        elif frame.kind == "CTS":
+            request, message = session.unanswered.pop(frame.transfer)
+            request.outcome = "sent"
+            session.frames += pieces_of(message) if frame.is_wanted else []
+        else:
+            collection = session.collections[frame.transfer]
+            collection.values += frame.values
+            if len(collection.values) == len(collection.message.values):
+                del session.collections[frame.transfer]
+                fill(collection.receive, collection.message, collection.values)
 
     def wake(self, rank):
         """Answers the blocked call of a rank once its answer is ready."""
@@ -630,12 +740,16 @@ class World:
         return f"{rank.number} {answer}"
 
     @staticmethod
-    def to(rank, other, kind, sequence, message=None):
-        return Datagram(rank.number, rank.incarnation, other, rank.incarnation_of(other), kind, sequence, message)
+    def to(rank, other, kind, sequence, frame=None):
+        return Datagram(rank.number, rank.incarnation, other, rank.incarnation_of(other), kind, sequence, frame)
 
     def frames(self, rank, other, numbers):
         frames = rank.session(other).frames
-        return [self.to(rank, other, "EAGER", number, frames[number]) for number in numbers]
+        return [self.to(rank, other, frames[number].kind, number, frames[number]) for number in numbers]
+
+    def in_window(self, rank, other):
+        """What has room in the window to another rank by now, and goes out."""
+        return self.frames(rank, other, rank.session(other).fill_window(rank.clock))
 
 
 def answer(text):

@@ -2,6 +2,4 @@
 #![tactic(auto)]
 
 #[cfg(test)]
-mod large_messages;
-#[cfg(test)]
 mod tests;

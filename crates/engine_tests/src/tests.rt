@@ -7,7 +7,7 @@ use requests::{Answer, Outcome, Region, Request, RequestList};
 use std::alloc::Global;
 use vocabulary::{BasicType, Endpoint, Source};
 
-pub(crate) fn rank_of_two(alloc: Global, rank: u16, incarnation: u16) -> Result<Engine, Refused> {
+fn rank_of_two(alloc: Global, rank: u16, incarnation: u16) -> Result<Engine, Refused> {
     let place = Place {
         endpoint: Endpoint { rank, incarnation },
         size: 2,
@@ -21,27 +21,27 @@ fn add_rank(alloc: Global, ranks: &mut Vec<Engine>, rank: u16, incarnation: u16)
 }
 
 /// Ranks 0 and 1 at these incarnations.
-pub(crate) fn two_ranks(alloc: Global, first: u16, second: u16) -> Option<Vec<Engine>> {
+fn two_ranks(alloc: Global, first: u16, second: u16) -> Option<Vec<Engine>> {
     let mut ranks = Vec::new(alloc);
     add_rank(alloc, &mut ranks, 0, first)?;
     add_rank(alloc, &mut ranks, 1, second)?;
     Some(ranks)
 }
 
-pub(crate) fn copies(alloc: Global, number: u8, count: usize) -> Option<Buffer> {
+fn copies(alloc: Global, number: u8, count: usize) -> Option<Buffer> {
     let mut elements = Buffer::new(alloc, BasicType::Uint8);
     elements.push_copies(u64::from(number), count).ok()?;
     Some(elements)
 }
 
-pub(crate) fn started(reply: Reply) -> Option<Request> {
+fn started(reply: Reply) -> Option<Request> {
     match reply {
         Reply::Started(request) => Some(request),
         _ => None,
     }
 }
 
-pub(crate) fn start_send(alloc: Global, engine: &mut Engine) -> Option<Request> {
+fn start_send(alloc: Global, engine: &mut Engine) -> Option<Request> {
     let call = Call::Isend(Send {
         target: Source::Rank(1),
         tag: Some(3),
@@ -69,7 +69,7 @@ fn send_to_itself(alloc: Global) -> Call {
 }
 
 /// Each datagram that one engine emitted comes to another.
-pub(crate) fn deliver(from: &mut Engine, to: &mut Engine) -> Option<()> {
+fn deliver(from: &mut Engine, to: &mut Engine) -> Option<()> {
     for (_target, bytes) in from.take_out() {
         to.on_datagram(bytes.as_slice()).ok()?;
     }
@@ -254,7 +254,7 @@ fn start_sends_to_itself(alloc: Global, engine: &mut Engine, count: u32) -> Opti
     last
 }
 
-pub(crate) fn number_of_refusal(reply: Reply) -> Option<u8> {
+fn number_of_refusal(reply: Reply) -> Option<u8> {
     match reply {
         Reply::Refused(refused, _call) => Some(refused.number()),
         _ => None,
@@ -330,7 +330,7 @@ fn is_cancelled(answer: Option<Answer>) -> bool {
     }
 }
 
-pub(crate) fn done(reply: Reply) -> Option<Answer> {
+fn done(reply: Reply) -> Option<Answer> {
     match reply {
         Reply::Done(answer) => Some(answer),
         _ => None,
@@ -373,7 +373,7 @@ fn wait_for_several(
     Some((place, outcome_count(receiver.take_completion())))
 }
 
-pub(crate) fn send_to_nobody(alloc: Global) -> Call {
+fn send_to_nobody(alloc: Global) -> Call {
     Call::Isend(Send {
         target: Source::Null,
         tag: Some(3),
