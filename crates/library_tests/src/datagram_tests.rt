@@ -206,15 +206,24 @@ fn each_refusal_has_its_number(rt: HostRuntime) {
     }
 }
 
-/// How many bytes are kept of a slice, and whether they are its bytes.
+/// How many bytes are kept of a slice, and whether a second owner has them still, once the first one is gone.
 fn copied(alloc: Global, bytes: &[u8]) -> Option<(usize, bool)> {
     let copied = Bytes::from_slice(alloc, bytes).ok()?;
-    Some((copied.len(), copied.as_slice() == bytes))
+    let shared = copied.share().ok()?;
+    let len = copied.len();
+    drop(copied);
+    Some((len, shared.as_slice() == bytes))
+}
+
+/// Whether a vector without bytes is kept as none.
+fn none_are_kept(alloc: Global) -> Option<bool> {
+    let bytes = Bytes::from_vec(Vec::new(alloc)).ok()?;
+    Some(bytes.is_empty())
 }
 
 #[test]
 fn bytes_keep_what_they_were_given(rt: HostRuntime) {
     assert_eq!(rt; copied(rt.alloc(), &[1, 2, 3]), Some((3, true)));
-    assert!(rt; Bytes::from_vec(Vec::new(rt.alloc())).is_empty());
+    assert_eq!(rt; none_are_kept(rt.alloc()), Some(true));
     no_spelling_begins_another();
 }
