@@ -14,7 +14,7 @@ fn message(alloc: Global, incarnation: u16, tag: u32) -> Message {
         },
         context: 0,
         tag,
-        elements: Buffer::new(alloc, BasicType::Int32),
+        body: Body::Whole(Buffer::new(alloc, BasicType::Int32)),
     }
 }
 
@@ -202,4 +202,66 @@ fn many_unexpected_messages_are_taken_in_order(rt: HostRuntime) {
 #[test]
 fn number_of_want_of_memory(rt: HostRuntime) {
     assert_eq!(rt; OutOfMemory {}.number(), 14);
+}
+
+/// A message of rank 0 whose two elements are announced.
+fn announced(tag: u32) -> Message {
+    Message {
+        sender: Endpoint {
+            rank: 0,
+            incarnation: 0,
+        },
+        context: 0,
+        tag,
+        body: Body::Announced(Announcement {
+            transfer: 0,
+            basic: BasicType::Uint64,
+            count: 2,
+        }),
+    }
+}
+
+/// Of a receive from rank 0 and one from any rank behind it: the requests of those that a message would come to, as they stand
+/// and without those that name rank 0.
+fn would_receive(queues: &mut Queues) -> ([bool; 2], Option<usize>, Option<usize>) {
+    let posted = [
+        is_posted(queues, receive(3, Source::Rank(0), None)),
+        is_posted(queues, receive(4, Source::Any, None)),
+    ];
+    let message = announced(7);
+    let first = queues.receive_for(&message);
+    let unnamed = queues.receive_for_unnamed(&message, 0);
+    (
+        posted,
+        first.map(|receive| receive.request),
+        unnamed.map(|receive| receive.request),
+    )
+}
+
+#[test]
+fn shows_which_receive_a_message_would_come_to(rt: HostRuntime) {
+    let mut queues = Queues::new(rt.alloc());
+    assert_eq!(rt; would_receive(&mut queues), ([true; 2], Some(3), Some(4)));
+}
+
+/// The type and length of the announced message that a receive would take, which a later whole one of its sender doesn't
+/// overtake.
+fn would_find(alloc: Global, queues: &mut Queues) -> Option<(BasicType, usize)> {
+    let Some(Arrival::Kept) = arrive(queues, announced(7)) else {
+        return None;
+    };
+    if !is_kept(alloc, queues, 7) {
+        return None;
+    }
+    let message = queues.message_for(&receive(1, Source::Any, Some(7)))?;
+    Some((message.basic(), message.count()))
+}
+
+#[test]
+fn shows_which_message_a_receive_would_take(rt: HostRuntime) {
+    let mut queues = Queues::new(rt.alloc());
+    assert_eq!(rt;
+        would_find(rt.alloc(), &mut queues),
+        Some((BasicType::Uint64, 2))
+    );
 }

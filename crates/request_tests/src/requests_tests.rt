@@ -181,3 +181,69 @@ fn numbers_of_refusals(rt: HostRuntime) {
     assert_eq!(rt; Failure::WrongType.number(), 2);
     assert_eq!(rt; Failure::Truncated.number(), 10);
 }
+
+/// Whether the receive under a key wants no byte, and whether it wants one.
+fn wanted(requests: &Requests, key: usize) -> [bool; 2] {
+    [
+        requests.wants(key, BasicType::Byte, 0),
+        requests.wants(key, BasicType::Byte, 1),
+    ]
+}
+
+/// What is seen of a receive that collects an announced message, before its data are there and then.
+fn collect(alloc: Global, requests: &mut Requests, request: Request) -> [Seen; 2] {
+    requests.announce(request.key, empty_status(), BasicType::Byte);
+    let before = look(requests, request);
+    requests.deliver(request.key, &Buffer::new(alloc, BasicType::Byte));
+    [before, look(requests, request)]
+}
+
+/// Whether the request has the key that was told before, what it wants, and what is seen of it.
+fn collected(alloc: Global) -> Option<(bool, [bool; 2], [Seen; 2])> {
+    let mut requests = Requests::new(alloc);
+    requests.reserve().ok()?;
+    let key = requests.next_key();
+    let request = requests.start(receiving(alloc)?);
+    let wants = wanted(&requests, key);
+    let seen = collect(alloc, &mut requests, request);
+    Some((request.key == key, wants, seen))
+}
+
+#[test]
+fn a_receive_collects_what_was_announced(rt: HostRuntime) {
+    let seen = [Seen::Pending, Seen::Received(empty_status())];
+    assert_eq!(rt; collected(rt.alloc()), Some((true, [true, false], seen)));
+}
+
+/// What is seen of a send that is offered, before its receiver answers and then.
+fn offered(alloc: Global) -> Option<[Seen; 2]> {
+    let mut requests = Requests::new(alloc);
+    requests.reserve().ok()?;
+    let request = requests.start(Progress::Offering);
+    let before = look(&mut requests, request);
+    requests.finish_send(request.key);
+    Some([before, look(&mut requests, request)])
+}
+
+#[test]
+fn a_send_that_is_offered_ends_with_its_answer(rt: HostRuntime) {
+    assert_eq!(rt; offered(rt.alloc()), Some([Seen::Pending, Seen::Sent]));
+}
+
+/// Whether a receive without a place for an announced byte is over.
+fn is_over(alloc: Global) -> Option<bool> {
+    let region = judged(Region::whole(Buffer::new(alloc, BasicType::Byte)))?;
+    let status = Status {
+        count: 1,
+        ..empty_status()
+    };
+    match match_announced(region, status, BasicType::Byte) {
+        Progress::Finished(Outcome::Ended(Failure::Truncated, _status, _buffer)) => Some(true),
+        _ => Some(false),
+    }
+}
+
+#[test]
+fn a_receive_too_short_for_an_announced_message_is_over(rt: HostRuntime) {
+    assert_eq!(rt; is_over(rt.alloc()), Some(true));
+}

@@ -1,0 +1,15 @@
+pub mod Communicators
+pub mod Operations
+pub mod Collectives
+pub mod Results
+pub mod Membership
+pub mod Machine
+pub mod Calls
+pub mod Faults
+pub mod Events
+pub mod Runs
+pub mod Soundness
+pub mod Quiet
+pub mod Laws
+pub mod CallLaws
+pub mod Examples

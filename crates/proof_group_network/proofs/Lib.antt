@@ -1,0 +1,14 @@
+pub mod NoticeTruth
+pub mod GroupsKept
+pub mod GroupSteps
+pub mod GroupEvents
+pub mod NetworkMoves
+pub mod Lively
+pub mod LivelySteps
+pub mod NetworkKept
+pub mod NetworkLive
+pub mod NetworkRest
+pub mod CarriedParts
+pub mod SortedOnce
+pub mod SplitRows
+pub mod SplitPlans

@@ -1,0 +1,5 @@
+pub mod Notices
+pub mod Network
+pub mod Example
+pub mod Carried
+pub mod Splits
