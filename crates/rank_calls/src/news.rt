@@ -31,7 +31,7 @@ pub struct News<'a> {
 pub struct Ready {
     /// With a lesson the keys of the requests that it ends.
     pub keys: Option<Vec<usize>>,
-    /// The message that came, if one did.
+    /// The message whose data came with the frame, if it brought one.
     pub message: Option<Message>,
     /// The place for the data of a message that was announced, if a receive finds it and wants them.
     pub collection: Option<Collection>,

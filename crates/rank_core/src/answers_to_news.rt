@@ -153,6 +153,7 @@ impl Core {
         ensures few { length (news_frames self.now.state (news_text news.entry)) ≤ 1024 }
         ensures err { IfErr result (λ e. e ≡ refusals.OutOfMemory) }
     {
+        // The place shows that the rank is below the size of the job.
         let _place = &self.place;
         self.frames_after(news.source, news.lesson, news.frame, &ready.keys)
     }

@@ -40,8 +40,9 @@ pub enum Outcome {
     Received(Status, Buffer),
     /// A receive used its message up and got none of its data; its buffer is as it was.
     Ended(Failure, Status, Buffer),
-    /// The rank that the operation names was started anew: number 11, where it is told. A receive's buffer is handed
-    /// back as it was. MPI 3.1 defines no restart of a rank; this outcome is this project's own.
+    /// The rank that the operation names, or whose data or answer it waits for, was started anew: number 11, where it is
+    /// told. A receive's buffer is handed back as it was. MPI 3.1 defines no restart of a rank; this outcome is this
+    /// project's own.
     Replaced(Option<Buffer>),
     /// A receive was cancelled before a message was matched with it; its buffer is as it was (MPI 3.1, 3.8.4).
     Cancelled(Buffer),

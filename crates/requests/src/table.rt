@@ -147,7 +147,7 @@ pub fn match_announced(into: ReceiveRegion, status: Status, basic: BasicType) ->
     Progress::Finished(Outcome::Ended(why, status, buffer))
 }
 
-/// Ends a receive that waits, for the rank that it names was started anew.
+/// Ends what is unfinished, for a rank that it waits for was started anew.
 fn end_replaced(entry: &mut Entry)
     ensures { entry.new ≡ replaced_entry entry.old }
 {
@@ -283,7 +283,7 @@ impl Requests {
         }
     }
 
-    /// Ends the receive under this key, if one waits there.
+    /// Ends what is unfinished under this key.
     fn replace(&mut self, key: usize)
         ensures { self.new ≡ record self.old { slots = after_replace self.old.slots key } }
     {
@@ -292,10 +292,11 @@ impl Requests {
         }
     }
 
-    /// Ends the receives that wait under these keys: the rank that they name was started anew, and each hands its
-    /// buffer back as it was. Keys under which nothing stands, and requests that are finished, stay as they are.
+    /// Ends the unfinished operations under these keys, for a rank that they wait for was started anew: receives that
+    /// wait or collect hand their buffers back as they were, sends that wait for an answer end without one. Keys under
+    /// which nothing stands, and requests that are finished, stay as they are.
     ///
-    /// It takes no memory. MPI 3.1 defines no restart of a rank; that such a receive ends is this project's own.
+    /// It takes no memory. MPI 3.1 defines no restart of a rank; that such an operation ends is this project's own.
     pub fn replace_each(&mut self, keys: &[usize])
         ensures { self.new ≡ record self.old { slots = after_replaces self.old.slots keys.now } }
     {
@@ -339,7 +340,7 @@ impl Requests {
         requests.iter().any(|request| self.lacks(*request))
     }
 
-    /// Whether the request is a receive, be it one that waits or one that is over (MPI 3.1, 3.8.4).
+    /// Whether the request is a receive, be it one that waits, collects or is over (MPI 3.1, 3.8.4).
     pub fn is_receive(&self, request: Request) -> bool
         ensures { result ≡ is_receive (progress_at self.now.slots request.key request.serial) }
     {
