@@ -1,6 +1,6 @@
 -- What an event does, carried out in this order, is what it is to do.
 use Rattle.std.proofs.Common.{◌≡◌, ℕ, ◌+◌, ◌<◌, ◌≤◌, Bool, true, false, cond, List, ◌++◌, length, refl, sym, ap, subst, ◌∙◌, arith, append-nil, Option, Some, None}
-use Rattle.std.specs.Prelude.{slice_set, Result, Ok, Err, OnOk, OnErr, IfErr}
+use Rattle.std.specs.Prelude.{All, slice_set, Result, Ok, Err, OnOk, OnErr, IfErr}
 use Rattle.std.proofs.lemmas.Bool.{eqb-false}
 use Rattle.std.proofs.lemmas.List.{length-set}
 use Rattle.sessions.specs.declared.peers.Peer.{Peer}
@@ -9,13 +9,14 @@ use Rattle.sessions.specs.declared.refused.Refused.TheVariants as refusals
 use Rattle.sessions.specs.SessionsState.{SessionsState, GivesUnless}
 use Rattle.sessions.specs.Peers.{peer_at, new_session, with_new_session}
 use Rattle.sessions.specs.Heard.{WordText, Acknowledges, Repeats, Hands, Nothing, HeardText, session_met, CanHeed, CanHear}
-use Rattle.sessions.specs.Events.{Sending, taught_peers, answer_in, after_heard, after_sends, after_event, word_limit, heard_limit, sends_limit, first_limit, event_limit, most_answers}
+use Rattle.sessions.specs.Events.{AreFor, CanSend, Sending, taught_peers, answer_in, after_heard, after_sends, after_event, word_limit, heard_limit, sends_limit, first_limit, event_limit, most_answers}
 use Rattle.sessions.specs.Carrying.{CanSettleIn, CanSettle, answered, sends_ahead, settled}
 use Rattle.sessions.proofs.Lists.{set_twice}
 use Rattle.sessions.proofs.Meeting.{met_at, set_same}
 use Rattle.sessions.proofs.Ahead.{sends_settled}
+use Rattle.sessions.proofs.Numbers.{are_there}
 use Rattle.sessions.proofs.Undoing.{can_ahead}
-use Rattle.sessions.proofs.Amounts.{few_out, place_after}
+use Rattle.sessions.proofs.Amounts.{few_out, few_out_to_one, place_after}
 
 -- the sessions where the source has started anew, if there is a lesson
 abbrev pub begun : SessionsState → HeardText → SessionsState
@@ -116,6 +117,13 @@ pub few_carried : (r : Result (Unit {0}) Refused) (s new : SessionsState) (h : O
     OnOk r (new ≡ after_event s h fs) → OnErr r (new ≡ s) → length new.out ≤ length s.out + (most_answers h + n)
 few_carried (Ok x) s new h fs n can is ok unchanged = omega (arith, ap (λ (x : SessionsState). length x.out) ok, few_out s h fs n can is)
 few_carried (Err e) s new h fs n can is ok unchanged = omega (arith, ap (λ (x : SessionsState). length x.out) unchanged)
+
+-- where all frames are for one rank
+pub window_carried : (r : Result (Unit {0}) Refused) (s new : SessionsState) (h : Option HeardText) (fs : List Sending) (rank count : ℕ) → CanHear s h → All (CanSend s.place) fs →
+    length s.peers ≡ s.place.size → AreFor rank count fs → OnOk r (new ≡ after_event s h fs) → OnErr r (new ≡ s) → length new.out ≤ length s.out + (most_answers h + 64)
+window_carried (Ok x) s new h fs rank count can may each are ok unchanged =
+    omega (arith, ap (λ (x : SessionsState). length x.out) ok, few_out_to_one s h rank count fs can (are_there s.place (length s.peers) fs each may) are)
+window_carried (Err e) s new h fs rank count can may each are ok unchanged = omega (arith, ap (λ (x : SessionsState). length x.out) unchanged)
 
 pub placed_carried : (r : Result (Unit {0}) Refused) (s new : SessionsState) (h : Option HeardText) (fs : List Sending) →
     OnOk r (new ≡ after_event s h fs) → OnErr r (new ≡ s) → new.place ≡ s.place

@@ -7,14 +7,14 @@
 //! before an acknowledgement is heeded is kept as one that comes after it. Where a session starts anew, the former one
 //! is held until nothing fails any more.
 
-ghost use Rattle.std.specs.Prelude.{◌≡◌, ◌≤◌, ◌<◌, ◌+◌, ◌++◌, [], ◌∷◌, All, IsTrue, false, IfErr, OnOk, OnErr, length, nat_lt, take, slice_set, vec_len, None, Some};
+ghost use Rattle.std.specs.Prelude.{ℕ, ◌≡◌, ◌≤◌, ◌<◌, ◌+◌, ◌++◌, [], ◌∷◌, All, IsTrue, false, IfErr, OnOk, OnErr, length, nat_lt, take, slice_set, vec_len, None, Some};
 ghost use Rattle.reliable_link.specs.SenderState.{out_end, entered_on_ack};
 ghost use Rattle.reliable_link.specs.Accepting.{HasNumberLeft};
 ghost use Rattle.sessions.specs.SessionsState.{GivesUnless, known_endpoint};
 ghost use Rattle.sessions.specs.Peers.{peer_at, with_new_session, frames_out};
 ghost use Rattle.sessions.specs.Spellings.{ack_bytes};
 ghost use Rattle.sessions.specs.Heard.{word_text, heard_text, heard_option, CanHear};
-ghost use Rattle.sessions.specs.Events.{CanSend, taught_known, heeded_by, sending_text, sendings, sends_limit, after_event, event_limit, most_answers, TurnedAway};
+ghost use Rattle.sessions.specs.Events.{AreFor, CanSend, taught_known, heeded_by, sending_text, sendings, sends_limit, after_event, event_limit, most_answers, TurnedAway};
 ghost use Rattle.sessions.specs.Carrying.{CanSettleIn, CanSettle, known_after, answered, sender_after, send_ahead, sends_ahead, settled, all_taken_back};
 
 use crate::heard::{Heard, Outgoing, Unheard, Word};
@@ -297,7 +297,7 @@ impl Sessions {
     /// Takes in what was heard, if anything was, and then sends the frames, in this order: a new incarnation of the
     /// source is learnt and both directions of its session start anew; the word is heeded; each frame is kept under the
     /// next number of its session. Out go the acknowledgement, or the frames that come into the window by one, and then
-    /// of the frames those that come into the window.
+    /// of the frames those that come into the window: at most 64 where all of them are for one rank.
     ///
     /// Refused with 13 exactly where `limit_of` says so, and else with 14. A refusal changes nothing.
     pub fn carry_out(
@@ -311,8 +311,12 @@ impl Sessions {
             (after_event self.old (heard_option heard.entry) (sendings frames.now)) result self.new }
         ensures unchanged { OnErr result (self.new ≡ self.old) }
         ensures few { length self.new.out ≤ length self.old.out + (most_answers (heard_option heard.entry) + length frames.now) }
+        ensures window { (rank count : ℕ) → AreFor rank count (sendings frames.now) →
+            length self.new.out ≤ length self.old.out + (most_answers (heard_option heard.entry) + 64) }
         ensures placed { self.new.place ≡ self.old.place }
     {
+        // The sessions show that there is one for each rank.
+        let _peers = &self.peers;
         if let Some(limit) = self.limit_of(heard, frames) {
             return Err(limit);
         }
