@@ -98,22 +98,28 @@ outgoing_can_go c place h os says same go =
 
 -- ---- they are few
 
-few_by : (c : CoreState) (s : Endpoint) (lesson : Bool) (w : WordText) →
-    length (news_frames c (record { source = s; lesson = lesson; frame = frame_in w })) ≤ 1024 →
-    most_answers (Some (record { source = s; lesson = lesson; word = w }))
-    + length (news_frames c (record { source = s; lesson = lesson; frame = frame_in w })) ≤ 1025
-few_by c s lesson (Acknowledges n) few = omega arith
-few_by c s lesson Repeats few = omega arith
-few_by c s lesson (Hands f) few = omega (arith, few)
-few_by c s lesson Nothing few = omega arith
+few_by : (c : CoreState) (s : Endpoint) (lesson : Bool) (w : WordText) (out old : ℕ) →
+    out ≤ old + (most_answers (Some (record { source = s; lesson = lesson; word = w }))
+    + length (news_frames c (record { source = s; lesson = lesson; frame = frame_in w }))) →
+    out ≤ old + (most_answers (Some (record { source = s; lesson = lesson; word = w })) + 64) → out ≤ old + 65
+few_by c s lesson (Acknowledges n) out old each window = omega (arith, each)
+few_by c s lesson Repeats out old each window = omega (arith, window)
+few_by c s lesson (Hands f) out old each window = omega (arith, window)
+few_by c s lesson Nothing out old each window = omega (arith, window)
 
--- with what answers the word they are at most 1,025
-pub few_go_out : (c : CoreState) (h : HeardText) (os : List Outgoing) → sendings os ≡ replies c h →
-    length (news_frames c (news_of h)) ≤ 1024 → most_answers (Some h) + length os ≤ 1025
-few_go_out c h os says few =
+-- with what answers the word at most 65 go out: an acknowledgement lets frames into the window and calls for none, and of the
+-- frames that anything else calls for the window lets 64 out
+pub few_go_out : (c : CoreState) (h : HeardText) (os : List Outgoing) (out old : ℕ) → sendings os ≡ replies c h →
+    out ≤ old + (most_answers (Some h) + length os) →
+    ((rank count : ℕ) → AreFor rank count (sendings os) → out ≤ old + (most_answers (Some h) + 64)) → out ≤ old + 65
+few_go_out c h os out old says each window =
     let many : length os ≡ length (news_frames c (news_of h)) =
     sym (length-map os _) ∙ ap length says ∙ length-map (news_frames c (news_of h)) sending_of in
-    subst (λ (n : ℕ). most_answers (Some h) + n ≤ 1025) (sym many) (few_by c h.source h.lesson h.word few)
+    let are : AreFor h.source.rank (length (news_frames c (news_of h))) (sendings os) =
+    subst (λ (fs : List Sending). AreFor h.source.rank (length (news_frames c (news_of h))) fs) (sym says)
+    (replies_are_for c h (length (news_frames c (news_of h))) refl) in
+    few_by c h.source h.lesson h.word out old (subst (λ (n : ℕ). out ≤ old + (most_answers (Some h) + n)) many each)
+    (window h.source.rank (length (news_frames c (news_of h))) are)
 
 -- ---- what becomes of it
 

@@ -41,20 +41,16 @@ says_nothing false Nothing = true
 abbrev pub replies : CoreState → HeardText → List Sending
 replies c h = map sending_of (news_frames c (news_of h))
 
--- what the sessions are to send then: the frames that the core calls for
-abbrev pub heard_sendings : EngineState → HeardText → List Sending
-heard_sendings e h = replies e.core h
-
 -- the first rule or limit that it meets: the core's rule first
 abbrev pub heard_fault : EngineState → HeardText → Option Refused
 heard_fault e h =
-    first_fault (news_fault e.core (news_of h)) (fault_of_sessions (event_limit e.sessions (Some h) (heard_sendings e h)))
+    first_fault (news_fault e.core (news_of h)) (fault_of_sessions (event_limit e.sessions (Some h) (replies e.core h)))
 
 -- both halves once they took it in
 abbrev pub after_heard : EngineState → HeardText → EngineState
 after_heard e h = record {
   core = after_news e.core (news_of h);
-  sessions = after_event e.sessions (Some h) (heard_sendings e h);
+  sessions = after_event e.sessions (Some h) (replies e.core h);
 }
 
 -- What is heard is taken in by both halves; or a rule, a limit or want of memory refused it, and nothing changes. What says

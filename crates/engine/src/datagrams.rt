@@ -88,7 +88,7 @@ fn carry_out(
     ensures ok { OnOk result (sessions.new ≡ after_event sessions.old (Some (heard_text heard.entry)) (replies core.now.state (heard_text heard.entry))) }
     ensures unchanged { OnErr result (sessions.new ≡ sessions.old) }
     ensures err { IfErr result (λ e. e ≡ Refused.OutOfMemory) }
-    ensures few { length sessions.new.out ≤ length sessions.old.out + 1025 }
+    ensures few { length sessions.new.out ≤ length sessions.old.out + 65 }
     ensures placed { sessions.new.place ≡ sessions.old.place }
 {
     let frames = core.frames_for(news_of(heard), ready)?;
@@ -120,7 +120,7 @@ fn hear(core: &mut Core, sessions: &mut Sessions, heard: Heard<'_>) -> Result<()
     ensures exact { HeardGives
         (record { core = core.old.state; sessions = sessions.old }) (heard_text heard.entry) result
         (record { core = core.new.state; sessions = sessions.new }) }
-    ensures few { length sessions.new.out ≤ length sessions.old.out + 1025 }
+    ensures few { length sessions.new.out ≤ length sessions.old.out + 65 }
     ensures placed { sessions.new.place ≡ sessions.old.place }
     ensures core_placed { core.new.state.place ≡ core.old.state.place }
 {
@@ -165,7 +165,7 @@ impl Engine {
         ensures exact { DatagramGives self.old bytes.now result self.new }
         ensures known { OnOk result (SourceIsKnown self.new bytes.now) }
         ensures unchanged { RefusedDatagramLeaves result self.old self.new }
-        ensures few { length self.new.sessions.out ≤ length self.old.sessions.out + 1025 }
+        ensures few { length self.new.sessions.out ≤ length self.old.sessions.out + 65 }
         ensures placed { self.new.sessions.place ≡ self.old.sessions.place }
         ensures core_placed { self.new.core.place ≡ self.old.core.place }
     {

@@ -17,7 +17,7 @@ use Rattle.sessions.specs.Events as below_events
 use Rattle.sessions.specs.Events.{Sending, after_event, event_limit, first_limit, heard_limit, sends_limit, taught_known}
 use Rattle.sessions.specs.Heard.{Acknowledges, Hands, HeardText, Nothing, Repeats, WordText, heard_of}
 use Rattle.sessions.specs.SessionsState.{SessionsState}
-use Rattle.engine.specs.Datagrams.{HearingGives, after_heard, frame_in, heard_fault, heard_sendings, news_of}
+use Rattle.engine.specs.Datagrams.{HearingGives, after_heard, frame_in, heard_fault, news_of, replies}
 use Rattle.engine.specs.EngineState.{EngineState}
 use Rattle.engine.specs.Refusals.{fault_of_sessions}
 use Rattle.proof_pure_network.specs.Announced.{MeetingsStand}
@@ -269,7 +269,7 @@ heard_follows shows hearing events n r engines datagrams history old h f there c
     frames = news_frames old.core (news_of h)
 
     sendings : List Sending
-    sendings = heard_sendings old h
+    sendings = replies old.core h
 
     keeps : Keeps (below_events.after_heard old.sessions (Some h)) (after_event old.sessions (Some h) sendings)
     keeps = sends_keep (below_events.after_heard old.sessions (Some h)) sendings
