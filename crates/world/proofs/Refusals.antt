@@ -20,7 +20,7 @@ use Rattle.proof_network_bridge.proofs.Closed.{refusals_follow}
 use Rattle.requests.specs.declared.answer.Answer.{Answer}
 use Rattle.world.specs.Faults.{event_fault, target_of}
 use Rattle.world.specs.Headline.{IsSound, history_seen}
-use Rattle.world.specs.Steps.{DatagramRuns, DeliveryRuns, EventRuns, IsRefusedBy, IsWhy, RanAt, Refusal, first_of, with_out}
+use Rattle.world.specs.Steps.{DatagramRuns, DeliveryRuns, EventRuns, HasOwnBytes, IsCall, IsRefusedBy, IsWhy, RanAt, Refusal, fault_in, first_of, with_out}
 use Rattle.world.specs.WorldState.{HasRoom, WorldState}
 use Rattle.world.specs.declared.event.Entry.{Entry}
 use Rattle.world.specs.declared.event.Event.{Event}
@@ -161,6 +161,14 @@ refused_plainly old event failed engines datagrams history dr er s es ds hs rese
 
 -- where enough room would have been found, and none was, the world had none
 pub had_no_room : (old : WorldState) (size datagrams entries : ℕ) (found : Bool) → size ≡ length old.engines → datagrams ≡ length old.datagrams → entries ≡ length old.history →
-    (datagrams + 1025 * size ≤ old.datagram_room → entries + 1 ≤ old.entry_room → found ≡ true) → found ≡ false → HasRoom old → ⊥
+    (datagrams + 65 * size ≤ old.datagram_room → entries + 1 ≤ old.entry_room → found ≡ true) → found ≡ false → HasRoom old → ⊥
 had_no_room old size datagrams entries found size_is datagrams_are entries_are enough none room =
     both_ways found none (enough (omega (arith, size_is, datagrams_are, room.datagrams)) (omega (arith, entries_are, room.entries)))
+
+-- of what breaks no rule of the world a call alone has data of its own: stray bytes always break one
+pub copied_call : (w : WorldState) (event : Event) → fault_in w event ≡ None → HasOwnBytes event → IsCall event
+copied_call w (events.Call r call) allowed has = tt
+copied_call w (events.Deliver number) allowed has = has
+copied_call w (events.Stray r bytes) allowed has = stray_breaks (length w.engines) w.datagrams r bytes allowed
+copied_call w (events.Tick r now) allowed has = has
+copied_call w (events.Restart r) allowed has = has

@@ -172,17 +172,25 @@ pub record Went (old : WorldState) (event : Event) (added : Stepped) (new : Worl
   pub history : new.history ≡ old.history ++ entry_of event gave ∷ []
   pub answered : added ≡ record { first = length old.datagrams; count = length gave.out; place = length old.history }
 
--- an event with data of its own: a call, of which the engine takes a copy
-abbrev pub IsCopied : Event → Type 0
-IsCopied (events.Call rank call) = Unit {0}
-IsCopied (events.Deliver number) = ⊥
-IsCopied (events.Stray rank bytes) = Unit {0}
-IsCopied (events.Tick rank now) = ⊥
-IsCopied (events.Restart rank) = ⊥
+-- an event with data of its own, which to copy may take memory
+abbrev pub HasOwnBytes : Event → Type 0
+HasOwnBytes (events.Call rank call) = Unit {0}
+HasOwnBytes (events.Deliver number) = ⊥
+HasOwnBytes (events.Stray rank bytes) = Unit {0}
+HasOwnBytes (events.Tick rank now) = ⊥
+HasOwnBytes (events.Restart rank) = ⊥
 
--- the world needs memory for an event: it has no room for what that may add, or the event is copied
+-- a call, of which the engine takes a copy
+abbrev pub IsCall : Event → Type 0
+IsCall (events.Call rank call) = Unit {0}
+IsCall (events.Deliver number) = ⊥
+IsCall (events.Stray rank bytes) = ⊥
+IsCall (events.Tick rank now) = ⊥
+IsCall (events.Restart rank) = ⊥
+
+-- the world needs memory for an event: it has no room for what that may add, or the event is a call, which is copied
 abbrev pub NeedsMemory : WorldState → Event → Type 0
-NeedsMemory w event = (HasRoom w → ⊥) ⊎ IsCopied event
+NeedsMemory w event = (HasRoom w → ⊥) ⊎ IsCall event
 
 -- Why an event is refused, and what goes out with that
 pub data IsWhy (old : WorldState) (event : Event) (refused : Refused) (out : List (ℕ × List ℕ)) : Type 0 where

@@ -14,9 +14,9 @@ pub record WorldState : Type 0 where
   pub datagram_room : ℕ
   pub entry_room : ℕ
 
--- there is room for what one event may add: 1,025 datagrams for each rank, and an entry
+-- there is room for what one event may add: 65 datagrams for each rank, and an entry
 pub record HasRoom (w : WorldState) : Type 0 where
-  pub datagrams : length w.datagrams + 1025 * length w.engines ≤ w.datagram_room
+  pub datagrams : length w.datagrams + 65 * length w.engines ≤ w.datagram_room
   pub entries : length w.history + 1 ≤ w.entry_room
 
 -- no world has so many ranks: 1 to 256 it has

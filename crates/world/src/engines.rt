@@ -116,7 +116,7 @@ pub fn run_event(
     requires world { IsWorld engines.old.items }
     requires placed { ArePlaced engines.old.items }
     ensures exact { RanAt datagrams.now event engines.old.items (gave_of result) engines.new.items }
-    ensures few { length (emitted (gave_of result)) ≤ 1025 * vec_len engines.old }
+    ensures few { length (emitted (gave_of result)) ≤ 65 * vec_len engines.old }
     ensures world { IsWorld engines.new.items }
     ensures unchanged { OnErr result (engines.new.items ≡ engines.old.items) }
 {

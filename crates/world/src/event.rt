@@ -1,7 +1,7 @@
 //! Events, and what they answer.
 
 ghost use Rattle.std.specs.Prelude.{◌≡◌, IfOk, OnErr};
-ghost use Rattle.world.specs.Steps.{IsCopied};
+ghost use Rattle.world.specs.Steps.{HasOwnBytes};
 
 use crate::refused::Refused;
 use datagram::Bytes;
@@ -77,7 +77,7 @@ impl Event {
     /// The same event once more. The only error is want of memory, for the data of a call and for stray bytes.
     pub fn try_clone(&self, alloc: Global) -> Result<Event, AllocError>
         ensures copy { IfOk result (λ copy. copy ≡ self.now) }
-        ensures copied { OnErr result (IsCopied self.now) }
+        ensures bytes { OnErr result (HasOwnBytes self.now) }
     {
         match self {
             Event::Call(rank, call) => Ok(Event::Call(*rank, call.try_clone(alloc)?)),

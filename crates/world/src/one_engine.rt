@@ -95,7 +95,7 @@ fn take_given(engine: &mut Engine, reply: Option<Reply>) -> Given
 fn call(alloc: Global, engine: &mut Engine, call: Call) -> Result<Given, Rejected>
     requires { IsReady engine.old }
     ensures exact { CallRuns engine.old call (gave_of result) engine.new }
-    ensures few { length (emitted (gave_of result)) ≤ 1025 * engine.old.sessions.place.size }
+    ensures few { length (emitted (gave_of result)) ≤ 65 * engine.old.sessions.place.size }
     ensures ready { IsReady engine.new }
     ensures size { engine.new.sessions.place.size ≡ engine.old.sessions.place.size }
 {
@@ -113,7 +113,7 @@ fn call(alloc: Global, engine: &mut Engine, call: Call) -> Result<Given, Rejecte
 fn deliver(engine: &mut Engine, bytes: &[u8]) -> Result<Given, Rejected>
     requires { IsReady engine.old }
     ensures exact { DatagramRuns engine.old bytes.now (gave_of result) engine.new }
-    ensures few { length (emitted (gave_of result)) ≤ 1025 * engine.old.sessions.place.size }
+    ensures few { length (emitted (gave_of result)) ≤ 65 * engine.old.sessions.place.size }
     ensures ready { IsReady engine.new }
     ensures size { engine.new.sessions.place.size ≡ engine.old.sessions.place.size }
 {
@@ -130,7 +130,7 @@ fn deliver(engine: &mut Engine, bytes: &[u8]) -> Result<Given, Rejected>
 fn tick(alloc: Global, engine: &mut Engine, now: u64) -> Result<Given, Rejected>
     requires { IsReady engine.old }
     ensures exact { TickRuns engine.old now (gave_of result) engine.new }
-    ensures few { length (emitted (gave_of result)) ≤ 1025 * engine.old.sessions.place.size }
+    ensures few { length (emitted (gave_of result)) ≤ 65 * engine.old.sessions.place.size }
     ensures ready { IsReady engine.new }
     ensures size { engine.new.sessions.place.size ≡ engine.old.sessions.place.size }
 {
@@ -144,7 +144,7 @@ fn tick(alloc: Global, engine: &mut Engine, now: u64) -> Result<Given, Rejected>
 fn restart(alloc: Global, engine: &mut Engine) -> Result<Given, Rejected>
     requires { IsReady engine.old }
     ensures exact { RestartRuns engine.old (gave_of result) engine.new }
-    ensures few { length (emitted (gave_of result)) ≤ 1025 * engine.old.sessions.place.size }
+    ensures few { length (emitted (gave_of result)) ≤ 65 * engine.old.sessions.place.size }
     ensures ready { IsReady engine.new }
     ensures size { engine.new.sessions.place.size ≡ engine.old.sessions.place.size }
 {
@@ -184,7 +184,7 @@ pub fn happen(
     requires ready { IsReady engine.old }
     requires target { IsTrue (is_some (target_of datagrams.now event)) }
     ensures exact { EventRuns datagrams.now event engine.old (gave_of result) engine.new }
-    ensures few { length (emitted (gave_of result)) ≤ 1025 * engine.old.sessions.place.size }
+    ensures few { length (emitted (gave_of result)) ≤ 65 * engine.old.sessions.place.size }
     ensures ready { IsReady engine.new }
     ensures size { engine.new.sessions.place.size ≡ engine.old.sessions.place.size }
 {

@@ -41,16 +41,16 @@ impl Model for World {
     ghost invariant = { λ w. IsSound w.engines.items w.datagrams.items w.history.items };
 }
 
-/// Makes the room that an event may take, 1,025 datagrams for each rank and an entry, and tells whether it could.
+/// Makes the room that an event may take, 65 datagrams for each rank and an entry, and tells whether it could.
 fn make_room(datagrams: &mut Vec<(u16, Bytes)>, history: &mut Vec<Entry>, size: usize) -> bool
     requires { size ≤ 256 }
     ensures datagrams { datagrams.new.items ≡ datagrams.old.items }
     ensures history { history.new.items ≡ history.old.items }
-    ensures room { IsTrue result → vec_len datagrams.new + 1025 * size ≤ vec_capacity datagrams.new }
+    ensures room { IsTrue result → vec_len datagrams.new + 65 * size ≤ vec_capacity datagrams.new }
     ensures place { IsTrue result → vec_len history.new + 1 ≤ vec_capacity history.new }
-    ensures enough { vec_len datagrams.old + 1025 * size ≤ vec_capacity datagrams.old → vec_len history.old + 1 ≤ vec_capacity history.old → IsTrue result }
+    ensures enough { vec_len datagrams.old + 65 * size ≤ vec_capacity datagrams.old → vec_len history.old + 1 ≤ vec_capacity history.old → IsTrue result }
 {
-    datagrams.reserve(1025 * size).is_ok() && history.reserve(1).is_ok()
+    datagrams.reserve(65 * size).is_ok() && history.reserve(1).is_ok()
 }
 
 /// What was refused stands for nothing but the datagrams that went out with it, which are numbered.

@@ -7,7 +7,7 @@ use Rattle.world.specs.declared.refused.Refused.{Refused}
 use Rattle.world.proofs.Asked.{asked_and_refused, none_asked}
 use Rattle.world.proofs.Places.{sound_placed}
 use Rattle.world.proofs.Sound.{event_sound, fault_as, sound_same}
-use Rattle.world.proofs.Refusals.{had_no_room, refusal_sound, refused_plainly, refused_so}
+use Rattle.world.proofs.Refusals.{copied_call, had_no_room, refusal_sound, refused_plainly, refused_so}
 use Rattle.world.proofs.world.advance.Goals as goal
 
 pub run_event-requires-clause-placed : goal.run_event-requires-clause-placed
@@ -43,7 +43,8 @@ returns-in_default-try_clone-clause-exact c =
     c.plain-in_default-try_clone.ensures.reset c.plain-in_default-try_clone.ensures.event
     (ForRoom (fault_as _ _ _ _ _ _ (c.len.ensures ∙ c.args.engines.now.ok.0) c.deref.ensures.value c.in-Ok.ensures.allowed)
     (none_asked _ _ _ _ _ _ _ c.deref-2.ensures.value c.deref.ensures.value c.in-Ok.ensures.target c.fault_at.ensures c.in_default.is)
-    (inr c.in_default-try_clone.ensures.copied) c.plain-in_default-try_clone.ensures.refused refl)
+    (inr (copied_call (record { engines = c.args.engines.now.items; datagrams = c.args.datagrams.now.items; history = c.args.history.now.items; datagram_room = vec_capacity c.args.datagrams.now; entry_room = vec_capacity c.args.history.now })
+    c.args.event (fault_as _ _ _ _ _ _ (c.len.ensures ∙ c.args.engines.now.ok.0) c.deref.ensures.value c.in-Ok.ensures.allowed) c.in_default-try_clone.ensures.bytes)) c.plain-in_default-try_clone.ensures.refused refl)
 
 pub returns-in-Ok-run_event-clause-sound : goal.returns-in-Ok-run_event-clause-sound
 returns-in-Ok-run_event-clause-sound c =
