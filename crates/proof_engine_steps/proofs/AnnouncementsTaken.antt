@@ -17,7 +17,8 @@ use Rattle.rendezvous.specs.declared.transfers.Numbers.{Numbers}
 use Rattle.rendezvous.specs.State.{after_rts, most_transfers, next_to, with_announced}
 use Rattle.rank_calls.specs.Frames.{as_list}
 use Rattle.rank_calls.specs.Hearing.{announced_of}
-use Rattle.rank_calls.specs.Receiving.{answer_on_arrival, collected_if, collecting, slots_on_arrival, transfers_on_arrival}
+use Rattle.match_queues.specs.declared.envelope.Body.TheVariants.{Announced}
+use Rattle.rank_calls.specs.Receiving.{answer_on_arrival, collection_on_match, transfers_with, slots_on_arrival, transfers_on_arrival}
 use Rattle.rank_core.specs.CoreState.{CoreState}
 use Rattle.rank_core.specs.Hearing.{announced}
 use Rattle.rank_core.specs.Sending as rank
@@ -143,7 +144,7 @@ answered_matched agree links e known core rows m x k key p h part t =
         table = alike.table;
         posted = t.posted job (left_waits key p (held_of links.from (announced_as m x)) x.count (has_room p x.basic x.count));
         held = h.held ∙ ap (λ (ms : List Message). map (held_of links.from) ms) (sym t.unexpected);
-        under_way = subst (λ (b : Bool). AreUnderWay links known e.place left (collected_if b e.transfers (collecting (announced_as m x) x key)) (after_arrival e.queues (announced_as m x)).unexpected) alike.wanted
+        under_way = subst (λ (b : Bool). AreUnderWay links known e.place left (transfers_with e.transfers (collection_on_match b (announced_as m x) (Announced x) key)) (after_arrival e.queues (announced_as m x)).unexpected) alike.wanted
             (matched_under_way links known e.place rows left e.transfers e.queues.unexpected (after_arrival e.queues (announced_as m x)).unexpected m x k key p (has_room p x.basic x.count) h.under_way part
             (written_set rows k key (Waiting p) job t.row (λ i. i))
             (waiting_apart links.from known rows e.slots k key p e.transfers.collections h.table t.row h.under_way.collections)

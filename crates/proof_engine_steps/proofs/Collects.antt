@@ -16,7 +16,8 @@ use Rattle.rendezvous.specs.declared.offer.Offer.{Offer}
 use Rattle.rendezvous.specs.Collecting as rendezvous
 use Rattle.rendezvous.specs.State as transfers
 use Rattle.rendezvous.specs.State.{after_collect}
-use Rattle.rank_calls.specs.Receiving.{collected_if, collecting}
+use Rattle.match_queues.specs.declared.envelope.Body.TheVariants.{Announced}
+use Rattle.rank_calls.specs.Receiving.{collection_on_match, transfers_with, collecting}
 use Rattle.perfect_queues.proofs.ListLemmas.{get_set_other}
 use Rattle.perfect_queues.specs.Receives.{Receive}
 use Rattle.proof_pure_network.proofs.JobLemmas.{All_append, get_set_same, push_at, push_below}
@@ -202,7 +203,7 @@ pub matched_under_way : (a : Announcements) (known : List ℕ) (p : Place) (rows
     (wanted : Bool) → AreUnderWay a known p rows t ms → IsPartOf a.from known p m x →
     IsWritten rows rows' k key (matched_part r (held_of a.from (announced_as m x)) x.count wanted) →
     AllByRecursion (λ y. y ≡ key → ⊥) (collection_keys t.collections) → AllByRecursion (λ (n : Message). IsFromLink a.from known p n n.body) ms' →
-    AreUnderWay a known p rows' (collected_if wanted t (collecting (announced_as m x) x key)) ms'
+    AreUnderWay a known p rows' (transfers_with t (collection_on_match wanted (announced_as m x) (Announced x) key)) ms'
 matched_under_way a known p rows rows' t ms ms' m x k key r true u part w apart from =
     collected_with a known p rows rows' t ms ms' (collecting (announced_as m x) x key) k r (held_of a.from (announced_as m x)) u w
     (collection_is a.from known p rows' m x k key r part w.here) apart from

@@ -28,7 +28,8 @@ use Rattle.rank_calls.specs.declared.call.Reply.TheVariants as replies
 use Rattle.rank_calls.specs.declared.refused.Refused.{Refused}
 use Rattle.rank_calls.specs.declared.refused.Refused.TheVariants as refusals
 use Rattle.rank_calls.specs.Frames.{FrameFor, as_list}
-use Rattle.rank_calls.specs.Receiving.{answer_on_post, collected_if, collecting, posted_by, progress_on_post, status_of, transfers_on_post}
+use Rattle.match_queues.specs.declared.envelope.Body.TheVariants.{Announced}
+use Rattle.rank_calls.specs.Receiving.{answer_on_post, collection_on_match, transfers_with, posted_by, progress_on_post, status_of, transfers_on_post}
 use Rattle.rank_core.specs.CoreState.{CoreState}
 use Rattle.rank_core.specs.Receiving.{IsPosting, IsReceiving, IsReceivingNothing, ReceivesFrom, found_by, receive_fault, receive_frame}
 use Rattle.proof_pure_network.specs.Core.{Core, Effect, view}
@@ -224,7 +225,7 @@ found_rows links rows key v m a = rows ++ row_of key (left_by links.from (receiv
 
 -- the transfers, with what is collected if it is wanted
 abbrev found_transfers : transfers.State → (key : ℕ) → Receive → Message → Announcement → transfers.State
-found_transfers t key v m a = collected_if (has_room v.into a.basic a.count) t (collecting (announced_as m a) a key)
+found_transfers t key v m a = transfers_with t (collection_on_match (has_room v.into a.basic a.count) (announced_as m a) (Announced a) key)
 
 -- it is from its link
 found_part_of : (links : Announcements) (old : CoreState) (known : List ℕ) (core : Core) (v : Receive) (key : ℕ) (m : Message) (a : Announcement) (earlier later : List Held) → IsShown links old known core →
@@ -243,7 +244,7 @@ found_under_way : (links : Announcements) (old : CoreState) (known : List ℕ) (
     slot_at old.slots key ≡ None → IsPartOf links.from known old.place (announced_as m a) a → AnnouncedAlike links.from (receive_seen v) v.into (announced_as m a) a →
     AreUnderWay links known old.place (found_rows links shown.rows key v m a) (found_transfers old.transfers key v m a) (after_post old.queues (posted_by key v)).unexpected
 found_under_way links old known core v key m a shown fresh part alike =
-    subst (λ (b : Bool). AreUnderWay links known old.place (found_rows links shown.rows key v m a) (collected_if b old.transfers (collecting (announced_as m a) a key)) (after_post old.queues (posted_by key v)).unexpected)
+    subst (λ (b : Bool). AreUnderWay links known old.place (found_rows links shown.rows key v m a) (transfers_with old.transfers (collection_on_match b (announced_as m a) (Announced a) key)) (after_post old.queues (posted_by key v)).unexpected)
     alike.wanted
     (matched_under_way links known old.place shown.rows (found_rows links shown.rows key v m a) old.transfers old.queues.unexpected (after_post old.queues (posted_by key v)).unexpected (announced_as m a) a
     (length shown.rows) key (receive_seen v) (receives.has_room (receive_seen v) a.basic a.count) shown.under_way part (written_pushed shown.rows key (left_by links.from (receive_seen v) m a))

@@ -1,5 +1,5 @@
 -- What is heard from another rank, and what it calls for.
-use Rattle.std.specs.Prelude.{ℕ, ◌<◌, Bool, true, false, List, [], map, Option, Some, None, is_some}
+use Rattle.std.specs.Prelude.{ℕ, ◌<◌, ◌||◌, Bool, true, false, List, [], map, Option, Some, None, is_some}
 use Rattle.vocabulary.specs.declared.endpoint.Endpoint.{Endpoint}
 use Rattle.vocabulary.specs.BasicTypes.{size_of}
 use Rattle.datatypes.specs.Contents.{bytes_of, values_of}
@@ -137,7 +137,7 @@ abbrev pub answer_by_match : Option Match → Message → Option FrameFor
 answer_by_match None m = None
 answer_by_match (Some f) m = answer_by f.wanted m m.body
 
--- what is collected from then on
+-- what is collected once an announced message found this, if it found one
 abbrev pub collection_by_match : Option Match → Message → Option Collecting
 collection_by_match None m = None
 collection_by_match (Some f) m = collection_on_match f.wanted m m.body f.key
@@ -174,6 +174,11 @@ wanted_frames rank Send None = []
 wanted_frames rank Send (Some o) =
     data_frames rank o.transfer (pieces_of (bytes_of (size_of o.elements.basic) o.elements.values))
 
+-- whether an answer asks for the data of an offer: it wants them, and they are offered
+abbrev pub asks_for_data : Clearance → Option Offer → Bool
+asks_for_data Drop offer = false
+asks_for_data Send offer = is_some offer
+
 -- WHAT IS MADE READY FOR IT
 
 -- the message that a frame brings with it
@@ -188,14 +193,19 @@ abbrev pub message_from : Endpoint → Option FrameText → Option Message
 message_from s None = None
 message_from s (Some f) = message_in s f
 
--- whether a frame brings a message or announces one
-abbrev pub is_message : FrameText → Bool
-is_message (EagerFrame t) = true
-is_message (RequestFrame t) = true
-is_message (ClearFrame t) = false
-is_message (DataFrame t) = false
+-- whether a message comes to stand in the queues by this frame: it brings one, or announces one
+abbrev pub frame_needs_message_room : FrameText → Bool
+frame_needs_message_room (EagerFrame t) = true
+frame_needs_message_room (RequestFrame t) = true
+frame_needs_message_room (ClearFrame t) = false
+frame_needs_message_room (DataFrame t) = false
 
 -- the same of the frame that came, if one did
-abbrev pub brings_message : Option FrameText → Bool
-brings_message None = false
-brings_message (Some f) = is_message f
+abbrev pub needs_message_room : Option FrameText → Bool
+needs_message_room None = false
+needs_message_room (Some f) = frame_needs_message_room f
+
+-- Whether news take memory: with a lesson the keys of what ends are listed, and a message that comes or is announced takes
+-- room. An answer and data without a lesson take none.
+abbrev pub news_need_memory : NewsText → Bool
+news_need_memory n = n.lesson || needs_message_room n.frame

@@ -55,22 +55,6 @@ collecting m a key = record {
   bytes = [];
 }
 
--- the transfers once the data of an announced message are asked for, where they are wanted
-abbrev pub collected_if : Bool → transfers.State → Collecting → transfers.State
-collected_if true t c = transfers.after_collect t c
-collected_if false t c = t
-
--- the transfers once a message was matched with a receive, which wants its data or not
-abbrev pub transfers_on_match : transfers.State → (wanted : Bool) → Message → Body → (key : ℕ) → transfers.State
-transfers_on_match t wanted m (Whole elements) key = t
-transfers_on_match t wanted m (Announced a) key = collected_if wanted t (collecting m a key)
-
--- the transfers once a message came, by what became of it
-abbrev pub transfers_on_arrival : transfers.State → List (Option Entry) → Arrival → transfers.State
-transfers_on_arrival t slots (Matched r m) =
-    transfers_on_match t (wants_by (slot_at slots r.request) (basic_of m.body) (count_of m.body)) m m.body r.request
-transfers_on_arrival t slots Kept = t
-
 -- how far a receive is once it was matched with a message
 abbrev pub progress_on_match : Region → Status → Body → Progress
 progress_on_match r status (Whole elements) = Finished (outcome_of (handed_of r) status elements)
@@ -81,10 +65,7 @@ abbrev pub progress_on_post : Region → Option Message → Progress
 progress_on_post r None = Receiving r
 progress_on_post r (Some m) = progress_on_match r (status_of m) m.body
 
--- the transfers then
-abbrev pub transfers_on_post : transfers.State → Region → (key : ℕ) → Option Message → transfers.State
-transfers_on_post t r key None = t
-transfers_on_post t r key (Some m) = transfers_on_match t (has_room r (basic_of m.body) (count_of m.body)) m m.body key
+-- WHAT IS COLLECTED
 
 -- what is collected from then on, where a match is with an announced message that is wanted
 abbrev pub collection_on_match : (wanted : Bool) → Message → Body → (key : ℕ) → Option Collecting
@@ -97,16 +78,24 @@ abbrev pub transfers_with : transfers.State → Option Collecting → transfers.
 transfers_with t None = t
 transfers_with t (Some c) = transfers.after_collect t c
 
--- by the message that a posted receive found, if it found one
+-- what is collected from then on, by the message that a posted receive found, if it found one
 abbrev pub collection_on_post : Region → (key : ℕ) → Option Message → Option Collecting
 collection_on_post r key None = None
 collection_on_post r key (Some m) = collection_on_match (has_room r (basic_of m.body) (count_of m.body)) m m.body key
 
--- by what becomes of a message that came
+-- what is collected from then on, by what becomes of a message that came
 abbrev pub collection_on_arrival : List (Option Entry) → Arrival → Option Collecting
 collection_on_arrival slots (Matched r m) =
     collection_on_match (wants_by (slot_at slots r.request) (basic_of m.body) (count_of m.body)) m m.body r.request
 collection_on_arrival slots Kept = None
+
+-- the transfers once a receive was posted, which found that message or none
+abbrev pub transfers_on_post : transfers.State → Region → (key : ℕ) → Option Message → transfers.State
+transfers_on_post t r key found = transfers_with t (collection_on_post r key found)
+
+-- the transfers once a message came, by what became of it
+abbrev pub transfers_on_arrival : transfers.State → List (Option Entry) → Arrival → transfers.State
+transfers_on_arrival t slots became = transfers_with t (collection_on_arrival slots became)
 
 -- THE ANSWER TO AN ANNOUNCED MESSAGE
 

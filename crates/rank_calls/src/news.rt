@@ -1,6 +1,6 @@
 //! What is heard from another rank, and what is ready for it.
 
-ghost use Rattle.std.specs.Prelude.{◌≡◌, IfOk, IfErr};
+ghost use Rattle.std.specs.Prelude.{◌≡◌, true, IfOk, IfErr, OnErr, is_some};
 ghost use Rattle.datagram.specs.Spelling.{eager_text, EagerFits, request_text};
 ghost use Rattle.rank_calls.specs.Frames.{addressed};
 ghost use Rattle.rank_calls.specs.Hearing.{HeardFits, announced_of, answer_by_match, bad_unless, collection_by_match, first_of, frame_option, message_from, message_of, plane_fault};
@@ -79,7 +79,7 @@ pub fn announced_of(source: Endpoint, request: &RequestToSend) -> Message
     }
 }
 
-/// The message that a frame brings with it, if one came and brings one.
+/// The message that a frame brings with it, if one came and brings one; or want of memory, where one does.
 pub fn message_from(
     alloc: Global,
     source: Endpoint,
@@ -88,6 +88,7 @@ pub fn message_from(
     requires { HeardFits (frame_option frame) }
     ensures ok { IfOk result (λ m. m ≡ message_from source (frame_option frame.entry)) }
     ensures err { IfErr result (λ e. e ≡ Refused.OutOfMemory) }
+    ensures need { OnErr result (is_some (message_from source (frame_option frame.entry)) ≡ true) }
 {
     match frame {
         None => Ok(None),
@@ -128,7 +129,7 @@ pub fn first_of(fault: Option<Refused>, other: Option<Refused>) -> Option<Refuse
 }
 
 /// What is collected of an announced message that found this receive, if it found one and its data are wanted; or want of
-/// memory.
+/// memory, where something is collected.
 pub fn collection_of_match(
     alloc: Global,
     found: Option<Match>,
@@ -136,6 +137,7 @@ pub fn collection_of_match(
 ) -> Result<Option<Collection>, Refused>
     ensures ok { IfOk result (λ collection. collection ≡ collection_by_match found message.now) }
     ensures err { IfErr result (λ e. e ≡ Refused.OutOfMemory) }
+    ensures need { OnErr result (is_some (collection_by_match found message.now) ≡ true) }
 {
     match found {
         Some(found) => collection_on_match(alloc, found.wanted, message, found.key),

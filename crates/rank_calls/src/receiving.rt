@@ -1,7 +1,7 @@
 //! What a receive asks for, and what a message makes of it.
 
 ghost use Rattle.std.specs.Option.{option_copied};
-ghost use Rattle.std.specs.Prelude.{◌≡◌, IfErr, IfOk, IfSome};
+ghost use Rattle.std.specs.Prelude.{◌≡◌, true, IfErr, IfOk, IfSome, OnErr, is_some};
 ghost use Rattle.datagram.specs.Spelling.{FrameFits, frame_text};
 ghost use Rattle.perfect_queues.specs.Outcomes.{null_status};
 ghost use Rattle.perfect_queues.specs.Refusals.{is_tag_above, is_source_beyond};
@@ -87,7 +87,7 @@ pub fn progress_on_post(into: ReceiveRegion, found: Option<Message>) -> Progress
 }
 
 /// What a receive would collect under this key with the message that it found: the place for the data of one that was
-/// announced and is wanted, or want of memory.
+/// announced and is wanted, or want of memory for it.
 pub fn collection_on_post(
     alloc: Global,
     into: &Region,
@@ -96,6 +96,7 @@ pub fn collection_on_post(
 ) -> Result<Option<Collection>, Refused>
     ensures ok { IfOk result (λ collection. collection ≡ collection_on_post into.now key (option_copied found.entry)) }
     ensures err { IfErr result (λ e. e ≡ Refused.OutOfMemory) }
+    ensures need { OnErr result (is_some (collection_on_post into.now key (option_copied found.entry)) ≡ true) }
 {
     match found {
         Some(message) => {
@@ -107,7 +108,7 @@ pub fn collection_on_post(
 }
 
 /// What is collected under this key from then on, where a match is with an announced message that is wanted; or want of
-/// memory.
+/// memory for it.
 pub(crate) fn collection_on_match(
     alloc: Global,
     wanted: bool,
@@ -116,6 +117,7 @@ pub(crate) fn collection_on_match(
 ) -> Result<Option<Collection>, Refused>
     ensures ok { IfOk result (λ collection. collection ≡ collection_on_match wanted message.now message.now.body key) }
     ensures err { IfErr result (λ e. e ≡ Refused.OutOfMemory) }
+    ensures need { OnErr result (is_some (collection_on_match wanted message.now message.now.body key) ≡ true) }
 {
     let Body::Announced(announcement) = &message.body else {
         return Ok(None);

@@ -15,7 +15,7 @@ use Rattle.rank_calls.specs.declared.call.Receive.{Receive}
 use Rattle.rank_calls.specs.declared.call.Send.{Send}
 use Rattle.rank_calls.specs.declared.refused.Refused.{Refused}
 use Rattle.rank_core.specs.Calls.{call_fault, fault_at, free_fault}
-use Rattle.rank_core.specs.CoreState.{CoreState, IsOfferFor}
+use Rattle.rank_core.specs.CoreState.{CoreState}
 use Rattle.rank_core.specs.Receiving.{receive_fault}
 use Rattle.rendezvous.specs.State.{State, is_full_to}
 use Rattle.rank_calls.specs.Sending.{announced_to, destination, is_large, or_worn_out, rank_to, send_fault}
@@ -72,15 +72,16 @@ there_if true (Some r) n rank is there = subst (λ (k : ℕ). k < n) (same_some 
     same_some a b e = cc
 there_if false o n rank is there = absurd cc
 
--- what it offers is within the limit of a message, and goes to a rank of the job
-pub offer_fits : (c : CoreState) (s : Send) (rank : ℕ) (elements : Contents) → free_fault c (Isend s) ≡ None → announced_to c.place s ≡ Some rank →
-    elements ≡ sent_from s.from → IsOfferFor c.place.size (record { target = rank; transfer = 0; request = 0; elements = elements })
-offer_fits c s rank elements none is same =
-    let rules = free_send c s none in
-    record {
-      there = there_if (is_large (sent_from s.from)) (rank_to c.place (destination s.target s.tag)) c.place.size rank is (rank_is_there c.place s rules);
-      limit = subst (λ (e : Contents). length e.values * size_of e.basic ≤ send_limit) (sym same) (within_limit c.place s rules);
-    }
+-- what it offers goes to a rank of the job
+pub offer_is_there : (c : CoreState) (s : Send) (rank : ℕ) → free_fault c (Isend s) ≡ None → announced_to c.place s ≡ Some rank → rank < c.place.size
+offer_is_there c s rank none is =
+    there_if (is_large (sent_from s.from)) (rank_to c.place (destination s.target s.tag)) c.place.size rank is (rank_is_there c.place s (free_send c s none))
+
+-- and is within the limit of a message
+pub offer_is_within : (c : CoreState) (s : Send) (elements : Contents) → free_fault c (Isend s) ≡ None → elements ≡ sent_from s.from →
+    length elements.values * size_of elements.basic ≤ send_limit
+offer_is_within c s elements none same =
+    subst (λ (e : Contents). length e.values * size_of e.basic ≤ send_limit) (sym same) (within_limit c.place s (free_send c s none))
 
 -- it breaks no other rule
 pub allowed_send : (c : CoreState) (s : Send) → call_fault c (Isend s) ≡ None → free_fault c (Isend s) ≡ None

@@ -1,5 +1,5 @@
 -- What a receive makes of the message that it finds.
-use Rattle.std.proofs.Common.{◌≡◌, ℕ, ◌<◌, Bool, true, false, List, [], ◌∷◌, length, Option, Some, None, refl, sym, ap, ◌∙◌, arith, subst, inl, inr}
+use Rattle.std.proofs.Common.{◌≡◌, ℕ, ◌<◌, Bool, List, [], ◌∷◌, length, Option, Some, None, sym, arith, subst, inl, inr}
 use Rattle.std.specs.Prelude.{IfSome, slice_get}
 use Rattle.std.specs.List.{AllByRecursion}
 use Rattle.std.proofs.lemmas.Bool.{cases_lt}
@@ -11,35 +11,16 @@ use Rattle.match_queues.specs.declared.envelope.Body.{Body}
 use Rattle.match_queues.specs.declared.envelope.Body.TheVariants.{Announced, Whole}
 use Rattle.match_queues.specs.State.{message_at, message_for}
 use Rattle.match_queues.specs.Bodies.{basic_of, count_of}
-use Rattle.rendezvous.specs.Collecting.{Collecting}
-use Rattle.rendezvous.specs.State as transfers
 use Rattle.requests.specs.declared.region.Region.{Region}
 use Rattle.requests.specs.Table.{has_room}
 use Rattle.rank_calls.specs.declared.call.Receive.{Receive}
 use Rattle.rank_calls.specs.declared.sending.Addressed.{Addressed}
 use Rattle.rank_core.specs.CoreState.{CoreState, IsAnswerable, IsKept}
 use Rattle.rank_calls.specs.Frames.{FrameFor, addressed}
-use Rattle.rank_calls.specs.Receiving.{answer_by, answer_on_post, collection_on_match, collection_on_post, transfers_on_match, transfers_on_post, transfers_with}
+use Rattle.rank_calls.specs.Receiving.{answer_by, answer_on_post}
 use Rattle.rank_core.specs.Receiving.{found_by, receive_frame}
 use Rattle.rank_calls.specs.Receiving.{posted_by}
 use Rattle.rank_core.proofs.Replies.{at_place}
-
--- WHAT IT COLLECTS
-
-on_match : (t : transfers.State) (wanted : Bool) (m : Message) (b : Body) (key : ℕ) →
-    transfers_with t (collection_on_match wanted m b key) ≡ transfers_on_match t wanted m b key
-on_match t wanted m (Whole elements) key = refl
-on_match t false m (Announced a) key = refl
-on_match t true m (Announced a) key = refl
-
-on_post : (t : transfers.State) (r : Region) (key : ℕ) (o : Option Message) → transfers_with t (collection_on_post r key o) ≡ transfers_on_post t r key o
-on_post t r key None = refl
-on_post t r key (Some m) = on_match t (has_room r (basic_of m.body) (count_of m.body)) m m.body key
-
--- what is made ready is just what it collects
-pub collected : (t : transfers.State) (r : Region) (key : ℕ) (o : Option Message) (c : Option Collecting) → c ≡ collection_on_post r key o →
-    transfers_with t c ≡ transfers_on_post t r key o
-collected t r key o c is = ap (transfers_with t) is ∙ on_post t r key o
 
 -- WHOM IT ANSWERS
 

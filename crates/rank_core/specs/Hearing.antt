@@ -18,7 +18,7 @@ use Rattle.rank_calls.specs.declared.refused.Refused.{Refused}
 use Rattle.rank_core.specs.CoreState.{CoreState, Held}
 use Rattle.rank_core.specs.Sending.{arrived}
 use Rattle.rank_core.specs.Waiting.{woken}
-use Rattle.rank_calls.specs.Hearing.{NewsText, heard_fault, transfers_met, message_of, announced_of, sent_by, delivered_by, match_by, wanted_frames, message_from, brings_message}
+use Rattle.rank_calls.specs.Hearing.{NewsText, heard_fault, transfers_met, message_of, announced_of, sent_by, delivered_by, match_by, asks_for_data, wanted_frames, message_from, needs_message_room}
 
 -- THE RULE
 
@@ -90,7 +90,7 @@ after_news c n = after_hearing n.lesson n.frame c n.source
 
 -- WHAT AN ANNOUNCEMENT FINDS
 
--- the same of the queues of a core
+-- the receive that a message finds in a core, and whether it wants the data
 abbrev pub match_of : CoreState → Message → Option Match
 match_of c m = match_by c.slots (receive_at c.queues.posted (receive_for m c.queues.posted)) m
 
@@ -113,6 +113,22 @@ abbrev pub called_for : CoreState → Endpoint → Option FrameText → List Fra
 called_for c s None = []
 called_for c s (Some f) = frame_calls_for c s f
 
+-- whether frames answer a frame of an endpoint: it announces a message that is matched, or asks for the data of an offer
+abbrev pub frame_is_answered : CoreState → Endpoint → FrameText → Bool
+frame_is_answered c s (EagerFrame t) = false
+frame_is_answered c s (RequestFrame t) = is_some (answer_to_announced c s t)
+frame_is_answered c s (ClearFrame t) = asks_for_data t.clearance (offered c.transfers s.rank t.transfer)
+frame_is_answered c s (DataFrame t) = false
+
+-- the same of the frame that came, if one did
+abbrev pub any_is_answered : CoreState → Endpoint → Option FrameText → Bool
+any_is_answered c s None = false
+any_is_answered c s (Some f) = frame_is_answered c s f
+
+-- whether frames answer news, once the lesson is learnt
+abbrev pub news_are_answered : CoreState → NewsText → Bool
+news_are_answered c n = any_is_answered (taught n.lesson c n.source) n.source n.frame
+
 -- the frames that news call for, once the lesson is learnt
 abbrev pub news_frames : CoreState → NewsText → List FrameFor
 news_frames c n = called_for (taught n.lesson c n.source) n.source n.frame
@@ -129,7 +145,7 @@ KeysFit true (Some keys) c s = keys.items ≡ keys_ending c s.rank
 abbrev pub collection_for_announced : CoreState → Endpoint → RequestText → Option Collecting
 collection_for_announced c s t = collection_on_arrival c.slots (arrival_of c.queues (announced_of s t))
 
--- by the frame that came, if one did
+-- what is collected from then on, by the frame that came, if one did
 abbrev pub collection_for : CoreState → Endpoint → Option FrameText → Option Collecting
 collection_for c s None = None
 collection_for c s (Some (EagerFrame t)) = None
@@ -141,6 +157,6 @@ collection_for c s (Some (DataFrame t)) = None
 pub record CanTake (h : Held) (n : NewsText) (r : Ready) : Type 0 where
   pub keys : KeysFit n.lesson r.keys h.state n.source
   pub message : r.message ≡ message_from n.source n.frame
-  pub room : brings_message n.frame ≡ true → 0 < h.messages
+  pub room : needs_message_room n.frame ≡ true → 0 < h.messages
   pub collection : r.collection ≡ collection_for (taught n.lesson h.state n.source) n.source n.frame
   pub place : is_some r.collection ≡ true → 0 < h.collections

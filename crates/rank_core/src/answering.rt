@@ -1,13 +1,15 @@
 //! How a core answers calls that break no rule, in what was made ready for them.
 
-ghost use Rattle.std.specs.Prelude.{◌≡◌, ◌<◌, length, true, false, Some, None, is_some};
+ghost use Rattle.std.specs.Prelude.{◌≡◌, ◌<◌, ◌≤◌, ◌*◌, length, true, false, Some, None, is_some};
+ghost use Rattle.vocabulary.specs.BasicTypes.{size_of};
+ghost use Rattle.vocabulary.specs.Limits.{send_limit};
 ghost use Rattle.rendezvous.specs.State.{is_full_to};
 ghost use Rattle.requests.specs.Lists.{is_twice, named};
 ghost use Rattle.requests.specs.Regions.{CanReceive};
 ghost use Rattle.requests.specs.declared.awaited.Awaited.TheVariants.{AllOf};
 ghost use Rattle.rank_calls.specs.Calls.{HasOutcomeRoom, IsPacked, IsTaken};
 ghost use Rattle.rank_core.specs.Calls.{Answers, CanAnswer, CanPost, collection_on_receive, call_fault, free_fault};
-ghost use Rattle.rank_core.specs.CoreState.{CanStart, IsOfferFor};
+ghost use Rattle.rank_core.specs.CoreState.{CanStart};
 ghost use Rattle.rank_calls.specs.Receiving.{collection_on_post, transfers_with};
 ghost use Rattle.rank_core.specs.Receiving.{found_by, IsPosting, IsReceiving, IsReceivingNothing};
 ghost use Rattle.rank_calls.specs.Sending.{announced_to, is_own, is_to_itself};
@@ -67,7 +69,8 @@ impl Core {
         requires start { CanStart self.old }
         requires room { 0 < self.old.offers }
         requires left { is_full_to self.old.state.transfers.numbers rank ≡ false }
-        requires fits { IsOfferFor self.old.state.place.size (record { target = rank; transfer = 0; request = 0; elements = elements }) }
+        requires there { rank < self.old.state.place.size }
+        requires limit { length elements.values * size_of elements.basic ≤ send_limit }
         ensures exact { IsOffering self.old.state rank elements result self.new.state }
         ensures placed { self.new.state.place ≡ self.old.state.place }
     {
@@ -100,7 +103,6 @@ impl Core {
         }
     }
 
-    #[tactic(auto, using(crate::proofs::Posting::collected))]
     fn post(&mut self, receive: Receive, collection: Option<Collection>) -> Request
         requires start { CanStart self.old }
         requires post { 0 < self.old.receives }

@@ -8,7 +8,7 @@ ghost use Rattle.rank_core.specs.CoreState.{IsAnswerable};
 ghost use Rattle.rank_calls.specs.Receiving.{collection_on_arrival};
 ghost use Rattle.rank_core.specs.Sending.{arrived};
 ghost use Rattle.rank_core.specs.Waiting.{woken};
-ghost use Rattle.rank_calls.specs.Hearing.{news_text, frame_option, IsWhole, brings_message, heard_fault, message_from, announced_of};
+ghost use Rattle.rank_calls.specs.Hearing.{news_text, frame_option, IsWhole, needs_message_room, heard_fault, message_from, announced_of};
 ghost use Rattle.rank_core.specs.Hearing.{news_fault, CanTake, KeysFit, after_any, collection_for, taught, announced, answered, grown, after_news};
 
 use crate::rank::Core;
@@ -128,7 +128,7 @@ impl Core {
     )
         requires allowed { heard_fault self.old.state.transfers source.rank (frame_option frame) ≡ None }
         requires message { message ≡ message_from source (frame_option frame) }
-        requires room { brings_message (frame_option frame) ≡ true → 0 < self.old.messages }
+        requires room { needs_message_room (frame_option frame) ≡ true → 0 < self.old.messages }
         requires collection { collection ≡ collection_for self.old.state source (frame_option frame) }
         requires place { is_some collection ≡ true → 0 < self.old.collections }
         ensures exact { self.new.state ≡ after_any self.old.state source (frame_option frame.entry) }

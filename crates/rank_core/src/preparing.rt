@@ -80,6 +80,7 @@ impl Core {
         ensures room { OnOk result (collects ≡ true → 0 < self.new.collections) }
         ensures kept { self.new ≡ record self.old { collections = self.new.collections } }
         ensures err { IfErr result (λ e. e ≡ refusals.OutOfMemory) }
+        ensures need { OnErr result (collects ≡ true) }
     {
         if !collects {
             return Ok(());

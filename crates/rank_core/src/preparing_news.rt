@@ -1,10 +1,10 @@
 //! Which rule news break, and how what they need is made ready.
 
-ghost use Rattle.std.specs.Prelude.{◌≡◌, ◌<◌, ◌&&◌, ◌==◌, true, IfOk, IfErr, OnOk, is_some};
+ghost use Rattle.std.specs.Prelude.{◌≡◌, ◌<◌, ◌&&◌, ◌==◌, true, IfOk, IfErr, OnErr, OnOk, is_some};
 ghost use Rattle.std.specs.List.{list_any};
 ghost use Rattle.datagram.specs.Spelling.{frame_text, request_text};
 ghost use Rattle.requests.specs.Table.{after_replaces, slot_at, wants_by};
-ghost use Rattle.rank_calls.specs.Hearing.{HeardFits, bad_unless, brings_message, first_of, frame_fault, frame_option, match_by, news_text, transfers_met};
+ghost use Rattle.rank_calls.specs.Hearing.{HeardFits, bad_unless, first_of, frame_fault, frame_option, match_by, needs_message_room, news_need_memory, news_text, transfers_met};
 ghost use Rattle.rank_core.specs.Hearing.{CanTake, KeysFit, collection_for, collection_for_announced, keys_ending, match_of, news_fault, taught};
 ghost use Rattle.rendezvous.specs.State.{is_next, is_due, offered};
 ghost use Rattle.rank_calls.specs.declared.refused.Refused.TheVariants as refusals;
@@ -111,6 +111,7 @@ impl Core {
     fn keys_for(&self, source: Endpoint, lesson: bool) -> Result<Option<Vec<usize>>, Refused>
         ensures keys { IfOk result (λ keys. KeysFit lesson keys self.now.state source) }
         ensures err { IfErr result (λ e. e ≡ refusals.OutOfMemory) }
+        ensures need { OnErr result (lesson ≡ true) }
     {
         if !lesson {
             return Ok(None);
@@ -185,6 +186,8 @@ impl Core {
         ensures ok { IfOk result (λ collection. collection ≡ collection_for_announced
             (taught (is_some keys.now) self.now.state source) source (request_text request.now)) }
         ensures err { IfErr result (λ e. e ≡ refusals.OutOfMemory) }
+        ensures need { OnErr result (is_some (collection_for_announced
+            (taught (is_some keys.now) self.now.state source) source (request_text request.now)) ≡ true) }
     {
         let message = announced_of(source, request);
         let found = self.match_for(source, &message, keys);
@@ -202,6 +205,7 @@ impl Core {
         ensures ok { IfOk result (λ collection. collection
             ≡ collection_for (taught (is_some keys.now) self.now.state source) source (frame_option frame.entry)) }
         ensures err { IfErr result (λ e. e ≡ refusals.OutOfMemory) }
+        ensures need { OnErr result (is_some (collection_for (taught (is_some keys.now) self.now.state source) source (frame_option frame.entry)) ≡ true) }
     {
         match frame {
             Some(Frame::RequestToSend(request)) => {
@@ -212,9 +216,10 @@ impl Core {
     }
 
     fn make_room_for_message(&mut self, frame: Option<Frame<'_>>) -> Result<(), Refused>
-        ensures room { OnOk result (brings_message (frame_option frame.entry) ≡ true → 0 < self.new.messages) }
+        ensures room { OnOk result (needs_message_room (frame_option frame.entry) ≡ true → 0 < self.new.messages) }
         ensures kept { self.new ≡ record self.old { messages = self.new.messages } }
         ensures err { IfErr result (λ e. e ≡ refusals.OutOfMemory) }
+        ensures need { OnErr result (needs_message_room (frame_option frame.entry) ≡ true) }
     {
         let Some(Frame::Eager(_) | Frame::RequestToSend(_)) = frame else {
             return Ok(());
@@ -225,13 +230,14 @@ impl Core {
         }
     }
 
-    /// Makes ready what news that break no rule need, or finds that there is no memory (14). What the core holds stays as
-    /// it is.
+    /// Makes ready what news that break no rule need, or finds that there is no memory (14), which an answer and data without
+    /// a lesson do not need. What the core holds stays as it is.
     pub fn prepare_news(&mut self, news: News<'_>) -> Result<Ready, Refused>
         requires { HeardFits (frame_option news.frame) }
         ensures can { IfOk result (λ ready. CanTake self.new (news_text news.entry) ready) }
         ensures kept { self.new.state ≡ self.old.state }
         ensures err { IfErr result (λ e. e ≡ refusals.OutOfMemory) }
+        ensures need { OnErr result (news_need_memory (news_text news.entry) ≡ true) }
     {
         let keys = self.keys_for(news.source, news.lesson)?;
         let message = message_from(self.alloc, news.source, news.frame)?;
