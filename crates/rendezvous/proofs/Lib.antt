@@ -3,3 +3,5 @@ pub mod Firsts
 pub mod PieceLaws
 pub mod CourseLaws
 pub mod OfferLaws
+pub mod NumberLaws
+pub mod FoundLaws

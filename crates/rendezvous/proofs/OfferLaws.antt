@@ -15,15 +15,15 @@ use Rattle.rendezvous.proofs.Firsts.{NonePass, first_or_none}
 
 -- ELEMENTS THAT PASS NO TEST
 
-none_appended : {A : Type 0} (p : A → Bool) (xs ys : List A) → NonePass p xs → NonePass p ys → NonePass p (xs ++ ys)
+pub none_appended : {A : Type 0} (p : A → Bool) (xs ys : List A) → NonePass p xs → NonePass p ys → NonePass p (xs ++ ys)
 none_appended p [] ys h k = k
 none_appended p (x ∷ xs) ys h k = (h.0, none_appended p xs ys h.1 k)
 
-none_front : {A : Type 0} (p : A → Bool) (xs ys : List A) → NonePass p (xs ++ ys) → NonePass p xs
+pub none_front : {A : Type 0} (p : A → Bool) (xs ys : List A) → NonePass p (xs ++ ys) → NonePass p xs
 none_front p [] ys h = tt
 none_front p (x ∷ xs) ys h = (h.0, none_front p xs ys h.1)
 
-none_back : {A : Type 0} (p : A → Bool) (xs ys : List A) → NonePass p (xs ++ ys) → NonePass p ys
+pub none_back : {A : Type 0} (p : A → Bool) (xs ys : List A) → NonePass p (xs ++ ys) → NonePass p ys
 none_back p [] ys h = h
 none_back p (x ∷ xs) ys h = none_back p xs ys h.1
 
@@ -36,7 +36,7 @@ none_filtered {A = A} p q (x ∷ xs) h = by_test (q x) x (filter q xs) h.0 (none
     by_test false y ys e k = k
 
 -- where none passes there is no place
-no_place : {A : Type 0} (p : A → Bool) (xs : List A) → NonePass p xs → position p xs ≡ None
+pub no_place : {A : Type 0} (p : A → Bool) (xs : List A) → NonePass p xs → position p xs ≡ None
 no_place p xs h =
     elim (first_or_none p xs) [
       | inl k ↦ k.0
@@ -46,28 +46,28 @@ no_place p xs h =
 -- WHAT HOLDS OF OFFERS
 
 -- no two are the transfer to one rank under one number
-abbrev AreDistinct : List Offer → Type 0
+abbrev pub AreDistinct : List Offer → Type 0
 AreDistinct [] = Unit {0}
 AreDistinct (o ∷ os) = NonePass (is_to o.target o.transfer) os × AreDistinct os
 
 -- each has a number that was given in the session
-abbrev AreBegun : List Numbers → List Offer → Type 0
+abbrev pub AreBegun : List Numbers → List Offer → Type 0
 AreBegun ns [] = Unit {0}
 AreBegun ns (o ∷ os) = (o.transfer < next_to ns o.target) × AreBegun ns os
 
-record Holds (s : State) : Type 0 where
-  distinct : AreDistinct s.offers
-  begun : AreBegun s.numbers s.offers
+pub record Holds (s : State) : Type 0 where
+  pub distinct : AreDistinct s.offers
+  pub begun : AreBegun s.numbers s.offers
 
 -- the numbers of a rank that can begin a transfer, or announce one, are there
-known_to : (ns : List Numbers) (rank : ℕ) → is_full_to ns rank ≡ false → rank < length ns
+pub known_to : (ns : List Numbers) (rank : ℕ) → is_full_to ns rank ≡ false → rank < length ns
 known_to ns rank h =
     elim (cases_lt rank (length ns)) [
       | inl lt ↦ lt
       | inr le ↦ absurd (both_ways (is_full_to ns rank) h (ap has_none_to (slice_get_past ns rank le)))
     ]
 
-known_from : (ns : List Numbers) (rank : ℕ) → is_full_from ns rank ≡ false → rank < length ns
+pub known_from : (ns : List Numbers) (rank : ℕ) → is_full_from ns rank ≡ false → rank < length ns
 known_from ns rank h =
     elim (cases_lt rank (length ns)) [
       | inl lt ↦ lt
@@ -211,7 +211,7 @@ holds_after s (Drops rank) h = record {
   begun = begun_elsewhere s.numbers rank s.offers h.begun;
 }
 
-holds_always : (events : List Event) (s : State) → Holds s → Holds (after_all s events)
+pub holds_always : (events : List Event) (s : State) → Holds s → Holds (after_all s events)
 holds_always [] s h = h
 holds_always (e ∷ es) s h = holds_always es (after s e) (holds_after s e h)
 

@@ -7,3 +7,4 @@ pub mod WholePieces
 pub mod Events
 pub mod Courses
 pub mod Answered
+pub mod Counted

@@ -13,7 +13,10 @@ mod piece;
 mod transfers;
 
 pub use collection::{Collected, Collection};
-pub use laws::{offers_are_handed_out_once, pieces_are_whole, transfers_are_whole_or_nothing};
+pub use laws::{
+    numbers_are_counted_alike, offers_are_handed_out_once, pieces_are_whole,
+    transfers_are_whole_or_nothing,
+};
 pub use offer::Offer;
 pub use piece::{Piece, piece_count, pieces};
 pub use transfers::{Numbers, Transfers};

@@ -4,7 +4,7 @@ ghost use Rattle.std.specs.Prelude.{◌≡◌, ℕ, ◌+◌, ◌≤◌, ◌<◌,
 ghost use Rattle.std.specs.Option.{option_copied};
 ghost use Rattle.rendezvous.specs.Offers.{offer_for, offer_at, without_offer};
 ghost use Rattle.rendezvous.specs.Collecting.{Collecting, is_from, takes, with_piece, is_whole};
-ghost use Rattle.rendezvous.specs.State.{State, fresh, is_full_to, is_full_from, is_next, next_to, with_begun, with_announced, collection_for, collection_at, is_due, grown_at, with_data_at, given_at, after_begin, after_rts, after_collect, offered, after_cts, after_data, given, after_drop, keys_with};
+ghost use Rattle.rendezvous.specs.State.{State, fresh, is_full_to, is_next, next_to, with_begun, with_announced, collection_for, collection_at, is_due, grown_at, with_data_at, given_at, after_begin, after_rts, after_collect, offered, after_cts, after_data, given, after_drop, keys_with};
 
 use crate::collection::{Collected, Collection};
 use crate::offer::Offer;
@@ -236,16 +236,6 @@ impl Transfers {
     {
         match self.numbers.get(usize::from(rank)) {
             Some(session) => session.begun == u32::MAX,
-            None => true,
-        }
-    }
-
-    /// Whether no further transfer from the rank can be announced, in the same way.
-    pub fn is_full_from(&self, rank: u16) -> bool
-        ensures { result ≡ is_full_from self.now.state.numbers rank }
-    {
-        match self.numbers.get(usize::from(rank)) {
-            Some(session) => session.announced == u32::MAX,
             None => true,
         }
     }

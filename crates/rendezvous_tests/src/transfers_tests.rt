@@ -33,7 +33,7 @@ fn begin(transfers: &mut Transfers, elements: Buffer) -> Option<u32> {
 
 /// Whether rank 1 takes an announcement by rank 0 under this number.
 fn announce(transfers: &mut Transfers, transfer: u32) -> bool {
-    if transfers.is_full_from(0) || !transfers.is_next(0, transfer) {
+    if !transfers.is_next(0, transfer) {
         return false;
     }
     transfers.on_rts(0, transfer);
