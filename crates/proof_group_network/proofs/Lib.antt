@@ -6,6 +6,7 @@ pub mod NetworkMoves
 pub mod Lively
 pub mod LivelySteps
 pub mod NetworkKept
+pub mod LinksOfMessages
 pub mod NetworkLive
 pub mod NetworkRest
 pub mod CarriedParts

@@ -5,8 +5,10 @@
 //! (`Notices`), what a network of them does (`Network`), and how one session carries messages and notices (`Carried`).
 #![tactic(auto)]
 
+mod messages;
 mod splits;
 mod theorem;
 
+pub use messages::messages_stand_with_groups;
 pub use splits::splits_follow_the_plan;
 pub use theorem::group_histories_are_runs;

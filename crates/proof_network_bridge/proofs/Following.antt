@@ -1,9 +1,11 @@
--- A world of engines follows the pure network: its opening, its calls, its ticks and its restarts.
+-- A world of engines follows the pure network with communicators: its opening, its calls, its ticks and its restarts.
 use Rattle.std.proofs.Common.{◌≡◌, ℕ, zero, suc, ◌+◌, ◌<◌, List, [], ◌∷◌, ◌++◌, Option, Some, None, refl, sym, ap, subst, ◌∙◌, arith, append-nil}
 use Rattle.std.specs.Prelude.{slice_get, slice_set}
 use Rattle.std.specs.List.{AllByRecursion}
 use Rattle.std.proofs.lemmas.Option.{same_Some}
-use Rattle.perfect_queues.specs.Events.{Entry, Restarted, call_and_reply, told}
+use Rattle.perfect_groups.specs.Events.{Entry, Restarted}
+use Rattle.perfect_queues.specs.Events as queue_events
+use Rattle.perfect_queues.specs.Events.{call_and_reply, told}
 use Rattle.perfect_queues.specs.Refusals.{fault}
 use Rattle.vocabulary.specs.declared.endpoint.Endpoint.{Endpoint}
 use Rattle.datagram.specs.Spelling.{FrameText}
@@ -25,14 +27,16 @@ use Rattle.proof_pure_network.specs.Engine.{called, core_ready, core_settled}
 use Rattle.proof_pure_network.specs.Frames.{Frame}
 use Rattle.proof_pure_network.specs.Held.{blank}
 use Rattle.proof_pure_network.specs.Links.{Link, accept_all}
-use Rattle.proof_pure_network.specs.Network.{Ask, Happening, Network, Restarts, happens, here, new_network, run}
-use Rattle.proof_engine_view.specs.Seen.{call_seen, told_call, told_completion}
+use Rattle.proof_pure_network.specs.Network.{Network, here, new_network}
+use Rattle.proof_group_network.specs.Network.{Ask, GroupNetwork, Happening, Restarts, happens, new_group_network}
+use Rattle.proof_engine_view.specs.Seen as in_queues
+use Rattle.proof_engine_view.specs.Seen.{call_seen, own_serial}
 use Rattle.proof_engine_view.specs.Shown.{IsShown}
 use Rattle.proof_engine_view.specs.Standing.{AreSent, CanLeave, all_gone}
 use Rattle.proof_engine_view.specs.Transfers.{Announcements, after_out, announced_in, announcements_of}
 use Rattle.proof_engine_view.proofs.Growing.{sent_more}
 use Rattle.proof_pure_network.specs.Announced.{MeetingsStand}
-use Rattle.proof_pure_network.proofs.MeetingLaws.{meetings_stand}
+use Rattle.proof_group_network.proofs.LinksOfMessages.{group_meetings_stand}
 use Rattle.proof_engine_steps.specs.Steps.{CallsAreShown, IsCalled, OpeningIsShown}
 use Rattle.proof_link_truth.specs.Events.{EventsAreTrue, IsAt, LeavesTrue, MaySendAll, OpeningIsTrue, RestartsAreTrue, TicksAreTrue, all_addressed, no_links, opening_sessions}
 use Rattle.proof_link_truth.specs.Links as below
@@ -40,11 +44,13 @@ use Rattle.proof_link_truth.specs.Truth.{AreTrue}
 use Rattle.proof_link_truth.specs.Wire.{at, place_of}
 use Rattle.proof_network_bridge.specs.Carried.{AreCarried}
 use Rattle.proof_network_bridge.specs.Following.{CallsFollow, LeavesFollowed, OpeningFollows, RestartsFollow, TicksFollow, next_place}
-use Rattle.proof_network_bridge.specs.Joined.{IsClean, IsFollowed, IsJoined, opening_engines, sessions_in}
+use Rattle.proof_network_bridge.specs.Joined.{IsClean, IsFollowed, IsJoined, IsOnWorldAlone, messages_after, network_after, opening_engines, sessions_in}
+use Rattle.proof_network_bridge.specs.OnWorld.{call_on_world, entries_on_world, told_call, told_completion}
 use Rattle.proof_network_bridge.proofs.Carried.{accept_all_alike}
 use Rattle.proof_network_bridge.proofs.Carrying.{all_same, listed, may_send}
 use Rattle.proof_network_bridge.proofs.Halves.{answered, frame_event, frame_free, frame_keeps, leaves_engines, neither_fault, sessions_set, sessions_there}
-use Rattle.proof_network_bridge.proofs.Networks.{IsAfter, anew, asked, restarts, run_push}
+use Rattle.proof_network_bridge.proofs.Networks.{IsAfter, anew, anew_seen, asked, restarts, run_push}
+use Rattle.proof_network_bridge.proofs.WorldCalls.{engines_call_on_world}
 use Rattle.proof_network_bridge.proofs.Worlds.{IsHeld, OnlyFrom, after_grows, clean_emptied, held_at, held_emptied, held_out, joined_after, joined_anew, joined_still, only_out, place_is}
 
 -- ---- the opening
@@ -81,6 +87,8 @@ pub opening_follows : OpeningIsShown → OpeningIsTrue → OpeningFollows
 opening_follows shows truth n few =
     record {
       happenings = [];
+      few = few;
+      alone = record { as_new = λ x. refl; silent = λ s d. refl };
       joined = record {
         carried = no_links;
         links = subst (λ (ss : List SessionsState). AreTrue n ss [] no_links new_network.current) (sym (opening_halves n 0 n)) (truth n few);
@@ -96,21 +104,24 @@ opening_follows shows truth n few =
 -- ---- after an event
 
 -- a happening more
-pub followed_after : (n r : ℕ) (engines : List EngineState) (datagrams : List (ℕ × List ℕ)) (history entries : List Entry) (mid : EngineState) (h : Happening) (core : Core)
+pub followed_after : (n r : ℕ) (engines : List EngineState) (datagrams : List (ℕ × List ℕ)) (history : List Entry) (entries : List queue_events.Entry) (mid : EngineState) (h : Happening) (core : Core)
     (carried : below.Links) (links : Endpoint → Endpoint → Link) (f : IsFollowed n engines datagrams history) →
-    IsAfter (run n f.happenings new_network) (happens n (run n f.happenings new_network) h) (here (run n f.happenings new_network) r) core links entries →
-    AreCarried carried links → OnlyFrom (here (run n f.happenings new_network) r) (run n f.happenings new_network).link links →
-    LeavesTrue n (sessions_in engines) datagrams r mid.sessions carried (run n f.happenings new_network).current → IsHeld (announcements_of links (here (run n f.happenings new_network) r)) mid core →
-    LeavesFollowed n engines datagrams r mid (history ++ entries)
+    IsAfter n (network_after n f.happenings) (happens n (network_after n f.happenings) h) (here (messages_after n f.happenings) r) core links entries →
+    AreCarried carried links → OnlyFrom (here (messages_after n f.happenings) r) (messages_after n f.happenings).link links →
+    LeavesTrue n (sessions_in engines) datagrams r mid.sessions carried (messages_after n f.happenings).current → IsHeld (announcements_of links (here (messages_after n f.happenings) r)) mid core →
+    LeavesFollowed n engines datagrams r mid (history ++ entries_on_world entries)
 followed_after n r engines datagrams history entries mid h core carried links f a alike only truth held =
-    let w : Network = run n f.happenings new_network in
-    let pushed : run n (f.happenings ++ h ∷ []) new_network ≡ happens n w h = run_push n f.happenings h new_network in
+    let g : GroupNetwork = network_after n f.happenings in
+    let w : Network = g.net in
+    let pushed : network_after n (f.happenings ++ h ∷ []) ≡ happens n g h = run_push n f.happenings h (new_group_network n) in
     record {
       happenings = f.happenings ++ h ∷ [];
-      joined = subst (λ (w' : Network). IsJoined n (slice_set engines r (emptied mid)) (datagrams ++ mid.sessions.out) w') (sym pushed)
-          (joined_after n r engines datagrams (datagrams ++ mid.sessions.out) w (happens n w h) (emptied mid) core carried links entries f.joined a alike only
+      few = f.few;
+      joined = subst (λ (w' : GroupNetwork). IsJoined n (slice_set engines r (emptied mid)) (datagrams ++ mid.sessions.out) w'.net) (sym pushed)
+          (joined_after n r engines datagrams (datagrams ++ mid.sessions.out) w (happens n g h).net (emptied mid) core carried links f.joined a.moved alike only
           (leaves_engines n r engines datagrams mid carried w.current truth) (held_emptied (announcements_of links (here w r)) mid core held) (clean_emptied mid));
-      seen = ap (λ (w' : Network). w'.history) pushed ∙ a.history_is ∙ ap (λ (es : List Entry). es ++ entries) f.seen;
+      alone = subst (λ (w' : GroupNetwork). IsOnWorldAlone n w') (sym pushed) a.alone;
+      seen = ap (λ (w' : GroupNetwork). w'.history) pushed ∙ a.history_is ∙ ap (λ (es : List Entry). es ++ entries_on_world entries) f.seen;
     }
 
 -- an event after which the core is as it was, and the sessions know what they knew and stand where they stood
@@ -129,12 +140,14 @@ held_beside a old new core b h = record {
 -- nothing happens to the network
 pub followed_still : (n r : ℕ) (engines : List EngineState) (datagrams : List (ℕ × List ℕ)) (history : List Entry) (old mid : EngineState) (f : IsFollowed n engines datagrams history) →
     slice_get engines r ≡ Some old → IsBeside old mid →
-    LeavesTrue n (sessions_in engines) datagrams r mid.sessions f.joined.carried (run n f.happenings new_network).current → LeavesFollowed n engines datagrams r mid history
+    LeavesTrue n (sessions_in engines) datagrams r mid.sessions f.joined.carried (messages_after n f.happenings).current → LeavesFollowed n engines datagrams r mid history
 followed_still n r engines datagrams history old mid f there beside truth =
-    let w : Network = run n f.happenings new_network in
+    let w : Network = messages_after n f.happenings in
     let core : Core = w.core (here w r) in
     record {
       happenings = f.happenings;
+      few = f.few;
+      alone = f.alone;
       joined = joined_still n r engines datagrams (datagrams ++ mid.sessions.out) w (emptied mid) f.joined (leaves_engines n r engines datagrams mid f.joined.carried w.current truth)
           (held_emptied (announcements_of w.link (here w r)) mid core (held_beside (announcements_of w.link (here w r)) old mid core beside (held_at n r engines datagrams w old f.joined there))) (clean_emptied mid);
       seen = f.seen;
@@ -143,7 +156,7 @@ followed_still n r engines datagrams history old mid f there beside truth =
 -- nor is a blocked call answered
 pub followed_unanswered : (n r : ℕ) (engines : List EngineState) (datagrams : List (ℕ × List ℕ)) (history : List Entry) (old mid : EngineState) (f : IsFollowed n engines datagrams history) →
     slice_get engines r ≡ Some old → IsBeside old mid →
-    LeavesTrue n (sessions_in engines) datagrams r mid.sessions f.joined.carried (run n f.happenings new_network).current →
+    LeavesTrue n (sessions_in engines) datagrams r mid.sessions f.joined.carried (messages_after n f.happenings).current →
     LeavesFollowed n engines datagrams r mid (history ++ told_completion old.sessions.place.endpoint mid.core.completion)
 followed_unanswered n r engines datagrams history old mid f there beside truth =
     let none : mid.core.completion ≡ None = ap (λ (c : CoreState). c.completion) beside.core ∙ (f.joined.clean r old there).completion in
@@ -164,7 +177,7 @@ record IsCalledAt (a : Announcements) (p : Place) (old : CoreState) (known : Lis
   shown : IsShown (after_out a (called p.endpoint core (call_seen call)).out) new known (core_settled (called p.endpoint core (call_seen call)).core)
   sends : AreSent (after_out a (called p.endpoint core (call_seen call)).out) (all_gone known (as_list (call_frame old call))) (called p.endpoint core (call_seen call)).out
   leaves : AllByRecursion (CanLeave p) (as_list (call_frame old call))
-  tells : told p.endpoint (call_and_reply (view blank core) (Some (call_seen call))) (core_ready (called p.endpoint core (call_seen call)).core) ≡ told_call p.endpoint call (Some reply)
+  tells : told p.endpoint (call_and_reply (view blank core) (Some (call_seen call))) (core_ready (called p.endpoint core (call_seen call)).core) ≡ in_queues.told_call p.endpoint call (Some reply)
 
 called_at : (a : Announcements) (p : Place) (old : CoreState) (known : List ℕ) (core : Core) (call : Call) (reply : Reply) (new : CoreState) → old.place ≡ p → IsCalled a old known core call reply new →
     IsCalledAt a p old known core call reply new
@@ -177,11 +190,11 @@ answered_follows : CallsAreShown → EventsAreTrue → (n r : ℕ) (engines : Li
     LeavesFollowed n engines datagrams r mid (history ++ (told_call old.sessions.place.endpoint call (Some reply) ++ told_completion old.sessions.place.endpoint mid.core.completion))
 answered_follows shows truth n r engines datagrams history old mid call reply f there within gives =
     subst (λ (es : List Entry). LeavesFollowed n engines datagrams r mid (history ++ es)) entries_are
-    (followed_after n r engines datagrams history _ mid (Ask r (call_seen call)) (core_settled (called own core (call_seen call)).core)
-    (below.accept_all carried own texts) (accept_all w.link own (called own core (call_seen call)).out) f (asked n r w (call_seen call) place.0 c.fit) alike (only_out w.link own out) leaves held)
+    (followed_after n r engines datagrams history _ mid (Ask r (call_on_world (call_seen call))) (core_settled (called own core (call_seen call)).core)
+    (below.accept_all carried own texts) (accept_all w.link own (called own core (call_seen call)).out) f (asked n r (network_after n f.happenings) (call_seen call) f.alone (engines_call_on_world own_serial call) place.0 c.fit) alike (only_out w.link own out) leaves held)
   where
     w : Network
-    w = run n f.happenings new_network
+    w = messages_after n f.happenings
 
     own : Endpoint
     own = here w r
@@ -254,13 +267,11 @@ answered_follows shows truth n r engines datagrams history old mid call reply f 
     none : mid.core.completion ≡ None
     none = shown.completion ∙ (f.joined.clean r old there).completion
 
-    told_there : told_call own call (Some reply) ≡ told_call old.sessions.place.endpoint call (Some reply)
-    told_there = ap (λ (p : Place). told_call p.endpoint call (Some reply)) (sym place.1)
-
-    entries_are : told own (call_and_reply (view blank core) (Some (call_seen call))) (core_ready (called own core (call_seen call)).core)
+    entries_are : entries_on_world (told own (call_and_reply (view blank core) (Some (call_seen call))) (core_ready (called own core (call_seen call)).core))
         ≡ told_call old.sessions.place.endpoint call (Some reply) ++ told_completion old.sessions.place.endpoint mid.core.completion
     entries_are =
-        c.tells ∙ told_there ∙ sym (append-nil (told_call old.sessions.place.endpoint call (Some reply)))
+        ap entries_on_world c.tells ∙ ap (λ (p : Place). told_call p.endpoint call (Some reply)) (sym place.1)
+        ∙ sym (append-nil (told_call old.sessions.place.endpoint call (Some reply)))
         ∙ ap (λ (o : Option Answer). told_call old.sessions.place.endpoint call (Some reply) ++ told_completion old.sessions.place.endpoint o) (sym none)
 
 pub calls_follow : CallsAreShown → EventsAreTrue → CallsFollow
@@ -271,7 +282,7 @@ calls_follow shows truth n r engines datagrams history old mid call reply f ther
 
 pub ticks_follow : TicksAreTrue → TicksFollow
 ticks_follow truth n r now engines datagrams history old mid f there gives =
-    let w : Network = run n f.happenings new_network in
+    let w : Network = messages_after n f.happenings in
     subst (λ (e : EngineState). LeavesFollowed n engines datagrams r e (history ++ told_completion old.sessions.place.endpoint e.core.completion)) (sym gives.1)
     (followed_unanswered n r engines datagrams history old (after_tick old now) f there (record { core = refl; known = refl; place = refl })
     (truth n r now (sessions_in engines) datagrams f.joined.carried w.current old.sessions f.joined.links (is_at n r engines datagrams w old f.joined there)))
@@ -292,15 +303,19 @@ restarted_at shows truth n r engines datagrams w old meet j there few =
 
 pub restarts_follow : OpeningIsShown → RestartsAreTrue → RestartsFollow
 restarts_follow shows truth n r engines datagrams history old f there few =
-    let w : Network = run n f.happenings new_network in
+    let g : GroupNetwork = network_after n f.happenings in
+    let w : Network = g.net in
     let place = place_is n r engines datagrams w old f.joined there in
     let incarnation_is : old.sessions.place.endpoint.incarnation ≡ w.current r = ap (λ (p : Place). p.endpoint.incarnation) place.1 in
     let room : w.current r < 65535 = omega (arith, few, incarnation_is) in
-    let pushed : run n (f.happenings ++ Restarts r ∷ []) new_network ≡ anew w r = run_push n f.happenings (Restarts r) new_network ∙ restarts n r w place.0 room in
+    let pushed : network_after n (f.happenings ++ Restarts r ∷ []) ≡ anew_seen g r = run_push n f.happenings (Restarts r) (new_group_network n) ∙ restarts n r g place.0 room in
+    let meets : MeetingsStand w = group_meetings_stand n f.happenings (omega (arith, f.few)) in
     record {
       happenings = f.happenings ++ Restarts r ∷ [];
-      joined = subst (λ (w' : Network). IsJoined n (slice_set engines r (opening (next_place old.sessions.place))) datagrams w') (sym pushed)
+      few = f.few;
+      joined = subst (λ (w' : GroupNetwork). IsJoined n (slice_set engines r (opening (next_place old.sessions.place))) datagrams w'.net) (sym pushed)
           (subst (λ (p : Place). IsJoined n (slice_set engines r (opening (next_place p))) datagrams (anew w r)) (sym place.1)
-          (restarted_at shows truth n r engines datagrams w old (meetings_stand n f.happenings) f.joined there room));
-      seen = ap (λ (w' : Network). w'.history) pushed ∙ ap (λ (es : List Entry). es ++ Restarted r ∷ []) f.seen;
+          (restarted_at shows truth n r engines datagrams w old meets f.joined there room));
+      alone = subst (λ (w' : GroupNetwork). IsOnWorldAlone n w') (sym pushed) (record { as_new = f.alone.as_new; silent = f.alone.silent });
+      seen = ap (λ (w' : GroupNetwork). w'.history) pushed ∙ ap (λ (es : List Entry). es ++ Restarted r ∷ []) f.seen;
     }

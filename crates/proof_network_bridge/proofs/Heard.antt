@@ -1,9 +1,10 @@
--- What a world of engines hears, the pure network hears; and what is refused is nothing to it.
+-- What a world of engines hears, the pure network with communicators hears; and what is refused is nothing to it.
 use Rattle.std.proofs.Common.{◌≡◌, ℕ, ◌<◌, ◌≤◌, Bool, true, false, nat_lt, List, [], ◌++◌, Option, Some, None, Result, Ok, Err, refl, sym, ap, subst, ◌∙◌, arith}
 use Rattle.std.specs.Prelude.{slice_get, slice_index}
 use Rattle.std.specs.List.{AllByRecursion}
 use Rattle.std.proofs.lemmas.Bool.{eqb-false, le-ltb, lt-ltb}
-use Rattle.perfect_queues.specs.Events.{Entry, told}
+use Rattle.perfect_groups.specs.Events.{Entry}
+use Rattle.perfect_queues.specs.Events.{told}
 use Rattle.vocabulary.specs.declared.endpoint.Endpoint.{Endpoint}
 use Rattle.datagram.specs.Spelling.{FrameText}
 use Rattle.incarnation.specs.declared.place.Place.{Place}
@@ -25,10 +26,11 @@ use Rattle.proof_pure_network.specs.Core.{Core, Effect}
 use Rattle.proof_pure_network.specs.Engine.{came, core_ready, core_settled, met}
 use Rattle.proof_pure_network.specs.Frames.{Frame}
 use Rattle.proof_pure_network.specs.Links.{Link, accept_all, handed_on}
-use Rattle.proof_pure_network.specs.Network.{Happening, Network, Word, here, new_network, run}
-use Rattle.proof_pure_network.proofs.MeetingLaws.{meetings_stand}
+use Rattle.proof_pure_network.specs.Network.{Network, here}
+use Rattle.proof_group_network.specs.Network.{Happening, Word}
+use Rattle.proof_group_network.proofs.LinksOfMessages.{group_meetings_stand}
 use Rattle.proof_engine_view.specs.Frames.{known_after}
-use Rattle.proof_engine_view.specs.Seen.{told_completion}
+use Rattle.proof_engine_view.specs.Seen as in_queues
 use Rattle.proof_engine_view.specs.Shown.{IsShown}
 use Rattle.proof_engine_view.specs.Standing.{CanLeave, all_gone}
 use Rattle.proof_engine_view.specs.Standing as standing
@@ -42,7 +44,8 @@ use Rattle.proof_link_truth.specs.Links as lower
 use Rattle.proof_link_truth.specs.Wire.{place_of}
 use Rattle.proof_network_bridge.specs.Carried.{AreCarried, announced_by}
 use Rattle.proof_network_bridge.specs.Following.{DatagramsFollow, LeavesFollowed, RefusalsFollow}
-use Rattle.proof_network_bridge.specs.Joined.{IsFollowed, IsJoined, sessions_in}
+use Rattle.proof_network_bridge.specs.Joined.{IsFollowed, IsJoined, messages_after, network_after, sessions_in}
+use Rattle.proof_network_bridge.specs.OnWorld.{entries_on_world, told_completion}
 use Rattle.proof_network_bridge.proofs.Carried.{IsMeant, accept_all_alike, handed_alike, next_alike}
 use Rattle.proof_network_bridge.proofs.Carrying.{all_same, may_send}
 use Rattle.proof_network_bridge.proofs.Following.{followed_after, followed_still, is_at}
@@ -115,42 +118,42 @@ held_after a old core s lesson t b x placed h learnt_now = record {
 -- what is seen of it
 told_after : (a : Announcements) (old : EngineState) (core : Core) (own : Endpoint) (s : Endpoint) (lesson : Bool) (t : SessionsState) (b : Option FrameText) (x : Option Frame) →
     old.core.place ≡ old.sessions.place → old.sessions.place.endpoint ≡ own → IsHeard a old.core old.sessions.known core (news s lesson b) x →
-    told own None (core_ready (heard_by_core core s x).core) ≡ told_completion old.sessions.place.endpoint (after_news old.core (news s lesson b)).completion
+    told own None (core_ready (heard_by_core core s x).core) ≡ in_queues.told_completion old.sessions.place.endpoint (after_news old.core (news s lesson b)).completion
 told_after a old core own s lesson t b x placed stands h =
     ap (λ (d : Endpoint). told d None (core_ready (heard_by_core core s x).core)) (sym (ap (λ (p : Place). p.endpoint) placed ∙ stands)) ∙ h.tells
-    ∙ ap (λ (p : Place). told_completion p.endpoint (after_news old.core (news s lesson b)).completion) placed
+    ∙ ap (λ (p : Place). in_queues.told_completion p.endpoint (after_news old.core (news s lesson b)).completion) placed
 
 -- a word without a frame: nothing is sent for it
 plainly : (n r : ℕ) (engines : List EngineState) (datagrams : List (ℕ × List ℕ)) (history : List Entry) (old : EngineState) (f : IsFollowed n engines datagrams history) →
-    slice_get engines r ≡ Some old → (s : Endpoint) (lesson : Bool) (t : SessionsState) → IsWord n r (run n f.happenings new_network) s →
-    IsHeard (announcements_of (run n f.happenings new_network).link (here (run n f.happenings new_network) r)) old.core old.sessions.known
-    ((run n f.happenings new_network).core (here (run n f.happenings new_network) r)) (news s lesson None) None → IsLearnt old s lesson t →
-    LeavesTrue n (sessions_in engines) datagrams r t f.joined.carried (run n f.happenings new_network).current →
+    slice_get engines r ≡ Some old → (s : Endpoint) (lesson : Bool) (t : SessionsState) → IsWord n r (messages_after n f.happenings) s →
+    IsHeard (announcements_of (messages_after n f.happenings).link (here (messages_after n f.happenings) r)) old.core old.sessions.known
+    ((messages_after n f.happenings).core (here (messages_after n f.happenings) r)) (news s lesson None) None → IsLearnt old s lesson t →
+    LeavesTrue n (sessions_in engines) datagrams r t f.joined.carried (messages_after n f.happenings).current →
     LeavesFollowed n engines datagrams r (after old s lesson t None) (history ++ told_completion old.sessions.place.endpoint (after_news old.core (news s lesson None)).completion)
 plainly n r engines datagrams history old f there s lesson t word h learnt_now truth =
-    let w : Network = run n f.happenings new_network in
+    let w : Network = messages_after n f.happenings in
     let own : Endpoint = here w r in
     let core : Core = w.core own in
     let a : Announcements = announcements_of w.link own in
     let held : IsHeld a old core = held_at n r engines datagrams w old f.joined there in
     let stands : old.sessions.place.endpoint ≡ own = ap (λ (p : Place). p.endpoint) (place_is n r engines datagrams w old f.joined there).1 in
-    let made = followed_after n r engines datagrams history _ (after old s lesson t None) (Word s r 0) (core_settled (met core s)) f.joined.carried w.link f (learnt n r w s word) f.joined.alike (only_out w.link own []) truth
+    let made = followed_after n r engines datagrams history _ (after old s lesson t None) (Word s r 0 []) (core_settled (met core s)) f.joined.carried w.link f (learnt n r (network_after n f.happenings) s f.alone word) f.joined.alike (only_out w.link own []) truth
     (held_out w.link own [] (after old s lesson t None) (core_settled (met core s)) (held_after a old core s lesson t None None held.placed h learnt_now)) in
-    subst (λ (es : List Entry). LeavesFollowed n engines datagrams r (after old s lesson t None) (history ++ es)) (told_after a old core own s lesson t None None held.placed stands h) made
+    subst (λ (es : List Entry). LeavesFollowed n engines datagrams r (after old s lesson t None) (history ++ es)) (ap entries_on_world (told_after a old core own s lesson t None None held.placed stands h)) made
 
 -- a word with the next frame of its link, for which frames may be sent
 with_frame : (n r : ℕ) (engines : List EngineState) (datagrams : List (ℕ × List ℕ)) (history : List Entry) (old : EngineState) (f : IsFollowed n engines datagrams history) →
     slice_get engines r ≡ Some old → (s : Endpoint) (lesson : Bool) (t : SessionsState) (b : FrameText) (x : Frame) →
-    slice_get ((run n f.happenings new_network).link s (here (run n f.happenings new_network) r)).accepted ((run n f.happenings new_network).link s (here (run n f.happenings new_network) r)).handed ≡ Some x →
-    IsWord n r (run n f.happenings new_network) s →
-    IsHeard (announcements_of (run n f.happenings new_network).link (here (run n f.happenings new_network) r)) old.core old.sessions.known
-    ((run n f.happenings new_network).core (here (run n f.happenings new_network) r)) (news s lesson (Some b)) (Some x) → IsLearnt old s lesson t →
+    slice_get ((messages_after n f.happenings).link s (here (messages_after n f.happenings) r)).accepted ((messages_after n f.happenings).link s (here (messages_after n f.happenings) r)).handed ≡ Some x →
+    IsWord n r (messages_after n f.happenings) s →
+    IsHeard (announcements_of (messages_after n f.happenings).link (here (messages_after n f.happenings) r)) old.core old.sessions.known
+    ((messages_after n f.happenings).core (here (messages_after n f.happenings) r)) (news s lesson (Some b)) (Some x) → IsLearnt old s lesson t →
     LeavesTrue n (sessions_in engines) datagrams r t
-    (lower.accept_all (lower.handed_on f.joined.carried s (here (run n f.happenings new_network) r)) (here (run n f.happenings new_network) r)
-    (all_gone (known_after lesson old.sessions.known s) (news_frames old.core (news s lesson (Some b))))) (run n f.happenings new_network).current →
+    (lower.accept_all (lower.handed_on f.joined.carried s (here (messages_after n f.happenings) r)) (here (messages_after n f.happenings) r)
+    (all_gone (known_after lesson old.sessions.known s) (news_frames old.core (news s lesson (Some b))))) (messages_after n f.happenings).current →
     LeavesFollowed n engines datagrams r (after old s lesson t (Some b)) (history ++ told_completion old.sessions.place.endpoint (after_news old.core (news s lesson (Some b))).completion)
 with_frame n r engines datagrams history old f there s lesson t b x next word h learnt_now truth =
-    let w : Network = run n f.happenings new_network in
+    let w : Network = messages_after n f.happenings in
     let own : Endpoint = here w r in
     let core : Core = w.core own in
     let a : Announcements = announcements_of w.link own in
@@ -165,14 +168,14 @@ with_frame n r engines datagrams history old f there s lesson t b x next word h 
     accept_all_alike (lower.handed_on f.joined.carried s own) handed own texts effect.out (handed_alike f.joined.carried w.link s own f.joined.alike)
     (sent_more (after_out a effect.out) final texts effect.out grows h.sends) in
     let before : IsHeld (after_out a effect.out) (after old s lesson t (Some b)) (core_settled effect.core) = held_after a old core s lesson t (Some b) (Some x) held.placed h learnt_now in
-    let made = followed_after n r engines datagrams history _ (after old s lesson t (Some b)) (Word s r 1) (core_settled effect.core) (lower.accept_all (lower.handed_on f.joined.carried s own) own texts)
-    (accept_all handed own effect.out) f (heard n r w s x word next) alike (only_handed w.link s own effect.out) truth
+    let made = followed_after n r engines datagrams history _ (after old s lesson t (Some b)) (Word s r 1 []) (core_settled effect.core) (lower.accept_all (lower.handed_on f.joined.carried s own) own texts)
+    (accept_all handed own effect.out) f (heard n r (network_after n f.happenings) s x f.alone word next) alike (only_handed w.link s own effect.out) truth
     (record {
       shown = others_may_announce (after_out a effect.out) final (after_news old.core (news s lesson (Some b))) t.known (core_settled effect.core) before.shown grows (λ d. handed_to_same w.link s own effect.out d);
       placed = before.placed;
     }) in
     subst (λ (es : List Entry). LeavesFollowed n engines datagrams r (after old s lesson t (Some b)) (history ++ es))
-    (told_after a old core own s lesson t (Some b) (Some x) held.placed stands h) made
+    (ap entries_on_world (told_after a old core own s lesson t (Some b) (Some x) held.placed stands h)) made
 
 -- ---- a datagram that is taken in
 
@@ -186,14 +189,14 @@ WordHeard w own s old lesson (Hands b) =
     × IsHeard (announcements_of w.link own) old.core old.sessions.known (w.core own) (news s lesson (Some b)) (Some x)
 
 -- it may come, and so it is heard
-word_heard : NewsAreShown → (n r : ℕ) (hs : List Happening) (carried : lower.Links) (old : EngineState) (s : Endpoint) (lesson : Bool) (x : WordText) → AreCarried carried (run n hs new_network).link →
-    IsHeld (announcements_of (run n hs new_network).link (here (run n hs new_network) r)) old ((run n hs new_network).core (here (run n hs new_network) r)) → old.core.completion ≡ None →
-    IsFromOther old.core old.sessions.known (news s lesson (frame_in x)) → IsTrueWord carried s (here (run n hs new_network) r) x → news_fault old.core (news s lesson (frame_in x)) ≡ None →
-    WordHeard (run n hs new_network) (here (run n hs new_network) r) s old lesson x
-word_heard shows n r hs carried old s lesson x alike held free other says taken = go x other says taken
+word_heard : NewsAreShown → (n r : ℕ) (hs : List Happening) → n ≤ 256 → (carried : lower.Links) (old : EngineState) (s : Endpoint) (lesson : Bool) (x : WordText) → AreCarried carried (messages_after n hs).link →
+    IsHeld (announcements_of (messages_after n hs).link (here (messages_after n hs) r)) old ((messages_after n hs).core (here (messages_after n hs) r)) → old.core.completion ≡ None →
+    IsFromOther old.core old.sessions.known (news s lesson (frame_in x)) → IsTrueWord carried s (here (messages_after n hs) r) x → news_fault old.core (news s lesson (frame_in x)) ≡ None →
+    WordHeard (messages_after n hs) (here (messages_after n hs) r) s old lesson x
+word_heard shows n r hs few carried old s lesson x alike held free other says taken = go x other says taken
   where
     w : Network
-    w = run n hs new_network
+    w = messages_after n hs
 
     own : Endpoint
     own = here w r
@@ -202,7 +205,7 @@ word_heard shows n r hs carried old s lesson x alike held free other says taken 
     a = announcements_of w.link own
 
     m : MeetingsStand w
-    m = meetings_stand n hs
+    m = group_meetings_stand n hs (omega (arith, few))
 
     shown : (b : Option FrameText) (f : Option Frame) → IsFromOther old.core old.sessions.known (news s lesson b) → standing.IsMeant a s b f → IsWithinFields b → news_fault old.core (news s lesson b) ≡ None →
         IsHeard a old.core old.sessions.known (w.core own) (news s lesson b) f
@@ -233,11 +236,11 @@ word_leaves w own s old lesson (Hands b) h = h.2.leaves
 
 -- any word, with what is sent for it
 by_word : (n r : ℕ) (engines : List EngineState) (datagrams : List (ℕ × List ℕ)) (history : List Entry) (old : EngineState) (f : IsFollowed n engines datagrams history) →
-    slice_get engines r ≡ Some old → (s : Endpoint) (lesson : Bool) (t : SessionsState) (x : WordText) → IsWord n r (run n f.happenings new_network) s →
-    WordHeard (run n f.happenings new_network) (here (run n f.happenings new_network) r) s old lesson x → IsLearnt old s lesson t →
+    slice_get engines r ≡ Some old → (s : Endpoint) (lesson : Bool) (t : SessionsState) (x : WordText) → IsWord n r (messages_after n f.happenings) s →
+    WordHeard (messages_after n f.happenings) (here (messages_after n f.happenings) r) s old lesson x → IsLearnt old s lesson t →
     LeavesTrue n (sessions_in engines) datagrams r t
-    (lower.accept_all (links_heeded f.joined.carried s (here (run n f.happenings new_network) r) x) (here (run n f.happenings new_network) r)
-    (all_gone (known_after lesson old.sessions.known s) (news_frames old.core (news s lesson (frame_in x))))) (run n f.happenings new_network).current →
+    (lower.accept_all (links_heeded f.joined.carried s (here (messages_after n f.happenings) r) x) (here (messages_after n f.happenings) r)
+    (all_gone (known_after lesson old.sessions.known s) (news_frames old.core (news s lesson (frame_in x))))) (messages_after n f.happenings).current →
     LeavesFollowed n engines datagrams r (after old s lesson t (frame_in x))
     (history ++ told_completion old.sessions.place.endpoint (after_news old.core (news s lesson (frame_in x))).completion)
 by_word n r engines datagrams history old f there s lesson t (Acknowledges number) word h learnt_now truth = plainly n r engines datagrams history old f there s lesson t word h learnt_now truth
@@ -260,7 +263,7 @@ heard_follows shows hearing events n r engines datagrams history old h f there c
     (record { known = keeps.known ∙ known_alike h.lesson old.sessions.known h.source; place = keeps.place }) leaves
   where
     w : Network
-    w = run n f.happenings new_network
+    w = messages_after n f.happenings
 
     own : Endpoint
     own = here w r
@@ -287,7 +290,7 @@ heard_follows shows hearing events n r engines datagrams history old h f there c
     free = neither_fault (news_fault old.core (news_of h)) (fault_of_sessions (event_limit old.sessions (Some h) sendings)) fine
 
     seen : WordHeard w own h.source old h.lesson h.word
-    seen = word_heard shows n r f.happenings f.joined.carried old h.source h.lesson h.word f.joined.alike (held_at n r engines datagrams w old f.joined there) (f.joined.clean r old there).completion
+    seen = word_heard shows n r f.happenings f.few f.joined.carried old h.source h.lesson h.word f.joined.alike (held_at n r engines datagrams w old f.joined there) (f.joined.clean r old there).completion
         (is_from_other n r w old.core old.sessions.known (news_of h) stands truth.heard) truth.word free.0
 
     limit : sends_limit (below_events.after_heard old.sessions (Some h)) sendings ≡ None
@@ -321,7 +324,7 @@ pub refusals_follow : RestIsTrue → RefusalsAreTrue → RefusalsFollow
 refusals_follow rest refusals n r number bytes engines datagrams history old mid why f there emitted gives = go (heard_of old.sessions bytes) refl gives
   where
     w : Network
-    w = run n f.happenings new_network
+    w = messages_after n f.happenings
 
     here_is : below.IsAt (sessions_in engines) r old.sessions
     here_is = is_at n r engines datagrams w old f.joined there

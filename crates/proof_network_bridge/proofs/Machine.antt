@@ -1,5 +1,5 @@
--- Whoever follows the pure network is seen as a run of the machine of perfect queues.
-use Rattle.std.proofs.Common.{◌≡◌, ℕ, List, Option, Some, None, refl, sym, ap, subst, ◌∙◌, inl, inr}
+-- Whoever follows the pure network with communicators is seen as a run of the machine of queues and groups.
+use Rattle.std.proofs.Common.{◌≡◌, ℕ, List, Option, Some, None, refl, sym, ap, subst, ◌∙◌, inl, inr, arith}
 use Rattle.std.specs.Prelude.{slice_get, slice_index}
 use Rattle.perfect_queues.specs.Calls as machine_calls
 use Rattle.perfect_queues.specs.Refusals.{fault}
@@ -17,9 +17,12 @@ use Rattle.engine.specs.EngineState.{EngineState}
 use Rattle.engine.specs.Refusals.{first_fault}
 use Rattle.proof_pure_network.specs.Core.{Core, view}
 use Rattle.proof_pure_network.specs.Held.{blank}
-use Rattle.proof_pure_network.specs.Network.{Network, new_network, run}
-use Rattle.proof_pure_network.proofs.QuietKept.{is_run}
-use Rattle.proof_engine_view.specs.Seen.{call_meant, call_seen}
+use Rattle.perfect_groups.specs.Faults as groups_faults
+use Rattle.proof_pure_network.specs.Network.{Network}
+use Rattle.proof_group_network.proofs.NetworkRest.{is_run_of_groups}
+use Rattle.proof_group_network.specs.Network.{GroupNetwork, NoticesAreHanded}
+use Rattle.proof_group_network.specs.Notices.{Notice}
+use Rattle.proof_engine_view.specs.Seen.{call_meant, call_seen, own_serial, serial_meant}
 use Rattle.proof_engine_view.specs.Shown.{IsShown}
 use Rattle.proof_engine_view.specs.Transfers.{Announcements, announcements_of}
 use Rattle.proof_network_bridge.specs.Carried.{announced_by}
@@ -27,9 +30,12 @@ use Rattle.proof_engine_steps.specs.Refused.{AllowedCallsAreFaultless, FaultsHav
 use Rattle.proof_link_truth.specs.Events.{IdleIsStill, Knows}
 use Rattle.proof_link_truth.specs.Wire.{at}
 use Rattle.proof_network_bridge.specs.Following.{FollowingIsRun}
-use Rattle.proof_network_bridge.specs.Joined.{IsJoined, sessions_in}
+use Rattle.proof_network_bridge.specs.Joined.{IsJoined, IsOnWorldAlone, network_after, sessions_in}
+use Rattle.proof_network_bridge.specs.OnWorld.{IsOnWorld, call_on_world}
 use Rattle.proof_network_bridge.proofs.Carried.{none_in_flight}
 use Rattle.proof_network_bridge.proofs.Halves.{IsOf, answered, engine_there, frame_full, neither_fault}
+use Rattle.proof_network_bridge.proofs.Networks.{world_first}
+use Rattle.proof_network_bridge.proofs.WorldCalls.{engines_call_on_world}
 use Rattle.proof_network_bridge.proofs.Worlds.{place_is}
 
 -- ---- the quiet clause
@@ -88,10 +94,23 @@ takes_too faultless n r engines datagrams w e mid call reply found j there taken
 
 -- ---- the run
 
+-- the machine's fault with a call on world is that of its queues
+fault_on_world : (n : ℕ) (w : GroupNetwork) (e : Endpoint) (q : machine_calls.Call) → IsOnWorldAlone n w → IsOnWorld q → (found : Option ℕ) → found ≡ groups_faults.fault e (view blank (w.net.core e)) (w.member e).membership (call_on_world q) →
+    found ≡ fault n (view blank (w.net.core e)) q
+fault_on_world n w e q a is found h = h ∙ (world_first n w e (view blank (w.net.core e)) q a is).judged
+
+-- no notice is under way
+none_to_hand : (n : ℕ) (w : GroupNetwork) → IsOnWorldAlone n w → NoticesAreHanded w
+none_to_hand n w a s d now here d_knows s_knows i x there = absurd (nothing (sym there ∙ ap (λ (xs : List Notice). slice_get xs i) (a.silent s d)))
+  where
+    nothing : Some x ≡ None → ⊥
+    nothing h = cc
+
 pub following_is_run : IdleIsStill → FaultsHaveReasons → RoomIsAReason → AllowedCallsAreFaultless → FollowingIsRun
 following_is_run idle faults room faultless n engines datagrams history f =
-    let w : Network = run n f.happenings new_network in
-    let m = is_run n f.happenings in
+    let g : GroupNetwork = network_after n f.happenings in
+    let w : Network = g.net in
+    let m = is_run_of_groups n f.happenings (omega (arith, f.few)) in
     record {
       events = m.events;
       run = m.run;
@@ -101,11 +120,14 @@ following_is_run idle faults room faultless n engines datagrams history f =
           m.knows e.sessions.place.endpoint x ∙ ap (λ (p : Place). (w.core p.endpoint).known x) (place_is n r engines datagrams w e f.joined there).1
           ∙ (f.joined.shown r e there).known_alike x;
       refuses = λ r e mid call back why there gives.
-          refuses_too faults room n r engines datagrams w e mid call back why _ f.joined there gives (m.faults e.sessions.place.endpoint (call_meant e.core call));
+          refuses_too faults room n r engines datagrams w e mid call back why _ f.joined there gives
+          (fault_on_world n g e.sessions.place.endpoint (call_meant e.core call) f.alone (engines_call_on_world (serial_meant e.core) call) _ (m.faults e.sessions.place.endpoint (call_on_world (call_meant e.core call))));
       takes = λ r e mid call reply there taken gives.
-          takes_too faultless n r engines datagrams w e mid call reply _ f.joined there taken gives (m.faults e.sessions.place.endpoint (call_seen call));
+          takes_too faultless n r engines datagrams w e mid call reply _ f.joined there taken gives
+          (fault_on_world n g e.sessions.place.endpoint (call_seen call) f.alone (engines_call_on_world own_serial call) _ (m.faults e.sessions.place.endpoint (call_on_world (call_seen call))));
       quiet = λ still. m.quiet (λ s d s_is d_is d_knows s_knows.
           none_in_flight (announced_by w.link s d) (announced_by w.link d s) (f.joined.carried s d) (w.link s d) (f.joined.alike s d)
           (idle n (sessions_in engines) datagrams f.joined.carried w.current f.joined.links still s d s_is d_is
           (knows_too n engines datagrams w s d f.joined s_is s_knows) (knows_too n engines datagrams w d s f.joined d_is d_knows)));
+      leaves = λ still. m.leaves (none_to_hand n g f.alone);
     }

@@ -4,7 +4,6 @@ use Rattle.std.specs.Prelude.{slice_get, slice_set}
 use Rattle.std.proofs.lemmas.Bool.{ne_eqb}
 use Rattle.std.proofs.lemmas.Option.{same_Some, slice_get_within}
 use Rattle.vocabulary.specs.Endpoints.{is_same}
-use Rattle.perfect_queues.specs.Events.{Entry}
 use Rattle.perfect_queues.specs.State.{with_number}
 use Rattle.vocabulary.specs.declared.endpoint.Endpoint.{Endpoint}
 use Rattle.perfect_queues.proofs.EndpointLemmas.{same_eq}
@@ -29,7 +28,7 @@ use Rattle.proof_link_truth.specs.Wire.{at, place_of}
 use Rattle.proof_network_bridge.specs.Carried.{AreCarried}
 use Rattle.proof_network_bridge.specs.Joined.{IsClean, IsJoined, sessions_in}
 use Rattle.proof_network_bridge.proofs.Halves.{sessions_there}
-use Rattle.proof_network_bridge.proofs.Networks.{IsAfter, anew, with_new, with_old}
+use Rattle.proof_network_bridge.proofs.Networks.{IsMoved, anew, with_new, with_old}
 
 -- what stands at a place of a list of which one place was set
 pub set_cases : {A : Type 0} (xs : List A) (k : ℕ) (y : A) (j : ℕ) (e : A) → slice_get (slice_set xs k y) j ≡ Some e →
@@ -185,10 +184,10 @@ handed_grow_out links s e out =
 
 -- the world after an event at r is joined to the network after what happened there
 pub joined_after : (n r : ℕ) (engines : List EngineState) (datagrams datagrams' : List (ℕ × List ℕ)) (w w' : Network) (new : EngineState) (core : Core) (carried : below.Links)
-    (links : Endpoint → Endpoint → Link) (entries : List Entry) →
-    IsJoined n engines datagrams w → IsAfter w w' (here w r) core links entries → AreCarried carried links → OnlyFrom (here w r) w.link links →
+    (links : Endpoint → Endpoint → Link) →
+    IsJoined n engines datagrams w → IsMoved w w' (here w r) core links → AreCarried carried links → OnlyFrom (here w r) w.link links →
     AreTrue n (sessions_in (slice_set engines r new)) datagrams' carried w.current → IsHeld (announcements_of links (here w r)) new core → IsClean new → IsJoined n (slice_set engines r new) datagrams' w'
-joined_after n r engines datagrams datagrams' w w' new core carried links entries j a alike only truth held clean =
+joined_after n r engines datagrams datagrams' w w' new core carried links j a alike only truth held clean =
     record {
       carried = carried;
       links = subst (λ (current : ℕ → ℕ). AreTrue n (sessions_in (slice_set engines r new)) datagrams' carried current) (sym a.current_is) truth;

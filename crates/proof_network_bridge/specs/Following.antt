@@ -1,5 +1,5 @@
--- A world of engines follows the pure network, event by event.
-use Rattle.std.specs.Prelude.{◌≡◌, ℕ, suc, ◌<◌, ◌≤◌, List, [], ◌∷◌, ◌++◌, Some, Ok, Err, slice_get, slice_set, slice_index}
+-- A world of engines follows the pure network with communicators, event by event.
+use Rattle.std.specs.Prelude.{◌≡◌, ℕ, suc, ◌<◌, ◌≤◌, List, [], ◌∷◌, ◌++◌, Option, Some, Ok, Err, slice_get, slice_set, slice_index}
 use Rattle.incarnation.specs.declared.place.Place.{Place}
 use Rattle.rank_calls.specs.declared.call.Call.{Call}
 use Rattle.rank_calls.specs.declared.call.Reply.{Reply}
@@ -10,16 +10,19 @@ use Rattle.engine.specs.Calls.{CallGives}
 use Rattle.engine.specs.Datagrams.{DatagramGives}
 use Rattle.engine.specs.EngineState.{EngineState, emptied, opening}
 use Rattle.engine.specs.Ticks.{TickGives}
-use Rattle.perfect_queues.specs.Events as machine
+use Rattle.perfect_groups.specs.Calls as machine_calls
+use Rattle.perfect_groups.specs.Events as machine
+use Rattle.perfect_groups.specs.Faults.{fault}
+use Rattle.perfect_groups.specs.Machine.{Machine, machine_opening}
+use Rattle.perfect_groups.specs.Quiet.{CollectivesAreLeft}
+use Rattle.perfect_groups.specs.Runs.{IsRun, after_run, seen}
 use Rattle.vocabulary.specs.Endpoints.{last_incarnation}
+use Rattle.vocabulary.specs.declared.endpoint.Endpoint.{Endpoint}
 use Rattle.perfect_queues.specs.Quiet.{IsAtRest}
-use Rattle.perfect_queues.specs.Runs.{IsRun, after_run, seen}
-use Rattle.perfect_queues.specs.State as machine_state
-use Rattle.perfect_queues.specs.Refusals.{fault}
-use Rattle.proof_engine_view.specs.Seen.{call_meant, call_seen, told_call, told_completion}
 use Rattle.proof_engine_steps.specs.Refused.{IsFaultless, IsReason}
 use Rattle.proof_link_truth.specs.Quiet.{AreQuiet}
 use Rattle.proof_network_bridge.specs.Joined.{IsFollowed, opening_engines, sessions_in}
+use Rattle.proof_network_bridge.specs.OnWorld.{call_meant, call_seen, told_call, told_completion}
 
 -- ---- what an event is to an engine
 
@@ -106,34 +109,41 @@ RestartsFollow =
     IsFollowed n (slice_set engines r (opening (next_place old.sessions.place))) datagrams
     (history ++ machine.Restarted r ∷ [])
 
--- A history is seen of a run of the machine of perfect queues among n ranks. The run ends with each rank at the
+-- the fault of a call at an endpoint, in a state of the machine
+abbrev pub fault_in : Machine → Endpoint → machine_calls.Call → Option ℕ
+fault_in s e call = fault e (s.queues.at e) (s.groups.of e) call
+
+-- A history is seen of a run of the machine of queues and groups among n ranks. The run ends with each rank at the
 -- incarnation of its engine, which knows there what its engine knows; a call that its engine refuses has a reason there, and
 -- one that it takes has no fault; and where their sessions are quiet, the run has come to a state that meets the machine's quiet
--- clause
+-- clauses
 pub record IsSeenOfMachine (n : ℕ) (engines : List EngineState) (history : List machine.Entry) : Type 0 where
   pub events : List machine.Event
-  pub run : IsRun n machine_state.opening events
-  pub tells : seen machine_state.opening events ≡ history
+  pub run : IsRun n (machine_opening n) events
+  pub tells : seen (machine_opening n) events ≡ history
   -- each rank is at the incarnation of its engine
   pub now :
       (r : ℕ) (e : EngineState) → slice_get engines r ≡ Some e →
-      (after_run machine_state.opening events).current r ≡ e.sessions.place.endpoint.incarnation
+      (after_run (machine_opening n) events).queues.current r ≡ e.sessions.place.endpoint.incarnation
   -- the endpoint there knows each rank at the incarnation at which its engine knows it
   pub knows :
       (r : ℕ) (e : EngineState) → slice_get engines r ≡ Some e → (x : ℕ) →
-      ((after_run machine_state.opening events).at e.sessions.place.endpoint).known x ≡ slice_index e.sessions.known x
+      ((after_run (machine_opening n) events).queues.at e.sessions.place.endpoint).known x ≡ slice_index e.sessions.known x
   -- a call that the engine refuses has the machine's first fault there, by its number; or the machine finds none, and the number is
   -- 13 or 14
   pub refuses :
       (r : ℕ) (e mid : EngineState) (call back : Call) (why : Refused) → slice_get engines r ≡ Some e →
       CallGives e call (replies.Refused why back) mid →
-      IsReason (fault n ((after_run machine_state.opening events).at e.sessions.place.endpoint) (call_meant e.core call)) why
+      IsReason (fault_in (after_run (machine_opening n) events) e.sessions.place.endpoint (call_meant e.core call)) why
   -- the machine finds no fault with a call that the engine takes
   pub takes :
       (r : ℕ) (e mid : EngineState) (call : Call) (reply : Reply) → slice_get engines r ≡ Some e → IsTaken reply →
       CallGives e call reply mid →
-      IsFaultless (fault n ((after_run machine_state.opening events).at e.sessions.place.endpoint) (call_seen call)) e.core call
-  pub quiet : AreQuiet (sessions_in engines) → IsAtRest (after_run machine_state.opening events)
+      IsFaultless (fault_in (after_run (machine_opening n) events) e.sessions.place.endpoint (call_seen call)) e.core call
+  -- messages have all been handed up, and what was matched is finished
+  pub quiet : AreQuiet (sessions_in engines) → IsAtRest (after_run (machine_opening n) events).queues
+  -- a collective that all its members have entered alike was left by all
+  pub leaves : AreQuiet (sessions_in engines) → CollectivesAreLeft n (after_run (machine_opening n) events)
 
 -- wherever engines follow the network, what was seen of them is seen of a run of the machine
 abbrev pub FollowingIsRun : Type 0

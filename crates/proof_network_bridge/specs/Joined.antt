@@ -1,11 +1,12 @@
--- What joins a world of engines to the pure network.
-use Rattle.std.specs.Prelude.{◌≡◌, ℕ, zero, suc, ◌<◌, List, [], ◌∷◌, map, Some, None, slice_get}
+-- What joins a world of engines to the pure network with communicators.
+use Rattle.std.specs.Prelude.{◌≡◌, ℕ, zero, suc, ◌<◌, ◌≤◌, List, [], ◌∷◌, map, Some, None, slice_get}
 use Rattle.engine.specs.EngineState.{EngineState, opening}
 use Rattle.sessions.specs.SessionsState.{SessionsState}
 use Rattle.vocabulary.specs.declared.endpoint.Endpoint.{Endpoint}
-use Rattle.perfect_queues.specs.Events.{Entry}
+use Rattle.perfect_groups.specs.Events.{Entry}
 use Rattle.proof_pure_network.specs.Core.{new_core}
-use Rattle.proof_pure_network.specs.Network.{Happening, Network, here, new_network, run}
+use Rattle.proof_pure_network.specs.Network.{Network, here}
+use Rattle.proof_group_network.specs.Network.{GroupNetwork, Happening, new_group_network, run}
 use Rattle.proof_engine_view.specs.Shown.{IsShown}
 use Rattle.proof_engine_view.specs.Transfers.{announcements_of}
 use Rattle.proof_link_truth.specs.Links.{Links}
@@ -42,8 +43,24 @@ pub record IsJoined (n : ℕ) (engines : List EngineState) (datagrams : List (�
   -- endpoints that are to come have done nothing
   pub unborn : (d : Endpoint) → w.current d.rank < d.incarnation → w.core d ≡ new_core d
 
--- a list of happenings leads to a network that is joined to the world, and of which the same is seen
+-- the network of n ranks after these happenings
+abbrev pub network_after : (n : ℕ) → List Happening → GroupNetwork
+network_after n happenings = run n happenings (new_group_network n)
+
+-- its links of messages, with the cores
+abbrev pub messages_after : (n : ℕ) → List Happening → Network
+messages_after n happenings = (network_after n happenings).net
+
+-- no rank holds a communicator beside world and its own, or is in a collective; and no notice was sent
+pub record IsOnWorldAlone (n : ℕ) (w : GroupNetwork) : Type 0 where
+  pub as_new : (x : Endpoint) → w.member x ≡ (new_group_network n).member x
+  pub silent : (s d : Endpoint) → (w.notices s d).accepted ≡ []
+
+-- A list of happenings leads to a network of at most 256 ranks that is joined to the world, and of which the same is seen. So far
+-- engines call on world alone
 pub record IsFollowed (n : ℕ) (engines : List EngineState) (datagrams : List (ℕ × List ℕ)) (history : List Entry) : Type 0 where
   pub happenings : List Happening
-  pub joined : IsJoined n engines datagrams (run n happenings new_network)
-  pub seen : (run n happenings new_network).history ≡ history
+  pub few : n ≤ 256
+  pub joined : IsJoined n engines datagrams (messages_after n happenings)
+  pub alone : IsOnWorldAlone n (network_after n happenings)
+  pub seen : (network_after n happenings).history ≡ history

@@ -1,3 +1,4 @@
 pub mod Carried
+pub mod OnWorld
 pub mod Joined
 pub mod Following

@@ -1,22 +1,18 @@
 -- Every happening keeps what stands of announced transfers.
-use Rattle.std.proofs.Common.{◌≡◌, ℕ, zero, suc, ◌+◌, ◌≤◌, Bool, true, false, ◌&&◌, List, [], ◌∷◌, ◌++◌, Option, Some, None, if◌then◌else◌, ◌==◌, nat_lt, slice_get, slice_set, is_none, refl, sym, ap, ◌∙◌, subst, arith, ◌⊎◌, ⊎_elim, inl, inr}
+use Rattle.std.proofs.Common.{◌≡◌, ℕ, ◌+◌, ◌≤◌, Bool, true, false, ◌&&◌, List, [], ◌∷◌, Option, Some, None, if◌then◌else◌, ◌==◌, slice_get, slice_set, refl, sym, ap, ◌∙◌, subst, arith, ◌⊎◌, ⊎_elim, inl, inr}
 use Rattle.std.proofs.lemmas.Bool.{and_parts, eqb-true}
-use Rattle.vocabulary.specs.Endpoints.{is_same, last_incarnation}
+use Rattle.vocabulary.specs.Endpoints.{is_same}
 use Rattle.perfect_queues.specs.Calls.{Call}
 use Rattle.perfect_queues.specs.Outcomes.{Sent}
-use Rattle.perfect_queues.specs.Refusals.{fault}
 use Rattle.vocabulary.specs.declared.basic_type.BasicType.{BasicType}
 use Rattle.vocabulary.specs.declared.endpoint.Endpoint.{Endpoint}
 use Rattle.perfect_queues.proofs.EndpointLemmas.{same_eq}
-use Rattle.perfect_queues.specs.Events.{Restarted}
-use Rattle.perfect_queues.specs.State.{with_number}
-use Rattle.proof_pure_network.specs.Core.{Core, effect, view, with_jobs}
+use Rattle.proof_pure_network.specs.Core.{Core, effect, with_jobs}
 use Rattle.proof_pure_network.specs.Engine.{called, came, core_settled, met}
 use Rattle.proof_pure_network.specs.Frames.{Cts, Data, Eager, Frame, Rts}
-use Rattle.proof_pure_network.specs.Held.{blank}
 use Rattle.proof_pure_network.specs.Jobs.{Closed, Collecting, Job, Offering, Over, Waiting}
 use Rattle.proof_pure_network.specs.Links.{Link, handed_on, handed_up}
-use Rattle.proof_pure_network.specs.Network.{Ask, Happening, Idle, Network, Restarts, Word, ask, call_at, hand_at, hand_some, happens, hear_at, here, is_heard, new_network, run, with_core, word}
+use Rattle.proof_pure_network.specs.Network.{Network, call_at, hand_at, hear_at, new_network, with_core}
 use Rattle.proof_pure_network.specs.Transfers.{answered, wanted_data}
 use Rattle.proof_pure_network.proofs.Announced.{Announced, Bringing, Speaking, announced_after, hand_accepted, up_next}
 use Rattle.proof_pure_network.proofs.Due.{Offers, back_fewer, called_offers, came_back, met_back}
@@ -25,6 +21,7 @@ use Rattle.proof_pure_network.proofs.FlowCore.{called_collects, came_collects, m
 use Rattle.proof_pure_network.proofs.FlowSends.{answered_flow_other, called_flow, came_flow}
 use Rattle.proof_pure_network.proofs.JobLemmas.{fewer_settled, settled_held}
 use Rattle.proof_pure_network.proofs.Pairs.{hand_else, hand_fits}
+use Rattle.proof_pure_network.proofs.Stable.{IsStable}
 use Rattle.proof_pure_network.proofs.Tokens.{Fits, brings, called_envelopes, called_length, called_parts, came_envelopes, came_length, came_parts, count, count_append, frames_to, is_part_from, is_rts, met_length, met_parts, one, parts, settled_length}
 
 -- WHAT ONE CORE DOES
@@ -159,32 +156,15 @@ hand_stands w e a None next old = old
 hand_stands w e a (Some f) next old =
     announced_after w.core w.link (handed_on w.link a e) e (came (w.core e) a f).core (came (w.core e) a f).out (λ s k. brings s k a f) old (handing w.link a e f next old.fits) (came_speaks (w.core e) a f)
 
-hand_some_stands : (frames : ℕ) (w : Network) (e a : Endpoint) → Standing w → Standing (hand_some w e a frames)
-hand_some_stands zero w e a old = old
-hand_some_stands (suc frames) w e a old =
-    hand_some_stands frames (hand_at w e a (slice_get (w.link a e).accepted (w.link a e).handed)) e a (hand_stands w e a (slice_get (w.link a e).accepted (w.link a e).handed) refl old)
-
-happens_stands : (n : ℕ) (w : Network) (h : Happening) → Standing w → Standing (happens n w h)
-happens_stands n w (Ask r c) old = go (nat_lt r n && is_none (fault n (view blank (w.core (here w r))) c))
-  where
-    go : (t : Bool) → Standing (if t then ask w (here w r) c else w)
-    go true = settle_stands (call_at w (here w r) c) (here w r) (call_stands w (here w r) c old)
-    go false = old
-happens_stands n w (Word s r frames) old = go (nat_lt r n && is_heard w s r)
-  where
-    go : (t : Bool) → Standing (if t then word w (here w r) s frames else w)
-    go true = settle_stands (hand_some (hear_at w (here w r) s) (here w r) s frames) (here w r) (hand_some_stands frames (hear_at w (here w r) s) (here w r) s (hear_stands w (here w r) s old))
-    go false = old
-happens_stands n w (Restarts r) old = go (nat_lt r n && nat_lt (w.current r) last_incarnation)
-  where
-    go : (t : Bool) → Standing (if t then record w { current = with_number w.current r (suc (w.current r)); history = w.history ++ Restarted r ∷ [] } else w)
-    go true = old
-    go false = old
-happens_stands n w Idle old = old
-
-pub run_stands : (n : ℕ) (hs : List Happening) (w : Network) → Standing w → Standing (run n hs w)
-run_stands n [] w old = old
-run_stands n (h ∷ hs) w old = run_stands n hs (happens n w h) (happens_stands n w h old)
+pub standing_is_stable : IsStable Standing
+standing_is_stable =
+    record {
+      called = call_stands;
+      heard = hear_stands;
+      handed = hand_stands;
+      settled = λ w e history old. settle_stands w e old;
+      restarted = λ w r history old. old;
+    }
 
 pub new_stands : Standing new_network
 new_stands =

@@ -20,6 +20,7 @@ pub mod DueKept
 pub mod SpokenKept
 pub mod EventKept
 pub mod RunKept
+pub mod Stable
 pub mod QuietKept
 pub mod Flow
 pub mod FlowCore

@@ -6,20 +6,21 @@ use Rattle.vocabulary.specs.declared.basic_type.BasicType.{BasicType}
 use Rattle.vocabulary.specs.declared.endpoint.Endpoint.{Endpoint}
 use Rattle.perfect_queues.proofs.EndpointLemmas.{same_refl}
 use Rattle.proof_pure_network.specs.Announced.{AreDifferent, IsAnnounced, IsIn, TransfersStand, transfers_of}
-use Rattle.proof_pure_network.specs.Frames.{Cts, Data, Eager, Frame, Rts}
+use Rattle.proof_pure_network.specs.Frames.{Cts, Data, Eager, Frame, Rts, Values}
 use Rattle.proof_pure_network.specs.Held.{Body, Held, Part}
 use Rattle.proof_pure_network.specs.Jobs.{Collecting, Offering, is_collecting}
 use Rattle.proof_pure_network.specs.Links.{handed_up}
 use Rattle.proof_pure_network.specs.Network.{Happening, Network, new_network, run}
 use Rattle.proof_pure_network.proofs.Announced.{Announced}
-use Rattle.proof_pure_network.proofs.AgreeKept.{Agrees, heard, new_agrees, run_agrees, said}
+use Rattle.proof_pure_network.proofs.AgreeKept.{Agrees, agreeing_is_stable, heard, new_agrees, said}
 use Rattle.proof_pure_network.proofs.AnnouncedAs.{BodyAs, FrameAs, HeldAs}
-use Rattle.proof_pure_network.proofs.AnnouncedKept.{new_stands, run_stands}
+use Rattle.proof_pure_network.proofs.AnnouncedKept.{Standing, new_stands, standing_is_stable}
 use Rattle.proof_pure_network.proofs.Flow.{count_at, count_once, flow, piece_of}
 use Rattle.proof_pure_network.proofs.FlowCore.{collects}
 use Rattle.proof_pure_network.proofs.Flowing.{nil_right}
-use Rattle.proof_pure_network.proofs.Invariants.{all_at}
+use Rattle.proof_pure_network.proofs.Invariants.{Kept, all_at}
 use Rattle.proof_pure_network.proofs.RunKept.{new_kept, run_kept}
+use Rattle.proof_pure_network.proofs.Stable.{run_keeps}
 use Rattle.proof_pure_network.proofs.Tokens.{count, is_cts, is_part_from, is_rts, one, parts}
 
 -- COUNTS AND PLACES
@@ -79,8 +80,9 @@ below k n h = go (nat_lt k n) refl
     go true e = ltb-true k n e
     go false e = absurd (h (ltb-false k n e))
 
-pub transfers_stand : (n : ℕ) (hs : List Happening) → TransfersStand (run n hs new_network)
-transfers_stand n hs =
+-- where each core holds as many jobs as its endpoint has logged requests
+pub transfers_stand_in : (w : Network) → Announced w.core w.link → Agrees w → ((s : Endpoint) → length (w.log s) ≡ length (w.core s).jobs) → TransfersStand w
+transfers_stand_in w A B logs =
     record {
       once = λ s d. different (w.link s d).accepted (A.once s d);
       logged = λ s d k x. below k (length (w.log s)) (λ le. late s d k x le);
@@ -102,23 +104,23 @@ transfers_stand n hs =
       carried_as = λ s d k o values x. all_at (FrameAs (said w.link s) d) (w.link s d).accepted x.0 (Data k o values) (B.frames_as s d) x.1;
     }
   where
-    w : Network
-    w = run n hs new_network
-
-    A : Announced w.core w.link
-    A = run_stands n hs new_network new_stands
-
-    B : Agrees w
-    B = run_agrees n hs new_network new_agrees
-
     body_as : (d s : Endpoint) (basic : BasicType) (k m : ℕ) (b : Body) → b ≡ Part k m → BodyAs (heard w.link d) s basic b → IsAnnounced (handed_up (w.link s d)) k basic m
     body_as d s basic k m b e a = subst (λ (x : Body). BodyAs (heard w.link d) s basic x) e a
-
-    logs : (s : Endpoint) → length (w.log s) ≡ length (w.core s).jobs
-    logs s = (run_kept n (λ x i. get_or (w.log x) i []) hs new_network (λ x i lt. refl) (new_kept n (λ x i. get_or (w.log x) i []))).sane.logs s
 
     late : (s d : Endpoint) (k : ℕ) → IsIn k (transfers_of (w.link s d).accepted) → length (w.log s) ≤ k → ⊥
     late s d k x le = let z : count (is_rts k) (w.link s d).accepted ≡ 0 = A.fresh s d k (omega (arith, le, logs s)) in omega (arith, z, in_announced k (w.link s d).accepted x)
 
     part : (h : Held) (k m : ℕ) → h.body ≡ Part k m → is_part_from h.sender k h ≡ true
     part h k m b = rw (same_refl h.sender, b) (eq-eqb k k refl)
+
+pub transfers_stand : (n : ℕ) (hs : List Happening) → TransfersStand (run n hs new_network)
+transfers_stand n hs = transfers_stand_in w (run_keeps Standing standing_is_stable n hs new_network new_stands) (run_keeps Agrees agreeing_is_stable n hs new_network new_agrees) kept.sane.logs
+  where
+    w : Network
+    w = run n hs new_network
+
+    V : Values
+    V x i = get_or (w.log x) i []
+
+    kept : Kept n V w
+    kept = run_kept n V hs new_network (λ x i lt. refl) (new_kept n V)
