@@ -1,6 +1,6 @@
 //! The words of a line from left to right, and what a word stands for whatever the line says.
 
-ghost use Rattle.std.specs.Prelude.{◌≡◌};
+ghost use Rattle.std.specs.Prelude.{◌≡◌, IfErr};
 ghost use Rattle.line_words.specs.Fields.{first, ended, name_of, rank_of, large_of};
 ghost use Rattle.line_words.specs.Results.{Gives};
 
@@ -12,7 +12,8 @@ use std::alloc::Global;
 
 /// A value that has to be there; where it isn't, the line is faulty.
 pub fn required<T>(value: Option<T>) -> Result<T, LineError>
-    ensures { Gives (λ x. x) result value }
+    ensures gives { Gives (λ x. x) result value }
+    ensures err { IfErr result (λ e. e ≡ LineError.Faulty) }
 {
     match value {
         Some(value) => Ok(value),
@@ -23,7 +24,8 @@ pub fn required<T>(value: Option<T>) -> Result<T, LineError>
 /// The first word, and the words behind it.
 #[tactic(auto, unfolding(crate::specs::Fields::first))]
 pub fn first(words: &[Word]) -> Result<(&[u8], &[Word]), LineError>
-    ensures { Gives (λ x. (x.0.now, x.1.now)) result (first words.now) }
+    ensures gives { Gives (λ x. (x.0.now, x.1.now)) result (first words.now) }
+    ensures err { IfErr result (λ e. e ≡ LineError.Faulty) }
 {
     match words.split_first() {
         Some((word, rest)) => Ok((word.as_bytes(), rest)),
@@ -34,7 +36,8 @@ pub fn first(words: &[Word]) -> Result<(&[u8], &[Word]), LineError>
 /// Nothing more may stand in the line.
 #[tactic(auto, unfolding(crate::specs::Fields::ended))]
 pub fn ended(words: &[Word]) -> Result<(), LineError>
-    ensures { Gives (λ x. x) result (ended words.now) }
+    ensures gives { Gives (λ x. x) result (ended words.now) }
+    ensures err { IfErr result (λ e. e ≡ LineError.Faulty) }
 {
     if words.is_empty() {
         Ok(())
@@ -57,7 +60,8 @@ pub fn name_of(alloc: Global, word: &[u8]) -> Result<Name, LineError>
 /// A rank; one that 16 bits don't hold stands as the greatest number that they hold.
 #[tactic(auto, unfolding(crate::specs::Fields::rank_of))]
 pub fn rank_of(word: &[u8]) -> Result<u16, LineError>
-    ensures { Gives (λ x. x) result (rank_of word.now) }
+    ensures gives { Gives (λ x. x) result (rank_of word.now) }
+    ensures err { IfErr result (λ e. e ≡ LineError.Faulty) }
 {
     match number_or(word, 65_535) {
         Some(rank) => Ok(rank as u16),
@@ -68,7 +72,8 @@ pub fn rank_of(word: &[u8]) -> Result<u16, LineError>
 /// A number that 64 bits don't hold stands as the greatest that they hold.
 #[tactic(auto, unfolding(crate::specs::Fields::large_of))]
 pub fn large_of(word: &[u8]) -> Result<u64, LineError>
-    ensures { Gives (λ x. x) result (large_of word.now) }
+    ensures gives { Gives (λ x. x) result (large_of word.now) }
+    ensures err { IfErr result (λ e. e ≡ LineError.Faulty) }
 {
     required(number_or(word, u64::MAX))
 }

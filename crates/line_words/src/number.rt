@@ -1,6 +1,7 @@
 //! Numbers in words.
 
-ghost use Rattle.std.specs.Prelude.{◌≡◌, ◌≤◌, IfSome};
+ghost use Rattle.std.specs.Prelude.{◌≡◌, ◌≤◌, ◌<◌, ◌^◌, IfSome, IfErr};
+ghost use Rattle.std.specs.Str.Parse.{digits_value};
 ghost use Rattle.line_words.specs.Numbers.{number_up_to, number_or, count_of};
 ghost use Rattle.line_words.specs.Results.{Gives};
 
@@ -38,7 +39,8 @@ pub fn number_or(word: &[u8], most: u64) -> Option<u64>
 /// The number that the word spells. One that 64 bits don't hold counts more copies than memory does.
 #[tactic(auto, unfolding(crate::specs::Numbers::count_of))]
 pub fn numeral_of(word: &[u8]) -> Result<u64, LineError>
-    ensures { Gives (λ x. x) result (count_of word.now) }
+    ensures gives { Gives (λ x. x) result (count_of word.now) }
+    ensures memory { IfErr result (λ e. e ≡ LineError.OutOfMemory → 2 ^ 64 ≤ digits_value 10 word.now) }
 {
     if !is_numeral(word) {
         return Err(LineError::Faulty);

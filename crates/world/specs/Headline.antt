@@ -3,9 +3,9 @@
 -- Its words, and where they stand: the machine's `IsRun`, `after_run`, `seen` (perfect_queues, Runs), `fault` (Refusals) and
 -- `IsAtRest` (Quiet); what is seen of a call, its reply and a completion, `call_seen`, `call_meant`, `told_call` and
 -- `told_completion` (proof_engine_view, Seen); why a call is refused or has no fault, `IsReason` and `IsFaultless`
--- (proof_engine_steps, Refused); when a world is quiet, `AreQuiet` (proof_link_truth, Quiet); the links and what sessions and
--- datagrams tell of them, `Links` (Links) and `AreTrue` (Truth, with Told and Witness). That a world is sound, `IsSound`
--- below, is what its proofs carry from event to event
+-- (proof_engine_steps, Refused); the sessions of all engines, `sessions_in` (proof_network_bridge, Joined), and when they are
+-- quiet, `AreQuiet` (proof_link_truth, Quiet); the links and what sessions and datagrams tell of them, `Links` (Links) and
+-- `AreTrue` (Truth, with Told and Witness). That a world is sound, `IsSound` below, is what its proofs carry from event to event
 use Rattle.std.specs.Prelude.{◌≡◌, ℕ, ◌≤◌, false, List, [], ◌∷◌, ◌++◌, length, Option, Some, flat_map, ◌==◌, slice_get, slice_index}
 use Rattle.vocabulary.specs.declared.endpoint.Endpoint.{Endpoint}
 use Rattle.engine.specs.EngineState.{EngineState}
