@@ -2,6 +2,7 @@ pub mod Halves
 pub mod Carried
 pub mod Carrying
 pub mod WorldCalls
+pub mod WorldRuns
 pub mod Networks
 pub mod Worlds
 pub mod Following

@@ -35,7 +35,7 @@ engines_call_on_world f (calls.Waitall qs) = tt
 engines_call_on_world f (calls.Cancel q) = tt
 
 -- a receive on world is what its source, tag and buffer say
-receive_is : (source : Source) (tag : Option ℕ) (context : ℕ) (group : Option (List ℕ)) (into : Handed) → context ≡ world → group ≡ None →
+pub receive_is : (source : Source) (tag : Option ℕ) (context : ℕ) (group : Option (List ℕ)) (into : Handed) → context ≡ world → group ≡ None →
     ◌≡◌ {A = Receive} (record { source = source; tag = tag; context = world; group = None; into = into }) (record { source = source; tag = tag; context = context; group = group; into = into })
 receive_is source tag context group into c g =
     subst (λ (x : ℕ). ◌≡◌ {A = Receive} (record { source = source; tag = tag; context = world; group = None; into = into }) (record { source = source; tag = tag; context = x; group = group; into = into })) (sym c)

@@ -1,15 +1,20 @@
 -- What the machine of queues and groups sees of an engine's calls: all of them are on world, which each rank holds first.
-use Rattle.std.specs.Prelude.{◌≡◌, List, map, Option, Some, None}
+use Rattle.std.specs.Prelude.{◌≡◌, ℕ, List, map, Option, Some, None}
+use Rattle.std.specs.List.{AllByRecursion}
 use Rattle.vocabulary.specs.declared.endpoint.Endpoint.{Endpoint}
 use Rattle.requests.specs.declared.answer.Answer.{Answer}
 use Rattle.rank_calls.specs.declared.call.Call as engine
 use Rattle.rank_calls.specs.declared.call.Reply as replies
 use Rattle.rank_core.specs.CoreState.{CoreState}
 use Rattle.perfect_groups.specs.Calls.{ByRequests, Call, Cancel, Irecv, Isend, OfRequests, Test, Wait}
-use Rattle.perfect_groups.specs.Events.{Called, Completed, Entry, Restarted}
+use Rattle.perfect_groups.specs.Events.{Called, Completed, Entry, Event, Restarted}
+use Rattle.perfect_groups.specs.Machine.{machine_opening}
+use Rattle.perfect_groups.specs.Runs.{IsRun, after_run, seen}
 use Rattle.perfect_queues.specs.Calls as queues
 use Rattle.perfect_queues.specs.Events as queue_events
 use Rattle.perfect_queues.specs.Refusals.{world}
+use Rattle.perfect_queues.specs.Runs as queue_runs
+use Rattle.perfect_queues.specs.State.{State, opening}
 use Rattle.proof_engine_view.specs.Seen as in_queues
 
 -- a call of queues and requests, on world
@@ -53,3 +58,24 @@ IsOnWorld (queues.Irecv p) = (p.context ≡ world) × (p.group ≡ None)
 IsOnWorld (queues.Wait a) = Unit {0}
 IsOnWorld (queues.Test r) = Unit {0}
 IsOnWorld (queues.Cancel r) = Unit {0}
+
+-- whether what is seen is of such a call, where it is of a call
+abbrev pub IsEntryOnWorld : queue_events.Entry → Type 0
+IsEntryOnWorld (queue_events.Called e c r) = IsOnWorld c
+IsEntryOnWorld (queue_events.Completed e a) = Unit {0}
+IsEntryOnWorld (queue_events.Restarted r) = Unit {0}
+
+-- a run of the machine of perfect queues among n ranks has this history, and ends in this state
+pub record IsRunOfQueues (n : ℕ) (history : List queue_events.Entry) (now : State) : Type 0 where
+  pub events : List queue_events.Event
+  pub run : queue_runs.IsRun n opening events
+  pub tells : queue_runs.seen opening events ≡ history
+  pub ends : queue_runs.after_run opening events ≡ now
+
+-- While calls are on world alone, the machine of queues and groups allows no history that the machine of perfect queues doesn't
+-- allow: its run is one of that machine, which ends in the same queues
+abbrev pub RunsOnWorldAreOfQueues : Type 0
+RunsOnWorldAreOfQueues =
+    (n : ℕ) (events : List Event) (history : List queue_events.Entry) → IsRun n (machine_opening n) events →
+    seen (machine_opening n) events ≡ entries_on_world history → AllByRecursion IsEntryOnWorld history →
+    IsRunOfQueues n history (after_run (machine_opening n) events).queues

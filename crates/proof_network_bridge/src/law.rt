@@ -1,5 +1,6 @@
 //! The law that joins a world of engines to the machine of queues and groups.
 
+ghost use Rattle.proof_network_bridge.specs.OnWorld.{RunsOnWorldAreOfQueues};
 ghost use Rattle.proof_network_bridge.specs.Following.{OpeningFollows, CallsFollow, DatagramsFollow, RefusalsFollow, TicksFollow, RestartsFollow, FollowingIsRun};
 
 /// States that a world of engines follows the pure network with communicators from its opening on, through every call that
@@ -18,4 +19,13 @@ pub fn worlds_are_runs()
     ensures ticks { TicksFollow }
     ensures restarts { RestartsFollow }
     ensures run { FollowingIsRun }
+{}
+
+/// States that a run of the machine of queues and groups in which all calls are of point to point on world is a run of the
+/// machine of perfect queues, with the same history and the same queues at its end. So the headline of a world, whose engines
+/// call on world alone, allows no history that perfect queues don't allow. It does nothing when it is called.
+///
+/// World is the communicator of MPI 3.1, 6.2.4.
+pub fn runs_on_world_are_of_queues()
+    ensures { RunsOnWorldAreOfQueues }
 {}

@@ -7,4 +7,4 @@
 
 mod law;
 
-pub use law::worlds_are_runs;
+pub use law::{runs_on_world_are_of_queues, worlds_are_runs};

@@ -1,4 +1,4 @@
--- A world that follows the pure network is seen as a run of the machine of perfect queues.
+-- A world that follows the pure network with communicators is seen as a run of the machine of queues and groups.
 use Rattle.std.proofs.Common.{◌≡◌, ℕ, ◌≤◌, List, length, ap, subst, ◌∙◌, arith}
 use Rattle.std.specs.Prelude.{slice_index}
 use Rattle.std.proofs.lemmas.Option.{slice_get_within}
@@ -6,29 +6,30 @@ use Rattle.vocabulary.specs.declared.endpoint.Endpoint.{Endpoint}
 use Rattle.engine.specs.EngineState.{EngineState}
 use Rattle.sessions.specs.Peers.{peer_at}
 use Rattle.incarnation.specs.declared.place.Place.{Place}
-use Rattle.proof_pure_network.specs.Network.{Network, new_network, run}
+use Rattle.proof_pure_network.specs.Network.{Network}
 use Rattle.proof_link_truth.proofs.Lists.{false_sym}
 use Rattle.proof_link_truth.proofs.Senders.{next_is}
 use Rattle.proof_link_truth.specs.Links.{Link, Links}
 use Rattle.proof_link_truth.specs.Sessions.{SenderTells}
 use Rattle.proof_link_truth.specs.Wire.{at}
 use Rattle.proof_network_bridge.proofs.Closed.{following_is_run}
+use Rattle.proof_network_bridge.specs.Joined.{messages_after}
 use Rattle.proof_network_bridge.proofs.Halves.{sessions_there}
-use Rattle.world.specs.Headline.{IsRunOfPerfectQueues, IsSound, SessionsAreInOrder, SessionsAreTrue, history_seen}
+use Rattle.world.specs.Headline.{IsRunOfMachine, IsSound, SessionsAreInOrder, SessionsAreTrue, history_seen}
 use Rattle.world.specs.WorldState.{WorldState}
 use Rattle.world.specs.declared.event.Entry.{Entry}
 
-pub is_run_of_machine : (w : WorldState) → IsSound w.engines w.datagrams w.history → IsRunOfPerfectQueues w
+pub is_run_of_machine : (w : WorldState) → IsSound w.engines w.datagrams w.history → IsRunOfMachine w
 is_run_of_machine w s =
     let m = following_is_run (length w.engines) w.engines w.datagrams (history_seen w.history) s.followed in
-    record { run_events = m.events; run = m.run; tells = m.tells; now = m.now; knows = m.knows; refuses = m.refuses; takes = m.takes; quiet = m.quiet }
+    record { run_events = m.events; run = m.run; tells = m.tells; now = m.now; knows = m.knows; refuses = m.refuses; takes = m.takes; quiet = m.quiet; leaves = m.leaves }
 
 -- the law of a session, of all sessions
 pub sessions_are_true : (w : WorldState) → IsSound w.engines w.datagrams w.history → SessionsAreTrue w
 sessions_are_true w s =
     record {
       links = s.followed.joined.carried;
-      current = (run (length w.engines) s.followed.happenings new_network).current;
+      current = (messages_after (length w.engines) s.followed.happenings).current;
       truth = s.followed.joined.links;
     }
 
@@ -36,7 +37,7 @@ sessions_are_true w s =
 pub sessions_are_in_order : (engines : List EngineState) (datagrams : List (ℕ × List ℕ)) (history : List Entry) → IsSound engines datagrams history → SessionsAreInOrder engines
 sessions_are_in_order engines datagrams history s r x e d there other apart knows known =
     let n : ℕ = length engines in
-    let w : Network = run n s.followed.happenings new_network in
+    let w : Network = messages_after n s.followed.happenings in
     let j = s.followed.joined in
     let here : Endpoint = at r (w.current r) in
     let away : Endpoint = at x (w.current x) in

@@ -3,7 +3,7 @@ use Rattle.std.proofs.Common.{◌≡◌, ℕ, List, [], ◌++◌, inl, inr, leng
 use Rattle.std.specs.Prelude.{Ok, Err, option_map, slice_get, slice_set}
 use Rattle.std.proofs.lemmas.Bool.{both_ways}
 use Rattle.std.proofs.lemmas.Option.{same_Some}
-use Rattle.perfect_queues.specs.Events as machine
+use Rattle.perfect_groups.specs.Events as machine
 use Rattle.vocabulary.specs.declared.endpoint.Endpoint.{Endpoint}
 use Rattle.engine.specs.Datagrams.{HearingGives}
 use Rattle.engine.specs.EngineState.{EngineState, emptied, without_completion, without_out}

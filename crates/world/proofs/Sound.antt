@@ -9,8 +9,8 @@ use Rattle.engine.specs.EngineState.{EngineState, emptied, opening}
 use Rattle.rank_calls.specs.declared.call.Call.{Call}
 use Rattle.rank_calls.specs.declared.call.Reply.{Reply}
 use Rattle.requests.specs.declared.answer.Answer.{Answer}
-use Rattle.perfect_queues.specs.Events as machine
-use Rattle.proof_engine_view.specs.Seen.{told_call, told_completion}
+use Rattle.perfect_groups.specs.Events as machine
+use Rattle.proof_network_bridge.specs.OnWorld.{told_call, told_completion}
 use Rattle.proof_network_bridge.specs.Following.{LeavesFollowed, next_place}
 use Rattle.proof_network_bridge.specs.Joined.{IsFollowed, opening_engines}
 use Rattle.proof_network_bridge.proofs.Closed.{calls_follow, datagrams_follow, opening_follows, restarts_follow, ticks_follow}

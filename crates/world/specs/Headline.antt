@@ -1,8 +1,9 @@
--- The headline: what is seen of a world is a run of the machine of perfect queues.
+-- The headline: what is seen of a world is a run of the machine of queues and groups.
 --
--- Its words, and where they stand: the machine's `IsRun`, `after_run`, `seen` (perfect_queues, Runs), `fault` (Refusals) and
--- `IsAtRest` (Quiet); what is seen of a call, its reply and a completion, `call_seen`, `call_meant`, `told_call` and
--- `told_completion` (proof_engine_view, Seen); why a call is refused or has no fault, `IsReason` and `IsFaultless`
+-- Its words, and where they stand: the machine's `IsRun`, `after_run`, `seen` (perfect_groups, Runs), `fault` (Faults), `IsAtRest`
+-- (perfect_queues, Quiet) and `CollectivesAreLeft` (perfect_groups, Quiet); what is seen of a call, its reply and a completion,
+-- `call_seen`, `call_meant`, `told_call` and `told_completion` (proof_network_bridge, OnWorld); a call's fault in a state,
+-- `fault_in` (proof_network_bridge, Following); why a call is refused or has no fault, `IsReason` and `IsFaultless`
 -- (proof_engine_steps, Refused); the sessions of all engines, `sessions_in` (proof_network_bridge, Joined), and when they are
 -- quiet, `AreQuiet` (proof_link_truth, Quiet); the links and what sessions and datagrams tell of them, `Links` (Links) and
 -- `AreTrue` (Truth, with Told and Witness). That a world is sound, `IsSound` below, is what its proofs carry from event to event
@@ -17,17 +18,18 @@ use Rattle.rank_calls.specs.declared.call.Call.{Call}
 use Rattle.rank_calls.specs.declared.call.Reply.{Reply}
 use Rattle.rank_calls.specs.declared.call.Reply.TheVariants as replies
 use Rattle.rank_calls.specs.declared.refused.Refused.{Refused}
-use Rattle.perfect_queues.specs.Events as machine
+use Rattle.perfect_groups.specs.Events as machine
+use Rattle.perfect_groups.specs.Machine.{machine_opening}
+use Rattle.perfect_groups.specs.Quiet.{CollectivesAreLeft}
+use Rattle.perfect_groups.specs.Runs.{IsRun, after_run, seen}
 use Rattle.perfect_queues.specs.Quiet.{IsAtRest}
-use Rattle.perfect_queues.specs.Refusals.{fault}
-use Rattle.perfect_queues.specs.Runs.{IsRun, after_run, seen}
-use Rattle.perfect_queues.specs.State.{opening}
 use Rattle.proof_engine_steps.specs.Refused.{IsFaultless, IsReason}
-use Rattle.proof_engine_view.specs.Seen.{call_meant, call_seen, told_call, told_completion}
 use Rattle.proof_link_truth.specs.Links.{Links}
 use Rattle.proof_link_truth.specs.Quiet.{AreQuiet}
 use Rattle.proof_link_truth.specs.Truth.{AreTrue}
+use Rattle.proof_network_bridge.specs.Following.{fault_in}
 use Rattle.proof_network_bridge.specs.Joined.{IsFollowed, sessions_in}
+use Rattle.proof_network_bridge.specs.OnWorld.{call_meant, call_seen, told_call, told_completion}
 use Rattle.world.specs.WorldState.{WorldState, IsWorld}
 use Rattle.world.specs.declared.event.Entry.{Entry}
 use Rattle.world.specs.declared.event.Event.{Event}
@@ -49,34 +51,36 @@ entry_seen e = event_seen e.endpoint e.event e.reply ++ told_completion e.endpoi
 abbrev pub history_seen : List Entry → List machine.Entry
 history_seen entries = flat_map entry_seen entries
 
--- THE HEADLINE. There is a run of the machine of perfect queues, among as many ranks, whose visible history is the world's.
--- The machine knows no frames: a message is one message there, whether it went whole, or was announced and went in pieces. The
--- run ends with each rank at the incarnation of its engine, which knows there what its engine knows; a call that its engine
--- refuses has a reason there, and one that it takes has no fault; and where the world is quiet, the run has come to a state
--- that meets the machine's quiet clause: between ranks that know each other as they are, no receive that waits accepts a
--- pending message, and what was matched is finished on both sides, however it went
-pub record IsRunOfPerfectQueues (w : WorldState) : Type 0 where
+-- THE HEADLINE. There is a run of the machine of queues and groups, among as many ranks, whose visible history is the world's.
+-- The machine knows no frames: a message is one message there, whether it went whole, or was announced and went in pieces. Calls
+-- of point to point are on world there, each rank's first communicator. The run ends with each rank at the incarnation of its
+-- engine, which knows there what its engine knows; a call that its engine refuses has a reason there, and one that it takes has
+-- no fault; and where the world is quiet, the run has come to a state that meets the machine's quiet clauses: between ranks that
+-- know each other as they are, no receive that waits accepts a pending message, and what was matched is finished on both sides,
+-- however it went; and a collective that all its members have entered alike was left by all
+pub record IsRunOfMachine (w : WorldState) : Type 0 where
   pub run_events : List machine.Event
-  pub run : IsRun (length w.engines) opening run_events
-  pub tells : seen opening run_events ≡ history_seen w.history
+  pub run : IsRun (length w.engines) (machine_opening (length w.engines)) run_events
+  pub tells : seen (machine_opening (length w.engines)) run_events ≡ history_seen w.history
   pub now :
       (r : ℕ) (e : EngineState) → slice_get w.engines r ≡ Some e →
-      (after_run opening run_events).current r ≡ e.sessions.place.endpoint.incarnation
+      (after_run (machine_opening (length w.engines)) run_events).queues.current r ≡ e.sessions.place.endpoint.incarnation
   pub knows :
       (r : ℕ) (e : EngineState) → slice_get w.engines r ≡ Some e → (x : ℕ) →
-      ((after_run opening run_events).at e.sessions.place.endpoint).known x ≡ slice_index e.sessions.known x
+      ((after_run (machine_opening (length w.engines)) run_events).queues.at e.sessions.place.endpoint).known x ≡ slice_index e.sessions.known x
   -- a call that the engine refuses has the machine's first fault, by its number; or the machine finds none, and the number is
   -- 13 or 14 (`IsReason`). A request of another engine is there one that was never given (`call_meant`)
   pub refuses :
       (r : ℕ) (e mid : EngineState) (call back : Call) (why : Refused) → slice_get w.engines r ≡ Some e →
       CallGives e call (replies.Refused why back) mid →
-      IsReason (fault (length w.engines) ((after_run opening run_events).at e.sessions.place.endpoint) (call_meant e.core call)) why
+      IsReason (fault_in (after_run (machine_opening (length w.engines)) run_events) e.sessions.place.endpoint (call_meant e.core call)) why
   -- a call that the engine takes names no request of another engine, and the machine finds no fault with it
   pub takes :
       (r : ℕ) (e mid : EngineState) (call : Call) (reply : Reply) → slice_get w.engines r ≡ Some e → IsTaken reply →
       CallGives e call reply mid →
-      IsFaultless (fault (length w.engines) ((after_run opening run_events).at e.sessions.place.endpoint) (call_seen call)) e.core call
-  pub quiet : AreQuiet (sessions_in w.engines) → IsAtRest (after_run opening run_events)
+      IsFaultless (fault_in (after_run (machine_opening (length w.engines)) run_events) e.sessions.place.endpoint (call_seen call)) e.core call
+  pub quiet : AreQuiet (sessions_in w.engines) → IsAtRest (after_run (machine_opening (length w.engines)) run_events).queues
+  pub leaves : AreQuiet (sessions_in w.engines) → CollectivesAreLeft (length w.engines) (after_run (machine_opening (length w.engines)) run_events)
 
 -- THE LAW OF A SESSION, for all sessions that ever were. For each two endpoints there are the frames that the one's side
 -- accepted, and how many of them were handed up at the other: a beginning. Each engine's sessions hold just these, all below

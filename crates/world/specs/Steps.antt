@@ -23,7 +23,7 @@ use Rattle.world.specs.declared.refused.Refused.{Refused}
 use Rattle.world.specs.declared.refused.Refused.TheVariants as refusals
 use Rattle.proof_network_bridge.specs.Following.{RefusesDatagram, RefusesTick, TakesDatagram, TakesTick, next_place}
 use Rattle.world.specs.Faults.{event_fault, first_fault, target_of}
-use Rattle.world.specs.Headline.{IsRunOfPerfectQueues}
+use Rattle.world.specs.Headline.{IsRunOfMachine}
 use Rattle.world.specs.Strays.{EngineRefuses, carries_job}
 use Rattle.world.specs.WorldState.{HasRoom, WorldState}
 
@@ -257,14 +257,14 @@ abbrev pub StepGives : WorldState → Event → Result Stepped Failed → WorldS
 StepGives old event (Ok added) new = Went old event added new
 StepGives old event (Err failed) new = IsRefusedBy old event failed new
 
--- The events in order, each with what its step answers. Each world on the way is seen as a run of the machine of perfect
--- queues, so a call that is refused in the middle is refused for a reason that the machine has there
+-- The events in order, each with what its step answers. Each world on the way is seen as a run of the machine of queues
+-- and groups, so a call that is refused in the middle is refused for a reason that the machine has there
 abbrev pub RunGives : WorldState → List Event → List (Result Stepped Failed) → WorldState → Type 0
-RunGives old [] [] new = (new ≡ old) × IsRunOfPerfectQueues old
+RunGives old [] [] new = (new ≡ old) × IsRunOfMachine old
 RunGives old [] (answer ∷ answers) new = ⊥
 RunGives old (event ∷ events) [] new = ⊥
 RunGives old (event ∷ events) (answer ∷ answers) new =
-    IsRunOfPerfectQueues old × ((mid : WorldState) × StepGives old event answer mid × RunGives mid events answers new)
+    IsRunOfMachine old × ((mid : WorldState) × StepGives old event answer mid × RunGives mid events answers new)
 
 -- room for the answers was wanting: the events are handed back, and nothing happened
 pub record IsNotRun (old : WorldState) (events : List Event) (failed : FailedRun) (new : WorldState) : Type 0 where

@@ -5,7 +5,7 @@ ghost use Rattle.rank_calls.specs.declared.refused.Refused.TheVariants as lowers
 ghost use Rattle.proof_link_truth.specs.Quiet.{AreQuiet};
 ghost use Rattle.proof_network_bridge.specs.Joined.{sessions_in};
 ghost use Rattle.world.specs.WorldState.{is_outside, opening_world};
-ghost use Rattle.world.specs.Headline.{IsRunOfPerfectQueues, IsSound, SessionsAreInOrder, SessionsAreTrue};
+ghost use Rattle.world.specs.Headline.{IsRunOfMachine, IsSound, SessionsAreInOrder, SessionsAreTrue};
 ghost use Rattle.world.specs.Steps.{StepGives, RunGives, IsNotRun, entry_of, first_of};
 ghost use Rattle.world.specs.Views.{gave_in};
 
@@ -197,16 +197,17 @@ impl World {
 
     /// The events that were not refused, with what they answered, in order. It takes no memory.
     ///
-    /// What is seen in it, calls with their replies, completions and restarts, is a run of the machine of perfect queues,
+    /// What is seen in it, calls with their replies, completions and restarts, is a run of the machine of queues and groups,
     /// which has come to rest where the world is quiet (MPI 3.1, 3.5, 3.7, 3.8.4 and 3.11; restarts are this project's own).
-    /// A message is one message there, however it went: whole, or announced and in pieces. With a call that a rank would take
+    /// Calls are on world there, the first communicator of each rank (6.2.4). A message is one message there, however it went:
+    /// whole, or announced and in pieces. With a call that a rank would take
     /// now the machine finds no fault. With one that it would refuse the machine finds the same fault first; or it finds none,
     /// and the number is 13 or 14. In each session that ever was, what was handed up is a beginning of what was accepted, and
     /// every frame below the lowest unacknowledged number was handed up (`law`, which the datagrams pin for former incarnations
     /// too; `sessions` says it in numbers of ranks that know each other).
     pub fn history(&self) -> &[Entry]
         ensures entries { result.now ≡ self.now.history }
-        ensures headline { IsRunOfPerfectQueues self.now }
+        ensures headline { IsRunOfMachine self.now }
         ensures law { SessionsAreTrue self.now }
         ensures sessions { SessionsAreInOrder self.now.engines }
     {
@@ -240,7 +241,7 @@ impl World {
     /// datagram was a reset; it is numbered, and the refusal tells its number.
     pub fn step(&mut self, event: Event) -> Answer
         ensures exact { StepGives self.old event result self.new }
-        ensures headline { IsRunOfPerfectQueues self.new }
+        ensures headline { IsRunOfMachine self.new }
     {
         advance(
             self.alloc,
@@ -255,12 +256,12 @@ impl World {
     /// that goes out with it is numbered.
     ///
     /// Room for all answers is made first. Where memory for that is wanting, which is 14, nothing happens, and the events are
-    /// handed back. For every list of events, what is seen of the world after each of them is a run of the machine of perfect
-    /// queues, which has come to rest where the world is quiet: see `history`.
+    /// handed back. For every list of events, what is seen of the world after each of them is a run of the machine of
+    /// queues and groups, which has come to rest where the world is quiet: see `history`.
     pub fn run(&mut self, events: Vec<Event>) -> Result<Vec<Answer>, FailedRun>
         ensures exact { IfOk result (λ answers. RunGives self.old events.items answers.items self.new) }
         ensures refused { IfErr result (λ failed. IsNotRun self.old events.items failed self.new) }
-        ensures headline { IsRunOfPerfectQueues self.new }
+        ensures headline { IsRunOfMachine self.new }
         ensures law { SessionsAreTrue self.new }
         ensures sessions { SessionsAreInOrder self.new.engines }
     {

@@ -1,14 +1,14 @@
 use Rattle.std.proofs.Common.{subst, arith}
 use Rattle.std.proofs.lemmas.Grind.{common_steps}
 use Rattle.world.specs.WorldState.{WorldState}
-use Rattle.world.specs.Headline.{IsRunOfPerfectQueues}
+use Rattle.world.specs.Headline.{IsRunOfMachine}
 use Rattle.world.proofs.Headlines.{is_run_of_machine}
 use Rattle.world.proofs.Runs.{run_none, run_pushed}
 use Rattle.world.proofs.world.World.run_into.Goals as goal
 
 pub loop-event-init : goal.loop-event-init
 loop-event-init c =
-    (run_none _ _ (grind (arith, common_steps)) (subst (λ (w : WorldState). IsRunOfPerfectQueues w) c.self.view_is (is_run_of_machine _ c.self.invariant)), grind (arith, common_steps))
+    (run_none _ _ (grind (arith, common_steps)) (subst (λ (w : WorldState). IsRunOfMachine w) c.self.view_is (is_run_of_machine _ c.self.invariant)), grind (arith, common_steps))
 
 pub unwrap-requires : goal.unwrap-requires
 unwrap-requires c = c.push.ensures.succeeds (grind (arith, common_steps))
