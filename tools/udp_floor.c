@@ -2,11 +2,11 @@
  *
  *   udp_floor pong COUNT ACKS CORE CORE     half a round trip of a datagram of 56 bytes, in microseconds
  *   udp_floor window COUNT ACKS CORE CORE   datagrams of 56 bytes one way, 64 at a time and then one back: datagrams a second
+ *   udp_floor stream COUNT ACKS CORE CORE   the same with datagrams of 1,068 bytes, of which 1,024 are data: MB of data a second
  *
  * Each process is kept on the core that is named for it, as ranks are by tools/rank_benchmark: left to themselves both mostly sit on one.
  *
- * 56 bytes are those of a message of 4 bytes between two ranks. With ACKS 1 each datagram is answered by one of 32 bytes first, as a
- * rank acknowledges it. */
+ * 56 bytes are those of a message of 4 bytes between two ranks, and 1,068 those of a piece of a large one. With ACKS 1 each datagram is answered by one of 32 bytes first, as a rank acknowledges it. */
 #define _GNU_SOURCE
 #include <arpa/inet.h>
 #include <netinet/in.h>
@@ -19,7 +19,7 @@
 #include <time.h>
 #include <unistd.h>
 
-enum { MESSAGE = 56, ACK = 32, WINDOW = 64 };
+enum { MESSAGE = 56, PIECE = 1068, DATA = 1024, ACK = 32, WINDOW = 64 };
 
 static int mine;
 static struct sockaddr_in other;
@@ -39,7 +39,8 @@ static void take(ssize_t bytes) {
 
 int main(int count, char **words) {
     if (count != 6) return 2;
-    int windowed = !strcmp(words[1], "window"), turns = atoi(words[2]), acks = atoi(words[3]);
+    int streams = !strcmp(words[1], "stream"), windowed = streams || !strcmp(words[1], "window"), bytes = streams ? PIECE : MESSAGE;
+    int turns = atoi(words[2]), acks = atoi(words[3]);
     int sockets[2];
     struct sockaddr_in addresses[2];
     socklen_t size = sizeof addresses[0];
@@ -62,10 +63,10 @@ int main(int count, char **words) {
         for (int leg = 0; leg < 2; leg++) {
             int datagrams = leg == 0 ? one_way : 1;
             if (leg == child) {
-                for (int i = 0; i < datagrams; i++) give(MESSAGE);
+                for (int i = 0; i < datagrams; i++) give(bytes);
             } else {
                 for (int i = 0; i < datagrams; i++) {
-                    take(MESSAGE);
+                    take(bytes);
                     if (acks) give(ACK);
                 }
             }
@@ -73,7 +74,8 @@ int main(int count, char **words) {
     }
     double took = now() - start;
     if (!child) {
-        if (windowed) printf("%.0f\n", (double)turns * WINDOW / took);
+        if (streams) printf("%.1f\n", (double)turns * WINDOW * DATA / took / 1e6);
+        else if (windowed) printf("%.0f\n", (double)turns * WINDOW / took);
         else printf("%.3f\n", took / turns / 2 * 1e6);
         wait(0);
     }

@@ -3,7 +3,7 @@
 use crate::clock::HostClock;
 use crate::udp::Udp;
 use engine::{Engine, Place};
-use rank_drive::{Ended, drive};
+use rank_drive::{Ended, TransportFault, drive};
 use rank_script::ScriptRunner;
 use rank_settings::{Refused, Settings, settings_of};
 use script_files::{ParseError, Script, parse};
@@ -81,6 +81,22 @@ fn new_engine<R: AllocGlobal>(rt: &R, settings: &Settings) -> Result<Engine, u8>
     }
 }
 
+/// The status of a rank that ended so. What its socket kept back goes before.
+fn end<R: Print + Eprint>(
+    rt: &R,
+    udp: &mut Udp<'_, R>,
+    ended: Result<Ended, TransportFault>,
+) -> Result<u8, u8> {
+    let last = udp.finish();
+    if let Ok(Ended::Runner(SCRIPT, line)) = ended {
+        tell(rt, 51, line);
+    }
+    match (ended, last) {
+        (Ok(ended), Ok(_)) => Ok(ended.status()),
+        _ => Err(TRANSPORT),
+    }
+}
+
 /// Runs the rank of these settings, and answers its status.
 fn run_rank<R: Net + Wait + Files + Print + Eprint + AllocGlobal + Clock>(
     rt: &R,
@@ -108,13 +124,7 @@ fn run_rank<R: Net + Wait + Files + Print + Eprint + AllocGlobal + Clock>(
         &mut udp,
         &mut clock,
     );
-    if let Ok(Ended::Runner(SCRIPT, line)) = ended {
-        tell(rt, 51, line);
-    }
-    match ended {
-        Ok(ended) => Ok(ended.status()),
-        Err(_) => Err(TRANSPORT),
-    }
+    end(rt, &mut udp, ended)
 }
 
 /// Runs the rank that these words ask for, the first of which is the program's name, and answers its status: 0 where the script

@@ -1,7 +1,11 @@
 //! Datagrams over UDP on the loopback, and lines on the standard output.
 
-ghost use Rattle.std.specs.Prelude.{◌≡◌, ◌+◌, ◌<◌, ◌^◌, ◌≤◌, length, IfOk};
+ghost use Rattle.std.specs.Prelude.{◌≡◌, ◌↔◌, ◌+◌, ◌<◌, ◌^◌, ◌≤◌, length, option_map, IfOk, IfSome, IsTrue};
+ghost use Rattle.rank_drive.specs.Exchanges.{FailsWith};
+ghost use Rattle.rank_process.specs.Acknowledgements.{CoveredBy, short_acknowledgement};
 
+use crate::acknowledgements::{acknowledgement_in, covers};
+use datagram::Header;
 use mio::net::UdpSocket;
 use mio::{Events, Interest, Poll, Token};
 use rank_drive::{LONGEST, Transport, TransportFault};
@@ -15,11 +19,27 @@ use std::time::Duration;
 /// How often a rank that waits behind a datagram lets other processes run and asks for the next one.
 const YIELDS: u32 = 24;
 
+/// The length of an acknowledgement.
+const ACK_BYTES: usize = 32;
+
+/// An acknowledgement that was handed over last.
+#[derive(Clone, Copy)]
+struct Kept {
+    /// The rank that it goes to.
+    target: u16,
+    /// What it says.
+    header: Header,
+    bytes: [u8; ACK_BYTES],
+}
+
 /// A socket of a rank on 127.0.0.1, and its standard output.
 ///
 /// The first wait behind a datagram that was sent or came lets other processes run and asks for the next one some times, since
 /// it mostly is there soon, and comes back early where none is; each later wait sleeps until a datagram comes. So a rank that
 /// nobody speaks with sleeps at once, and just as long as it is told to.
+///
+/// An acknowledgement goes when something else is handed over, asked for or waited for behind it, and so within the same turn of
+/// the rank. Where that is a later acknowledgement of the same session, which says all that it says, it doesn't go.
 #[derive(Drop)]
 pub struct Udp<'a, R: Print> {
     rt: &'a R,
@@ -32,6 +52,8 @@ pub struct Udp<'a, R: Print> {
     room: Vec<u8>,
     /// How long that datagram is, until it is handed out.
     held: Option<usize>,
+    /// The acknowledgement that was handed over last, until it goes or a later one takes its place.
+    kept: Option<Kept>,
     /// Whether a datagram was sent or handed out since the last wait.
     has_carried: bool,
     /// The line that is written, with its end.
@@ -69,6 +91,48 @@ fn is_passing(error: &io::Error) -> bool {
     matches!(error.kind(), ErrorKind::WouldBlock | ErrorKind::Interrupted)
 }
 
+/// A datagram goes to a port. Where the system has no room for it now it is lost.
+fn put_out(socket: &UdpSocket, port: u16, bytes: &[u8]) -> Result<(), TransportFault> {
+    match socket.send_to(bytes, address(port)) {
+        Ok(_) => Ok(()),
+        Err(e) => {
+            if is_passing(&e) {
+                Ok(())
+            } else {
+                Err(TransportFault)
+            }
+        }
+    }
+}
+
+/// The acknowledgement that the bytes spell, if they spell one.
+fn kept_of(target: u16, bytes: &[u8]) -> Option<Kept>
+    ensures header { option_map (λ k. k.header) result ≡ short_acknowledgement bytes.now }
+    ensures whole { IfSome result (λ k. (k.target ≡ target) × (k.bytes ≡ bytes.now)) }
+{
+    if bytes.len() != ACK_BYTES {
+        return None;
+    }
+    let header = acknowledgement_in(bytes)?;
+    let mut copy = [0u8; ACK_BYTES];
+    copy.copy_from_slice(bytes);
+    Some(Kept {
+        target,
+        header,
+        bytes: copy,
+    })
+}
+
+/// Whether this one is an acknowledgement that says all that the former one says.
+fn takes_the_place(next: &Option<Kept>, former: &Kept) -> bool
+    ensures { IsTrue result ↔ CoveredBy (option_map (λ k. k.header) next.now) former.now.header }
+{
+    match next {
+        Some(next) => covers(next.header, former.header),
+        None => false,
+    }
+}
+
 /// Writes a line and its end.
 fn write_line<R: Print>(rt: &R, text: &mut Vec<u8>, line: &[u8]) -> io::Result<()> {
     text.clear();
@@ -98,6 +162,7 @@ impl<'a, R: Print> Udp<'a, R> {
             first_port: port.saturating_sub(rank),
             room: vec![in alloc; 0u8; LONGEST]?,
             held: None,
+            kept: None,
             has_carried: false,
             text: Vec::new(alloc),
             failures: 0,
@@ -111,6 +176,50 @@ impl<'a, R: Print> Udp<'a, R> {
         self.failures += 1;
         TransportFault
     }
+
+    /// A datagram goes to a rank.
+    fn carry(&mut self, target: u16, bytes: &[u8]) -> Result<(), TransportFault>
+        requires { self.old.failures + 1 < 2 ^ 64 }
+        ensures { FailsWith result self.old.failures self.new.failures }
+    {
+        match put_out(&self.socket, self.first_port.saturating_add(target), bytes) {
+            Ok(_) => Ok(()),
+            Err(_) => Err(self.fault()),
+        }
+    }
+
+    /// The acknowledgement that was handed over last goes, unless this one takes its place.
+    fn let_go(&mut self, next: &Option<Kept>) -> Result<(), TransportFault>
+        requires { self.old.failures + 1 < 2 ^ 64 }
+        ensures { FailsWith result self.old.failures self.new.failures }
+    {
+        match self.kept.take() {
+            Some(former) if !takes_the_place(next, &former) => {
+                self.carry(former.target, &former.bytes)
+            }
+            _ => Ok(()),
+        }
+    }
+
+    /// The acknowledgement that was handed over last goes, if it hasn't gone yet.
+    fn flush(&mut self) -> Result<(), TransportFault>
+        requires { self.old.failures + 1 < 2 ^ 64 }
+        ensures { FailsWith result self.old.failures self.new.failures }
+    {
+        self.let_go(&None)
+    }
+
+    /// The same at the end, behind which nothing else is asked of it.
+    pub fn finish(&mut self) -> Result<(), TransportFault> {
+        match self.kept.take() {
+            Some(kept) => put_out(
+                &self.socket,
+                self.first_port.saturating_add(kept.target),
+                &kept.bytes,
+            ),
+            None => Ok(()),
+        }
+    }
 }
 
 impl<'a, R: Print> Transport for Udp<'a, R> {
@@ -119,6 +228,9 @@ impl<'a, R: Print> Transport for Udp<'a, R> {
     ghost failed = { λ t. t.failures };
 
     fn receive(&mut self, buffer: &mut [u8]) -> Result<Option<usize>, TransportFault> {
+        let Ok(_) = self.flush() else {
+            return Err(TransportFault);
+        };
         if let Some(len) = self.held.take() {
             self.has_carried = true;
             return Ok(Some(put(buffer, &self.room, len)));
@@ -139,21 +251,16 @@ impl<'a, R: Print> Transport for Udp<'a, R> {
     }
 
     fn send(&mut self, target: u16, bytes: &[u8]) -> Result<(), TransportFault> {
+        let next = kept_of(target, bytes);
+        let Ok(_) = self.let_go(&next) else {
+            return Err(TransportFault);
+        };
         self.has_carried = true;
-        match self
-            .socket
-            .send_to(bytes, address(self.first_port.saturating_add(target)))
-        {
-            Ok(_) => Ok(()),
-            // Where there is no room for it now it is lost.
-            Err(e) => {
-                if is_passing(&e) {
-                    Ok(())
-                } else {
-                    Err(self.fault())
-                }
-            }
+        if next.is_some() {
+            self.kept = next;
+            return Ok(());
         }
+        self.carry(target, bytes)
     }
 
     fn print(&mut self, line: &[u8]) -> Result<(), TransportFault> {
@@ -164,6 +271,9 @@ impl<'a, R: Print> Transport for Udp<'a, R> {
     }
 
     fn wait(&mut self, most: u64) -> Result<(), TransportFault> {
+        let Ok(_) = self.flush() else {
+            return Err(TransportFault);
+        };
         if self.has_carried {
             self.has_carried = false;
             self.held = come(&self.socket, &mut self.room);
