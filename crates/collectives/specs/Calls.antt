@@ -8,7 +8,7 @@ use Rattle.collectives.specs.State.{State, is_left, members_incarnation, noted, 
 use Rattle.collectives.specs.Steps.{IsPrepared, IsPreparedEntry, MeetsLimit, Prepared, after_step, contexts_after, ending_of}
 use Rattle.collectives.specs.Tallies.{count_in, raised}
 use Rattle.collectives.specs.Verdicts.{is_first}
-use Rattle.collectives.specs.declared.collective.Address.{Address}
+use Rattle.collectives.specs.declared.address.Address.{Address}
 use Rattle.collectives.specs.declared.collective.ReadyMessage.{ReadyMessage}
 use Rattle.collectives.specs.declared.entry.Entry.{Entry}
 use Rattle.collectives.specs.declared.entry.Inside.{Inside}

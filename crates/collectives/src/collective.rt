@@ -34,17 +34,6 @@ impl Model for Collective {
     } };
 }
 
-/// Of which collective a message is, and who sent it.
-#[derive(Clone, Copy, Debug, PartialEq, Eq)]
-pub struct Address {
-    /// Who sent it.
-    pub sender: Endpoint,
-    /// The number of the context of the communicator.
-    pub context: u64,
-    /// The number of the collective on the communicator: the tag of the message.
-    pub number: u32,
-}
-
 /// An entry that was made ready.
 #[derive(Debug, Drop)]
 pub struct ReadyEntry {
