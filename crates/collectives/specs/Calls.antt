@@ -1,0 +1,143 @@
+-- What each call on the collectives of a rank answers and leaves.
+use Rattle.std.specs.Prelude.{◌≡◌, ◌+◌, ◌^◌, ℕ, Bool, false, ◌&&◌, ◌||◌, ◌==◌, List, [], ◌∷◌, ◌++◌, length, Option, Some, None, Result, Ok, Err, is_some, nat_lt, nat_le, slice_get, if◌then◌else◌}
+use Rattle.std.specs.List.{list_any}
+use Rattle.collectives.specs.Arrivals.{ArrivalGives}
+use Rattle.collectives.specs.Entering.{is_making}
+use Rattle.collectives.specs.Notes.{member_at}
+use Rattle.collectives.specs.State.{State, is_left, members_incarnation, noted, ranks_at}
+use Rattle.collectives.specs.Steps.{IsPrepared, IsPreparedEntry, MeetsLimit, Prepared, after_step, contexts_after, ending_of}
+use Rattle.collectives.specs.Tallies.{count_in, raised}
+use Rattle.collectives.specs.Verdicts.{is_first}
+use Rattle.collectives.specs.declared.collective.Address.{Address}
+use Rattle.collectives.specs.declared.collective.ReadyMessage.{ReadyMessage}
+use Rattle.collectives.specs.declared.entry.Entry.{Entry}
+use Rattle.collectives.specs.declared.entry.Inside.{Inside}
+use Rattle.collectives.specs.declared.note.Note.{Note}
+use Rattle.collectives.specs.declared.refused.Refused.{Refused}
+use Rattle.collectives.specs.declared.refused.Refused.TheVariants as refusals
+use Rattle.collectives.specs.declared.step.Ending.{Ending}
+use Rattle.collectives.specs.declared.step.Ending.TheVariants.{Replaced}
+use Rattle.context_agreement.specs.Communicators.{ContextsState}
+use Rattle.context_agreement.specs.Numbers.{number_of}
+use Rattle.context_agreement.specs.declared.communicator.Communicator.{Communicator}
+use Rattle.payload.specs.Spelling.{PayloadText}
+use Rattle.vocabulary.specs.Endpoints.{is_former}
+use Rattle.vocabulary.specs.declared.endpoint.Endpoint.{Endpoint}
+
+-- ---- entering
+
+-- so many collectives are entered on a communicator at most (our own): their numbers go in tags
+abbrev pub most_collectives : ℕ
+most_collectives = 2147483647
+
+-- whether member 0 has fewer contexts left to give than its communicator has members
+abbrev pub lacks_contexts : (own : Endpoint) → ContextsState → (incarnation : ℕ) → (ranks : List ℕ) → Bool
+lacks_contexts own h incarnation ranks = is_first own incarnation ranks && nat_lt (2 ^ 32) (h.next_serial + length ranks)
+
+-- whether a collective that makes communicators meets a limit: as many are held as may be, or contexts are lacking
+abbrev pub is_making_limited : (own : Endpoint) → ContextsState → Entry → (incarnation : ℕ) → (ranks : List ℕ) → Bool
+is_making_limited own h e incarnation ranks =
+    is_making e && ((length h.held == 4096) || lacks_contexts own h incarnation ranks)
+
+-- whether entering a collective of a communicator meets a limit
+abbrev pub is_limited : State → ContextsState → Communicator → Entry → Bool
+is_limited s h c e =
+    nat_le most_collectives (count_in s.tallies (number_of c.context)) ||
+    is_making_limited s.own h e (members_incarnation s.own (number_of c.context)) c.group
+
+-- the rule that entering a collective of a communicator breaks, where it is held
+abbrev pub fault_on : State → ContextsState → Option Communicator → Entry → Option Refused
+fault_on s h None e = Some refusals.NoCommunicator
+fault_on s h (Some c) e = if is_limited s h c e then Some refusals.Limit else None
+
+-- the first rule that entering breaks: 6 while the rank is in a collective, 4, 13
+abbrev pub entry_fault : State → ContextsState → (place : ℕ) → Entry → Option Refused
+entry_fault s h place e = if is_some s.present then Some refusals.Blocked else fault_on s h (slice_get h.held place) e
+
+-- the number of the context of a communicator, where there is one
+abbrev pub context_of : Option Communicator → ℕ
+context_of None = 0
+context_of (Some c) = number_of c.context
+
+-- what a rank is in once it has entered
+abbrev pub inside_of : State → ContextsState → (place : ℕ) → Entry → Inside
+inside_of s h place e =
+    let c = context_of (slice_get h.held place) in
+    record {
+      place = place;
+      context = c;
+      incarnation = members_incarnation s.own c;
+      number = count_in s.tallies c;
+      entry = e;
+    }
+
+-- the rank has entered: it is inside, and its next collective there has the next number
+abbrev pub entered : State → Inside → State
+entered s i = record s { present = Some i; tallies = raised s.tallies i.context }
+
+-- what an entry of a collective that breaks no rule answers and leaves. Without memory nothing has changed
+abbrev pub EntryGives : State → ContextsState → Inside → Result (Option Ending × Prepared) Refused → State → ContextsState → Type 0
+EntryGives s h i (Ok answer) t k =
+    IsPreparedEntry s.own i h s.kept answer.1
+    × (answer.0 ≡ ending_of h answer.1.outcome)
+    × (t ≡ after_step (entered s i) answer.1.outcome)
+    × (k ≡ contexts_after h answer.1.drawn answer.1.outcome)
+EntryGives s h i (Err refusals.OutOfMemory) t k = (t ≡ s) × (k ≡ h)
+EntryGives s h i (Err refusals.Limit) t k =
+    (step : Prepared) × IsPreparedEntry s.own i h s.kept step × MeetsLimit h step × (t ≡ s) × (k ≡ h)
+EntryGives s h i (Err _) t k = ⊥
+
+-- ---- lessons
+
+-- whether the collective has a member that a lesson replaces
+abbrev pub has_former : (rank incarnation : ℕ) → Inside → (ranks : List ℕ) → Bool
+has_former r incarnation i ranks = list_any (λ m. is_former r incarnation (member_at i.incarnation m)) ranks
+
+-- whether a lesson ends the present collective
+abbrev pub is_ended : (rank incarnation : ℕ) → ContextsState → Option Inside → Bool
+is_ended r incarnation h None = false
+is_ended r incarnation h (Some i) = has_former r incarnation i (ranks_at h i.place)
+
+-- what a rank keeps once it has learnt another one at a higher incarnation. What it was told stays
+abbrev pub learned : State → ContextsState → (rank incarnation : ℕ) → State
+learned s h r incarnation = if is_ended r incarnation h s.present then record s { present = None } else s
+
+-- with what the present collective ends by a lesson, where it does
+abbrev pub lesson_ending : State → ContextsState → (rank incarnation : ℕ) → Option Ending
+lesson_ending s h r incarnation = if is_ended r incarnation h s.present then Some Replaced else None
+
+-- ---- messages
+
+-- what a message is judged by: what the rank keeps once the lesson is learnt that the message teaches, if any
+abbrev pub met : State → ContextsState → (lesson : Option Endpoint) → State
+met s h None = s
+met s h (Some source) = learned s h source.rank source.incarnation
+
+-- what a message that came answers and leaves
+abbrev pub MessageGives : State → ContextsState → Note → Result (Option Ending × Prepared) Refused → State → ContextsState → Type 0
+MessageGives s h n (Ok answer) t k =
+    IsPrepared s.own (noted s n).present h (noted s n).kept answer.1
+    × (answer.0 ≡ ending_of h answer.1.outcome)
+    × (t ≡ after_step (noted s n) answer.1.outcome)
+    × (k ≡ contexts_after h answer.1.drawn answer.1.outcome)
+MessageGives s h n (Err refusals.OutOfMemory) t k = (t ≡ s) × (k ≡ h)
+MessageGives s h n (Err refusals.Limit) t k =
+    (step : Prepared) × IsPrepared s.own (noted s n).present h (noted s n).kept step × MeetsLimit h step × (t ≡ s) × (k ≡ h)
+MessageGives s h n (Err _) t k = ⊥
+
+-- what is kept of what came: nothing where its collective was left
+abbrev pub note_kept : State → Option Note → Option Note
+note_kept s None = None
+note_kept s (Some n) = if is_left s n then None else Some n
+
+-- the rank keeps one more note, or none
+abbrev pub with_note : State → Option Note → State
+with_note s None = s
+with_note s (Some n) = record s { kept = s.kept ++ n ∷ [] }
+
+-- what was made ready for a message: what is kept of it, and what the rank then does of itself
+abbrev pub IsReady : State → ContextsState → Address → PayloadText → ReadyMessage → Type 0
+IsReady s h a p ready =
+    (came : Option Note) × ArrivalGives a.sender a.context a.number p (Ok came)
+    × (ready.note ≡ note_kept s came)
+    × IsPrepared s.own s.present h (with_note s ready.note).kept ready.step

@@ -1,0 +1,27 @@
+//! The collectives of a rank: the one that it is in, and what others have told it of those to come.
+//!
+//! MPI 3.1, 5.1: the members of a communicator enter its collectives in turn, and the first of each belong together,
+//! then the second of each, and so on. Messages go in the form of a star: each member tells member 0 that it has entered,
+//! and member 0 tells each other one with what it leaves. The form of the messages is this project's own.
+#![tactic(auto)]
+
+mod collective;
+mod entry;
+mod message;
+mod note;
+mod prepare;
+mod refused;
+mod step;
+mod tally;
+mod verdict;
+mod ways;
+
+pub use collective::{Address, Collective, ReadyEntry, ReadyMessage};
+pub use entry::{Entry, Inside};
+pub use message::{Given, Message};
+pub use note::{Note, Said};
+pub use refused::Refused;
+pub use step::{Ending, Outcome, Step};
+pub use tally::Tally;
+pub use verdict::{Verdict, judge};
+pub use ways::Ways;
