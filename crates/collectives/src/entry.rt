@@ -33,7 +33,7 @@ pub struct Inside {
 
 impl Entry {
     /// The record that all members have to agree on.
-    pub fn record(self) -> Record
+    pub(crate) fn record(self) -> Record
         ensures { result ≡ record_of self }
     {
         match self {
@@ -44,7 +44,7 @@ impl Entry {
     }
 
     /// Whether a record agrees with what the rank entered.
-    pub fn agrees(self, other: Record) -> bool
+    pub(crate) fn agrees(self, other: Record) -> bool
         ensures { result ≡ agrees self other }
     {
         match self {
@@ -55,7 +55,7 @@ impl Entry {
     }
 
     /// Whether the collective makes communicators.
-    pub fn is_making(self) -> bool
+    pub(crate) fn is_making(self) -> bool
         ensures { result ≡ is_making self }
     {
         match self {
@@ -65,7 +65,7 @@ impl Entry {
     }
 
     /// What the rank asks for in a split; in the other collectives nothing.
-    pub fn choice(self) -> Choice
+    pub(crate) fn choice(self) -> Choice
         ensures { result ≡ own_choice self }
     {
         match self {

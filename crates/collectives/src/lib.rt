@@ -23,5 +23,3 @@ pub use note::{Note, Said};
 pub use refused::Refused;
 pub use step::{Ending, Outcome, Step};
 pub use tally::Tally;
-pub use verdict::{Verdict, judge};
-pub use ways::Ways;

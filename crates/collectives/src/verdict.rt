@@ -96,14 +96,18 @@ pub(crate) fn is_at(own: Endpoint, incarnation: u16, ranks: &[u16], place: u32) 
     }
 }
 
-/// What the rank in the middle does, by whether all have entered.
-fn judge_inside(ways: Ways, all_entered: bool) -> Verdict
-    ensures { result ≡ verdict_inside ways all_entered }
+/// What the rank in the middle does: where it waits for others it stays until all have entered.
+fn judge_inside(own: Endpoint, inside: Inside, ways: Ways, ranks: &[u16], notes: &[Note]) -> Verdict
+    ensures { result ≡ verdict_inside ways (have_entered own inside.incarnation inside.context inside.number notes.now ranks.now) }
 {
     match ways {
         Ways::Outwards => Verdict::Decides,
-        Ways::Inwards | Ways::Both if all_entered => Verdict::Decides,
-        Ways::Inwards | Ways::Both => Verdict::Stays,
+        Ways::Inwards | Ways::Both => {
+            if have_entered(own, inside, notes, ranks) {
+                return Verdict::Decides;
+            }
+            Verdict::Stays
+        }
     }
 }
 
@@ -121,7 +125,7 @@ fn judge_outside(ways: Ways, told: Option<usize>) -> Verdict
 /// What the rank at `own` does that is in a collective among these ranks: it leaves with 12 where a note of it speaks of a
 /// difference; in the middle of the star it leaves once all have entered, and elsewhere once it was told with what. Nobody
 /// waits for messages that go the other way alone.
-pub fn judge(own: Endpoint, inside: Inside, ranks: &[u16], notes: &[Note]) -> Verdict
+pub(crate) fn judge(own: Endpoint, inside: Inside, ranks: &[u16], notes: &[Note]) -> Verdict
     ensures { result ≡ verdict own inside ranks.now notes.now }
 {
     if differs_in(notes, inside.context, inside.number, inside.entry) {
@@ -129,7 +133,7 @@ pub fn judge(own: Endpoint, inside: Inside, ranks: &[u16], notes: &[Note]) -> Ve
     }
     let entered = inside.entry.record();
     if is_at(own, inside.incarnation, ranks, root_of(entered)) {
-        return judge_inside(ways_of(entered), have_entered(own, inside, notes, ranks));
+        return judge_inside(own, inside, ways_of(entered), ranks, notes);
     }
     let told = result_place(notes, inside.context, inside.number);
     judge_outside(ways_of(entered), told)
