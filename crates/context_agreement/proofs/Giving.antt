@@ -1,5 +1,5 @@
 -- Lemmas on the contexts that calls give.
-use Rattle.std.proofs.Common.{◌≡◌, ◌≢◌, ℕ, ◌+◌, ◌<◌, ◌≤◌, List, [], ◌∷◌, Ok, Err, sym, ◌∙◌, ap, arith, get_or}
+use Rattle.std.proofs.Common.{◌≡◌, ◌≢◌, ℕ, zero, suc, ◌+◌, ◌^◌, ◌<◌, ◌≤◌, List, [], ◌∷◌, Ok, Err, refl, sym, ◌∙◌, ap, arith, get_or}
 use Rattle.std.specs.List.{All}
 use Rattle.std.proofs.lemmas.List.Elements.{All-nil, All-cons, All-weaker}
 use Rattle.std.proofs.lemmas.List.Kept.{AllPairs-cons}
@@ -7,8 +7,8 @@ use Rattle.std.specs.List.{range_with_len}
 use Rattle.context_agreement.specs.declared.communicator.Communicator.{Communicator}
 use Rattle.context_agreement.specs.declared.context.Context.{Context}
 use Rattle.context_agreement.specs.declared.refused.Refused.TheVariants.{Limit, OutOfMemory}
-use Rattle.context_agreement.specs.Communicators.{ContextsState, opening, world_and_self}
-use Rattle.context_agreement.specs.GivenOnce.{asked, installed, given, AreGivenOnce, NoneTwice, NoneOfTwo, NoneOfTheFirst}
+use Rattle.context_agreement.specs.Communicators.{ContextsState, after_draw, coming_context, opening, world_and_self}
+use Rattle.context_agreement.specs.GivenOnce.{asked, installed, given, AreGivenOnce, IsRun, NoneTwice, NoneOfTwo, NoneOfTheFirst, DrawsAreAsked, asked_often, coming_from, final_state}
 
 -- what is given from a later state of the same creator is given from an earlier one
 from_later : (s t : ContextsState) (contexts : List Context) → t.rank ≡ s.rank → t.incarnation ≡ s.incarnation
@@ -87,3 +87,27 @@ none_of_the_first rank incarnation size run is r i n = λ k d k<len.
         (apart_by_serial c world (omega arith))
         (All-cons (λ (held : Communicator). c ≢ held.context) (record { context = own; group = r ∷ [] }) []
         (apart_by_serial c own (omega arith)) (All-nil (λ (held : Communicator). c ≢ held.context)))
+
+-- what comes once one context was given came before it one later
+coming_later : (s : ContextsState) (further count : ℕ) → coming_from (after_draw s 1) further count ≡ coming_from s (suc further) count
+coming_later s further zero = refl
+coming_later s further (suc count) =
+    let serial : s.next_serial + 1 + further ≡ s.next_serial + suc further = omega arith in
+    let context : coming_context (after_draw s 1) further ≡ coming_context s (suc further) =
+    ap (λ n. record { rank = s.rank; incarnation = s.incarnation; serial = n }) serial in
+    rw (context, coming_later s (suc further) count) refl
+
+-- to draw is to ask
+pub draws_are_asked : DrawsAreAsked
+draws_are_asked s zero few =
+    let same : s.next_serial ≡ s.next_serial + 0 = omega arith in
+    (tt, ap (λ n. record s { next_serial = n }) same, refl)
+draws_are_asked s (suc count) few =
+    let rest = draws_are_asked (after_draw s 1) count (omega (arith, few)) in
+    let sum : s.next_serial + 1 + count ≡ s.next_serial + suc count = omega arith in
+    let first : coming_context s 0 ≡ record { rank = s.rank; incarnation = s.incarnation; serial = s.next_serial } =
+    ap (λ n. record { rank = s.rank; incarnation = s.incarnation; serial = n }) (omega arith) in (
+      ((omega (arith, few), refl, refl), rest.0),
+      rest.1 ∙ ap (λ n. record s { next_serial = n }) sum,
+      rw (first, rest.2, coming_later s 0 count) refl,
+    )

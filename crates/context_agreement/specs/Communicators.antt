@@ -1,5 +1,5 @@
 -- The communicators that a rank holds, and the contexts that it gives.
-use Rattle.std.specs.Prelude.{◌≡◌, ℕ, ◌+◌, ◌^◌, ◌<◌, ◌==◌, ◌&&◌, Bool, List, [], ◌∷◌, ◌++◌, length, position, Option, Result, Ok, Err, option_map, find}
+use Rattle.std.specs.Prelude.{◌≡◌, ℕ, ◌+◌, ◌^◌, ◌<◌, ◌==◌, ◌&&◌, Bool, List, [], ◌∷◌, ◌++◌, length, position, Option, Some, None, Result, Ok, Err, option_map, find, nat_lt, if◌then◌else◌}
 use Rattle.std.specs.List.{range_with_len}
 use Rattle.context_agreement.specs.declared.context.Context.{Context}
 use Rattle.context_agreement.specs.declared.communicator.Communicator.{Communicator}
@@ -14,6 +14,11 @@ pub record ContextsState : Type 0 where
   pub incarnation : ℕ
   pub next_serial : ℕ
   pub held : List Communicator
+
+-- the same, and for how many more communicators there is memory
+pub record Held : Type 0 where
+  pub state : ContextsState
+  pub more : ℕ
 
 -- world, and self, of a rank of a world of this size
 abbrev pub world_and_self : ℕ → ℕ → ℕ → List Communicator
@@ -40,6 +45,20 @@ opening rank incarnation size = record {
 -- the context that is given next
 abbrev pub next_context : ContextsState → Context
 next_context s = record { rank = s.rank; incarnation = s.incarnation; serial = s.next_serial }
+
+-- the context that is given once so many others are
+abbrev pub coming_context : ContextsState → (further : ℕ) → Context
+coming_context s further =
+    record { rank = s.rank; incarnation = s.incarnation; serial = s.next_serial + further }
+
+-- the same, where as many contexts are left to give
+abbrev pub coming : ContextsState → (further : ℕ) → Option Context
+coming s further =
+    if nat_lt (s.next_serial + further) (2 ^ 32) then Some (coming_context s further) else None
+
+-- the state once so many contexts were given
+abbrev pub after_draw : ContextsState → (count : ℕ) → ContextsState
+after_draw s count = record s { next_serial = s.next_serial + count }
 
 -- what a call for a context answers and leaves
 abbrev pub NextGives : ContextsState → Result Context Refused → ContextsState → Type 0

@@ -1,9 +1,9 @@
 -- No context is given twice: a law over whole lists of calls.
-use Rattle.std.specs.Prelude.{◌≡◌, ◌≢◌, ℕ, ◌<◌, ◌≤◌, List, [], ◌∷◌, ◌++◌, Result, Ok, Err, All, AllPairs}
+use Rattle.std.specs.Prelude.{◌≡◌, ◌≢◌, ℕ, zero, suc, ◌+◌, ◌^◌, ◌<◌, ◌≤◌, List, [], ◌∷◌, ◌++◌, Result, Ok, Err, All, AllPairs}
 use Rattle.context_agreement.specs.declared.context.Context.{Context}
 use Rattle.context_agreement.specs.declared.communicator.NotInstalled.{NotInstalled}
 use Rattle.context_agreement.specs.declared.refused.Refused.{Refused}
-use Rattle.context_agreement.specs.Communicators.{ContextsState, NextGives, InstallGives, opening, world_and_self}
+use Rattle.context_agreement.specs.Communicators.{ContextsState, NextGives, InstallGives, after_draw, coming_context, next_context, opening, world_and_self}
 
 -- a call that may change the state, with its answer: a context was asked for, or a communicator
 -- installed
@@ -60,3 +60,26 @@ NoneOfTheFirst =
     → (other_rank other_incarnation other_size : ℕ)
     → All (λ c. All (λ held. c ≢ held.context)
     (world_and_self other_rank other_incarnation other_size)) (given run)
+
+-- the contexts that come once so many others were given, in turn
+abbrev pub coming_from : ContextsState → (further count : ℕ) → List Context
+coming_from s further zero = []
+coming_from s further (suc count) = coming_context s further ∷ coming_from s (suc further) count
+
+-- so many calls for a context, each of which was answered
+abbrev pub asked_often : ContextsState → (count : ℕ) → List (Call × ContextsState)
+asked_often s zero = []
+asked_often s (suc count) = (asked (Ok (next_context s)), after_draw s 1) ∷ asked_often (after_draw s 1) count
+
+-- the state that calls leave
+abbrev pub final_state : ContextsState → List (Call × ContextsState) → ContextsState
+final_state s [] = s
+final_state s (e ∷ es) = final_state e.1 es
+
+-- to draw several contexts is to ask for as many, one after another: those that were to come are given
+abbrev pub DrawsAreAsked : Type 0
+DrawsAreAsked =
+    (s : ContextsState) (count : ℕ) → s.next_serial + count ≤ 2 ^ 32
+    → IsRun s (asked_often s count)
+    × (final_state s (asked_often s count) ≡ after_draw s count)
+    × (given (asked_often s count) ≡ coming_from s 0 count)

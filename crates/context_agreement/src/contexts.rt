@@ -1,8 +1,8 @@
 //! The communicators of a rank, and the contexts that it gives.
 
-ghost use Rattle.std.specs.Prelude.{◌≡◌, ◌+◌, ◌^◌, ◌↔◌, position, find, length, slice_get, IsTrue, IfOk, IsOkUnless};
+ghost use Rattle.std.specs.Prelude.{◌≡◌, ◌<◌, ◌≤◌, ◌+◌, ◌^◌, ◌↔◌, position, find, length, slice_get, IsTrue, IfOk, OnOk, IsOkUnless};
 ghost use Rattle.std.specs.Option.{option_copied};
-ghost use Rattle.context_agreement.specs.Communicators.{opening, NextGives, InstallGives, is_same, place_of, group_of};
+ghost use Rattle.context_agreement.specs.Communicators.{opening, coming, NextGives, InstallGives, after_draw, after_install, is_same, place_of, group_of};
 
 use crate::communicator::{Communicator, NotInstalled};
 use crate::context::Context;
@@ -32,16 +32,19 @@ pub struct Contexts {
 }
 
 impl Model for Contexts {
-    ghost use Rattle.std.specs.Prelude.{◌≤◌, ◌^◌, length};
-    ghost use Rattle.context_agreement.specs.Communicators.{ContextsState};
+    ghost use Rattle.std.specs.Prelude.{◌≤◌, ◌^◌, ◌-◌, length, vec_len, vec_capacity};
+    ghost use Rattle.context_agreement.specs.Communicators.{Held};
 
-    ghost Value = { ContextsState };
+    ghost Value = { Held };
 
     ghost view = { λ c. record {
-      rank = c.rank;
-      incarnation = c.incarnation;
-      next_serial = c.next_serial;
-      held = c.held.items;
+      state = record {
+        rank = c.rank;
+        incarnation = c.incarnation;
+        next_serial = c.next_serial;
+        held = c.held.items;
+      };
+      more = vec_capacity c.held - vec_len c.held;
     } };
 
     ghost invariant = { λ c. (c.next_serial ≤ 2 ^ 32) × (length c.held.items ≤ 4096) };
@@ -51,7 +54,7 @@ impl Contexts {
     /// The contexts of a rank at an incarnation, in a world of this many ranks: it holds `world` at
     /// place 0 and `self` at place 1.
     pub fn new(alloc: Global, rank: u16, incarnation: u16, size: u16) -> Result<Self, Refused>
-        ensures ok { IfOk result (λ contexts. contexts ≡ opening rank incarnation size) }
+        ensures ok { IfOk result (λ contexts. contexts.state ≡ opening rank incarnation size) }
         ensures err { IsOkUnless result Refused.OutOfMemory }
     {
         let Ok(group) = Group::of_first_ranks(alloc, size) else {
@@ -82,7 +85,8 @@ impl Contexts {
     /// Gives a context that was never given before. `Refused::Limit` comes where no serial is left.
     /// It takes no memory.
     pub fn next(&mut self) -> Result<Context, Refused>
-        ensures exact { NextGives self.old result self.new }
+        ensures exact { NextGives self.old.state result self.new.state }
+        ensures more { self.new.more ≡ self.old.more }
     {
         if self.next_serial == END_OF_SERIALS {
             return Err(Refused::Limit);
@@ -98,14 +102,14 @@ impl Contexts {
 
     /// How many contexts are left to give.
     pub fn serials_left(&self) -> u64
-        ensures { result + self.now.next_serial ≡ 2 ^ 32 }
+        ensures { result + self.now.state.next_serial ≡ 2 ^ 32 }
     {
         END_OF_SERIALS - self.next_serial
     }
 
     /// Whether the rank holds as many communicators as it may.
     pub fn is_full(&self) -> bool
-        ensures { IsTrue result ↔ (length self.now.held ≡ 4096) }
+        ensures { IsTrue result ↔ (length self.now.state.held ≡ 4096) }
     {
         self.communicator_count() == MOST_COMMUNICATORS
     }
@@ -114,7 +118,7 @@ impl Contexts {
     /// `Refused::Limit` comes where the rank holds as many as it may; a refusal hands the group
     /// back.
     pub fn install(&mut self, context: Context, group: Group) -> Result<usize, NotInstalled>
-        ensures exact { InstallGives self.old context group result self.new }
+        ensures exact { InstallGives self.old.state context group result self.new.state }
     {
         let place = self.held.len();
         if place == MOST_COMMUNICATORS {
@@ -132,23 +136,70 @@ impl Contexts {
         }
     }
 
+    /// Makes room for one more communicator, or finds that there is no memory. Nothing else changes.
+    pub fn reserve(&mut self) -> Result<(), Refused>
+        ensures room { OnOk result (0 < self.new.more) }
+        ensures kept { self.new.state ≡ self.old.state }
+        ensures err { IsOkUnless result Refused.OutOfMemory }
+    {
+        self.held.reserve(1).map_err(|_| Refused::OutOfMemory)
+    }
+
+    /// The context that is given once `further` others are, where as many are left to give. It takes
+    /// no memory.
+    pub fn coming(&self, further: u32) -> Option<Context>
+        ensures { result ≡ coming self.now.state further }
+    {
+        let serial = self.next_serial + u64::from(further);
+        if serial >= END_OF_SERIALS {
+            return None;
+        }
+        Some(Context {
+            rank: self.rank,
+            incarnation: self.incarnation,
+            serial: serial as u32,
+        })
+    }
+
+    /// Gives the next contexts, as many as `count`: those that `coming` shows from 0 on.
+    pub fn draw(&mut self, count: u32)
+        requires { self.old.state.next_serial + count ≤ 2 ^ 32 }
+        ensures state { self.new.state ≡ after_draw self.old.state count }
+        ensures more { self.new.more ≡ self.old.more }
+    {
+        self.next_serial += u64::from(count);
+    }
+
+    /// Takes a communicator in for which there is room, behind those that the rank holds, and
+    /// answers its place. It takes no memory.
+    pub fn install_reserved(&mut self, communicator: Communicator) -> usize
+        requires room { 0 < self.old.more }
+        requires few { length self.old.state.held < 4096 }
+        ensures place { result ≡ length self.old.state.held }
+        ensures state { self.new.state ≡ after_install self.old.state communicator }
+    {
+        let place = self.held.len();
+        self.held.push(communicator).unwrap();
+        place
+    }
+
     /// How many communicators the rank holds.
     pub fn communicator_count(&self) -> usize
-        ensures { result ≡ length self.now.held }
+        ensures { result ≡ length self.now.state.held }
     {
         self.held.len()
     }
 
     /// The communicator at a place, where there is one.
     pub fn communicator(&self, place: usize) -> Option<&Communicator>
-        ensures { option_copied result ≡ slice_get self.now.held place }
+        ensures { option_copied result ≡ slice_get self.now.state.held place }
     {
         self.held.get(place)
     }
 
     /// The place of the communicator with this context, where the rank holds it.
     pub fn place_of(&self, context: Context) -> Option<usize>
-        ensures { result ≡ place_of self.now context }
+        ensures { result ≡ place_of self.now.state context }
     {
         first_place(&self.held, context)
     }
@@ -156,7 +207,7 @@ impl Contexts {
     /// The group of the communicator with this context, where the rank holds it. It takes no
     /// memory.
     pub fn group_of(&self, context: Context) -> Option<&Group>
-        ensures { option_copied result ≡ group_of self.now context }
+        ensures { option_copied result ≡ group_of self.now.state context }
     {
         match first_with(&self.held, context) {
             Some(communicator) => Some(&communicator.group),

@@ -1,6 +1,6 @@
 //! The worked contexts and splits, and each call with ample memory.
 
-use context_agreement::{Context, Contexts, Part, SplitRow, split_plan};
+use context_agreement::{Communicator, Context, Contexts, Part, SplitRow, split_plan};
 use groups::Group;
 use std::alloc::Global;
 
@@ -112,6 +112,67 @@ fn communicators_have_places_in_order(rt: HostRuntime) {
     assert_eq!(rt;
         install_one(rt.alloc(), &mut contexts),
         (Ok(2), [Some(2), None], true)
+    );
+}
+
+/// The number of the context that is given once so many others are.
+fn coming(contexts: &Contexts, further: u32) -> Option<u64> {
+    match contexts.coming(further) {
+        Some(context) => Some(context.number()),
+        None => None,
+    }
+}
+
+/// Two contexts that are to come, and then what is given next once two were drawn.
+fn show_two_and_draw(contexts: &mut Contexts) -> ([Option<u64>; 2], Option<u64>) {
+    let shown = [coming(contexts, 0), coming(contexts, 1)];
+    contexts.draw(2);
+    (shown, next(contexts))
+}
+
+#[test]
+fn drawn_contexts_are_those_that_were_to_come(rt: HostRuntime) {
+    let mut contexts = Contexts::new(rt.alloc(), 2, 0, 4).expect(&rt, "contexts");
+    let shown = [Some(0x0002_0000_0000_0002), Some(0x0002_0000_0000_0003)];
+    assert_eq!(rt;
+        show_two_and_draw(&mut contexts),
+        (shown, Some(0x0002_0000_0000_0004))
+    );
+}
+
+/// The last context, what comes behind it, and how many are left once all were drawn.
+fn draw_all(contexts: &mut Contexts) -> ([Option<u64>; 2], u64) {
+    let shown = [coming(contexts, 0xffff_fffd), coming(contexts, 0xffff_fffe)];
+    contexts.draw(0xffff_fffe);
+    (shown, contexts.serials_left())
+}
+
+#[test]
+fn the_last_context_has_the_last_serial(rt: HostRuntime) {
+    let mut contexts = Contexts::new(rt.alloc(), 2, 0, 4).expect(&rt, "contexts");
+    assert_eq!(rt;
+        draw_all(&mut contexts),
+        ([Some(0x0002_0000_ffff_ffff), None], 0)
+    );
+}
+
+/// The place of a communicator for which room was made, and whether it is there with its group.
+fn install_with_room(alloc: Global, contexts: &mut Contexts) -> Option<(usize, bool)> {
+    if contexts.reserve().is_err() {
+        return None;
+    }
+    let context = Context::from_number(4);
+    let group = Group::of_rank(alloc, 7);
+    let place = contexts.install_reserved(Communicator { context, group });
+    Some((place, has_group(contexts, context, &[7])))
+}
+
+#[test]
+fn a_communicator_is_installed_where_room_was_made(rt: HostRuntime) {
+    let mut contexts = Contexts::new(rt.alloc(), 2, 0, 4).expect(&rt, "contexts");
+    assert_eq!(rt;
+        install_with_room(rt.alloc(), &mut contexts),
+        Some((2, true))
     );
 }
 

@@ -1,5 +1,5 @@
 -- The law, by induction on the calls.
-use Rattle.context_agreement.proofs.Giving.{none_twice, none_of_two, none_of_the_first}
+use Rattle.context_agreement.proofs.Giving.{none_twice, none_of_two, none_of_the_first, draws_are_asked}
 use Rattle.context_agreement.proofs.given_once.contexts_are_given_once.Goals as goal
 
 pub returns-clause-none_twice : goal.returns-clause-none_twice
@@ -10,3 +10,6 @@ returns-clause-none_of_two c = none_of_two
 
 pub returns-clause-none_of_the_first : goal.returns-clause-none_of_the_first
 returns-clause-none_of_the_first c = none_of_the_first
+
+pub returns-clause-draws_are_asked : goal.returns-clause-draws_are_asked
+returns-clause-draws_are_asked c = draws_are_asked
