@@ -9,6 +9,7 @@ mod address;
 mod arriving;
 mod collective;
 mod entry;
+mod limits;
 mod message;
 mod note;
 mod prepare;
