@@ -43,6 +43,13 @@ BringsACopy (ElementsText way bytes) = Unit {0}
 BringsACopy (GroupText c bytes) = Unit {0}
 BringsACopy _ = ⊥
 
+-- what the part of a message that fits says, where its group names no rank twice; want of memory comes only where it is copied
+abbrev pub SaidGives : Record → PartText → Result (Option Said) Refused → Type 0
+SaidGives r p (Ok (Some s)) = NamesOnce p × (said_of r p ≡ Some s)
+SaidGives r p (Ok None) = NamesOnce p → ⊥
+SaidGives r p (Err refusals.OutOfMemory) = BringsACopy p
+SaidGives r p (Err _) = ⊥
+
 -- What is made of a message: a note; nothing where its group names a rank twice, so that it stands for no communicator; a
 -- refusal for want of memory for what has to be copied, or where its part doesn't fit its record
 abbrev pub ArrivalGives : Endpoint → (context number : ℕ) → PayloadText → Result (Option Note) Refused → Type 0

@@ -8,13 +8,14 @@ use Rattle.collectives.specs.State.{State, is_left, members_incarnation, noted, 
 use Rattle.collectives.specs.Steps.{IsPrepared, IsPreparedEntry, MeetsLimit, Prepared, after_step, contexts_after, ending_of}
 use Rattle.collectives.specs.Tallies.{count_in, raised}
 use Rattle.collectives.specs.Verdicts.{is_first}
-use Rattle.collectives.specs.declared.collective.Address.{Address}
+use Rattle.collectives.specs.declared.address.Address.{Address}
 use Rattle.collectives.specs.declared.collective.ReadyMessage.{ReadyMessage}
 use Rattle.collectives.specs.declared.entry.Entry.{Entry}
 use Rattle.collectives.specs.declared.entry.Inside.{Inside}
 use Rattle.collectives.specs.declared.note.Note.{Note}
 use Rattle.collectives.specs.declared.refused.Refused.{Refused}
 use Rattle.collectives.specs.declared.refused.Refused.TheVariants as refusals
+use Rattle.collectives.specs.declared.tally.Tally.{Tally}
 use Rattle.collectives.specs.declared.step.Ending.{Ending}
 use Rattle.collectives.specs.declared.step.Ending.TheVariants.{Replaced}
 use Rattle.context_agreement.specs.Communicators.{ContextsState}
@@ -40,15 +41,15 @@ is_making_limited own h e incarnation ranks =
     is_making e && ((length h.held == 4096) || lacks_contexts own h incarnation ranks)
 
 -- whether entering a collective of a communicator meets a limit
-abbrev pub is_limited : State → ContextsState → Communicator → Entry → Bool
-is_limited s h c e =
-    nat_le most_collectives (count_in s.tallies (number_of c.context)) ||
-    is_making_limited s.own h e (members_incarnation s.own (number_of c.context)) c.group
+abbrev pub is_limited : (own : Endpoint) → List Tally → ContextsState → Communicator → Entry → Bool
+is_limited own tallies h c e =
+    nat_le most_collectives (count_in tallies (number_of c.context)) ||
+    is_making_limited own h e (members_incarnation own (number_of c.context)) c.group
 
 -- the rule that entering a collective of a communicator breaks, where it is held
 abbrev pub fault_on : State → ContextsState → Option Communicator → Entry → Option Refused
 fault_on s h None e = Some refusals.NoCommunicator
-fault_on s h (Some c) e = if is_limited s h c e then Some refusals.Limit else None
+fault_on s h (Some c) e = if is_limited s.own s.tallies h c e then Some refusals.Limit else None
 
 -- the first rule that entering breaks: 6 while the rank is in a collective, 4, 13
 abbrev pub entry_fault : State → ContextsState → (place : ℕ) → Entry → Option Refused
@@ -130,10 +131,14 @@ abbrev pub note_kept : State → Option Note → Option Note
 note_kept s None = None
 note_kept s (Some n) = if is_left s n then None else Some n
 
+-- one more note behind the others, or none
+abbrev pub kept_with : List Note → Option Note → List Note
+kept_with notes None = notes
+kept_with notes (Some n) = notes ++ n ∷ []
+
 -- the rank keeps one more note, or none
 abbrev pub with_note : State → Option Note → State
-with_note s None = s
-with_note s (Some n) = record s { kept = s.kept ++ n ∷ [] }
+with_note s note = record s { kept = kept_with s.kept note }
 
 -- what was made ready for a message: what is kept of it, and what the rank then does of itself
 abbrev pub IsReady : State → ContextsState → Address → PayloadText → ReadyMessage → Type 0

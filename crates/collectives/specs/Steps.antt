@@ -1,6 +1,6 @@
 -- What a rank does of itself that is in a collective: what becomes of it, which contexts it gives, and whom it tells what
 -- (MPI 3.1, 5.3 and 6.4.2).
-use Rattle.std.specs.Prelude.{◌≡◌, ◌<◌, ℕ, suc, ◌+◌, ◌^◌, Bool, true, false, List, [], ◌∷◌, ◌++◌, length, map, find, ◌⊎◌, Option, Some, None, slice_get, slice_index_or, if◌then◌else◌}
+use Rattle.std.specs.Prelude.{◌≡◌, ◌<◌, ◌≤◌, ℕ, suc, ◌+◌, ◌^◌, Bool, true, false, List, [], ◌∷◌, ◌++◌, length, map, find, ◌⊎◌, Option, Some, None, slice_get, slice_index_or, if◌then◌else◌}
 use Rattle.collectives.specs.Entering.{own_choice, record_of}
 use Rattle.collectives.specs.Notes.{choice_known, found_in, member_at, without}
 use Rattle.collectives.specs.State.{State, ranks_at}
@@ -198,7 +198,7 @@ IsPreparedEntry own i h notes step =
 
 -- a step is refused for a limit only where its communicator can't be held, or where fewer contexts are left than it gives
 abbrev pub MeetsLimit : ContextsState → Prepared → Type 0
-MeetsLimit h step = ((length h.held ≡ 4096) × (c : Communicator) × (step.outcome ≡ Gets c)) ⊎ (2 ^ 32 < h.next_serial + step.drawn)
+MeetsLimit h step = ((4096 ≤ length h.held) × (c : Communicator) × (step.outcome ≡ Gets c)) ⊎ (2 ^ 32 < h.next_serial + step.drawn)
 
 -- ---- what a step leaves
 

@@ -3,10 +3,20 @@
 //! Each event goes in two steps, so that what carries messages may refuse it in between: what it needs is made ready, which
 //! changes nothing but room, and then it is carried out, which can't fail.
 
-use crate::entry::Inside;
+ghost use Rattle.std.specs.Prelude.{◌≡◌, ◌<◌, ◌≤◌, ◌+◌, ◌^◌, [], if◌then◌else◌, is_some, vec_len, vec_capacity};
+ghost use Rattle.collectives.specs.Calls.{entered, entry_fault, inside_of, is_ended, kept_with, learned, lesson_ending, met, most_collectives, with_note};
+ghost use Rattle.collectives.specs.Tallies.{count_in};
+ghost use Rattle.collectives.specs.State.{is_left, opening};
+ghost use Rattle.collectives.specs.Steps.{MeetsLimit, after_step, contexts_after, ending_of, left};
+
+use crate::entry::{Entry, Inside};
+use crate::limits::{has_former, is_limited, members_incarnation};
 use crate::note::Note;
-use crate::step::Step;
-use crate::tally::Tally;
+use crate::refused::Refused;
+use crate::step::{Ending, Outcome, Step};
+use crate::tally::{self, Tally};
+use crate::verdict::drop_notes;
+use context_agreement::Contexts;
 use std::alloc::Global;
 use std::marker::Model;
 use vocabulary::Endpoint;
@@ -14,11 +24,11 @@ use vocabulary::Endpoint;
 /// The collective that a rank is in, and what it was told of those that it has not left.
 #[derive(Drop)]
 pub struct Collective {
-    alloc: Global,
-    own: Endpoint,
-    present: Option<Inside>,
-    tallies: Vec<Tally>,
-    kept: Vec<Note>,
+    pub(crate) alloc: Global,
+    pub(crate) own: Endpoint,
+    pub(crate) present: Option<Inside>,
+    pub(crate) tallies: Vec<Tally>,
+    pub(crate) kept: Vec<Note>,
 }
 
 impl Model for Collective {
@@ -34,27 +44,213 @@ impl Model for Collective {
     } };
 }
 
-/// Of which collective a message is, and who sent it.
-#[derive(Clone, Copy, Debug, PartialEq, Eq)]
-pub struct Address {
-    /// Who sent it.
-    pub sender: Endpoint,
-    /// The number of the context of the communicator.
-    pub context: u64,
-    /// The number of the collective on the communicator: the tag of the message.
-    pub number: u32,
-}
-
 /// An entry that was made ready.
 #[derive(Debug, Drop)]
 pub struct ReadyEntry {
-    inside: Inside,
-    step: Step,
+    pub(crate) inside: Inside,
+    pub(crate) step: Step,
 }
 
 /// A message that was made ready: what is kept of it, where it isn't dropped, and what the rank then does of itself.
 #[derive(Debug, Drop)]
 pub struct ReadyMessage {
-    note: Option<Note>,
-    step: Step,
+    pub(crate) note: Option<Note>,
+    pub(crate) step: Step,
+}
+
+impl Collective {
+    /// That of an endpoint that was just started. It takes no memory.
+    pub fn new(alloc: Global, own: Endpoint) -> Self
+        ensures { result.state ≡ opening own }
+    {
+        Collective {
+            alloc,
+            own,
+            present: None,
+            tallies: Vec::new(alloc),
+            kept: Vec::new(alloc),
+        }
+    }
+
+    /// The collective that the rank is in.
+    pub fn present(&self) -> Option<Inside>
+        ensures { result ≡ self.now.state.present }
+    {
+        self.present
+    }
+
+    /// The first rule that entering would break now, of 6 (the rank is in a collective), 4 (no communicator is held at the
+    /// place) and 13 (2,147,483,647 collectives were entered on the communicator; for a copy or a split 4,096 communicators
+    /// are held, or at member 0 fewer contexts are left to give than there are members). It takes no memory.
+    pub fn fault_of(&self, contexts: &Contexts, place: usize, entry: Entry) -> Option<Refused>
+        ensures { result ≡ entry_fault self.now.state contexts.now.state place entry }
+    {
+        if self.present.is_some() {
+            return Some(Refused::Blocked);
+        }
+        let Some(communicator) = contexts.communicator(place) else {
+            return Some(Refused::NoCommunicator);
+        };
+        if is_limited(self.own, &self.tallies, contexts, communicator, entry) {
+            return Some(Refused::Limit);
+        }
+        None
+    }
+
+    /// What the rank is in once it has entered.
+    pub(crate) fn inside_of(&self, contexts: &Contexts, place: usize, entry: Entry) -> Inside
+        ensures { result ≡ inside_of self.now.state contexts.now.state place entry }
+    {
+        let context = match contexts.communicator(place) {
+            Some(communicator) => communicator.context.number(),
+            None => 0,
+        };
+        Inside {
+            place,
+            context,
+            incarnation: members_incarnation(self.own, context),
+            number: tally::count_in(&self.tallies, context),
+            entry,
+        }
+    }
+
+    /// Enters: nothing can fail. The ending is answered where the collective is left at once.
+    pub fn enter(&mut self, contexts: &mut Contexts, ready: ReadyEntry) -> Option<Ending>
+        requires room { 0 < self.old.more_tallies }
+        requires held { 0 < contexts.old.more }
+        requires number { count_in self.old.state.tallies ready.inside.context < most_collectives }
+        requires limits { MeetsLimit contexts.old.state ready.step → ⊥ }
+        ensures state { self.new.state ≡ after_step (entered self.old.state ready.inside) ready.step.outcome }
+        ensures contexts { contexts.new.state ≡ contexts_after contexts.old.state ready.step.drawn ready.step.outcome }
+        ensures ending { result ≡ ending_of contexts.old.state ready.step.outcome }
+    {
+        tally::raise(&mut self.tallies, ready.inside.context);
+        self.present = Some(ready.inside);
+        self.take(contexts, ready.step)
+    }
+
+    /// The collective that the rank is in once a lesson is learnt: a message is judged by it, since the lesson that it teaches
+    /// comes first.
+    pub(crate) fn met(&self, contexts: &Contexts, lesson: Option<Endpoint>) -> Option<Inside>
+        ensures { result ≡ (met self.now.state contexts.now.state lesson).present }
+    {
+        let Some(source) = lesson else {
+            return self.present;
+        };
+        if self.is_ended(contexts, source.rank, source.incarnation) {
+            return None;
+        }
+        self.present
+    }
+
+    /// Whether a lesson ends the collective that the rank is in: it has a former one of the rank among its members.
+    fn is_ended(&self, contexts: &Contexts, rank: u16, incarnation: u16) -> bool
+        ensures { result ≡ is_ended rank incarnation contexts.now.state self.now.state.present }
+    {
+        let Some(inside) = self.present else {
+            return false;
+        };
+        let Some(communicator) = contexts.communicator(inside.place) else {
+            return false;
+        };
+        has_former(rank, incarnation, inside, communicator.group.ranks())
+    }
+
+    /// Whether a note is of a collective that was left, where the rank is in this one.
+    pub(crate) fn is_left(&self, present: Option<Inside>, note: &Note) -> bool
+        ensures { result ≡ is_left (record self.now.state { present = present }) note.now }
+    {
+        let is_present = match present {
+            Some(inside) => note.is_of(inside.context, inside.number),
+            None => false,
+        };
+        note.number < tally::count_in(&self.tallies, note.context) && !is_present
+    }
+
+    /// Takes the message in: nothing can fail. The ending is answered where the present collective is left by it.
+    pub fn on_message(&mut self, contexts: &mut Contexts, ready: ReadyMessage) -> Option<Ending>
+        requires room { 0 < self.old.more_notes }
+        requires held { 0 < contexts.old.more }
+        requires limits { MeetsLimit contexts.old.state ready.step → ⊥ }
+        ensures state { self.new.state ≡ after_step (with_note self.old.state ready.note) ready.step.outcome }
+        ensures contexts { contexts.new.state ≡ contexts_after contexts.old.state ready.step.drawn ready.step.outcome }
+        ensures ending { result ≡ ending_of contexts.old.state ready.step.outcome }
+    {
+        keep(&mut self.kept, ready.note);
+        self.take(contexts, ready.step)
+    }
+
+    /// Takes a step that was made ready: nothing can fail.
+    fn take(&mut self, contexts: &mut Contexts, step: Step) -> Option<Ending>
+        requires held { 0 < contexts.old.more }
+        requires limits { MeetsLimit contexts.old.state step → ⊥ }
+        ensures state { self.new.state ≡ after_step self.old.state step.outcome }
+        ensures contexts { contexts.new.state ≡ contexts_after contexts.old.state step.drawn step.outcome }
+        ensures ending { result ≡ ending_of contexts.old.state step.outcome }
+    {
+        let ending = take_contexts(contexts, step.outcome, step.drawn);
+        self.leave_by(ending);
+        ending
+    }
+
+    /// The rank leaves the collective that it is in where that ends: what it was told of it is dropped.
+    fn leave_by(&mut self, ending: Option<Ending>)
+        ensures { self.new.state ≡ (if is_some ending then left self.old.state else self.old.state) }
+    {
+        if ending.is_none() {
+            return;
+        }
+        if let Some(inside) = self.present {
+            drop_notes(&mut self.kept, inside.context, inside.number);
+        }
+        self.present = None;
+    }
+
+    /// A rank is known at a higher incarnation now: a collective that has a former one among its members ends with 11. It
+    /// takes no memory, and what was told is kept.
+    pub fn learn(&mut self, contexts: &Contexts, rank: u16, incarnation: u16) -> Option<Ending>
+        ensures state { self.new.state ≡ learned self.old.state contexts.now.state rank incarnation }
+        ensures ending { result ≡ lesson_ending self.old.state contexts.now.state rank incarnation }
+    {
+        if !self.is_ended(contexts, rank, incarnation) {
+            return None;
+        }
+        self.present = None;
+        Some(Ending::Replaced)
+    }
+}
+
+/// One more note is kept, or none; there is room for it.
+pub(crate) fn keep(kept: &mut Vec<Note>, note: Option<Note>)
+    requires { vec_len kept.old + 1 ≤ vec_capacity kept.old }
+    ensures { kept.new.items ≡ kept_with kept.old.items note }
+{
+    if let Some(note) = note {
+        kept.push(note).unwrap();
+    }
+}
+
+/// What a step that was made ready leaves of the communicators, and with what the collective ends by it.
+fn take_contexts(contexts: &mut Contexts, outcome: Outcome, drawn: u64) -> Option<Ending>
+    requires held { 0 < contexts.old.more }
+    requires limits { MeetsLimit contexts.old.state (record { outcome = outcome; drawn = drawn; messages = [] }) → ⊥ }
+    ensures contexts { contexts.new.state ≡ contexts_after contexts.old.state drawn outcome }
+    ensures ending { result ≡ ending_of contexts.old.state outcome }
+{
+    match outcome {
+        Outcome::Stays => None,
+        Outcome::Breaks => Some(Ending::Mismatch),
+        Outcome::Leaves => {
+            contexts.draw(drawn);
+            Some(Ending::Left)
+        }
+        Outcome::GetsNull => {
+            contexts.draw(drawn);
+            Some(Ending::Comm(None))
+        }
+        Outcome::Gets(communicator) => {
+            contexts.draw(drawn);
+            Some(Ending::Comm(Some(contexts.install_reserved(communicator))))
+        }
+    }
 }

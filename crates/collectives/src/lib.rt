@@ -5,8 +5,11 @@
 //! and member 0 tells each other one with what it leaves. The form of the messages is this project's own.
 #![tactic(auto)]
 
+mod address;
+mod arriving;
 mod collective;
 mod entry;
+mod limits;
 mod message;
 mod note;
 mod prepare;
@@ -16,7 +19,8 @@ mod tally;
 mod verdict;
 mod ways;
 
-pub use collective::{Address, Collective, ReadyEntry, ReadyMessage};
+pub use address::Address;
+pub use collective::{Collective, ReadyEntry, ReadyMessage};
 pub use entry::{Entry, Inside};
 pub use message::{Given, Message};
 pub use note::{Note, Said};

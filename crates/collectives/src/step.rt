@@ -38,7 +38,7 @@ pub enum Outcome {
 #[derive(Debug, Drop)]
 pub struct Step {
     pub(crate) outcome: Outcome,
-    pub(crate) drawn: u32,
+    pub(crate) drawn: u64,
     pub(crate) messages: Vec<Message>,
 }
 
