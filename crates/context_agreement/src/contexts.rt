@@ -107,11 +107,12 @@ impl Contexts {
         END_OF_SERIALS - self.next_serial
     }
 
-    /// Whether the rank holds as many communicators as it may.
+    /// Whether the rank holds as many communicators as it may: 4,096.
     pub fn is_full(&self) -> bool
-        ensures { IsTrue result ↔ (length self.now.state.held ≡ 4096) }
+        ensures full { IsTrue result ↔ (length self.now.state.held ≡ 4096) }
+        ensures never_more { length self.now.state.held ≤ 4096 }
     {
-        self.communicator_count() == MOST_COMMUNICATORS
+        self.held.len() == MOST_COMMUNICATORS
     }
 
     /// Takes a communicator in, behind those that the rank holds, and answers its place.
@@ -147,27 +148,26 @@ impl Contexts {
 
     /// The context that is given once `further` others are, where as many are left to give. It takes
     /// no memory.
-    pub fn coming(&self, further: u32) -> Option<Context>
+    pub fn coming(&self, further: u64) -> Option<Context>
         ensures { result ≡ coming self.now.state further }
     {
-        let serial = self.next_serial + u64::from(further);
-        if serial >= END_OF_SERIALS {
+        if further >= self.serials_left() {
             return None;
         }
         Some(Context {
             rank: self.rank,
             incarnation: self.incarnation,
-            serial: serial as u32,
+            serial: (self.next_serial + further) as u32,
         })
     }
 
     /// Gives the next contexts, as many as `count`: those that `coming` shows from 0 on.
-    pub fn draw(&mut self, count: u32)
+    pub fn draw(&mut self, count: u64)
         requires { self.old.state.next_serial + count ≤ 2 ^ 32 }
         ensures state { self.new.state ≡ after_draw self.old.state count }
         ensures more { self.new.more ≡ self.old.more }
     {
-        self.next_serial += u64::from(count);
+        self.next_serial += count;
     }
 
     /// Takes a communicator in for which there is room, behind those that the rank holds, and
