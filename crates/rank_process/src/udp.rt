@@ -1,6 +1,6 @@
 //! Datagrams over UDP on the loopback, and lines on the standard output.
 
-ghost use Rattle.std.specs.Prelude.{◌≡◌, ◌↔◌, ◌+◌, ◌<◌, ◌^◌, ◌≤◌, length, option_map, IfOk, IfSome, IsTrue};
+ghost use Rattle.std.specs.Prelude.{◌≡◌, ◌↔◌, ◌+◌, ◌<◌, ◌^◌, ◌≤◌, ◌⊎◌, length, option_map, IfOk, IfSome, IsTrue, None, Some};
 ghost use Rattle.rank_drive.specs.Exchanges.{FailsWith};
 ghost use Rattle.rank_process.specs.Acknowledgements.{CoveredBy, short_acknowledgement};
 
@@ -38,8 +38,8 @@ struct Kept {
 /// it mostly is there soon, and comes back early where none is; each later wait sleeps until a datagram comes. So a rank that
 /// nobody speaks with sleeps at once, and just as long as it is told to.
 ///
-/// An acknowledgement goes when something else is handed over, asked for or waited for behind it, and so within the same turn of
-/// the rank. Where that is a later acknowledgement of the same session, which says all that it says, it doesn't go.
+/// An acknowledgement that is sent goes when the next thing is sent, received or waited for, so at the latest when the rank's next
+/// turn begins. Where that is a later acknowledgement of the same session, which says all that it says, it is lost on purpose.
 #[derive(Drop)]
 pub struct Udp<'a, R: Print> {
     rt: &'a R,
@@ -133,6 +133,19 @@ fn takes_the_place(next: &Option<Kept>, former: &Kept) -> bool
     }
 }
 
+/// The acknowledgement that goes now, behind which this one comes, or something else: the kept one, unless this one says all that
+/// it says.
+fn going(kept: Option<Kept>, next: &Option<Kept>) -> Option<Kept>
+    ensures lost { IfSome kept (λ k. (result ≡ Some k) ⊎ CoveredBy (option_map (λ n. n.header) next.now) k.header) }
+    ensures other { (result ≡ None) ⊎ (result ≡ kept) }
+{
+    let former = kept?;
+    if takes_the_place(next, &former) {
+        return None;
+    }
+    Some(former)
+}
+
 /// Writes a line and its end.
 fn write_line<R: Print>(rt: &R, text: &mut Vec<u8>, line: &[u8]) -> io::Result<()> {
     text.clear();
@@ -193,11 +206,9 @@ impl<'a, R: Print> Udp<'a, R> {
         requires { self.old.failures + 1 < 2 ^ 64 }
         ensures { FailsWith result self.old.failures self.new.failures }
     {
-        match self.kept.take() {
-            Some(former) if !takes_the_place(next, &former) => {
-                self.carry(former.target, &former.bytes)
-            }
-            _ => Ok(()),
+        match going(self.kept.take(), next) {
+            Some(former) => self.carry(former.target, &former.bytes),
+            None => Ok(()),
         }
     }
 
