@@ -1,7 +1,7 @@
 //! The queues.
 
 ghost use Rattle.std.specs.Option.{option_copied};
-ghost use Rattle.std.specs.Prelude.{◌≡◌, ◌&&◌, ℕ, ◌≤◌, ◌<◌, not, filter, [], IfOk, OnOk, position, Some, None, is_some};
+ghost use Rattle.std.specs.Prelude.{◌≡◌, ◌&&◌, ℕ, ◌≤◌, ◌<◌, not, filter, [], IfOk, OnOk, OnErr, position, Some, None, is_some};
 ghost use Rattle.std.specs.VecDeque.{deque_len, deque_capacity};
 ghost use Rattle.vocabulary.specs.Endpoints.{is_former};
 ghost use Rattle.perfect_queues.specs.Receives.{names};
@@ -141,17 +141,19 @@ impl Queues {
         }
     }
 
-    /// Makes room for one more receive, or finds that there is no memory. Nothing else changes.
+    /// Makes room for one more receive. Where there was none, it may find that there is no memory. Nothing else changes.
     pub fn reserve_receive(&mut self) -> Result<(), OutOfMemory>
         ensures room { OnOk result (0 < self.new.receives) }
+        ensures full { OnErr result (self.old.receives ≡ 0) }
         ensures kept { self.new ≡ record self.old { receives = self.new.receives } }
     {
         self.posted.reserve(1).map_err(|_| OutOfMemory {})
     }
 
-    /// Makes room for one more message, or finds that there is no memory. Nothing else changes.
+    /// Makes room for one more message. Where there was none, it may find that there is no memory. Nothing else changes.
     pub fn reserve_message(&mut self) -> Result<(), OutOfMemory>
         ensures room { OnOk result (0 < self.new.messages) }
+        ensures full { OnErr result (self.old.messages ≡ 0) }
         ensures kept { self.new ≡ record self.old { messages = self.new.messages } }
     {
         self.unexpected.reserve(1).map_err(|_| OutOfMemory {})

@@ -1,6 +1,6 @@
 //! The pieces in which data go.
 
-ghost use Rattle.std.specs.Prelude.{◌≡◌, IfOk, IfSome, length, map, ◌<◌};
+ghost use Rattle.std.specs.Prelude.{◌≡◌, ◌*◌, ◌^◌, ◌<◌, ◌≤◌, IfOk, IfSome, None, length, map};
 ghost use Rattle.vocabulary.specs.BasicTypes.{size_of};
 ghost use Rattle.datatypes.specs.Contents.{bytes_of};
 ghost use Rattle.rendezvous.specs.Pieces.{piece_at, pieces_of, piece_count, piece_bytes};
@@ -21,7 +21,8 @@ pub struct Piece<'a> {
 /// The piece with this number, from 0; none where its place has more than 32 bits.
 fn piece_at(contents: &[u8], number: usize) -> Option<Piece<'_>>
     requires { number < piece_count piece_bytes contents.now }
-    ensures { IfSome result (λ p. (p.offset, p.bytes.now) ≡ piece_at piece_bytes contents.now number) }
+    ensures found { IfSome result (λ p. (p.offset, p.bytes.now) ≡ piece_at piece_bytes contents.now number) }
+    ensures far { result ≡ None → 2 ^ 32 ≤ number * piece_bytes }
 {
     let start = number * EAGER_LIMIT;
     let Ok(offset) = u32::try_from(start) else {

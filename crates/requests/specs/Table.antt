@@ -126,7 +126,7 @@ replaced_progress (Collecting w) = Finished (outcomes.Replaced (Some w.into.buff
 replaced_progress Offering = Finished (outcomes.Replaced None)
 replaced_progress (Finished o) = Finished o
 
--- an entry once the rank that it names was replaced
+-- an entry once the rank that it waits for was replaced
 abbrev pub replaced_entry : Entry → Entry
 replaced_entry e = record e { progress = replaced_progress e.progress }
 
@@ -135,7 +135,7 @@ abbrev pub slot_replaced : Option Entry → List (Option Entry) → (key : ℕ) 
 slot_replaced None slots key = slots
 slot_replaced (Some e) slots key = slice_set slots key (Some (replaced_entry e))
 
--- the slots once the operation under this key has ended, for the rank that it names was replaced
+-- the slots once the operation under this key has ended, for the rank that it waits for was replaced
 abbrev pub after_replace : List (Option Entry) → (key : ℕ) → List (Option Entry)
 after_replace slots key = slot_replaced (slot_at slots key) slots key
 

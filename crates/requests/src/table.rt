@@ -196,10 +196,12 @@ impl Requests {
         self.serial == u64::MAX || self.entries.len() >= MOST_REQUESTS
     }
 
-    /// Makes room for one more request: 13 (a limit) exactly where `is_full`, or else 14. It changes no request.
+    /// Makes room for one more request: 13 (a limit) exactly where `is_full`, or else 14, where there was no room. It changes
+    /// no request.
     pub fn reserve(&mut self) -> Result<(), Refused>
         ensures limit { IsErrOf result Refused.Limit ↔ IsTrue (is_full self.old.slots self.old.serial) }
         ensures room { OnOk result (HasRoom self.new) }
+        ensures full { IsErrOf result Refused.OutOfMemory → HasRoom self.old → ⊥ }
         ensures kept { self.new ≡ record self.old { capacity = self.new.capacity } }
         ensures serial { OnOk result (self.new.serial + 1 < 2 ^ 64) }
     {

@@ -15,7 +15,7 @@ loop-number-preserved c =
       cut = ap (map view) c.push_reserved.ensures.items
           ∙ map-append view c.loop-number.pieces.items (c.in-Some.piece ∷ [])
           ∙ ap (λ t. t ++ view c.in-Some.piece ∷ []) c.loop-number.invariant.cut
-          ∙ ap (λ (p : ℕ × List ℕ). map at (range_with_len 0 i) ++ p ∷ []) c.in-Some.ensures
+          ∙ ap (λ (p : ℕ × List ℕ). map at (range_with_len 0 i) ++ p ∷ []) c.in-Some.ensures.found
           ∙ sym (map-range_with_len_more at 0 i i (omega arith));
       room = omega arith;
     }
