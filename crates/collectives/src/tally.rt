@@ -1,9 +1,7 @@
 //! How many collectives a rank has entered.
 
-ghost use Rattle.std.specs.Prelude.{◌≡◌, ◌<◌, ◌≤◌, ◌+◌, length, position, OnOk, OnErr, vec_len, vec_capacity};
+ghost use Rattle.std.specs.Prelude.{◌≡◌, ◌<◌, ◌≤◌, ◌+◌, length, position, vec_len, vec_capacity};
 ghost use Rattle.collectives.specs.Tallies.{is_in, count_at, count_in, raised};
-
-use vocabulary::OutOfMemory;
 
 /// How many collectives a rank has entered on the communicator with a context.
 #[derive(Clone, Copy, Debug, PartialEq, Eq)]
@@ -32,14 +30,6 @@ pub(crate) fn count_in(tallies: &[Tally], context: u64) -> u32
         },
         None => 0,
     }
-}
-
-/// Makes room for one more tally.
-pub(crate) fn reserve(tallies: &mut Vec<Tally>) -> Result<(), OutOfMemory>
-    ensures room { OnOk result (vec_len tallies.new + 1 ≤ vec_capacity tallies.new) }
-    ensures kept { tallies.new.items ≡ tallies.old.items }
-{
-    tallies.reserve(1).map_err(|_| OutOfMemory {})
 }
 
 /// One more collective was entered in a context, for whose tally there is room.
