@@ -1,1 +1,7 @@
+mod Bounds
+mod Lacking
+mod Others
+mod Plans
+mod Readiness
+mod Rows
 mod Values

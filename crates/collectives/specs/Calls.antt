@@ -5,7 +5,7 @@ use Rattle.collectives.specs.Arrivals.{ArrivalGives}
 use Rattle.collectives.specs.Entering.{is_making}
 use Rattle.collectives.specs.Notes.{member_at}
 use Rattle.collectives.specs.State.{State, is_left, members_incarnation, noted, ranks_at}
-use Rattle.collectives.specs.Steps.{IsPrepared, IsPreparedEntry, MeetsLimit, Prepared, after_step, contexts_after, ending_of}
+use Rattle.collectives.specs.Steps.{IsPrepared, IsPreparedEntry, IsRefusal, MeetsLimit, Prepared, after_step, contexts_after, ending_of}
 use Rattle.collectives.specs.Tallies.{count_in, raised}
 use Rattle.collectives.specs.Verdicts.{is_first}
 use Rattle.collectives.specs.declared.address.Address.{Address}
@@ -21,7 +21,7 @@ use Rattle.collectives.specs.declared.step.Ending.TheVariants.{Replaced}
 use Rattle.context_agreement.specs.Communicators.{ContextsState}
 use Rattle.context_agreement.specs.Numbers.{number_of}
 use Rattle.context_agreement.specs.declared.communicator.Communicator.{Communicator}
-use Rattle.payload.specs.Spelling.{PayloadText}
+use Rattle.payload.specs.Spelling.{PartFits, PayloadText}
 use Rattle.vocabulary.specs.Endpoints.{is_former}
 use Rattle.vocabulary.specs.declared.endpoint.Endpoint.{Endpoint}
 
@@ -146,3 +146,13 @@ IsReady s h a p ready =
     (came : Option Note) × ArrivalGives a.sender a.context a.number p (Ok came)
     × (ready.note ≡ note_kept s came)
     × IsPrepared s.own s.present h (with_note s ready.note).kept ready.step
+
+-- why a message was refused: its part doesn't fit its record (30), for want of memory (14), or since what the rank then does
+-- meets a limit (13)
+abbrev pub MessageRefused : State → ContextsState → Address → PayloadText → Refused → Type 0
+MessageRefused s h a p refusals.BadFrame = PartFits p.record_is p.part → ⊥
+MessageRefused s h a p refusals.OutOfMemory = PartFits p.record_is p.part
+MessageRefused s h a p refusals.Limit =
+    (came : Option Note) × ArrivalGives a.sender a.context a.number p (Ok came)
+    × IsRefusal h (IsPrepared s.own s.present h (kept_with s.kept (note_kept s came))) refusals.Limit
+MessageRefused s h a p _ = ⊥

@@ -227,7 +227,8 @@ impl Collective {
 /// One more note is kept, or none; there is room for it.
 pub(crate) fn keep(kept: &mut Vec<Note>, note: Option<Note>)
     requires { vec_len kept.old + 1 ≤ vec_capacity kept.old }
-    ensures { kept.new.items ≡ kept_with kept.old.items note }
+    ensures items { kept.new.items ≡ kept_with kept.old.items note }
+    ensures capacity { vec_capacity kept.old ≤ vec_capacity kept.new }
 {
     if let Some(note) = note {
         kept.push(note).unwrap();

@@ -10,12 +10,15 @@ mod arriving;
 mod collective;
 mod entry;
 mod limits;
+mod making;
 mod message;
 mod note;
 mod prepare;
+mod ready;
 mod refused;
 mod step;
 mod tally;
+mod telling;
 mod verdict;
 mod ways;
 

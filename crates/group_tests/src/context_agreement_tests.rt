@@ -116,49 +116,45 @@ fn communicators_have_places_in_order(rt: HostRuntime) {
 }
 
 /// The number of the context that is given once so many others are.
-fn coming(contexts: &Contexts, further: u32) -> Option<u64> {
+fn coming(contexts: &Contexts, further: u64) -> Option<u64> {
     match contexts.coming(further) {
         Some(context) => Some(context.number()),
         None => None,
     }
 }
 
-/// Two contexts that are to come, and then what is given next once two were drawn.
-fn show_two_and_draw(contexts: &mut Contexts) -> ([Option<u64>; 2], Option<u64>) {
-    let shown = [coming(contexts, 0), coming(contexts, 1)];
-    contexts.draw(2);
+/// Two contexts that are to come, the two behind the last one, and what is given next once three were drawn.
+fn show_and_draw(contexts: &mut Contexts) -> ([Option<u64>; 4], Option<u64>) {
+    let shown = [
+        coming(contexts, 0),
+        coming(contexts, 1),
+        coming(contexts, 0xffff_fffd),
+        coming(contexts, 0xffff_fffe),
+    ];
+    if contexts.serials_left() >= 3 {
+        contexts.draw(3);
+    }
     (shown, next(contexts))
 }
 
 #[test]
 fn drawn_contexts_are_those_that_were_to_come(rt: HostRuntime) {
     let mut contexts = Contexts::new(rt.alloc(), 2, 0, 4).expect(&rt, "contexts");
-    let shown = [Some(0x0002_0000_0000_0002), Some(0x0002_0000_0000_0003)];
+    let shown = [
+        Some(0x0002_0000_0000_0002),
+        Some(0x0002_0000_0000_0003),
+        Some(0x0002_0000_ffff_ffff),
+        None,
+    ];
     assert_eq!(rt;
-        show_two_and_draw(&mut contexts),
-        (shown, Some(0x0002_0000_0000_0004))
-    );
-}
-
-/// The last context, what comes behind it, and how many are left once all were drawn.
-fn draw_all(contexts: &mut Contexts) -> ([Option<u64>; 2], u64) {
-    let shown = [coming(contexts, 0xffff_fffd), coming(contexts, 0xffff_fffe)];
-    contexts.draw(0xffff_fffe);
-    (shown, contexts.serials_left())
-}
-
-#[test]
-fn the_last_context_has_the_last_serial(rt: HostRuntime) {
-    let mut contexts = Contexts::new(rt.alloc(), 2, 0, 4).expect(&rt, "contexts");
-    assert_eq!(rt;
-        draw_all(&mut contexts),
-        ([Some(0x0002_0000_ffff_ffff), None], 0)
+        show_and_draw(&mut contexts),
+        (shown, Some(0x0002_0000_0000_0005))
     );
 }
 
 /// The place of a communicator for which room was made, and whether it is there with its group.
 fn install_with_room(alloc: Global, contexts: &mut Contexts) -> Option<(usize, bool)> {
-    if contexts.reserve().is_err() {
+    if contexts.is_full() || contexts.reserve().is_err() {
         return None;
     }
     let context = Context::from_number(4);
