@@ -2,10 +2,10 @@
 use Rattle.std.proofs.Common.{◌≡◌, List, ◌++◌, refl, sym, subst, Some, inr}
 use Rattle.collectives.specs.Steps.{IsPrepared, IsPreparedEntry, IsRefusal, LacksFor, MeetsLimit, Prepared, entry_messages}
 use Rattle.collectives.specs.State.{ranks_at}
-use Rattle.collectives.specs.declared.entry.Inside.{Inside}
-use Rattle.collectives.specs.declared.note.Note.{Note}
-use Rattle.collectives.specs.declared.refused.Refused.{Refused}
-use Rattle.collectives.specs.declared.refused.Refused.TheVariants.{NoCommunicator, Blocked, Limit, OutOfMemory, BadFrame}
+use Rattle.collective_notes.specs.declared.entry.Inside.{Inside}
+use Rattle.collective_notes.specs.declared.note.Note.{Note}
+use Rattle.collective_notes.specs.declared.refused.Refused.{Refused}
+use Rattle.collective_notes.specs.declared.refused.Refused.TheVariants.{NoCommunicator, Blocked, Limit, OutOfMemory, BadFrame}
 use Rattle.context_agreement.specs.Communicators.{ContextsState}
 use Rattle.vocabulary.specs.declared.endpoint.Endpoint.{Endpoint}
 

@@ -1,10 +1,10 @@
 -- Lemmas on what a rank does of itself, and why it couldn't be made ready.
 use Rattle.std.proofs.Common.{◌≡◌, ℕ, List, length, refl, ap, ◌∙◌, Result, Ok, Err, IfOk, IfErr}
 use Rattle.collectives.specs.Steps.{IsLacking, IsSplit, LacksFor, Prepared, copy_step, given_of, made_by, made_step, mine, outcome_of, rows_from, split_step, to_others}
-use Rattle.collectives.specs.declared.entry.Inside.{Inside}
-use Rattle.collectives.specs.declared.note.Note.{Note}
-use Rattle.collectives.specs.declared.refused.Refused.{Refused}
-use Rattle.collectives.specs.declared.refused.Refused.TheVariants.{NoCommunicator, Blocked, Limit, OutOfMemory, BadFrame}
+use Rattle.collective_notes.specs.declared.entry.Inside.{Inside}
+use Rattle.collective_notes.specs.declared.note.Note.{Note}
+use Rattle.collective_notes.specs.declared.refused.Refused.{Refused}
+use Rattle.collective_notes.specs.declared.refused.Refused.TheVariants.{NoCommunicator, Blocked, Limit, OutOfMemory, BadFrame}
 use Rattle.collectives.proofs.Rows.{length-made_by}
 use Rattle.context_agreement.specs.Communicators.{ContextsState}
 use Rattle.context_agreement.specs.Parts.{SplitPart}

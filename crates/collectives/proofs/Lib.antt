@@ -4,4 +4,3 @@ mod Others
 mod Plans
 mod Readiness
 mod Rows
-mod Values

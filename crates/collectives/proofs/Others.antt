@@ -1,18 +1,18 @@
 -- Lemmas on who is told.
 use Rattle.std.proofs.Common.{◌≡◌, ℕ, Bool, true, false, List, [], ◌∷◌, map, filter, cond, if◌then◌else◌, refl, ap, Option, Some, None}
 use Rattle.std.specs.Prelude.{not}
-use Rattle.collectives.specs.Notes.{differs_in, have_entered, member_at, result_place}
-use Rattle.collectives.specs.Entering.{record_of}
+use Rattle.collective_notes.specs.Notes.{differs_in, have_entered, member_at, result_place}
+use Rattle.collective_notes.specs.Entering.{record_of}
 use Rattle.collectives.specs.Steps.{is_broken, message_to, to_others}
-use Rattle.collectives.specs.Verdicts.{is_at, verdict, verdict_inside, verdict_outside}
-use Rattle.collectives.specs.Ways.{root_of, ways_of}
-use Rattle.collectives.specs.declared.entry.Inside.{Inside}
-use Rattle.collectives.specs.declared.message.Given.{Given}
-use Rattle.collectives.specs.declared.message.Message.{Message}
-use Rattle.collectives.specs.declared.note.Note.{Note}
-use Rattle.collectives.specs.declared.verdict.Verdict.TheVariants.{Breaks}
-use Rattle.collectives.specs.declared.ways.Ways.{Ways}
-use Rattle.collectives.specs.declared.ways.Ways.TheVariants.{Inwards, Outwards, Both}
+use Rattle.collective_notes.specs.Verdicts.{is_at, verdict, verdict_inside, verdict_outside}
+use Rattle.collective_notes.specs.Ways.{root_of, ways_of}
+use Rattle.collective_notes.specs.declared.entry.Inside.{Inside}
+use Rattle.collective_notes.specs.declared.message.Given.{Given}
+use Rattle.collective_notes.specs.declared.message.Message.{Message}
+use Rattle.collective_notes.specs.declared.note.Note.{Note}
+use Rattle.collective_notes.specs.declared.verdict.Verdict.TheVariants.{Breaks}
+use Rattle.collective_notes.specs.declared.ways.Ways.{Ways}
+use Rattle.collective_notes.specs.declared.ways.Ways.TheVariants.{Inwards, Outwards, Both}
 use Rattle.vocabulary.specs.Endpoints.{is_same}
 use Rattle.vocabulary.specs.declared.endpoint.Endpoint.{Endpoint}
 

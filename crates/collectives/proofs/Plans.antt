@@ -7,8 +7,8 @@ use Rattle.std.proofs.lemmas.List.Elements.{All-filter, All-from_recursion, All-
 use Rattle.std.proofs.lemmas.List.Sorted.{All-permutation}
 use Rattle.std.proofs.lemmas.Map.Keys.{IsDistinct-IsPermutation}
 use Rattle.collectives.specs.Steps.{HoldsPart, rows_from}
-use Rattle.collectives.specs.declared.entry.Inside.{Inside}
-use Rattle.collectives.specs.declared.note.Note.{Note}
+use Rattle.collective_notes.specs.declared.entry.Inside.{Inside}
+use Rattle.collective_notes.specs.declared.note.Note.{Note}
 use Rattle.collectives.proofs.Rows.{row_at}
 use Rattle.context_agreement.specs.Parts.{SplitPart}
 use Rattle.context_agreement.specs.Splits.{IsPart, IsSplitPlan, has_colour}

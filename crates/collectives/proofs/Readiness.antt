@@ -1,15 +1,15 @@
 -- Lemmas on what was made ready, told of the state before room was made.
 use Rattle.std.proofs.Common.{◌≡◌, Bool, true, false, List, refl, sym, subst, Option, Some, None, Result, Ok, Err, IfOk, if◌then◌else◌}
-use Rattle.collectives.specs.Arrivals.{ArrivalGives}
+use Rattle.collective_notes.specs.Arrivals.{ArrivalGives}
 use Rattle.collectives.specs.Calls.{IsReady, MessageRefused, is_ended, kept_with, met, note_kept}
 use Rattle.collectives.specs.State.{State}
 use Rattle.collectives.specs.Steps.{IsPrepared, IsRefusal}
-use Rattle.collectives.specs.declared.address.Address.{Address}
+use Rattle.collective_notes.specs.declared.address.Address.{Address}
 use Rattle.collectives.specs.declared.collective.ReadyMessage.{ReadyMessage}
-use Rattle.collectives.specs.declared.entry.Inside.{Inside}
-use Rattle.collectives.specs.declared.note.Note.{Note}
-use Rattle.collectives.specs.declared.refused.Refused.{Refused}
-use Rattle.collectives.specs.declared.refused.Refused.TheVariants.{NoCommunicator, Blocked, Limit, OutOfMemory, BadFrame}
+use Rattle.collective_notes.specs.declared.entry.Inside.{Inside}
+use Rattle.collective_notes.specs.declared.note.Note.{Note}
+use Rattle.collective_notes.specs.declared.refused.Refused.{Refused}
+use Rattle.collective_notes.specs.declared.refused.Refused.TheVariants.{NoCommunicator, Blocked, Limit, OutOfMemory, BadFrame}
 use Rattle.context_agreement.specs.Communicators.{ContextsState}
 use Rattle.payload.specs.Spelling.{PartFits, PayloadText}
 use Rattle.vocabulary.specs.declared.endpoint.Endpoint.{Endpoint}

@@ -1,10 +1,10 @@
 -- Lemmas on the rows of a split and the communicators that are made of its plan.
 use Rattle.std.proofs.Common.{◌≡◌, ℕ, zero, suc, ◌+◌, ◌<◌, List, [], ◌∷◌, ◌++◌, length, take, get_or, refl, ap, ◌∙◌, arith}
-use Rattle.collectives.specs.Entering.{own_choice}
-use Rattle.collectives.specs.Notes.{choice_known, member_at}
+use Rattle.collective_notes.specs.Entering.{own_choice}
+use Rattle.collective_notes.specs.Notes.{choice_known, member_at}
 use Rattle.collectives.specs.Steps.{group_of_part, made_by, rows_from}
-use Rattle.collectives.specs.declared.entry.Inside.{Inside}
-use Rattle.collectives.specs.declared.note.Note.{Note}
+use Rattle.collective_notes.specs.declared.entry.Inside.{Inside}
+use Rattle.collective_notes.specs.declared.note.Note.{Note}
 use Rattle.context_agreement.specs.Communicators.{ContextsState, coming_context}
 use Rattle.context_agreement.specs.Parts.{SplitPart}
 use Rattle.context_agreement.specs.declared.communicator.Communicator.{Communicator}

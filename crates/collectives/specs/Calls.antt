@@ -1,21 +1,21 @@
 -- What each call on the collectives of a rank answers and leaves.
 use Rattle.std.specs.Prelude.{◌≡◌, ◌+◌, ◌^◌, ℕ, Bool, false, ◌&&◌, ◌||◌, ◌==◌, List, [], ◌∷◌, ◌++◌, length, Option, Some, None, Result, Ok, Err, is_some, nat_lt, nat_le, slice_get, if◌then◌else◌}
 use Rattle.std.specs.List.{list_any}
-use Rattle.collectives.specs.Arrivals.{ArrivalGives}
-use Rattle.collectives.specs.Entering.{is_making}
-use Rattle.collectives.specs.Notes.{member_at}
+use Rattle.collective_notes.specs.Arrivals.{ArrivalGives}
+use Rattle.collective_notes.specs.Entering.{is_making}
+use Rattle.collective_notes.specs.Notes.{member_at}
 use Rattle.collectives.specs.State.{State, is_left, members_incarnation, noted, ranks_at}
 use Rattle.collectives.specs.Steps.{IsPrepared, IsPreparedEntry, IsRefusal, MeetsLimit, Prepared, after_step, contexts_after, ending_of}
-use Rattle.collectives.specs.Tallies.{count_in, raised}
-use Rattle.collectives.specs.Verdicts.{is_first}
-use Rattle.collectives.specs.declared.address.Address.{Address}
+use Rattle.collective_notes.specs.Tallies.{count_in, raised}
+use Rattle.collective_notes.specs.Verdicts.{is_first}
+use Rattle.collective_notes.specs.declared.address.Address.{Address}
 use Rattle.collectives.specs.declared.collective.ReadyMessage.{ReadyMessage}
-use Rattle.collectives.specs.declared.entry.Entry.{Entry}
-use Rattle.collectives.specs.declared.entry.Inside.{Inside}
-use Rattle.collectives.specs.declared.note.Note.{Note}
-use Rattle.collectives.specs.declared.refused.Refused.{Refused}
-use Rattle.collectives.specs.declared.refused.Refused.TheVariants as refusals
-use Rattle.collectives.specs.declared.tally.Tally.{Tally}
+use Rattle.collective_notes.specs.declared.entry.Entry.{Entry}
+use Rattle.collective_notes.specs.declared.entry.Inside.{Inside}
+use Rattle.collective_notes.specs.declared.note.Note.{Note}
+use Rattle.collective_notes.specs.declared.refused.Refused.{Refused}
+use Rattle.collective_notes.specs.declared.refused.Refused.TheVariants as refusals
+use Rattle.collective_notes.specs.declared.tally.Tally.{Tally}
 use Rattle.collectives.specs.declared.step.Ending.{Ending}
 use Rattle.collectives.specs.declared.step.Ending.TheVariants.{Replaced}
 use Rattle.context_agreement.specs.Communicators.{ContextsState}

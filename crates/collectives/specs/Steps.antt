@@ -1,27 +1,27 @@
 -- What a rank does of itself that is in a collective: what becomes of it, which contexts it gives, and whom it tells what
 -- (MPI 3.1, 5.3 and 6.4.2).
 use Rattle.std.specs.Prelude.{◌≡◌, ◌<◌, ◌≤◌, ℕ, suc, ◌+◌, ◌^◌, Bool, true, false, List, [], ◌∷◌, ◌++◌, length, map, find, ◌⊎◌, Option, Some, None, slice_get, slice_index_or, if◌then◌else◌}
-use Rattle.collectives.specs.Entering.{own_choice, record_of}
-use Rattle.collectives.specs.Notes.{choice_known, found_in, member_at, without}
+use Rattle.collective_notes.specs.Entering.{own_choice, record_of}
+use Rattle.collective_notes.specs.Notes.{choice_known, found_in, member_at, without}
 use Rattle.collectives.specs.State.{State, ranks_at}
-use Rattle.collectives.specs.Verdicts.{verdict}
-use Rattle.collectives.specs.declared.entry.Entry.{Entry}
-use Rattle.collectives.specs.declared.entry.Entry.TheVariants as entries
-use Rattle.collectives.specs.declared.entry.Inside.{Inside}
-use Rattle.collectives.specs.declared.message.Given.{Given}
-use Rattle.collectives.specs.declared.message.Given.TheVariants as given
-use Rattle.collectives.specs.declared.message.Message.{Message}
-use Rattle.collectives.specs.declared.note.Note.{Note}
-use Rattle.collectives.specs.declared.note.Said.{Said}
-use Rattle.collectives.specs.declared.note.Said.TheVariants as said
+use Rattle.collective_notes.specs.Verdicts.{verdict}
+use Rattle.collective_notes.specs.declared.entry.Entry.{Entry}
+use Rattle.collective_notes.specs.declared.entry.Entry.TheVariants as entries
+use Rattle.collective_notes.specs.declared.entry.Inside.{Inside}
+use Rattle.collective_notes.specs.declared.message.Given.{Given}
+use Rattle.collective_notes.specs.declared.message.Given.TheVariants as given
+use Rattle.collective_notes.specs.declared.message.Message.{Message}
+use Rattle.collective_notes.specs.declared.note.Note.{Note}
+use Rattle.collective_notes.specs.declared.note.Said.{Said}
+use Rattle.collective_notes.specs.declared.note.Said.TheVariants as said
 use Rattle.collectives.specs.declared.telling.Words.{Words}
 use Rattle.collectives.specs.declared.telling.Words.TheVariants as words
 use Rattle.collectives.specs.declared.step.Ending.{Ending}
 use Rattle.collectives.specs.declared.step.Ending.TheVariants as endings
 use Rattle.collectives.specs.declared.step.Outcome.{Outcome}
 use Rattle.collectives.specs.declared.step.Outcome.TheVariants.{Stays, Breaks, Leaves, GetsNull, Gets}
-use Rattle.collectives.specs.declared.verdict.Verdict.{Verdict}
-use Rattle.collectives.specs.declared.verdict.Verdict.TheVariants as verdicts
+use Rattle.collective_notes.specs.declared.verdict.Verdict.{Verdict}
+use Rattle.collective_notes.specs.declared.verdict.Verdict.TheVariants as verdicts
 use Rattle.context_agreement.specs.Communicators.{ContextsState, coming_context}
 use Rattle.context_agreement.specs.Numbers.{number_of}
 use Rattle.context_agreement.specs.Parts.{SplitPart}
@@ -29,8 +29,8 @@ use Rattle.context_agreement.specs.Splits.{IsSplitPlan}
 use Rattle.context_agreement.specs.declared.communicator.Communicator.{Communicator}
 use Rattle.context_agreement.specs.declared.context.Context.{Context}
 use Rattle.context_agreement.specs.declared.split.SplitRow.{SplitRow}
-use Rattle.collectives.specs.declared.refused.Refused.{Refused}
-use Rattle.collectives.specs.declared.refused.Refused.TheVariants as refusals
+use Rattle.collective_notes.specs.declared.refused.Refused.{Refused}
+use Rattle.collective_notes.specs.declared.refused.Refused.TheVariants as refusals
 use Rattle.groups.specs.Groups.{ArePositions, HasNoRepeats, is_member}
 use Rattle.payload.specs.declared.payload.Direction.TheVariants.{FromRoot, TowardsRoot}
 use Rattle.vocabulary.specs.Endpoints.{is_same}

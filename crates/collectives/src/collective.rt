@@ -5,17 +5,13 @@
 
 ghost use Rattle.std.specs.Prelude.{◌≡◌, ◌<◌, ◌≤◌, ◌+◌, ◌^◌, [], if◌then◌else◌, is_some, vec_len, vec_capacity};
 ghost use Rattle.collectives.specs.Calls.{entered, entry_fault, inside_of, is_ended, kept_with, learned, lesson_ending, met, most_collectives, with_note};
-ghost use Rattle.collectives.specs.Tallies.{count_in};
+ghost use Rattle.collective_notes.specs.Tallies.{count_in};
 ghost use Rattle.collectives.specs.State.{is_left, opening};
 ghost use Rattle.collectives.specs.Steps.{MeetsLimit, after_step, contexts_after, ending_of, left};
 
-use crate::entry::{Entry, Inside};
 use crate::limits::{has_former, is_limited, members_incarnation};
-use crate::note::Note;
-use crate::refused::Refused;
 use crate::step::{Ending, Outcome, Step};
-use crate::tally::{self, Tally};
-use crate::verdict::drop_notes;
+use collective_notes::{Entry, Inside, Note, Refused, Tally, count_in, drop_notes, raise};
 use context_agreement::Contexts;
 use std::alloc::Global;
 use std::marker::Model;
@@ -112,7 +108,7 @@ impl Collective {
             place,
             context,
             incarnation: members_incarnation(self.own, context),
-            number: tally::count_in(&self.tallies, context),
+            number: count_in(&self.tallies, context),
             entry,
         }
     }
@@ -127,7 +123,7 @@ impl Collective {
         ensures contexts { contexts.new.state ≡ contexts_after contexts.old.state ready.step.drawn ready.step.outcome }
         ensures ending { result ≡ ending_of contexts.old.state ready.step.outcome }
     {
-        tally::raise(&mut self.tallies, ready.inside.context);
+        raise(&mut self.tallies, ready.inside.context);
         self.present = Some(ready.inside);
         self.take(contexts, ready.step)
     }
@@ -167,7 +163,7 @@ impl Collective {
             Some(inside) => note.is_of(inside.context, inside.number),
             None => false,
         };
-        note.number < tally::count_in(&self.tallies, note.context) && !is_present
+        note.number < count_in(&self.tallies, note.context) && !is_present
     }
 
     /// Takes the message in: nothing can fail. The ending is answered where the present collective is left by it.

@@ -5,11 +5,8 @@ ghost use Rattle.collectives.specs.Steps.{HoldsPart, IsLacking, group_of_part, m
 ghost use Rattle.context_agreement.specs.Communicators.{coming_context};
 ghost use Rattle.context_agreement.specs.Splits.{IsSplitPlan};
 
-use crate::entry::Inside;
-use crate::note::Note;
-use crate::refused::Refused;
 use crate::telling::member;
-use crate::verdict::choice_known;
+use collective_notes::{Inside, Note, Refused, choice_known};
 use context_agreement::{Communicator, Contexts, Part, SplitRow, split_plan};
 use groups::Group;
 use std::alloc::{AllocError, Global};

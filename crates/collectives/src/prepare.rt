@@ -2,17 +2,13 @@
 
 ghost use Rattle.std.specs.Prelude.{◌≡◌, [], IfErr, IfOk, IsOkUnless, slice_get};
 ghost use Rattle.collectives.specs.Steps.{GetsNumbered, HasHeard, IsCarriedOut, IsDecided, IsHeard, IsLacking, IsSplit, LacksFor, barrier_step, copy_step, difference_messages, made_step, mine, outcome_of, to_others, words_given};
-ghost use Rattle.collectives.specs.Verdicts.{verdict};
+ghost use Rattle.collective_notes.specs.Verdicts.{verdict};
 ghost use Rattle.collectives.specs.declared.step.Outcome.TheVariants as outcomes;
 
-use crate::entry::{Entry, Inside};
 use crate::making::{made_by, plan_of};
-use crate::message::Message;
-use crate::note::{Note, Said};
-use crate::refused::Refused;
 use crate::step::{Outcome, Step};
 use crate::telling::{Words, groups_to_others, mine, same_to_others};
-use crate::verdict::{Verdict, found_in, judge};
+use collective_notes::{Entry, Inside, Message, Note, Refused, Said, Verdict, found_in, judge};
 use context_agreement::{Communicator, Context, Contexts};
 use groups::Group;
 use std::alloc::Global;

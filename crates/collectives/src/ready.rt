@@ -4,21 +4,16 @@ ghost use Rattle.std.specs.Prelude.{◌≡◌, ◌<◌, ◌≤◌, ◌+◌, ◌+
 ghost use Rattle.std.specs.Option.{option_to_list};
 ghost use Rattle.collectives.specs.Calls.{IsReady, MessageRefused, entry_fault, inside_of, kept_with, met, most_collectives, note_kept};
 ghost use Rattle.collectives.specs.State.{ranks_at};
-ghost use Rattle.collectives.specs.Tallies.{count_in};
+ghost use Rattle.collective_notes.specs.Tallies.{count_in};
 ghost use Rattle.payload.specs.Spelling.{payload_text};
 ghost use Rattle.collectives.specs.Steps.{IsPrepared, IsPreparedEntry, IsRefusal, LacksFor, MeetsLimit, entry_messages};
-ghost use Rattle.collectives.specs.declared.note.Note as notes;
+ghost use Rattle.collective_notes.specs.declared.note.Note as notes;
 
-use crate::address::Address;
-use crate::arriving::note_of;
 use crate::collective::{Collective, ReadyEntry, ReadyMessage, keep};
-use crate::entry::{Entry, Inside};
-use crate::message::Message;
-use crate::note::Note;
 use crate::prepare::{carried_out, untouched};
-use crate::refused::Refused;
 use crate::step::{Outcome, Step};
 use crate::telling::entry_message;
+use collective_notes::{Address, Entry, Inside, Message, Note, Refused, note_of};
 use context_agreement::Contexts;
 use payload::Payload;
 use std::alloc::Global;

@@ -2,15 +2,12 @@
 
 ghost use Rattle.std.specs.Prelude.{◌≡◌, ◌∷◌, [], map, filter, not, IfOk, Some};
 ghost use Rattle.std.specs.Option.{option_copied, option_to_list};
-ghost use Rattle.collectives.specs.Notes.{member_at};
+ghost use Rattle.collective_notes.specs.Notes.{member_at};
 ghost use Rattle.collectives.specs.Steps.{entered_with, entry_messages, given_of, message_to, mine, to_others, words_given};
 ghost use Rattle.vocabulary.specs.Endpoints.{is_same};
 ghost use Rattle.vocabulary.specs.declared.basic_type.BasicType.TheVariants.{Uint16};
 
-use crate::entry::{Entry, Inside};
-use crate::message::{Given, Message};
-use crate::note::Note;
-use crate::verdict::{differs_in, is_same};
+use collective_notes::{Entry, Given, Inside, Message, Note, differs_in, is_same};
 use context_agreement::Communicator;
 use datatypes::Buffer;
 use payload::Direction;

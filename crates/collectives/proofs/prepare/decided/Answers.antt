@@ -1,7 +1,7 @@
 -- A copy gives one context.
 use Rattle.std.proofs.Common.{◌≡◌, sym, subst, IfErr}
 use Rattle.collectives.specs.Steps.{IsDecided, IsLacking, LacksFor, copy_step}
-use Rattle.collectives.specs.declared.entry.Entry.{Entry}
+use Rattle.collective_notes.specs.declared.entry.Entry.{Entry}
 use Rattle.collectives.proofs.Lacking.{err_more, lacks_copy}
 use Rattle.collectives.proofs.prepare.decided.Goals as goal
 

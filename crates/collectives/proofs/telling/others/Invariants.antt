@@ -1,7 +1,7 @@
 -- The other members among the ranks so far.
 use Rattle.std.proofs.Common.{◌≡◌, take, filter}
 use Rattle.std.specs.Prelude.{not}
-use Rattle.collectives.specs.Notes.{member_at}
+use Rattle.collective_notes.specs.Notes.{member_at}
 use Rattle.vocabulary.specs.Endpoints.{is_same}
 use Rattle.collectives.proofs.telling.others.Given as goal
 

@@ -1,7 +1,7 @@
 -- The others are those that aren't the rank itself.
 use Rattle.std.proofs.Common.{◌≡◌, ℕ, List, map, ap, ◌∙◌, subst, IfOk}
 use Rattle.collectives.specs.Steps.{message_to, words_given}
-use Rattle.collectives.specs.declared.message.Message.{Message}
+use Rattle.collective_notes.specs.declared.message.Message.{Message}
 use Rattle.collectives.proofs.Others.{to_others_is}
 use Rattle.collectives.proofs.telling.same_to_others.Goals as goal
 

@@ -1,8 +1,8 @@
 -- Which way the messages of a collective go in the form of a star, whose middle is the root, or member 0 where there is no root
 -- (MPI 3.1, 5.3 to 5.9 and 6.4.2). All eight kinds are told here; barrier, dup and split are those that a rank enters so far.
 use Rattle.std.specs.Prelude.{ℕ, Bool, ◌==◌, ◌&&◌}
-use Rattle.collectives.specs.declared.ways.Ways.{Ways}
-use Rattle.collectives.specs.declared.ways.Ways.TheVariants.{Inwards, Outwards, Both}
+use Rattle.collective_notes.specs.declared.ways.Ways.{Ways}
+use Rattle.collective_notes.specs.declared.ways.Ways.TheVariants.{Inwards, Outwards, Both}
 use Rattle.payload.specs.Codes.{kind_code}
 use Rattle.payload.specs.Spelling.{count_field, elements_of, kind_of, operation_field, root_field, type_code}
 use Rattle.payload.specs.declared.record.Record.{Record}

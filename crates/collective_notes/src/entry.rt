@@ -1,7 +1,7 @@
 //! What a rank enters a collective with.
 
 ghost use Rattle.std.specs.Prelude.{◌≡◌};
-ghost use Rattle.collectives.specs.Entering.{agrees, is_making, record_of, own_choice};
+ghost use Rattle.collective_notes.specs.Entering.{agrees, is_making, record_of, own_choice};
 
 use payload::{Choice, Record};
 
@@ -33,7 +33,7 @@ pub struct Inside {
 
 impl Entry {
     /// The record that all members have to agree on.
-    pub(crate) fn record(self) -> Record
+    pub fn record(self) -> Record
         ensures { result ≡ record_of self }
     {
         match self {
@@ -44,7 +44,7 @@ impl Entry {
     }
 
     /// Whether a record agrees with what the rank entered.
-    pub(crate) fn agrees(self, other: Record) -> bool
+    pub fn agrees(self, other: Record) -> bool
         ensures { result ≡ agrees self other }
     {
         match self {
@@ -55,7 +55,7 @@ impl Entry {
     }
 
     /// Whether the collective makes communicators.
-    pub(crate) fn is_making(self) -> bool
+    pub fn is_making(self) -> bool
         ensures { result ≡ is_making self }
     {
         match self {
@@ -65,7 +65,7 @@ impl Entry {
     }
 
     /// What the rank asks for in a split; in the other collectives nothing.
-    pub(crate) fn choice(self) -> Choice
+    pub fn choice(self) -> Choice
         ensures { result ≡ own_choice self }
     {
         match self {

@@ -1,8 +1,8 @@
 -- What a rank enters a collective with (MPI 3.1, 5.3 and 6.4.2).
 use Rattle.std.specs.Prelude.{Bool, true, false, None, pos}
-use Rattle.collectives.specs.Ways.{is_same_record}
-use Rattle.collectives.specs.declared.entry.Entry.{Entry}
-use Rattle.collectives.specs.declared.entry.Entry.TheVariants.{Barrier, Dup, Split}
+use Rattle.collective_notes.specs.Ways.{is_same_record}
+use Rattle.collective_notes.specs.declared.entry.Entry.{Entry}
+use Rattle.collective_notes.specs.declared.entry.Entry.TheVariants.{Barrier, Dup, Split}
 use Rattle.payload.specs.declared.payload.Choice.{Choice}
 use Rattle.payload.specs.declared.record.Record.{Record}
 use Rattle.payload.specs.declared.record.Record.TheVariants as records

@@ -1,7 +1,7 @@
 //! How many collectives a rank has entered.
 
 ghost use Rattle.std.specs.Prelude.{◌≡◌, ◌<◌, ◌≤◌, ◌+◌, length, position, vec_len, vec_capacity};
-ghost use Rattle.collectives.specs.Tallies.{is_in, count_at, count_in, raised};
+ghost use Rattle.collective_notes.specs.Tallies.{is_in, count_at, count_in, raised};
 
 /// How many collectives a rank has entered on the communicator with a context.
 #[derive(Clone, Copy, Debug, PartialEq, Eq)]
@@ -13,14 +13,14 @@ pub struct Tally {
 }
 
 /// Where the tally of a context stands.
-pub(crate) fn place_in(tallies: &[Tally], context: u64) -> Option<usize>
+pub fn place_in(tallies: &[Tally], context: u64) -> Option<usize>
     ensures { result ≡ position (is_in context) tallies.now }
 {
     tallies.iter().position(|tally| tally.context == context)
 }
 
 /// How many collectives were entered in a context: none where it has no tally.
-pub(crate) fn count_in(tallies: &[Tally], context: u64) -> u32
+pub fn count_in(tallies: &[Tally], context: u64) -> u32
     ensures { result ≡ count_in tallies.now context }
 {
     match place_in(tallies, context) {
@@ -33,7 +33,7 @@ pub(crate) fn count_in(tallies: &[Tally], context: u64) -> u32
 }
 
 /// One more collective was entered in a context, for whose tally there is room.
-pub(crate) fn raise(tallies: &mut Vec<Tally>, context: u64)
+pub fn raise(tallies: &mut Vec<Tally>, context: u64)
     requires room { vec_len tallies.old + 1 ≤ vec_capacity tallies.old }
     requires below { count_in tallies.old.items context < 4294967295 }
     ensures { tallies.new.items ≡ raised tallies.old.items context }

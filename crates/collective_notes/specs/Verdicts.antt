@@ -1,14 +1,14 @@
 -- What a rank does that is in a collective.
 use Rattle.std.specs.Prelude.{ℕ, Bool, false, ◌==◌, ◌&&◌, List, Option, Some, None, slice_get, if◌then◌else◌}
-use Rattle.collectives.specs.Entering.{record_of}
-use Rattle.collectives.specs.Notes.{differs_in, have_entered, result_place}
-use Rattle.collectives.specs.Ways.{root_of, ways_of}
-use Rattle.collectives.specs.declared.entry.Inside.{Inside}
-use Rattle.collectives.specs.declared.note.Note.{Note}
-use Rattle.collectives.specs.declared.verdict.Verdict.{Verdict}
-use Rattle.collectives.specs.declared.verdict.Verdict.TheVariants.{Stays, Breaks, Decides, Hears}
-use Rattle.collectives.specs.declared.ways.Ways.{Ways}
-use Rattle.collectives.specs.declared.ways.Ways.TheVariants.{Inwards, Outwards, Both}
+use Rattle.collective_notes.specs.Entering.{record_of}
+use Rattle.collective_notes.specs.Notes.{differs_in, have_entered, result_place}
+use Rattle.collective_notes.specs.Ways.{root_of, ways_of}
+use Rattle.collective_notes.specs.declared.entry.Inside.{Inside}
+use Rattle.collective_notes.specs.declared.note.Note.{Note}
+use Rattle.collective_notes.specs.declared.verdict.Verdict.{Verdict}
+use Rattle.collective_notes.specs.declared.verdict.Verdict.TheVariants.{Stays, Breaks, Decides, Hears}
+use Rattle.collective_notes.specs.declared.ways.Ways.{Ways}
+use Rattle.collective_notes.specs.declared.ways.Ways.TheVariants.{Inwards, Outwards, Both}
 use Rattle.vocabulary.specs.declared.endpoint.Endpoint.{Endpoint}
 
 -- whether an endpoint is the member with this rank in `world`, where there is one, and this incarnation

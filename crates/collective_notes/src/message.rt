@@ -1,7 +1,7 @@
 //! What a rank tells the other members of a communicator.
 
 ghost use Rattle.std.specs.Prelude.{◌≡◌};
-ghost use Rattle.collectives.specs.Messages.{says};
+ghost use Rattle.collective_notes.specs.Messages.{says};
 ghost use Rattle.payload.specs.Spelling.{payload_text};
 
 use datatypes::Buffer;

@@ -1,7 +1,7 @@
 //! What others have told a rank of collectives.
 
 ghost use Rattle.std.specs.Prelude.{◌≡◌};
-ghost use Rattle.collectives.specs.Notes.{is_of, is_difference, is_entry, is_result, is_differing, is_found, tells_entry, tells_result, choice_said};
+ghost use Rattle.collective_notes.specs.Notes.{is_of, is_difference, is_entry, is_result, is_differing, is_found, tells_entry, tells_result, choice_said};
 
 use crate::entry::Entry;
 use datatypes::Buffer;
@@ -45,14 +45,14 @@ pub struct Note {
 
 impl Said {
     /// Whether it says that records differ.
-    pub(crate) fn is_difference(&self) -> bool
+    pub fn is_difference(&self) -> bool
         ensures { result ≡ is_difference self.now }
     {
         matches!(self, Said::RecordsDiffer)
     }
 
     /// Whether it says that its sender has entered.
-    pub(crate) fn is_entry(&self) -> bool
+    pub fn is_entry(&self) -> bool
         ensures { result ≡ is_entry self.now }
     {
         match self {
@@ -64,7 +64,7 @@ impl Said {
     }
 
     /// Whether it says with what its receiver leaves.
-    pub(crate) fn is_result(&self) -> bool
+    pub fn is_result(&self) -> bool
         ensures { result ≡ is_result self.now }
     {
         match self {
@@ -75,7 +75,7 @@ impl Said {
     }
 
     /// What the sender asks for in a split; nothing where it says something else.
-    pub(crate) fn choice(&self) -> Choice
+    pub fn choice(&self) -> Choice
         ensures { result ≡ choice_said self.now }
     {
         match self {
@@ -90,28 +90,28 @@ impl Said {
 
 impl Note {
     /// Whether it is of the collective with this number on the communicator with this context.
-    pub(crate) fn is_of(&self, context: u64, number: u32) -> bool
+    pub fn is_of(&self, context: u64, number: u32) -> bool
         ensures { result ≡ is_of context number self.now }
     {
         self.context == context && self.number == number
     }
 
     /// Whether it speaks of a difference: outright, or by another record.
-    pub(crate) fn is_differing(&self, entry: Entry) -> bool
+    pub fn is_differing(&self, entry: Entry) -> bool
         ensures { result ≡ is_differing entry self.now }
     {
         self.said.is_difference() || !entry.agrees(self.entered)
     }
 
     /// Whether a difference is found in its record, and not only told.
-    pub(crate) fn is_found(&self, entry: Entry) -> bool
+    pub fn is_found(&self, entry: Entry) -> bool
         ensures { result ≡ is_found entry self.now }
     {
         !self.said.is_difference() && !entry.agrees(self.entered)
     }
 
     /// Whether it tells that this member has entered this collective.
-    pub(crate) fn tells_entry(&self, context: u64, number: u32, member: Endpoint) -> bool
+    pub fn tells_entry(&self, context: u64, number: u32, member: Endpoint) -> bool
         ensures { result ≡ tells_entry context number member self.now }
     {
         self.is_of(context, number)
@@ -121,7 +121,7 @@ impl Note {
     }
 
     /// Whether it tells with what the receiver leaves this collective.
-    pub(crate) fn tells_result(&self, context: u64, number: u32) -> bool
+    pub fn tells_result(&self, context: u64, number: u32) -> bool
         ensures { result ≡ tells_result context number self.now }
     {
         self.is_of(context, number) && self.said.is_result()

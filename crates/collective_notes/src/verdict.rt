@@ -1,10 +1,10 @@
 //! What a rank does that is in a collective.
 
 ghost use Rattle.std.specs.Prelude.{◌≡◌, position};
-ghost use Rattle.collectives.specs.Notes.{differs_in, found_in, is_told, is_known, have_entered, result_place, tells_entry, choice_known, choice_of_note, note_at, without};
-ghost use Rattle.collectives.specs.Entering.{own_choice};
+ghost use Rattle.collective_notes.specs.Notes.{differs_in, found_in, is_told, is_known, have_entered, result_place, tells_entry, choice_known, choice_of_note, note_at, without};
+ghost use Rattle.collective_notes.specs.Entering.{own_choice};
 ghost use Rattle.vocabulary.specs.Endpoints.{is_same};
-ghost use Rattle.collectives.specs.Verdicts.{verdict, verdict_inside, verdict_outside, is_at};
+ghost use Rattle.collective_notes.specs.Verdicts.{verdict, verdict_inside, verdict_outside, is_at};
 
 use crate::entry::{Entry, Inside};
 use crate::note::Note;
@@ -26,21 +26,21 @@ pub enum Verdict {
 }
 
 /// Whether two endpoints are one.
-pub(crate) fn is_same(first: Endpoint, second: Endpoint) -> bool
+pub fn is_same(first: Endpoint, second: Endpoint) -> bool
     ensures { result ≡ is_same first second }
 {
     first.rank == second.rank && first.incarnation == second.incarnation
 }
 
 /// Whether what is kept of a collective speaks of a difference.
-pub(crate) fn differs_in(notes: &[Note], context: u64, number: u32, entry: Entry) -> bool
+pub fn differs_in(notes: &[Note], context: u64, number: u32, entry: Entry) -> bool
     ensures { result ≡ differs_in context number entry notes.now }
 {
     notes.iter().any(|note| note.is_of(context, number) && note.is_differing(entry))
 }
 
 /// Whether a difference is found in what is kept of a collective, and not only told.
-pub(crate) fn found_in(notes: &[Note], context: u64, number: u32, entry: Entry) -> bool
+pub fn found_in(notes: &[Note], context: u64, number: u32, entry: Entry) -> bool
     ensures { result ≡ found_in context number entry notes.now }
 {
     notes
@@ -87,7 +87,7 @@ fn result_place(notes: &[Note], context: u64, number: u32) -> Option<usize>
 }
 
 /// Whether an endpoint is the member at a place among these ranks, whose incarnation this is.
-pub(crate) fn is_at(own: Endpoint, incarnation: u16, ranks: &[u16], place: u32) -> bool
+pub fn is_at(own: Endpoint, incarnation: u16, ranks: &[u16], place: u32) -> bool
     ensures { result ≡ is_at own incarnation ranks.now place }
 {
     match ranks.get(place as usize) {
@@ -125,7 +125,7 @@ fn judge_outside(ways: Ways, told: Option<usize>) -> Verdict
 /// What the rank at `own` does that is in a collective among these ranks: it leaves with 12 where a note of it speaks of a
 /// difference; in the middle of the star it leaves once all have entered, and elsewhere once it was told with what. Nobody
 /// waits for messages that go the other way alone.
-pub(crate) fn judge(own: Endpoint, inside: Inside, ranks: &[u16], notes: &[Note]) -> Verdict
+pub fn judge(own: Endpoint, inside: Inside, ranks: &[u16], notes: &[Note]) -> Verdict
     ensures { result ≡ verdict own inside ranks.now notes.now }
 {
     if differs_in(notes, inside.context, inside.number, inside.entry) {
@@ -149,12 +149,7 @@ fn entry_place(notes: &[Note], context: u64, number: u32, member: Endpoint) -> O
 }
 
 /// What a member asks for in a split, as the rank at `own` knows it.
-pub(crate) fn choice_known(
-    own: Endpoint,
-    inside: Inside,
-    notes: &[Note],
-    member: Endpoint,
-) -> Choice
+pub fn choice_known(own: Endpoint, inside: Inside, notes: &[Note], member: Endpoint) -> Choice
     ensures { result ≡ choice_known own (own_choice inside.entry) inside.context inside.number notes.now member }
 {
     if is_same(member, own) {
@@ -182,7 +177,7 @@ fn choice_at(notes: &[Note], place: Option<usize>) -> Choice
 }
 
 /// Drops what is kept of a collective that was left.
-pub(crate) fn drop_notes(notes: &mut Vec<Note>, context: u64, number: u32)
+pub fn drop_notes(notes: &mut Vec<Note>, context: u64, number: u32)
     ensures { notes.new.items ≡ without context number notes.old.items }
 {
     notes.retain(|note| !note.is_of(context, number));

@@ -1,7 +1,7 @@
 -- What a rank tells the other members of a communicator.
-use Rattle.collectives.specs.declared.message.Given.{Given}
-use Rattle.collectives.specs.declared.message.Given.TheVariants as given
-use Rattle.collectives.specs.declared.message.Message.{Message}
+use Rattle.collective_notes.specs.declared.message.Given.{Given}
+use Rattle.collective_notes.specs.declared.message.Given.TheVariants as given
+use Rattle.collective_notes.specs.declared.message.Message.{Message}
 use Rattle.datatypes.specs.Contents.{bytes_of}
 use Rattle.vocabulary.specs.BasicTypes.{size_of}
 use Rattle.payload.specs.Spelling.{PartText, PayloadText, Differing, NothingMore, ElementsText, ContextText, ChoiceText, NullText, GroupText}

@@ -1,7 +1,7 @@
 //! Which way the messages of a collective go.
 
 ghost use Rattle.std.specs.Prelude.{◌≡◌};
-ghost use Rattle.collectives.specs.Ways.{root_of, ways_of};
+ghost use Rattle.collective_notes.specs.Ways.{root_of, ways_of};
 
 use payload::Record;
 
@@ -18,7 +18,7 @@ pub enum Ways {
 }
 
 /// Which way the messages of a collective go.
-pub(crate) fn ways_of(entered: Record) -> Ways
+pub fn ways_of(entered: Record) -> Ways
     ensures { result ≡ ways_of entered }
 {
     match entered {
@@ -29,7 +29,7 @@ pub(crate) fn ways_of(entered: Record) -> Ways
 }
 
 /// The rank in the communicator of the member in the middle.
-pub(crate) fn root_of(entered: Record) -> u32
+pub fn root_of(entered: Record) -> u32
     ensures { result ≡ root_of entered }
 {
     match entered {
