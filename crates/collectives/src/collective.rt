@@ -82,6 +82,9 @@ impl Collective {
     /// The first rule that entering would break now, of 6 (the rank is in a collective), 4 (no communicator is held at the
     /// place) and 13 (2,147,483,647 collectives were entered on the communicator; for a copy or a split 4,096 communicators
     /// are held, or at member 0 fewer contexts are left to give than there are members). It takes no memory.
+    ///
+    /// That a member is known at another incarnation (11) comes between 4 and 13. The caller, who knows the incarnations of
+    /// all ranks, judges it.
     pub fn fault_of(&self, contexts: &Contexts, place: usize, entry: Entry) -> Option<Refused>
         ensures { result ≡ entry_fault self.now.state contexts.now.state place entry }
     {
@@ -210,6 +213,7 @@ impl Collective {
     /// takes no memory, and what was told is kept.
     pub fn learn(&mut self, contexts: &Contexts, rank: u16, incarnation: u16) -> Option<Ending>
         ensures state { self.new.state ≡ learned self.old.state contexts.now.state rank incarnation }
+        ensures room { (self.new.more_tallies ≡ self.old.more_tallies) × (self.new.more_notes ≡ self.old.more_notes) }
         ensures ending { result ≡ lesson_ending self.old.state contexts.now.state rank incarnation }
     {
         if !self.is_ended(contexts, rank, incarnation) {
