@@ -1,1 +1,6 @@
-mod Values
+mod Bounds
+mod Lacking
+mod Others
+mod Plans
+mod Readiness
+mod Rows

@@ -1,27 +1,27 @@
 -- What each call on the collectives of a rank answers and leaves.
 use Rattle.std.specs.Prelude.{◌≡◌, ◌+◌, ◌^◌, ℕ, Bool, false, ◌&&◌, ◌||◌, ◌==◌, List, [], ◌∷◌, ◌++◌, length, Option, Some, None, Result, Ok, Err, is_some, nat_lt, nat_le, slice_get, if◌then◌else◌}
 use Rattle.std.specs.List.{list_any}
-use Rattle.collectives.specs.Arrivals.{ArrivalGives}
-use Rattle.collectives.specs.Entering.{is_making}
-use Rattle.collectives.specs.Notes.{member_at}
+use Rattle.collective_notes.specs.Arrivals.{ArrivalGives}
+use Rattle.collective_notes.specs.Entering.{is_making}
+use Rattle.collective_notes.specs.Notes.{member_at}
 use Rattle.collectives.specs.State.{State, is_left, members_incarnation, noted, ranks_at}
-use Rattle.collectives.specs.Steps.{IsPrepared, IsPreparedEntry, MeetsLimit, Prepared, after_step, contexts_after, ending_of}
-use Rattle.collectives.specs.Tallies.{count_in, raised}
-use Rattle.collectives.specs.Verdicts.{is_first}
-use Rattle.collectives.specs.declared.address.Address.{Address}
+use Rattle.collectives.specs.Steps.{IsPrepared, IsPreparedEntry, IsRefusal, MeetsLimit, Prepared, after_step, contexts_after, ending_of}
+use Rattle.collective_notes.specs.Tallies.{count_in, raised}
+use Rattle.collective_notes.specs.Verdicts.{is_first}
+use Rattle.collective_notes.specs.declared.address.Address.{Address}
 use Rattle.collectives.specs.declared.collective.ReadyMessage.{ReadyMessage}
-use Rattle.collectives.specs.declared.entry.Entry.{Entry}
-use Rattle.collectives.specs.declared.entry.Inside.{Inside}
-use Rattle.collectives.specs.declared.note.Note.{Note}
-use Rattle.collectives.specs.declared.refused.Refused.{Refused}
-use Rattle.collectives.specs.declared.refused.Refused.TheVariants as refusals
-use Rattle.collectives.specs.declared.tally.Tally.{Tally}
+use Rattle.collective_notes.specs.declared.entry.Entry.{Entry}
+use Rattle.collective_notes.specs.declared.entry.Inside.{Inside}
+use Rattle.collective_notes.specs.declared.note.Note.{Note}
+use Rattle.collective_notes.specs.declared.refused.Refused.{Refused}
+use Rattle.collective_notes.specs.declared.refused.Refused.TheVariants as refusals
+use Rattle.collective_notes.specs.declared.tally.Tally.{Tally}
 use Rattle.collectives.specs.declared.step.Ending.{Ending}
 use Rattle.collectives.specs.declared.step.Ending.TheVariants.{Replaced}
 use Rattle.context_agreement.specs.Communicators.{ContextsState}
 use Rattle.context_agreement.specs.Numbers.{number_of}
 use Rattle.context_agreement.specs.declared.communicator.Communicator.{Communicator}
-use Rattle.payload.specs.Spelling.{PayloadText}
+use Rattle.payload.specs.Spelling.{PartFits, PayloadText}
 use Rattle.vocabulary.specs.Endpoints.{is_former}
 use Rattle.vocabulary.specs.declared.endpoint.Endpoint.{Endpoint}
 
@@ -146,3 +146,13 @@ IsReady s h a p ready =
     (came : Option Note) × ArrivalGives a.sender a.context a.number p (Ok came)
     × (ready.note ≡ note_kept s came)
     × IsPrepared s.own s.present h (with_note s ready.note).kept ready.step
+
+-- why a message was refused: its part doesn't fit its record (30), for want of memory (14), or since what the rank then does
+-- meets a limit (13)
+abbrev pub MessageRefused : State → ContextsState → Address → PayloadText → Refused → Type 0
+MessageRefused s h a p refusals.BadFrame = PartFits p.record_is p.part → ⊥
+MessageRefused s h a p refusals.OutOfMemory = PartFits p.record_is p.part
+MessageRefused s h a p refusals.Limit =
+    (came : Option Note) × ArrivalGives a.sender a.context a.number p (Ok came)
+    × IsRefusal h (IsPrepared s.own s.present h (kept_with s.kept (note_kept s came))) refusals.Limit
+MessageRefused s h a p _ = ⊥

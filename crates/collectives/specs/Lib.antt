@@ -1,11 +1,3 @@
-pub mod Arrivals
 pub mod Calls
-pub mod Entering
-pub mod Messages
-pub mod Notes
-pub mod Refusals
 pub mod State
 pub mod Steps
-pub mod Tallies
-pub mod Verdicts
-pub mod Ways

@@ -1,10 +1,10 @@
 -- What a rank keeps of collectives.
 use Rattle.std.specs.Prelude.{ℕ, Bool, false, ◌&&◌, ◌==◌, not, List, [], ◌∷◌, ◌++◌, Option, Some, None, nat_lt, slice_get, if◌then◌else◌}
-use Rattle.collectives.specs.Notes.{is_of}
-use Rattle.collectives.specs.Tallies.{count_in}
-use Rattle.collectives.specs.declared.entry.Inside.{Inside}
-use Rattle.collectives.specs.declared.note.Note.{Note}
-use Rattle.collectives.specs.declared.tally.Tally.{Tally}
+use Rattle.collective_notes.specs.Notes.{is_of}
+use Rattle.collective_notes.specs.Tallies.{count_in}
+use Rattle.collective_notes.specs.declared.entry.Inside.{Inside}
+use Rattle.collective_notes.specs.declared.note.Note.{Note}
+use Rattle.collective_notes.specs.declared.tally.Tally.{Tally}
 use Rattle.context_agreement.specs.Communicators.{ContextsState}
 use Rattle.context_agreement.specs.declared.communicator.Communicator.{Communicator}
 use Rattle.vocabulary.specs.declared.endpoint.Endpoint.{Endpoint}

@@ -1,35 +1,37 @@
 -- What a rank does of itself that is in a collective: what becomes of it, which contexts it gives, and whom it tells what
 -- (MPI 3.1, 5.3 and 6.4.2).
 use Rattle.std.specs.Prelude.{◌≡◌, ◌<◌, ◌≤◌, ℕ, suc, ◌+◌, ◌^◌, Bool, true, false, List, [], ◌∷◌, ◌++◌, length, map, find, ◌⊎◌, Option, Some, None, slice_get, slice_index_or, if◌then◌else◌}
-use Rattle.collectives.specs.Entering.{own_choice, record_of}
-use Rattle.collectives.specs.Notes.{choice_known, found_in, member_at, without}
+use Rattle.collective_notes.specs.Entering.{own_choice, record_of}
+use Rattle.collective_notes.specs.Notes.{choice_known, found_in, member_at, without}
 use Rattle.collectives.specs.State.{State, ranks_at}
-use Rattle.collectives.specs.Verdicts.{verdict}
-use Rattle.collectives.specs.declared.entry.Entry.{Entry}
-use Rattle.collectives.specs.declared.entry.Entry.TheVariants as entries
-use Rattle.collectives.specs.declared.entry.Inside.{Inside}
-use Rattle.collectives.specs.declared.message.Given.{Given}
-use Rattle.collectives.specs.declared.message.Given.TheVariants as given
-use Rattle.collectives.specs.declared.message.Message.{Message}
-use Rattle.collectives.specs.declared.note.Note.{Note}
-use Rattle.collectives.specs.declared.note.Said.{Said}
-use Rattle.collectives.specs.declared.note.Said.TheVariants as said
-use Rattle.collectives.specs.declared.prepare.Words.{Words}
-use Rattle.collectives.specs.declared.prepare.Words.TheVariants as words
+use Rattle.collective_notes.specs.Verdicts.{verdict}
+use Rattle.collective_notes.specs.declared.entry.Entry.{Entry}
+use Rattle.collective_notes.specs.declared.entry.Entry.TheVariants as entries
+use Rattle.collective_notes.specs.declared.entry.Inside.{Inside}
+use Rattle.collective_notes.specs.declared.message.Given.{Given}
+use Rattle.collective_notes.specs.declared.message.Given.TheVariants as given
+use Rattle.collective_notes.specs.declared.message.Message.{Message}
+use Rattle.collective_notes.specs.declared.note.Note.{Note}
+use Rattle.collective_notes.specs.declared.note.Said.{Said}
+use Rattle.collective_notes.specs.declared.note.Said.TheVariants as said
+use Rattle.collectives.specs.declared.telling.Words.{Words}
+use Rattle.collectives.specs.declared.telling.Words.TheVariants as words
 use Rattle.collectives.specs.declared.step.Ending.{Ending}
 use Rattle.collectives.specs.declared.step.Ending.TheVariants as endings
 use Rattle.collectives.specs.declared.step.Outcome.{Outcome}
 use Rattle.collectives.specs.declared.step.Outcome.TheVariants.{Stays, Breaks, Leaves, GetsNull, Gets}
-use Rattle.collectives.specs.declared.verdict.Verdict.{Verdict}
-use Rattle.collectives.specs.declared.verdict.Verdict.TheVariants as verdicts
-use Rattle.context_agreement.specs.Communicators.{ContextsState}
+use Rattle.collective_notes.specs.declared.verdict.Verdict.{Verdict}
+use Rattle.collective_notes.specs.declared.verdict.Verdict.TheVariants as verdicts
+use Rattle.context_agreement.specs.Communicators.{ContextsState, coming_context}
 use Rattle.context_agreement.specs.Numbers.{number_of}
 use Rattle.context_agreement.specs.Parts.{SplitPart}
 use Rattle.context_agreement.specs.Splits.{IsSplitPlan}
 use Rattle.context_agreement.specs.declared.communicator.Communicator.{Communicator}
 use Rattle.context_agreement.specs.declared.context.Context.{Context}
 use Rattle.context_agreement.specs.declared.split.SplitRow.{SplitRow}
-use Rattle.groups.specs.Groups.{is_member}
+use Rattle.collective_notes.specs.declared.refused.Refused.{Refused}
+use Rattle.collective_notes.specs.declared.refused.Refused.TheVariants as refusals
+use Rattle.groups.specs.Groups.{ArePositions, HasNoRepeats, is_member}
 use Rattle.payload.specs.declared.payload.Direction.TheVariants.{FromRoot, TowardsRoot}
 use Rattle.vocabulary.specs.Endpoints.{is_same}
 use Rattle.vocabulary.specs.declared.basic_type.BasicType.TheVariants.{Uint16}
@@ -91,10 +93,6 @@ difference_messages own i ranks notes =
 
 -- ---- the communicators that member 0 makes
 
--- the context that is given once so many others are
-abbrev pub coming : ContextsState → (further : ℕ) → Context
-coming h further = record { rank = h.rank; incarnation = h.incarnation; serial = h.next_serial + further }
-
 -- what the members ask for in a split, by their ranks in the communicator from this one on
 abbrev pub rows_from : (own : Endpoint) → Inside → List Note → (rank : ℕ) → (ranks : List ℕ) → List SplitRow
 rows_from own i notes rank [] = []
@@ -110,7 +108,7 @@ group_of_part ranks part = map (λ r. slice_index_or ranks r 0) part.ranks
 abbrev pub made_by : ContextsState → (ranks : List ℕ) → (further : ℕ) → List SplitPart → List Communicator
 made_by h ranks further [] = []
 made_by h ranks further (part ∷ parts) =
-    record { context = coming h further; group = group_of_part ranks part } ∷ made_by h ranks (suc further) parts
+    record { context = coming_context h further; group = group_of_part ranks part } ∷ made_by h ranks (suc further) parts
 
 -- the first of these communicators that has a rank among its members
 abbrev pub mine : (rank : ℕ) → List Communicator → Option Communicator
@@ -140,9 +138,9 @@ barrier_step own i ranks = record { outcome = Leaves; drawn = 0; messages = to_o
 abbrev pub copy_step : (own : Endpoint) → Inside → ContextsState → (ranks : List ℕ) → Prepared
 copy_step own i h ranks =
     record {
-      outcome = Gets (record { context = coming h 0; group = ranks });
+      outcome = Gets (record { context = coming_context h 0; group = ranks });
       drawn = 1;
-      messages = to_others own i (λ r. given.Context (number_of (coming h 0))) ranks;
+      messages = to_others own i (λ r. given.Context (number_of (coming_context h 0))) ranks;
     }
 
 -- member 0 has heard of all in a split: one communicator for each part of the plan
@@ -154,22 +152,49 @@ split_step own i h ranks plan =
       messages = to_others own i (λ r. given_of (mine r (made_by h ranks 0 plan))) ranks;
     }
 
+-- what member 0 does with the communicators that it made
+abbrev pub made_step : (own : Endpoint) → Inside → (ranks : List ℕ) → List Communicator → Prepared
+made_step own i ranks made =
+    record {
+      outcome = outcome_of (mine own.rank made);
+      drawn = length made;
+      messages = to_others own i (λ r. given_of (mine r made)) ranks;
+    }
+
+-- whether the ranks of a part are positions of a group, none of them twice
+abbrev pub HoldsPart : (ranks : List ℕ) → SplitPart → Type 0
+HoldsPart ranks part = ArePositions ranks part.ranks × HasNoRepeats part.ranks
+
+-- why so many communicators couldn't be made: fewer contexts are left, or for want of memory
+abbrev pub IsLacking : ContextsState → (count : ℕ) → Refused → Type 0
+IsLacking h count refusals.Limit = 2 ^ 32 < h.next_serial + count
+IsLacking h count refusals.OutOfMemory = Unit {0}
+IsLacking h count _ = ⊥
+
+-- what member 0 does once all have entered a split: it follows the plan of what they ask for
+abbrev pub IsSplit : (own : Endpoint) → Inside → ContextsState → (ranks : List ℕ) → List Note → Prepared → Type 0
+IsSplit own i h ranks notes step =
+    (plan : List SplitPart) × IsSplitPlan (rows_from own i notes 0 ranks) plan × (step ≡ split_step own i h ranks plan)
+
 -- what member 0 does once all have entered
 abbrev pub IsDecided : (own : Endpoint) → Inside → ContextsState → (ranks : List ℕ) → List Note → Entry → Prepared → Type 0
 IsDecided own i h ranks notes entries.Barrier step = step ≡ barrier_step own i ranks
 IsDecided own i h ranks notes entries.Dup step = step ≡ copy_step own i h ranks
-IsDecided own i h ranks notes (entries.Split choice) step =
-    (plan : List SplitPart) × IsSplitPlan (rows_from own i notes 0 ranks) plan × (step ≡ split_step own i h ranks plan)
+IsDecided own i h ranks notes (entries.Split choice) step = IsSplit own i h ranks notes step
+
+-- what a rank gets with the context that a number stands for, and these members
+abbrev pub GetsNumbered : (number : ℕ) → (ranks : List ℕ) → Outcome → Type 0
+GetsNumbered number ranks o = (c : Context) × (number_of c ≡ number) × (o ≡ Gets (record { context = c; group = ranks }))
 
 -- with what a rank leaves that was told; a copy has the group of the communicator that the rank entered
 abbrev pub HasHeard : (ranks : List ℕ) → Said → Outcome → Type 0
 HasHeard ranks said.RecordsDiffer o = o ≡ Stays
 HasHeard ranks (said.Nothing way) o = o ≡ Leaves
 HasHeard ranks (said.Elements way elements) o = o ≡ Leaves
-HasHeard ranks (said.Context number) o = (c : Context) × (number_of c ≡ number) × (o ≡ Gets (record { context = c; group = ranks }))
+HasHeard ranks (said.Context number) o = GetsNumbered number ranks o
 HasHeard ranks (said.Choice choice) o = o ≡ Stays
 HasHeard ranks said.NullCommunicator o = o ≡ GetsNull
-HasHeard ranks (said.NewGroup number group) o = (c : Context) × (number_of c ≡ number) × (o ≡ Gets (record { context = c; group = group }))
+HasHeard ranks (said.NewGroup number group) o = GetsNumbered number group o
 
 -- what a rank does that was told with what it leaves: it tells nobody
 abbrev pub IsHeard : (ranks : List ℕ) → Option Note → Prepared → Type 0
@@ -184,11 +209,21 @@ IsCarriedOut own i h ranks notes verdicts.Breaks step =
 IsCarriedOut own i h ranks notes verdicts.Decides step = IsDecided own i h ranks notes i.entry step
 IsCarriedOut own i h ranks notes (verdicts.Hears place) step = IsHeard ranks (slice_get notes place) step
 
+-- why a step couldn't be made ready: fewer contexts are left than it gives, or for want of memory
+abbrev pub LacksFor : ContextsState → (Prepared → Type 0) → Refused → Type 0
+LacksFor h is_step refusals.Limit = (step : Prepared) × is_step step × (2 ^ 32 < h.next_serial + step.drawn)
+LacksFor h is_step refusals.OutOfMemory = Unit {0}
+LacksFor h is_step _ = ⊥
+
+-- what a rank does of itself in a collective of a communicator, where it holds that
+abbrev pub IsPreparedIn : (own : Endpoint) → Inside → ContextsState → List Note → Option Communicator → Prepared → Type 0
+IsPreparedIn own i h notes None step = step ≡ no_step
+IsPreparedIn own i h notes (Some c) step = IsCarriedOut own i h c.group notes (verdict own i c.group notes) step
+
 -- what a rank does of itself: nothing where it is in no collective
 abbrev pub IsPrepared : (own : Endpoint) → Option Inside → ContextsState → List Note → Prepared → Type 0
 IsPrepared own None h notes step = step ≡ no_step
-IsPrepared own (Some i) h notes step =
-    IsCarriedOut own i h (ranks_at h i.place) notes (verdict own i (ranks_at h i.place) notes) step
+IsPrepared own (Some i) h notes step = IsPreparedIn own i h notes (slice_get h.held i.place) step
 
 -- the same on entering: before it, member 0 is told
 abbrev pub IsPreparedEntry : (own : Endpoint) → Inside → ContextsState → List Note → Prepared → Type 0
@@ -199,6 +234,12 @@ IsPreparedEntry own i h notes step =
 -- a step is refused for a limit only where its communicator can't be held, or where fewer contexts are left than it gives
 abbrev pub MeetsLimit : ContextsState → Prepared → Type 0
 MeetsLimit h step = ((4096 ≤ length h.held) × (c : Communicator) × (step.outcome ≡ Gets c)) ⊎ (2 ^ 32 < h.next_serial + step.drawn)
+
+-- why a step was refused: it meets a limit, or for want of memory
+abbrev pub IsRefusal : ContextsState → (Prepared → Type 0) → Refused → Type 0
+IsRefusal h is_step refusals.Limit = (step : Prepared) × is_step step × MeetsLimit h step
+IsRefusal h is_step refusals.OutOfMemory = Unit {0}
+IsRefusal h is_step _ = ⊥
 
 -- ---- what a step leaves
 

@@ -5,17 +5,13 @@
 
 ghost use Rattle.std.specs.Prelude.{◌≡◌, ◌<◌, ◌≤◌, ◌+◌, ◌^◌, [], if◌then◌else◌, is_some, vec_len, vec_capacity};
 ghost use Rattle.collectives.specs.Calls.{entered, entry_fault, inside_of, is_ended, kept_with, learned, lesson_ending, met, most_collectives, with_note};
-ghost use Rattle.collectives.specs.Tallies.{count_in};
+ghost use Rattle.collective_notes.specs.Tallies.{count_in};
 ghost use Rattle.collectives.specs.State.{is_left, opening};
 ghost use Rattle.collectives.specs.Steps.{MeetsLimit, after_step, contexts_after, ending_of, left};
 
-use crate::entry::{Entry, Inside};
 use crate::limits::{has_former, is_limited, members_incarnation};
-use crate::note::Note;
-use crate::refused::Refused;
 use crate::step::{Ending, Outcome, Step};
-use crate::tally::{self, Tally};
-use crate::verdict::drop_notes;
+use collective_notes::{Entry, Inside, Note, Refused, Tally, count_in, drop_notes, raise};
 use context_agreement::Contexts;
 use std::alloc::Global;
 use std::marker::Model;
@@ -82,6 +78,9 @@ impl Collective {
     /// The first rule that entering would break now, of 6 (the rank is in a collective), 4 (no communicator is held at the
     /// place) and 13 (2,147,483,647 collectives were entered on the communicator; for a copy or a split 4,096 communicators
     /// are held, or at member 0 fewer contexts are left to give than there are members). It takes no memory.
+    ///
+    /// That a member is known at another incarnation (11) comes between 4 and 13. The caller, who knows the incarnations of
+    /// all ranks, judges it.
     pub fn fault_of(&self, contexts: &Contexts, place: usize, entry: Entry) -> Option<Refused>
         ensures { result ≡ entry_fault self.now.state contexts.now.state place entry }
     {
@@ -109,7 +108,7 @@ impl Collective {
             place,
             context,
             incarnation: members_incarnation(self.own, context),
-            number: tally::count_in(&self.tallies, context),
+            number: count_in(&self.tallies, context),
             entry,
         }
     }
@@ -124,7 +123,7 @@ impl Collective {
         ensures contexts { contexts.new.state ≡ contexts_after contexts.old.state ready.step.drawn ready.step.outcome }
         ensures ending { result ≡ ending_of contexts.old.state ready.step.outcome }
     {
-        tally::raise(&mut self.tallies, ready.inside.context);
+        raise(&mut self.tallies, ready.inside.context);
         self.present = Some(ready.inside);
         self.take(contexts, ready.step)
     }
@@ -164,7 +163,7 @@ impl Collective {
             Some(inside) => note.is_of(inside.context, inside.number),
             None => false,
         };
-        note.number < tally::count_in(&self.tallies, note.context) && !is_present
+        note.number < count_in(&self.tallies, note.context) && !is_present
     }
 
     /// Takes the message in: nothing can fail. The ending is answered where the present collective is left by it.
@@ -210,6 +209,7 @@ impl Collective {
     /// takes no memory, and what was told is kept.
     pub fn learn(&mut self, contexts: &Contexts, rank: u16, incarnation: u16) -> Option<Ending>
         ensures state { self.new.state ≡ learned self.old.state contexts.now.state rank incarnation }
+        ensures room { (self.new.more_tallies ≡ self.old.more_tallies) × (self.new.more_notes ≡ self.old.more_notes) }
         ensures ending { result ≡ lesson_ending self.old.state contexts.now.state rank incarnation }
     {
         if !self.is_ended(contexts, rank, incarnation) {
@@ -223,7 +223,8 @@ impl Collective {
 /// One more note is kept, or none; there is room for it.
 pub(crate) fn keep(kept: &mut Vec<Note>, note: Option<Note>)
     requires { vec_len kept.old + 1 ≤ vec_capacity kept.old }
-    ensures { kept.new.items ≡ kept_with kept.old.items note }
+    ensures items { kept.new.items ≡ kept_with kept.old.items note }
+    ensures capacity { vec_capacity kept.old ≤ vec_capacity kept.new }
 {
     if let Some(note) = note {
         kept.push(note).unwrap();

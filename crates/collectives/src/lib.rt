@@ -5,25 +5,13 @@
 //! and member 0 tells each other one with what it leaves. The form of the messages is this project's own.
 #![tactic(auto)]
 
-mod address;
-mod arriving;
 mod collective;
-mod entry;
 mod limits;
-mod message;
-mod note;
+mod making;
 mod prepare;
-mod refused;
+mod ready;
 mod step;
-mod tally;
-mod verdict;
-mod ways;
+mod telling;
 
-pub use address::Address;
 pub use collective::{Collective, ReadyEntry, ReadyMessage};
-pub use entry::{Entry, Inside};
-pub use message::{Given, Message};
-pub use note::{Note, Said};
-pub use refused::Refused;
 pub use step::{Ending, Outcome, Step};
-pub use tally::Tally;

@@ -4,9 +4,7 @@ ghost use Rattle.std.specs.Prelude.{◌≡◌, ◌==◌, ◌+◌, ◌^◌, lengt
 ghost use Rattle.collectives.specs.Calls.{has_former, is_limited, is_making_limited, lacks_contexts};
 ghost use Rattle.collectives.specs.State.{members_incarnation};
 
-use crate::entry::{Entry, Inside};
-use crate::tally::{Tally, count_in};
-use crate::verdict::is_at;
+use collective_notes::{Entry, Inside, Tally, count_in, is_at};
 use context_agreement::{Communicator, Contexts};
 use vocabulary::Endpoint;
 

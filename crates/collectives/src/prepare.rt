@@ -1,31 +1,263 @@
 //! What a rank does of itself in a collective, made ready: it takes memory, and changes nothing.
 
-ghost use Rattle.std.specs.Prelude.{◌≡◌};
-ghost use Rattle.collectives.specs.Steps.{words_given};
+ghost use Rattle.std.specs.Prelude.{◌≡◌, [], IfErr, IfOk, IsOkUnless, slice_get};
+ghost use Rattle.collectives.specs.Steps.{GetsNumbered, HasHeard, IsCarriedOut, IsDecided, IsHeard, IsLacking, IsSplit, LacksFor, barrier_step, copy_step, difference_messages, made_step, mine, outcome_of, to_others, words_given};
+ghost use Rattle.collective_notes.specs.Verdicts.{verdict};
+ghost use Rattle.collectives.specs.declared.step.Outcome.TheVariants as outcomes;
 
-use crate::message::Given;
-use payload::Direction;
+use crate::making::{made_by, plan_of};
+use crate::step::{Outcome, Step};
+use crate::telling::{Words, groups_to_others, mine, same_to_others};
+use collective_notes::{Entry, Inside, Message, Note, Refused, Said, Verdict, found_in, judge};
+use context_agreement::{Communicator, Context, Contexts};
+use groups::Group;
+use std::alloc::Global;
+use vocabulary::Endpoint;
 
-/// What is told to all in the same words.
-#[derive(Clone, Copy, Debug, PartialEq, Eq)]
-pub enum Words {
-    /// That two records differ.
-    RecordsDiffer,
-    /// That all have entered.
-    AllEntered,
-    /// The context of a copy.
-    Context(u64),
+/// A step that gives no context and tells nobody.
+pub(crate) fn untouched(alloc: Global, outcome: Outcome) -> Step
+    ensures { result ≡ record { outcome = outcome; drawn = 0; messages = [] } }
+{
+    Step {
+        outcome,
+        drawn: 0,
+        messages: Vec::new(alloc),
+    }
 }
 
-impl Words {
-    /// What a message carries that says this.
-    fn given(self) -> Given
-        ensures { result ≡ words_given self }
-    {
-        match self {
-            Words::RecordsDiffer => Given::RecordsDiffer,
-            Words::AllEntered => Given::Nothing(Direction::FromRoot),
-            Words::Context(context) => Given::Context(context),
-        }
+/// The same words to each other member, or want of memory.
+fn tell_others(
+    alloc: Global,
+    own: Endpoint,
+    inside: Inside,
+    ranks: &[u16],
+    words: Words,
+) -> Result<Vec<Message>, Refused>
+    ensures ok { IfOk result (λ messages. messages.items ≡ to_others own inside (λ r. words_given words) ranks.now) }
+    ensures err { IsOkUnless result Refused.OutOfMemory }
+{
+    match same_to_others(alloc, own, inside, ranks, words) {
+        Ok(messages) => Ok(messages),
+        Err(_) => Err(Refused::OutOfMemory),
+    }
+}
+
+/// A communicator with a group like this one.
+fn with_group_of(context: Context, group: &Group) -> Result<Communicator, Refused>
+    ensures ok { IfOk result (λ made. made ≡ record { context = context; group = group.now }) }
+    ensures err { IsOkUnless result Refused.OutOfMemory }
+{
+    match group.try_clone() {
+        Ok(group) => Ok(Communicator { context, group }),
+        Err(_) => Err(Refused::OutOfMemory),
+    }
+}
+
+/// What member 0 does once all have entered a barrier.
+fn barrier_step(
+    alloc: Global,
+    own: Endpoint,
+    inside: Inside,
+    ranks: &[u16],
+) -> Result<Step, Refused>
+    ensures ok { IfOk result (λ step. step ≡ barrier_step own inside ranks.now) }
+    ensures err { IsOkUnless result Refused.OutOfMemory }
+{
+    match tell_others(alloc, own, inside, ranks, Words::AllEntered) {
+        Ok(messages) => Ok(Step {
+            outcome: Outcome::Leaves,
+            drawn: 0,
+            messages,
+        }),
+        Err(refused) => Err(refused),
+    }
+}
+
+/// What member 0 does once all have entered a copy.
+fn copy_step(
+    alloc: Global,
+    own: Endpoint,
+    inside: Inside,
+    contexts: &Contexts,
+    group: &Group,
+) -> Result<Step, Refused>
+    ensures ok { IfOk result (λ step. step ≡ copy_step own inside contexts.now.state group.now) }
+    ensures err { IfErr result (IsLacking contexts.now.state 1) }
+{
+    let Some(context) = contexts.coming(0) else {
+        return Err(Refused::Limit);
+    };
+    let words = Words::Context(context.number());
+    let Ok(messages) = tell_others(alloc, own, inside, group.ranks(), words) else {
+        return Err(Refused::OutOfMemory);
+    };
+    let Ok(communicator) = with_group_of(context, group) else {
+        return Err(Refused::OutOfMemory);
+    };
+    Ok(Step {
+        outcome: Outcome::Gets(communicator),
+        drawn: 1,
+        messages,
+    })
+}
+
+/// What becomes of a rank among the communicators that were made.
+fn outcome_among(made: &[Communicator], rank: u16) -> Result<Outcome, Refused>
+    ensures ok { IfOk result (λ outcome. outcome ≡ outcome_of (mine rank made.now)) }
+    ensures err { IsOkUnless result Refused.OutOfMemory }
+{
+    let Some(communicator) = mine(made, rank) else {
+        return Ok(Outcome::GetsNull);
+    };
+    match with_group_of(communicator.context, &communicator.group) {
+        Ok(communicator) => Ok(Outcome::Gets(communicator)),
+        Err(refused) => Err(refused),
+    }
+}
+
+/// What member 0 does with the communicators that it made of a plan.
+fn made_step(
+    alloc: Global,
+    own: Endpoint,
+    inside: Inside,
+    ranks: &[u16],
+    made: &[Communicator],
+) -> Result<Step, Refused>
+    ensures ok { IfOk result (λ step. step ≡ made_step own inside ranks.now made.now) }
+    ensures err { IsOkUnless result Refused.OutOfMemory }
+{
+    let Ok(messages) = groups_to_others(alloc, own, inside, ranks, made) else {
+        return Err(Refused::OutOfMemory);
+    };
+    match outcome_among(made, own.rank) {
+        Ok(outcome) => Ok(Step {
+            outcome,
+            drawn: made.len() as u64,
+            messages,
+        }),
+        Err(refused) => Err(refused),
+    }
+}
+
+/// What member 0 does once all have entered a split.
+fn split_step(
+    alloc: Global,
+    own: Endpoint,
+    inside: Inside,
+    contexts: &Contexts,
+    group: &Group,
+    notes: &[Note],
+) -> Result<Step, Refused>
+    ensures ok { IfOk result (IsSplit own inside contexts.now.state group.now notes.now) }
+    ensures err { IfErr result (LacksFor contexts.now.state (IsSplit own inside contexts.now.state group.now notes.now)) }
+{
+    let Ok(plan) = plan_of(alloc, own, inside, group, notes) else {
+        return Err(Refused::OutOfMemory);
+    };
+    match made_by(alloc, contexts, group, &plan) {
+        Ok(made) => made_step(alloc, own, inside, group.ranks(), &made),
+        Err(refused) => Err(refused),
+    }
+}
+
+/// What becomes of a rank that was told with what it leaves.
+fn heard(said: &Said, group: &Group) -> Result<Outcome, Refused>
+    ensures ok { IfOk result (HasHeard group.now said.now) }
+    ensures err { IsOkUnless result Refused.OutOfMemory }
+{
+    match said {
+        Said::RecordsDiffer | Said::Choice(_) => Ok(Outcome::Stays),
+        Said::Nothing(_) | Said::Elements(..) => Ok(Outcome::Leaves),
+        Said::NullCommunicator => Ok(Outcome::GetsNull),
+        Said::Context(number) => gets(*number, group),
+        Said::NewGroup(number, members) => gets(*number, members),
+    }
+}
+
+/// The rank gets a communicator with a group like this one, and the context that this number stands for.
+fn gets(number: u64, group: &Group) -> Result<Outcome, Refused>
+    ensures ok { IfOk result (GetsNumbered number group.now) }
+    ensures err { IsOkUnless result Refused.OutOfMemory }
+{
+    match with_group_of(Context::from_number(number), group) {
+        Ok(communicator) => Ok(Outcome::Gets(communicator)),
+        Err(refused) => Err(refused),
+    }
+}
+
+/// What a rank does that was told with what it leaves, by the note at a place: it tells nobody.
+fn heard_at(alloc: Global, group: &Group, notes: &[Note], place: usize) -> Result<Step, Refused>
+    ensures ok { IfOk result (IsHeard group.now (slice_get notes.now place)) }
+    ensures err { IsOkUnless result Refused.OutOfMemory }
+{
+    let Some(note) = notes.get(place) else {
+        return Ok(untouched(alloc, Outcome::Stays));
+    };
+    match heard(&note.said, group) {
+        Ok(outcome) => Ok(untouched(alloc, outcome)),
+        Err(refused) => Err(refused),
+    }
+}
+
+/// A rank leaves with 12; where it found the difference in a record it tells the others.
+fn broken(
+    alloc: Global,
+    own: Endpoint,
+    inside: Inside,
+    ranks: &[u16],
+    notes: &[Note],
+) -> Result<Step, Refused>
+    ensures ok { IfOk result (λ step. step ≡ record { outcome = outcomes.Breaks; drawn = 0; messages = difference_messages own inside ranks.now notes.now }) }
+    ensures err { IsOkUnless result Refused.OutOfMemory }
+{
+    if !found_in(notes, inside.context, inside.number, inside.entry) {
+        return Ok(untouched(alloc, Outcome::Breaks));
+    }
+    match tell_others(alloc, own, inside, ranks, Words::RecordsDiffer) {
+        Ok(messages) => Ok(Step {
+            outcome: Outcome::Breaks,
+            drawn: 0,
+            messages,
+        }),
+        Err(refused) => Err(refused),
+    }
+}
+
+/// What member 0 does once all have entered.
+fn decided(
+    alloc: Global,
+    own: Endpoint,
+    inside: Inside,
+    contexts: &Contexts,
+    group: &Group,
+    notes: &[Note],
+) -> Result<Step, Refused>
+    ensures ok { IfOk result (IsDecided own inside contexts.now.state group.now notes.now inside.entry) }
+    ensures err { IfErr result (LacksFor contexts.now.state (IsDecided own inside contexts.now.state group.now notes.now inside.entry)) }
+{
+    match inside.entry {
+        Entry::Barrier => barrier_step(alloc, own, inside, group.ranks()),
+        Entry::Dup => copy_step(alloc, own, inside, contexts, group),
+        Entry::Split(_) => split_step(alloc, own, inside, contexts, group, notes),
+    }
+}
+
+/// What the rank at `own` does of itself in a collective of a communicator with this group.
+pub(crate) fn carried_out(
+    alloc: Global,
+    own: Endpoint,
+    inside: Inside,
+    contexts: &Contexts,
+    group: &Group,
+    notes: &[Note],
+) -> Result<Step, Refused>
+    ensures ok { IfOk result (IsCarriedOut own inside contexts.now.state group.now notes.now (verdict own inside group.now notes.now)) }
+    ensures err { IfErr result (LacksFor contexts.now.state (IsCarriedOut own inside contexts.now.state group.now notes.now (verdict own inside group.now notes.now))) }
+{
+    match judge(own, inside, group.ranks(), notes) {
+        Verdict::Stays => Ok(untouched(alloc, Outcome::Stays)),
+        Verdict::Breaks => broken(alloc, own, inside, group.ranks(), notes),
+        Verdict::Decides => decided(alloc, own, inside, contexts, group, notes),
+        Verdict::Hears(place) => heard_at(alloc, group, notes, place),
     }
 }

@@ -2,7 +2,7 @@
 
 ghost use Rattle.std.specs.Prelude.{◌≡◌};
 
-use crate::message::Message;
+use collective_notes::Message;
 use context_agreement::Communicator;
 use std::marker::Model;
 

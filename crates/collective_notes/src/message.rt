@@ -1,0 +1,67 @@
+//! What a rank tells the other members of a communicator.
+
+ghost use Rattle.std.specs.Prelude.{◌≡◌};
+ghost use Rattle.collective_notes.specs.Messages.{says};
+ghost use Rattle.payload.specs.Spelling.{payload_text};
+
+use datatypes::Buffer;
+use payload::{Choice, Direction, NewGroup, Part, Payload, Record};
+use vocabulary::Endpoint;
+
+/// What a message carries beside the record.
+#[derive(Debug, Drop)]
+pub enum Given {
+    /// That two records differ.
+    RecordsDiffer,
+    /// Nothing: that the sender has entered, or that all have.
+    Nothing(Direction),
+    /// Elements.
+    Elements(Direction, Buffer),
+    /// The context of a copy.
+    Context(u64),
+    /// What the sender asks for in a split.
+    Choice(Choice),
+    /// That the receiver gets MPI_COMM_NULL.
+    NullCommunicator,
+    /// The context of the communicator that the receiver gets, and the ranks in `world` of its members, in order.
+    NewGroup(u64, Buffer),
+}
+
+/// A message that a rank sends in a collective.
+#[derive(Debug, Drop)]
+pub struct Message {
+    /// Who gets it.
+    pub target: Endpoint,
+    /// The number of the context of the communicator.
+    pub context: u64,
+    /// The number of the collective on the communicator.
+    pub number: u32,
+    /// What the sender entered.
+    pub entered: Record,
+    /// What it carries.
+    pub given: Given,
+}
+
+impl Message {
+    /// The payload that goes out: record and part.
+    pub fn payload(&self) -> Payload<'_>
+        ensures { payload_text result ≡ says self.now }
+    {
+        let part = match &self.given {
+            Given::RecordsDiffer => Part::RecordsDiffer,
+            Given::Nothing(way) => Part::Nothing(*way),
+            Given::Elements(way, elements) => Part::Elements(*way, elements.as_bytes()),
+            Given::Context(context) => Part::Context(*context),
+            Given::Choice(choice) => Part::Choice(*choice),
+            Given::NullCommunicator => Part::NullCommunicator,
+            Given::NewGroup(context, ranks) => Part::NewGroup(NewGroup {
+                context: *context,
+                ranks: ranks.as_bytes(),
+            }),
+        };
+        Payload {
+            entered: self.entered,
+            part,
+        }
+    }
+}
