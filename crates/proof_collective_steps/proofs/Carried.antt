@@ -1,0 +1,447 @@
+-- What a rank does by its verdict is what its member does.
+use Rattle.std.proofs.Common.{◌≡◌, ℕ, suc, ◌+◌, ◌*◌, ◌^◌, ◌≤◌, Bool, true, false, cond, ◌&&◌, ◌||◌, List, [], ◌∷◌, ◌++◌, length, map, Option, Some, None, if◌then◌else◌, ◌==◌, slice_index_or, option_map, is_some, inl, inr, refl, sym, ap, ◌∙◌, subst, arith}
+use Rattle.std.specs.List.{AllByRecursion, list_any}
+use Rattle.std.proofs.lemmas.Bool.{eq-eqb, eqb-false, eqb-true}
+use Rattle.std.proofs.lemmas.List.{length-map, map-append}
+use Rattle.std.proofs.Math.ListN.{get_or-map}
+use Rattle.collective_notes.specs.Entering as entering
+use Rattle.collective_notes.specs.Entering.{agrees}
+use Rattle.collective_notes.specs.Notes as notes
+use Rattle.collective_notes.specs.Notes.{is_result, member_at}
+use Rattle.collectives.specs.State.{State, members_incarnation}
+use Rattle.collectives.specs.Steps as steps
+use Rattle.collectives.specs.Steps.{HasHeard, IsCarriedOut, IsHeard, IsPrepared, IsPreparedIn, Prepared, after_step, contexts_after, copy_step, barrier_step, difference_messages, ending_of, given_of, group_of_part, kept_after, left, made_by, message_to, no_step, outcome_of, split_step}
+use Rattle.collective_notes.specs.Verdicts.{is_first}
+use Rattle.collective_notes.specs.Verdicts as verdicts
+use Rattle.collective_notes.specs.declared.entry.Entry.{Entry}
+use Rattle.collective_notes.specs.declared.entry.Entry.TheVariants as entries
+use Rattle.collective_notes.specs.declared.entry.Inside.{Inside}
+use Rattle.collective_notes.specs.declared.message.Given.{Given}
+use Rattle.collective_notes.specs.declared.message.Given.TheVariants as given
+use Rattle.collective_notes.specs.declared.note.Note.{Note}
+use Rattle.collective_notes.specs.declared.note.Said.{Said}
+use Rattle.collective_notes.specs.declared.note.Said.TheVariants as said
+use Rattle.collectives.specs.declared.step.Ending as ended
+use Rattle.collectives.specs.declared.step.Ending.TheVariants as endings
+use Rattle.collectives.specs.declared.step.Outcome.{Outcome}
+use Rattle.collectives.specs.declared.step.Outcome.TheVariants as outcomes
+use Rattle.collective_notes.specs.declared.verdict.Verdict.{Verdict}
+use Rattle.collective_notes.specs.declared.verdict.Verdict.TheVariants as code
+use Rattle.context_agreement.specs.Communicators.{ContextsState, coming_context}
+use Rattle.context_agreement.specs.Numbers.{number_of}
+use Rattle.context_agreement.specs.Parts.{SplitPart}
+use Rattle.context_agreement.specs.Splits.{IsSplitPlan}
+use Rattle.context_agreement.specs.declared.communicator.Communicator as held
+use Rattle.groups.specs.Groups as groups
+use Rattle.payload.specs.Spelling.{elements_of}
+use Rattle.payload.specs.declared.payload.Direction.TheVariants.{FromRoot, TowardsRoot}
+use Rattle.payload.specs.declared.record.Record as payload
+use Rattle.payload.specs.declared.record.Record.TheVariants as records
+use Rattle.perfect_groups.specs.Collectives.{Part, bare_part, barrier, dup, split}
+use Rattle.perfect_groups.specs.Communicators.{Communicator, context_number}
+use Rattle.perfect_groups.specs.Machine.{mismatch}
+use Rattle.perfect_groups.specs.Membership.{Comm, Failed, Inside as Within, Left, Membership, Out, Present, got, mine, numbered}
+use Rattle.perfect_groups.specs.Results.{new_groups}
+use Rattle.proof_collective_steps.proofs.KeptNotes.{GroupIs, found_same, without_same}
+use Rattle.proof_collective_steps.proofs.Verdicts.{Alike, DecidesIs, here, verdicts_alike}
+use Rattle.proof_collective_steps.specs.Counterparts.{AreNoted, AreSaid, GivenStandsFor, IsSaid, SaidFits, StandsFor, communicator_of, members_of, part_of, record_of}
+use Rattle.proof_collective_steps.specs.Shown.{CopiesHaveTheirGroup, IsPresent, IsShown, ending_is, or_given}
+use Rattle.proof_group_network.proofs.SortedOnce.{IsIn, all_more, all_there}
+use Rattle.proof_group_network.proofs.SplitPlans.{splits_follow}
+use Rattle.proof_group_network.specs.Notices as network
+use Rattle.proof_group_network.specs.Notices.{HasDifference, HasMade, HasResult, Member, MemberEffect, Notice, attempt, attempt_in, carried_out, differences_to, left_by, notice, tells_difference}
+use Rattle.proof_group_network.specs.Splits.{members_of_part}
+use Rattle.vocabulary.specs.Endpoints.{is_same}
+use Rattle.vocabulary.specs.declared.endpoint.Endpoint.{Endpoint}
+
+-- LEAVING
+
+-- what a step leaves and tells is what the member's effect does
+abbrev pub Follows : Endpoint → State → ContextsState → Prepared → MemberEffect → Type 0
+Follows e s h step eff =
+    IsShown e (after_step s step.outcome) (contexts_after h step.drawn step.outcome) eff.member (ending_of h step.outcome)
+    × AreSaid e step.messages eff.out
+
+leaving : (e : Endpoint) (s : State) (h : ContextsState) (m : Member) → IsShown e s h m None → (i : Inside) → s.present ≡ Some i →
+    (k : ContextsState) (n : ℕ) (mm : Membership) (x : ended.Ending) → k.rank ≡ e.rank → k.incarnation ≡ e.incarnation → n ≡ k.next_serial → 2 ≤ k.next_serial →
+    mm.held ≡ map (communicator_of e) k.held → ((c : ℕ) → mm.count c ≡ m.membership.count c) → mm.present ≡ Some (Out (ending_is x)) →
+    IsShown e (left s) k (record { membership = mm; serial = n; kept = network.without i.context i.number m.kept }) (Some x)
+leaving e s h m b i at k n mm x rank inc serial two all count present =
+    record {
+      own = b.own;
+      rank = rank;
+      incarnation = inc;
+      serial = serial;
+      two = two;
+      held = all;
+      count = λ c. count c ∙ b.count c;
+      present = (refl, present);
+      kept = subst (λ (p : Option Inside). AreNoted e (kept_after p s.kept) (network.without i.context i.number m.kept)) (sym at) (without_same e i.context i.number s.kept m.kept b.kept);
+    }
+
+-- with a communicator or with MPI_COMM_NULL
+gets : (e : Endpoint) (s : State) (h : ContextsState) (m : Member) → IsShown e s h m None → (i : Inside) → s.present ≡ Some i →
+    (o : Option held.Communicator) (drawn n : ℕ) → n ≡ h.next_serial + drawn →
+    IsShown e (after_step s (outcome_of o)) (contexts_after h drawn (outcome_of o))
+    (record { membership = got m.membership (option_map (communicator_of e) o); serial = n; kept = network.without i.context i.number m.kept }) (ending_of h (outcome_of o))
+gets e s h m b i at None drawn n q =
+    leaving e s h m b i at (record h { next_serial = h.next_serial + drawn }) n (got m.membership None) (endings.Comm None) b.rank b.incarnation q (omega (arith, b.two)) b.held (λ c. refl) refl
+gets e s h m b i at (Some c) drawn n q =
+    leaving e s h m b i at (record h { next_serial = h.next_serial + drawn; held = h.held ++ c ∷ [] }) n (got m.membership (Some (communicator_of e c))) (endings.Comm (Some (length h.held)))
+    b.rank b.incarnation q (omega (arith, b.two))
+    (ap (λ (xs : List Communicator). xs ++ communicator_of e c ∷ []) b.held ∙ sym (map-append (communicator_of e) h.held (c ∷ [])))
+    (λ c. refl) (ap (λ (l : ℕ). Some (Out (Comm (Some l)))) (ap (λ (xs : List Communicator). length xs) b.held ∙ length-map h.held (communicator_of e)))
+
+-- MESSAGES
+
+pub entered_same : (y : Entry) → record_of (entering.record_of y) ≡ (part_of y).record_is
+entered_same entries.Barrier = refl
+entered_same entries.Dup = refl
+entered_same (entries.Split a) = refl
+
+pub every : {X : Type 0} (P : X → Type 0) → ((x : X) → P x) → (xs : List X) → AllByRecursion P xs
+every P f [] = tt
+every P f (x ∷ xs) = (f x, every P f xs)
+
+pub said_to : (e : Endpoint) (i : Inside) (g : Given) (r : ℕ) (x : network.Said) → GivenStandsFor e (entering.record_of i.entry) g x →
+    IsSaid e (message_to i g r) (member_at i.incarnation r, notice i.context i.number x)
+said_to e i g r x h = record { target = refl; context = refl; number = refl; stands = h }
+
+pub others_said : (e : Endpoint) (i : Inside) (f : ℕ → Given) (g : Endpoint → Notice) (rs : List ℕ) →
+    AllByRecursion (λ r. IsSaid e (message_to i (f r) r) (member_at i.incarnation r, g (member_at i.incarnation r))) rs →
+    AreSaid e (steps.to_others e i f rs) (network.to_others e g (map (member_at i.incarnation) rs))
+others_said e i f g [] h = tt
+others_said e i f g (r ∷ rs) h = go (is_same (member_at i.incarnation r) e) (others_said e i f g rs h.1)
+  where
+    go : (b : Bool) → AreSaid e (steps.to_others e i f rs) (network.to_others e g (map (member_at i.incarnation) rs)) →
+        AreSaid e (if b then steps.to_others e i f rs else message_to i (f r) r ∷ steps.to_others e i f rs)
+        (if b then network.to_others e g (map (member_at i.incarnation) rs) else (member_at i.incarnation r, g (member_at i.incarnation r)) ∷ network.to_others e g (map (member_at i.incarnation) rs))
+    go true rest = rest
+    go false rest = (h.0, rest)
+
+-- A DIFFERENCE
+
+tells : (y : Entry) (b : Bool) → (tells_difference (part_of y).record_is.kind && b) ≡ b
+tells entries.Barrier b = refl
+tells entries.Dup b = refl
+tells (entries.Split a) b = refl
+
+breaks : (e : Endpoint) (s : State) (h : ContextsState) (m : Member) → IsShown e s h m None → (i : Inside) → s.present ≡ Some i → (ranks : List ℕ) →
+    Follows e s h (record { outcome = outcomes.Breaks; drawn = 0; messages = difference_messages e i ranks s.kept }) (carried_out e m (here i ranks) i.number (part_of i.entry) network.Breaks)
+breaks e s h m b i at ranks = (
+  leaving e s h m b i at h m.serial (record m.membership { present = Some (Out (Failed mismatch)) }) endings.Mismatch b.rank b.incarnation b.serial b.two b.held (λ c. refl) refl,
+  subst (λ (v : Bool). AreSaid e (difference_messages e i ranks s.kept) (differences_to e (here i ranks) i.number (part_of i.entry) v))
+      (sym (tells i.entry (network.found_in i.context i.number (part_of i.entry).record_is m.kept) ∙ found_same e i.entry i.context i.number s.kept m.kept b.kept))
+      (go (notes.found_in i.context i.number i.entry s.kept)),
+)
+  where
+    go : (v : Bool) → AreSaid e (if v then steps.to_others e i (λ r. given.RecordsDiffer) ranks else []) (differences_to e (here i ranks) i.number (part_of i.entry) v)
+    go false = tt
+    go true =
+        others_said e i (λ r. given.RecordsDiffer) (λ z. notice i.context i.number (HasDifference (part_of i.entry).record_is)) ranks
+        (every (λ r. IsSaid e (message_to i given.RecordsDiffer r) (member_at i.incarnation r, notice i.context i.number (HasDifference (part_of i.entry).record_is)))
+        (λ r. said_to e i given.RecordsDiffer r (HasDifference (part_of i.entry).record_is) (ap HasDifference (sym (entered_same i.entry)))) ranks)
+
+-- MEMBERS
+
+pub flipped : (x y : ℕ) → (x == y) ≡ (y == x)
+flipped x y = go (x == y) refl (y == x) refl
+  where
+    go : (t : Bool) → (x == y) ≡ t → (u : Bool) → (y == x) ≡ u → t ≡ u
+    go true p true q = refl
+    go false p false q = refl
+    go true p false q = absurd (eqb-false y x q (sym (eqb-true x y p)))
+    go false p true q = absurd (eqb-false x y p (sym (eqb-true y x q)))
+
+and_true : (a : Bool) → (a && true) ≡ a
+and_true true = refl
+and_true false = refl
+
+or_true : (a : Bool) → (a || true) ≡ true
+or_true true = refl
+or_true false = refl
+
+in_members : (inc r : ℕ) (ranks : List ℕ) → IsIn r ranks → list_any (λ m. is_same m (member_at inc r)) (map (member_at inc) ranks) ≡ true
+in_members inc r [] h = absurd h
+in_members inc r (x ∷ xs) h =
+    elim h [
+      | inl q ↦ λ t. (eq-eqb x r (sym q) t && eq-eqb inc inc refl t) || list_any (λ m. is_same m (member_at inc r)) (map (member_at inc) xs)
+      | inr q ↦ ap (λ (b : Bool). is_same (member_at inc x) (member_at inc r) || b) (in_members inc r xs q) ∙ or_true (is_same (member_at inc x) (member_at inc r))
+    ]
+
+first_member : (e : Endpoint) (inc : ℕ) (ranks : List ℕ) → is_first e inc ranks ≡ true → list_any (λ m. is_same m e) (map (member_at inc) ranks) ≡ true
+first_member e inc [] h = absurd cc
+first_member e inc (r ∷ rs) h = ap (λ (b : Bool). b || list_any (λ m. is_same m e) (map (member_at inc) rs)) h
+
+member_same : (j inc r : ℕ) → j ≡ inc → (group : List ℕ) → list_any (λ m. is_same m (member_at inc r)) (map (member_at j) group) ≡ groups.is_member group r
+member_same j inc r q [] = refl
+member_same j inc r q (x ∷ xs) =
+    λ t. (ap (λ (b : Bool). (x == r) && b) (eq-eqb j inc q) ∙ (and_true (x == r) ∙ flipped x r)) t || member_same j inc r q xs t
+
+-- NEW COMMUNICATORS
+
+not_world : (a b n : ℕ) → 2 ≤ n → ((a + b + n) == 0) ≡ false
+not_world a b n le = go ((a + b + n) == 0) refl
+  where
+    go : (t : Bool) → ((a + b + n) == 0) ≡ t → t ≡ false
+    go false q = refl
+    go true q = absurd (let z : a + b + n ≡ 0 = eqb-true (a + b + n) 0 q in omega (arith, z, le))
+
+-- those of a new context have the incarnation of the rank that draws it
+coming_incarnation : (e : Endpoint) (h : ContextsState) (inc : ℕ) → 2 ≤ h.next_serial → e.incarnation ≡ inc → (further : ℕ) → members_incarnation e (number_of (coming_context h further)) ≡ inc
+coming_incarnation e h inc two own further =
+    ap (λ (b : Bool). if b then 0 else e.incarnation) (not_world (h.rank * 2 ^ 48) (h.incarnation * 2 ^ 32) (h.next_serial + further) (omega (arith, two))) ∙ own
+
+abbrev number_by : ℕ → ℕ → ℕ → ℕ
+number_by a b n = a * 2 ^ 48 + b * 2 ^ 32 + n
+
+new_comm : (e : Endpoint) (h : ContextsState) (inc : ℕ) → 2 ≤ h.next_serial → h.rank ≡ e.rank → h.incarnation ≡ e.incarnation → e.incarnation ≡ inc → (further n : ℕ) → n ≡ h.next_serial + further → (group : List ℕ) →
+    record { context = context_number e n; members = map (member_at inc) group } ≡ communicator_of e (record { context = coming_context h further; group = group })
+new_comm e h inc two rank incarnation own further n q group =
+    λ t. record {
+      context = number_by (sym rank t) (sym incarnation t) (q t);
+      members = map (member_at (sym (coming_incarnation e h inc two own further) t)) group;
+    }
+
+part_group : (inc : ℕ) (ranks rs : List ℕ) → map (λ r. slice_index_or (map (member_at inc) ranks) r (member_at inc 0)) rs ≡ map (member_at inc) (map (λ r. slice_index_or ranks r 0) rs)
+part_group inc ranks [] = refl
+part_group inc ranks (r ∷ rs) = λ t. get_or-map (member_at inc) ranks r 0 t ∷ part_group inc ranks rs t
+
+numbered_made : (e : Endpoint) (h : ContextsState) (inc : ℕ) → 2 ≤ h.next_serial → h.rank ≡ e.rank → h.incarnation ≡ e.incarnation → e.incarnation ≡ inc → (ranks : List ℕ) (plan : List SplitPart) (further n : ℕ) → n ≡ h.next_serial + further →
+    numbered e n (map (members_of_part (map (member_at inc) ranks) (member_at inc 0)) plan) ≡ map (communicator_of e) (made_by h ranks further plan)
+numbered_made e h inc two rank incarnation own ranks [] further n q = refl
+numbered_made e h inc two rank incarnation own ranks (part ∷ plan) further n q =
+    λ t. (ap (λ (ms : List Endpoint). record { context = context_number e n; members = ms }) (part_group inc ranks part.ranks)
+    ∙ new_comm e h inc two rank incarnation own further n q (group_of_part ranks part)) t
+    ∷ numbered_made e h inc two rank incarnation own ranks plan (suc further) (suc n) (omega (arith, q)) t
+
+made_length : (h : ContextsState) (ranks : List ℕ) (further : ℕ) (plan : List SplitPart) → length (made_by h ranks further plan) ≡ length plan
+made_length h ranks further [] = refl
+made_length h ranks further (part ∷ plan) = ap suc (made_length h ranks (suc further) plan)
+
+made_incarnation : (e : Endpoint) (h : ContextsState) (inc : ℕ) → 2 ≤ h.next_serial → e.incarnation ≡ inc → (ranks : List ℕ) (further : ℕ) (plan : List SplitPart) →
+    AllByRecursion (λ (c : held.Communicator). members_incarnation e (number_of c.context) ≡ inc) (made_by h ranks further plan)
+made_incarnation e h inc two own ranks further [] = tt
+made_incarnation e h inc two own ranks further (part ∷ plan) = (coming_incarnation e h inc two own further, made_incarnation e h inc two own ranks (suc further) plan)
+
+mine_made : (e : Endpoint) (inc r : ℕ) (made : List held.Communicator) → AllByRecursion (λ (c : held.Communicator). members_incarnation e (number_of c.context) ≡ inc) made →
+    mine (member_at inc r) (map (communicator_of e) made) ≡ option_map (communicator_of e) (steps.mine r made)
+mine_made e inc r [] h = refl
+mine_made e inc r (c ∷ cs) h =
+    ap (λ (b : Bool). if b then Some (communicator_of e c) else mine (member_at inc r) (map (communicator_of e) cs)) (member_same (members_incarnation e (number_of c.context)) inc r h.0 c.group)
+    ∙ go (groups.is_member c.group r) (mine_made e inc r cs h.1)
+  where
+    go : (b : Bool) → mine (member_at inc r) (map (communicator_of e) cs) ≡ option_map (communicator_of e) (steps.mine r cs) →
+        (if b then Some (communicator_of e c) else mine (member_at inc r) (map (communicator_of e) cs)) ≡ option_map (communicator_of e) (cond b (Some c) (steps.mine r cs))
+    go true rest = refl
+    go false rest = rest
+
+-- MEMBER 0 DECIDES
+
+abbrev inside : (place context incarnation number : ℕ) → Entry → Inside
+inside place c inc k y = record { place = place; context = c; incarnation = inc; number = k; entry = y }
+
+given_made : (e : Endpoint) (o : Option held.Communicator) → GivenStandsFor e records.Split (given_of o) (HasMade (bare_part split).record_is (option_map (communicator_of e) o))
+given_made e None = refl
+given_made e (Some c) = (refl, refl)
+
+decides : (e : Endpoint) (s : State) (h : ContextsState) (m : Member) → IsShown e s h m None → (place c inc k : ℕ) (y : Entry) → s.present ≡ Some (inside place c inc k y) → e.incarnation ≡ inc →
+    (ranks : List ℕ) (ps : List Part) → DecidesIs e (inside place c inc k y) ranks s.kept ps → (step : Prepared) → steps.IsDecided e (inside place c inc k y) h ranks s.kept y step →
+    Follows e s h step (carried_out e m (here (inside place c inc k y) ranks) k (part_of y) (network.Decides ps))
+decides e s h m b place c inc k entries.Barrier at own ranks ps d step q =
+    subst (λ (st : Prepared). Follows e s h st (carried_out e m (here (inside place c inc k entries.Barrier) ranks) k (part_of entries.Barrier) (network.Decides ps))) (sym q) (
+      leaving e s h m b I at (record h { next_serial = h.next_serial + 0 }) (m.serial + 0) (record m.membership { present = Some (Out (Left None)) }) endings.Left b.rank b.incarnation
+          (ap (λ (x : ℕ). x + 0) b.serial) (omega (arith, b.two)) b.held (λ c. refl) refl,
+      others_said e I (λ r. given.Nothing FromRoot) (λ z. notice c k (HasResult (bare_part barrier).record_is None)) ranks
+          (every (λ r. IsSaid e (message_to I (given.Nothing FromRoot) r) (member_at inc r, notice c k (HasResult (bare_part barrier).record_is None)))
+          (λ r. said_to e I (given.Nothing FromRoot) r (HasResult (bare_part barrier).record_is None) refl) ranks),
+    )
+  where
+    I : Inside
+    I = inside place c inc k entries.Barrier
+decides e s h m b place c inc k entries.Dup at own ranks ps d step q =
+    subst (λ (st : Prepared). Follows e s h st (carried_out e m (here I ranks) k (part_of entries.Dup) (network.Decides ps))) (sym q) (
+      subst (λ (o : Option Communicator). IsShown e (after_step s (outcomes.Gets X)) (contexts_after h 1 (outcomes.Gets X)) (record { membership = got m.membership o; serial = m.serial + 1; kept = network.without c k m.kept }) (ending_of h (outcomes.Gets X)))
+          (sym (is_mine e (first_member e inc ranks d.first))) (gets e s h m b I at (Some X) 1 (m.serial + 1) (ap (λ (x : ℕ). x + 1) b.serial)),
+      others_said e I (λ r. given.Context (number_of (coming_context h 0))) (λ z. notice c k (HasMade (bare_part dup).record_is (mine z new))) ranks
+          (all_more (λ r. IsIn r ranks) (λ r. IsSaid e (message_to I (given.Context (number_of (coming_context h 0))) r) (member_at inc r, notice c k (HasMade (bare_part dup).record_is (mine (member_at inc r) new)))) ranks
+          (λ r there. said_to e I (given.Context (number_of (coming_context h 0))) r (HasMade (bare_part dup).record_is (mine (member_at inc r) new))
+          ((communicator_of e X).members, ap (HasMade (bare_part dup).record_is) (is_mine (member_at inc r) (in_members inc r ranks there))))
+          (all_there ranks)),
+    )
+  where
+    I : Inside
+    I = inside place c inc k entries.Dup
+
+    X : held.Communicator
+    X = record { context = coming_context h 0; group = ranks }
+
+    new : List Communicator
+    new = record { context = context_number e m.serial; members = map (member_at inc) ranks } ∷ []
+
+    is_mine : (z : Endpoint) → list_any (λ m. is_same m z) (map (member_at inc) ranks) ≡ true → mine z new ≡ Some (communicator_of e X)
+    is_mine z there =
+        ap (λ (t : Bool). if t then Some (record { context = context_number e m.serial; members = map (member_at inc) ranks }) else None) there
+        ∙ ap (λ (x : Communicator). Some x) (new_comm e h inc b.two b.rank b.incarnation own 0 m.serial (let z : h.next_serial ≡ h.next_serial + 0 = omega arith in b.serial ∙ z) ranks)
+decides e s h m b place c inc k (entries.Split a) at own ranks ps d step q =
+    subst (λ (st : Prepared). Follows e s h st (carried_out e m (here I ranks) k (part_of (entries.Split a)) (network.Decides ps))) (sym q.2)
+    (subst (λ (new : List Communicator).
+    IsShown e (after_step s (outcome_of (steps.mine e.rank made))) (contexts_after h (length plan) (outcome_of (steps.mine e.rank made)))
+    (record { membership = got m.membership (mine e new); serial = m.serial + length new; kept = network.without c k m.kept }) (ending_of h (outcome_of (steps.mine e.rank made)))
+    × AreSaid e (steps.to_others e I (λ r. given_of (steps.mine r made)) ranks) (network.to_others e (λ z. notice c k (HasMade (bare_part split).record_is (mine z new))) (map (member_at inc) ranks)))
+    (sym all_new) (shown, told))
+  where
+    I : Inside
+    I = inside place c inc k (entries.Split a)
+
+    plan : List SplitPart
+    plan = q.0
+
+    made : List held.Communicator
+    made = made_by h ranks 0 plan
+
+    incs : AllByRecursion (λ (c : held.Communicator). members_incarnation e (number_of c.context) ≡ inc) made
+    incs = made_incarnation e h inc b.two own ranks 0 plan
+
+    all_new : numbered e m.serial (new_groups split (map (member_at inc) ranks) ps) ≡ map (communicator_of e) made
+    all_new =
+        ap (λ (gs : List (List Endpoint)). numbered e m.serial gs)
+        (splits_follow (map (member_at inc) ranks) ps plan (member_at inc 0) (d.count ∙ sym (length-map ranks (member_at inc))) (subst (λ rows. IsSplitPlan rows plan) (sym (d.rows 0)) q.1))
+        ∙ numbered_made e h inc b.two b.rank b.incarnation own ranks plan 0 m.serial (let z : h.next_serial ≡ h.next_serial + 0 = omega arith in b.serial ∙ z)
+
+    own_is : e ≡ member_at inc e.rank
+    own_is = λ t. record { rank = e.rank; incarnation = own t }
+
+    shown : IsShown e (after_step s (outcome_of (steps.mine e.rank made))) (contexts_after h (length plan) (outcome_of (steps.mine e.rank made)))
+        (record { membership = got m.membership (mine e (map (communicator_of e) made)); serial = m.serial + length (map (communicator_of e) made); kept = network.without c k m.kept }) (ending_of h (outcome_of (steps.mine e.rank made)))
+    shown =
+        subst (λ (o : Option Communicator). IsShown e (after_step s (outcome_of (steps.mine e.rank made))) (contexts_after h (length plan) (outcome_of (steps.mine e.rank made)))
+        (record { membership = got m.membership o; serial = m.serial + length (map (communicator_of e) made); kept = network.without c k m.kept }) (ending_of h (outcome_of (steps.mine e.rank made))))
+        (sym (ap (λ (z : Endpoint). mine z (map (communicator_of e) made)) own_is ∙ mine_made e inc e.rank made incs))
+        (gets e s h m b I at (steps.mine e.rank made) (length plan) (m.serial + length (map (communicator_of e) made))
+        (λ t. b.serial t + (length-map made (communicator_of e) ∙ made_length h ranks 0 plan) t))
+
+    told : AreSaid e (steps.to_others e I (λ r. given_of (steps.mine r made)) ranks) (network.to_others e (λ z. notice c k (HasMade (bare_part split).record_is (mine z (map (communicator_of e) made)))) (map (member_at inc) ranks))
+    told =
+        others_said e I (λ r. given_of (steps.mine r made)) (λ z. notice c k (HasMade (bare_part split).record_is (mine z (map (communicator_of e) made)))) ranks
+        (every (λ r. IsSaid e (message_to I (given_of (steps.mine r made)) r) (member_at inc r, notice c k (HasMade (bare_part split).record_is (mine (member_at inc r) (map (communicator_of e) made)))))
+        (λ r. said_to e I (given_of (steps.mine r made)) r (HasMade (bare_part split).record_is (mine (member_at inc r) (map (communicator_of e) made)))
+        (subst (λ (o : Option Communicator). GivenStandsFor e records.Split (given_of (steps.mine r made)) (HasMade (bare_part split).record_is o)) (sym (mine_made e inc r made incs)) (given_made e (steps.mine r made)))) ranks)
+
+-- A RESULT IS HEARD
+
+no_elements : (y : Entry) (r : payload.Record) → agrees y r ≡ true → is_some (elements_of r) ≡ true → ⊥
+no_elements y records.Barrier h g = cc
+no_elements y records.Dup h g = cc
+no_elements y records.Split h g = cc
+no_elements entries.Barrier (records.Bcast a) h g = cc
+no_elements entries.Barrier (records.Gather a) h g = cc
+no_elements entries.Barrier (records.Scatter a) h g = cc
+no_elements entries.Barrier (records.Reduce o a) h g = cc
+no_elements entries.Barrier (records.Allreduce o a) h g = cc
+no_elements entries.Dup (records.Bcast a) h g = cc
+no_elements entries.Dup (records.Gather a) h g = cc
+no_elements entries.Dup (records.Scatter a) h g = cc
+no_elements entries.Dup (records.Reduce o a) h g = cc
+no_elements entries.Dup (records.Allreduce o a) h g = cc
+no_elements (entries.Split b) (records.Bcast a) h g = cc
+no_elements (entries.Split b) (records.Gather a) h g = cc
+no_elements (entries.Split b) (records.Scatter a) h g = cc
+no_elements (entries.Split b) (records.Reduce o a) h g = cc
+no_elements (entries.Split b) (records.Allreduce o a) h g = cc
+
+abbrev HeardLeaves : Endpoint → State → ContextsState → Member → Inside → network.Said → Outcome → Type 0
+HeardLeaves e s h m i w o =
+    IsShown e (after_step s o) (contexts_after h 0 o) (record { membership = left_by m.membership w; serial = m.serial; kept = network.without i.context i.number m.kept }) (ending_of h o)
+
+hears : (e : Endpoint) (s : State) (h : ContextsState) (m : Member) → IsShown e s h m None → (i : Inside) → s.present ≡ Some i → e.incarnation ≡ i.incarnation → (ranks : List ℕ) →
+    (r : payload.Record) (x : Said) (w : network.Said) → StandsFor e r x w → is_result x ≡ true → SaidFits r x → agrees i.entry r ≡ true → GroupIs (here i ranks) w →
+    (o : Outcome) → HasHeard ranks x o → HeardLeaves e s h m i w o
+hears e s h m b i at own ranks r said.RecordsDiffer w st res fits ag g o q = absurd cc
+hears e s h m b i at own ranks r (said.Nothing TowardsRoot) w st res fits ag g o q = absurd cc
+hears e s h m b i at own ranks r (said.Nothing FromRoot) w st res fits ag g o q =
+    subst (λ (v : Outcome). HeardLeaves e s h m i w v) (sym q)
+    (subst (λ (v : network.Said). HeardLeaves e s h m i v outcomes.Leaves) (sym st)
+    (leaving e s h m b i at (record h { next_serial = h.next_serial + 0 }) m.serial (record m.membership { present = Some (Out (Left None)) }) endings.Left b.rank b.incarnation
+    (let z : h.next_serial ≡ h.next_serial + 0 = omega arith in b.serial ∙ z) (omega (arith, b.two)) b.held (λ c. refl) refl))
+hears e s h m b i at own ranks r (said.Elements TowardsRoot c) w st res fits ag g o q = absurd cc
+hears e s h m b i at own ranks r (said.Elements FromRoot c) w st res fits ag g o q = absurd (no_elements i.entry r ag fits)
+hears e s h m b i at own ranks r (said.Context number) w st res fits ag g o q =
+    subst (λ (v : Outcome). HeardLeaves e s h m i w v) (sym q.2)
+    (subst (λ (v : network.Said). HeardLeaves e s h m i v (outcomes.Gets X)) (sym st.1)
+    (subst (λ (c : Communicator). IsShown e (after_step s (outcomes.Gets X)) (contexts_after h 0 (outcomes.Gets X)) (record { membership = got m.membership (Some c); serial = m.serial; kept = network.without i.context i.number m.kept }) (ending_of h (outcomes.Gets X)))
+    same (gets e s h m b i at (Some X) 0 m.serial (let z : h.next_serial ≡ h.next_serial + 0 = omega arith in b.serial ∙ z))))
+  where
+    X : held.Communicator
+    X = record { context = q.0; group = ranks }
+
+    is_group : (st.0 ≡ (here i ranks).members) × ((number == 0) ≡ false)
+    is_group = g (record_of r) (record { context = number; members = st.0 }) st.1 (ap (λ (z : payload.Record). (record_of z).kind) fits)
+
+    inc : members_incarnation e number ≡ i.incarnation
+    inc = ap (λ (t : Bool). if t then 0 else e.incarnation) is_group.1 ∙ own
+
+    same : communicator_of e X ≡ record { context = number; members = st.0 }
+    same = λ t. record { context = q.1 t; members = (ap (λ (z : ℕ). map (member_at z) ranks) (ap (members_incarnation e) q.1 ∙ inc) ∙ sym is_group.0) t }
+hears e s h m b i at own ranks r (said.Choice c) w st res fits ag g o q = absurd cc
+hears e s h m b i at own ranks r said.NullCommunicator w st res fits ag g o q =
+    subst (λ (v : Outcome). HeardLeaves e s h m i w v) (sym q)
+    (subst (λ (v : network.Said). HeardLeaves e s h m i v outcomes.GetsNull) (sym st)
+    (gets e s h m b i at None 0 m.serial (let z : h.next_serial ≡ h.next_serial + 0 = omega arith in b.serial ∙ z)))
+hears e s h m b i at own ranks r (said.NewGroup number group) w st res fits ag g o q =
+    subst (λ (v : Outcome). HeardLeaves e s h m i w v) (sym q.2)
+    (subst (λ (v : network.Said). HeardLeaves e s h m i v (outcomes.Gets X)) (sym st)
+    (subst (λ (c : Communicator). IsShown e (after_step s (outcomes.Gets X)) (contexts_after h 0 (outcomes.Gets X)) (record { membership = got m.membership (Some c); serial = m.serial; kept = network.without i.context i.number m.kept }) (ending_of h (outcomes.Gets X)))
+    same (gets e s h m b i at (Some X) 0 m.serial (let z : h.next_serial ≡ h.next_serial + 0 = omega arith in b.serial ∙ z))))
+  where
+    X : held.Communicator
+    X = record { context = q.0; group = group }
+
+    same : communicator_of e X ≡ record { context = number; members = members_of e number group }
+    same = λ t. record { context = q.1 t; members = members_of e (q.1 t) group }
+
+-- ALL VERDICTS
+
+carried : (e : Endpoint) (s : State) (h : ContextsState) (m : Member) → IsShown e s h m None → (i : Inside) → s.present ≡ Some i → e.incarnation ≡ i.incarnation → (ranks : List ℕ) →
+    (v : Verdict) (w : network.Verdict) → Alike e i ranks s.kept v w → (step : Prepared) → IsCarriedOut e i h ranks s.kept v step →
+    Follows e s h step (carried_out e m (here i ranks) i.number (part_of i.entry) w)
+carried e s h m b i at own ranks code.Stays network.Stays a step q =
+    subst (λ (st : Prepared). Follows e s h st (carried_out e m (here i ranks) i.number (part_of i.entry) network.Stays)) (sym q) (b, tt)
+carried e s h m b i at own ranks code.Breaks network.Breaks a step q =
+    subst (λ (st : Prepared). Follows e s h st (carried_out e m (here i ranks) i.number (part_of i.entry) network.Breaks)) (sym q) (breaks e s h m b i at ranks)
+carried e s h m b i at own ranks code.Decides (network.Decides ps) a step q =
+    decides e s h m b i.place i.context i.incarnation i.number i.entry at own ranks ps a step q
+carried e s h m b i at own ranks (code.Hears place) (network.Hears w) a step q =
+    subst (λ (st : Prepared). Follows e s h st (carried_out e m (here i ranks) i.number (part_of i.entry) (network.Hears w))) (sym heard.2)
+    (hears e s h m b i at own ranks a.0.entered a.0.said w a.2.stands a.2.result a.2.fits a.2.agreeing a.2.group heard.0 heard.1, tt)
+  where
+    heard : IsHeard ranks (Some a.0) step
+    heard = subst (λ (o : Option Note). IsHeard ranks o step) a.1 q
+carried e s h m b i at own ranks v w a step q = absurd a
+
+-- WHAT A RANK DOES OF ITSELF
+
+pub attempt_follows : (e : Endpoint) (s : State) (h : ContextsState) (m : Member) (before : Option ended.Ending) → IsShown e s h m before → CopiesHaveTheirGroup m.membership.present m.kept →
+    (step : Prepared) → IsPrepared e s.present h s.kept step →
+    IsShown e (after_step s step.outcome) (contexts_after h step.drawn step.outcome) (attempt e m).member (or_given before (ending_of h step.outcome)) × AreSaid e step.messages (attempt e m).out
+attempt_follows e s h m (Some x) b g step q =
+    subst (λ (p : Option Present). IsShown e (after_step s step.outcome) (contexts_after h step.drawn step.outcome) (attempt_in e m p).member (Some x) × AreSaid e step.messages (attempt_in e m p).out) (sym b.present.1)
+    (subst (λ (st : Prepared). IsShown e (after_step s st.outcome) (contexts_after h st.drawn st.outcome) m (Some x) × AreSaid e st.messages [])
+    (sym (subst (λ (o : Option Inside). IsPrepared e o h s.kept step) b.present.0 q)) (b, tt))
+attempt_follows e s h m None b g step q = go s.present refl b.present
+  where
+    go : (o : Option Inside) → s.present ≡ o → IsPresent e h o m.membership.present → Follows e s h step (attempt e m)
+    go None at p =
+        subst (λ (p : Option Present). Follows e s h step (attempt_in e m p)) (sym p)
+        (subst (λ (st : Prepared). Follows e s h st (record { member = m; out = [] })) (sym (subst (λ (o : Option Inside). IsPrepared e o h s.kept step) at q)) (b, tt))
+    go (Some i) at p =
+        subst (λ (p : Option Present). Follows e s h step (attempt_in e m p)) (sym present)
+        (carried e s h m b i at p.own p.comm.group (verdicts.verdict e i p.comm.group s.kept) (network.verdict e (here i p.comm.group) i.number (part_of i.entry) m.kept)
+        (verdicts_alike e i p.comm.group s.kept m.kept b.kept (subst (λ (z : Option Present). CopiesHaveTheirGroup z m.kept) present g)) step
+        (subst (λ (c : Option held.Communicator). IsPreparedIn e i h s.kept c step) p.at_place (subst (λ (o : Option Inside). IsPrepared e o h s.kept step) at q)))
+      where
+        same : communicator_of e p.comm ≡ here i p.comm.group
+        same = λ t. record { context = sym p.context t; members = map (member_at ((ap (members_incarnation e) (sym p.context) ∙ sym p.incarnation) t)) p.comm.group }
+
+        present : m.membership.present ≡ Some (Within (here i p.comm.group) i.number (part_of i.entry))
+        present = p.is ∙ ap (λ (c : Communicator). Some (Within c i.number (part_of i.entry))) same

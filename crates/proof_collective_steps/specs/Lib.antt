@@ -1,0 +1,3 @@
+pub mod Counterparts
+pub mod Shown
+pub mod StepLaws

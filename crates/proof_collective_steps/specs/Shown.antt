@@ -1,0 +1,76 @@
+-- When what a rank keeps of collectives and communicators stands for its member of the pure network.
+use Rattle.std.specs.Prelude.{◌≡◌, ℕ, ◌≤◌, true, false, ◌==◌, List, map, Option, Some, None, slice_get}
+use Rattle.std.specs.List.{AllByRecursion}
+use Rattle.collectives.specs.State.{State, members_incarnation}
+use Rattle.collective_notes.specs.Tallies.{count_in}
+use Rattle.collective_notes.specs.declared.entry.Inside as code
+use Rattle.collectives.specs.declared.step.Ending as steps
+use Rattle.collectives.specs.declared.step.Ending.TheVariants as endings
+use Rattle.context_agreement.specs.Communicators.{ContextsState}
+use Rattle.context_agreement.specs.Numbers.{number_of}
+use Rattle.context_agreement.specs.declared.communicator.Communicator as held
+use Rattle.perfect_groups.specs.Collectives.{Record, dup}
+use Rattle.perfect_groups.specs.Communicators.{Communicator}
+use Rattle.perfect_groups.specs.Membership.{Comm, Ending, Failed, Inside, Left, Out, Present}
+use Rattle.perfect_queues.specs.Refusals.{world}
+use Rattle.proof_collective_steps.specs.Counterparts.{AreNoted, communicator_of, part_of}
+use Rattle.proof_group_network.specs.Notices.{HasMade, Member, Note, is_of_it}
+use Rattle.vocabulary.specs.declared.endpoint.Endpoint.{Endpoint}
+
+-- the rank at e is in a collective of a communicator that it holds, and whose members have its own incarnation
+pub record IsInside (e : Endpoint) (h : ContextsState) (i : code.Inside) (p : Option Present) : Type 0 where
+  pub comm : held.Communicator
+  pub at_place : slice_get h.held i.place ≡ Some comm
+  pub context : i.context ≡ number_of comm.context
+  pub incarnation : i.incarnation ≡ members_incarnation e i.context
+  pub own : e.incarnation ≡ i.incarnation
+  pub is : p ≡ Some (Inside (communicator_of e comm) i.number (part_of i.entry))
+
+-- the collective that the rank is in, or none
+abbrev pub IsPresent : (e : Endpoint) → ContextsState → Option code.Inside → Option Present → Type 0
+IsPresent e h None p = p ≡ None
+IsPresent e h (Some i) p = IsInside e h i p
+
+-- how a collective ends
+abbrev pub ending_is : steps.Ending → Ending
+ending_is endings.Left = Left None
+ending_is (endings.Comm place) = Comm place
+ending_is endings.Replaced = Failed 11
+ending_is endings.Mismatch = Failed 12
+
+-- the same once the present event has given an ending, where it has: the network keeps it until the event is settled
+abbrev pub HasEnded : (e : Endpoint) → ContextsState → (given : Option steps.Ending) → Option code.Inside → Option Present → Type 0
+HasEnded e h None i p = IsPresent e h i p
+HasEnded e h (Some x) i p = (i ≡ None) × (p ≡ Some (Out (ending_is x)))
+
+-- what the rank at e keeps stands for its member, where the present event has given this ending or none
+pub record IsShown (e : Endpoint) (s : State) (h : ContextsState) (m : Member) (given : Option steps.Ending) : Type 0 where
+  pub own : s.own ≡ e
+  pub rank : h.rank ≡ e.rank
+  pub incarnation : h.incarnation ≡ e.incarnation
+  pub serial : m.serial ≡ h.next_serial
+  -- serials 0 and 1 are those of world and self
+  pub two : 2 ≤ h.next_serial
+  pub held : m.membership.held ≡ map (communicator_of e) h.held
+  pub count : (c : ℕ) → m.membership.count c ≡ count_in s.tallies c
+  pub present : HasEnded e h given s.present m.membership.present
+  pub kept : AreNoted e s.kept m.kept
+
+-- an event gives one ending: the one that it has given, or else this
+abbrev pub or_given : (before after : Option steps.Ending) → Option steps.Ending
+or_given None x = x
+or_given (Some y) x = Some y
+
+-- A note of a copy of this collective tells of the members of the communicator that was copied, in a context that isn't
+-- world's. A message of a copy names the context alone, and the rank takes the group that it holds; in the network it is so
+-- since there is one group for each context
+abbrev pub HasItsGroup : Communicator → (number : ℕ) → Note → Type 0
+HasItsGroup c k x =
+    (r : Record) (d : Communicator) → is_of_it c.context k x ≡ true → x.notice.said ≡ HasMade r (Some d) → r.kind ≡ dup →
+    (d.members ≡ c.members) × ((d.context == world) ≡ false)
+
+-- the notes of the collective that a member is in do
+abbrev pub CopiesHaveTheirGroup : Option Present → List Note → Type 0
+CopiesHaveTheirGroup None notes = Unit {0}
+CopiesHaveTheirGroup (Some (Out o)) notes = Unit {0}
+CopiesHaveTheirGroup (Some (Inside c k p)) notes = AllByRecursion (HasItsGroup c k) notes
