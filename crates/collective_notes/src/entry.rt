@@ -23,7 +23,7 @@ pub struct Inside {
     pub place: usize,
     /// The number of the communicator's context.
     pub context: u64,
-    /// The incarnation of the communicator's members: all are ranks that were never started anew, or the rank is alone.
+    /// The incarnation of the communicator's members: 0, or the rank's own in what came from its communicator with itself alone.
     pub incarnation: u16,
     /// How many collectives the rank had entered on the communicator before.
     pub number: u32,

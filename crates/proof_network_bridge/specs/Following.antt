@@ -142,7 +142,7 @@ pub record IsSeenOfMachine (n : ℕ) (engines : List EngineState) (history : Lis
       IsFaultless (fault_in (after_run (machine_opening n) events) e.sessions.place.endpoint (call_seen call)) e.core call
   -- messages have all been handed up, and what was matched is finished
   pub quiet : AreQuiet (sessions_in engines) → IsAtRest (after_run (machine_opening n) events).queues
-  -- a collective that all its members have entered alike was left by all
+  -- a collective whose members are all current, know each other so and have all entered it alike was left by all
   pub leaves : AreQuiet (sessions_in engines) → CollectivesAreLeft n (after_run (machine_opening n) events)
 
 -- wherever engines follow the network, what was seen of them is seen of a run of the machine

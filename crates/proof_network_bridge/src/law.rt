@@ -8,7 +8,8 @@ ghost use Rattle.proof_network_bridge.specs.Following.{OpeningFollows, CallsFoll
 /// that network is seen as a run of the machine of queues and groups. That run ends with each rank at the incarnation of its
 /// engine, which knows there what its engine knows; a call that its engine refuses has a reason there, and one that it takes has
 /// no fault; and the run has come to rest where no session of ranks that know each other as they are holds a frame: no message
-/// can be matched, and a collective that all its members have entered alike was left by all. It does nothing when it is called.
+/// can be matched, and a collective whose members are all current, know each other so and have all entered it alike was left by
+/// all. It does nothing when it is called.
 ///
 /// So far engines call on world alone, point to point (MPI 3.1, 6.2.4 and 3); no collective is entered.
 pub fn worlds_are_runs()

@@ -315,7 +315,7 @@ impl Sessions {
             length self.new.out ≤ length self.old.out + (most_answers (heard_option heard.entry) + 64) }
         ensures placed { self.new.place ≡ self.old.place }
     {
-        // The sessions show that there is one for each rank.
+        // Looking at the sessions shows that there is one for each rank.
         let _peers = &self.peers;
         if let Some(limit) = self.limit_of(heard, frames) {
             return Err(limit);

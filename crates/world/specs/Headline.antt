@@ -57,7 +57,8 @@ history_seen entries = flat_map entry_seen entries
 -- engine, which knows there what its engine knows; a call that its engine refuses has a reason there, and one that it takes has
 -- no fault; and where the world is quiet, the run has come to a state that meets the machine's quiet clauses: between ranks that
 -- know each other as they are, no receive that waits accepts a pending message, and what was matched is finished on both sides,
--- however it went; and a collective that all its members have entered alike was left by all
+-- however it went; and a collective whose members are all current, know each other so and have all entered it alike was left by
+-- all (engines enter none yet)
 pub record IsRunOfMachine (w : WorldState) : Type 0 where
   pub run_events : List machine.Event
   pub run : IsRun (length w.engines) (machine_opening (length w.engines)) run_events
