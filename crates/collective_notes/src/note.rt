@@ -28,7 +28,7 @@ pub enum Said {
     NewGroup(u64, Group),
 }
 
-/// A message of a collective that came, and is kept until its collective is left.
+/// A message of a collective that came, and is kept until its collective is left. Where a lesson ends the collective, it stays.
 #[derive(Debug, Drop)]
 pub struct Note {
     /// Who sent it.

@@ -228,7 +228,8 @@ impl ReadyMessage {
 impl Collective {
     /// Makes ready the entry of a collective that breaks no rule. Nothing changes but room.
     ///
-    /// Refused is want of memory (14), and 13 where what the rank then gets can't be held or given.
+    /// Refused is want of memory (14), and 13 where what the rank then gets can't be held or given. That no member is known at
+    /// another incarnation (11) is the caller's to see to.
     pub fn prepare_entry(
         &mut self,
         contexts: &mut Contexts,
