@@ -1,0 +1,219 @@
+//! What refuses an entry or a message, and what ends a collective from outside.
+
+use crate::ranks::{Rank, rank_of};
+use collective_notes::{Address, Entry};
+use collectives::Ending;
+use context_agreement::Context;
+use groups::Group;
+use payload::{Choice, Direction, NewGroup, Part, Payload, Record};
+use std::alloc::Global;
+use vocabulary::Endpoint;
+
+/// A split in which all have one colour and one key.
+const SPLIT: Entry = Entry::Split(Choice {
+    colour: Some(0),
+    key: 0,
+});
+
+/// The number of the rule that entering would break, where it would break one.
+fn fault(rank: &Rank, place: usize, entry: Entry) -> Option<u8> {
+    match rank.collective.fault_of(&rank.contexts, place, entry) {
+        Some(refused) => Some(refused.number()),
+        None => None,
+    }
+}
+
+/// The rank enters a collective on world; whether it is in one then.
+fn enter(rank: &mut Rank, entry: Entry) -> bool {
+    if rank.collective.fault_of(&rank.contexts, 0, entry).is_some() {
+        return false;
+    }
+    match rank.collective.prepare_entry(&mut rank.contexts, 0, entry) {
+        Ok(ready) => {
+            rank.collective.enter(&mut rank.contexts, ready).is_none()
+                && rank.collective.present().is_some()
+        }
+        Err(_) => false,
+    }
+}
+
+/// What entering a barrier on world would break before the rank is in a collective, and inside, where a communicator is held and
+/// where none is.
+fn blocked(rank: &mut Rank) -> (Option<u8>, bool, [Option<u8>; 2]) {
+    let before = fault(rank, 0, Entry::Barrier);
+    let inside = enter(rank, Entry::Barrier);
+    let faults = [fault(rank, 1, Entry::Barrier), fault(rank, 2, Entry::Dup)];
+    (before, inside, faults)
+}
+
+#[test]
+fn an_entry_in_a_collective_is_refused(rt: HostRuntime) {
+    let mut rank = rank_of(rt.alloc(), 1, 3).expect(&rt, "a rank");
+    assert_eq!(rt; blocked(&mut rank), (None, true, [Some(6); 2]));
+}
+
+#[test]
+fn no_communicator_is_refused(rt: HostRuntime) {
+    let rank = rank_of(rt.alloc(), 1, 3).expect(&rt, "a rank");
+    assert_eq!(rt; fault(&rank, 2, Entry::Barrier), Some(4));
+}
+
+/// The rank holds one more communicator, of itself alone; whether it could.
+fn install(rank: &mut Rank, number: u64) -> bool {
+    let group = Group::of_rank(rank.alloc, rank.endpoint.rank);
+    rank.contexts
+        .install(Context::from_number(number), group)
+        .is_ok()
+}
+
+/// How many of 4,094 further communicators there is room for, and what a copy, a split and a barrier would break then.
+fn fill(rank: &mut Rank) -> (u32, [Option<u8>; 3]) {
+    let mut installed = 0u32;
+    for serial in 2..4096 {
+        if install(rank, serial) {
+            installed = installed.wrapping_add(1);
+        }
+    }
+    let faults = [
+        fault(rank, 0, Entry::Dup),
+        fault(rank, 0, SPLIT),
+        fault(rank, 0, Entry::Barrier),
+    ];
+    (installed, faults)
+}
+
+#[test]
+fn a_copy_beyond_4096_communicators_is_refused(rt: HostRuntime) {
+    let mut rank = rank_of(rt.alloc(), 1, 3).expect(&rt, "a rank");
+    assert_eq!(rt; fill(&mut rank), (4094, [Some(13), Some(13), None]));
+}
+
+/// What lessons of a rank at incarnations 0 and 1 end, and whether the rank is in a collective after each.
+fn learn_twice(rank: &mut Rank) -> [(Option<Ending>, bool); 2] {
+    let same = rank.collective.learn(&rank.contexts, 2, 0);
+    let inside = rank.collective.present().is_some();
+    let higher = rank.collective.learn(&rank.contexts, 2, 1);
+    [
+        (same, inside),
+        (higher, rank.collective.present().is_some()),
+    ]
+}
+
+/// Whether the rank entered a barrier, and what lessons end then.
+fn learn_inside(rank: &mut Rank) -> (bool, [(Option<Ending>, bool); 2]) {
+    (enter(rank, Entry::Barrier), learn_twice(rank))
+}
+
+#[test]
+fn a_lesson_ends_the_collective_of_a_former_member(rt: HostRuntime) {
+    let mut rank = rank_of(rt.alloc(), 1, 3).expect(&rt, "a rank");
+    let lessons = [(None, true), (Some(Ending::Replaced), false)];
+    assert_eq!(rt; learn_inside(&mut rank), (true, lessons));
+}
+
+/// The address of a message that rank 0 sent at this incarnation in the first collective on world.
+fn address_of(incarnation: u16) -> Address {
+    Address {
+        sender: Endpoint {
+            rank: 0,
+            incarnation,
+        },
+        context: 0,
+        number: 0,
+    }
+}
+
+/// A message of rank 0 of the first collective on world comes to the rank: the ending of its collective, or the number of the
+/// refusal.
+fn arrive(rank: &mut Rank, payload: Payload<'_>) -> Result<Option<Ending>, u8> {
+    match rank
+        .collective
+        .prepare_message(&mut rank.contexts, None, address_of(0), payload)
+    {
+        Ok(ready) => Ok(rank.collective.on_message(&mut rank.contexts, ready)),
+        Err(refused) => Err(refused.number()),
+    }
+}
+
+/// A message of a split that gives a communicator with these members.
+fn group_of(ranks: &[u8]) -> Payload<'_> {
+    Payload {
+        entered: Record::Split,
+        part: Part::NewGroup(NewGroup { context: 9, ranks }),
+    }
+}
+
+/// What the rank answers, in a split, to a group that names it twice, and to one that does not.
+fn told_of_groups(rank: &mut Rank) -> (bool, [Result<Option<Ending>, u8>; 2]) {
+    let inside = enter(rank, SPLIT);
+    let twice = arrive(rank, group_of(&[0, 1, 0, 1]));
+    (inside, [twice, arrive(rank, group_of(&[0, 1, 0, 0]))])
+}
+
+#[test]
+fn a_group_with_a_rank_twice_is_dropped(rt: HostRuntime) {
+    let mut rank = rank_of(rt.alloc(), 1, 3).expect(&rt, "a rank");
+    let answers = [Ok(None), Ok(Some(Ending::Comm(Some(2))))];
+    assert_eq!(rt; told_of_groups(&mut rank), (true, answers));
+}
+
+/// The message that ends a barrier.
+fn all_have_entered() -> Payload<'static> {
+    Payload {
+        entered: Record::Barrier,
+        part: Part::Nothing(Direction::FromRoot),
+    }
+}
+
+/// What the rank answers, in a barrier, to a message whose part is of another collective, and to the one that ends it.
+fn told_of_parts(rank: &mut Rank) -> (bool, [Result<Option<Ending>, u8>; 2]) {
+    let inside = enter(rank, Entry::Barrier);
+    let context = Payload {
+        entered: Record::Barrier,
+        part: Part::Context(9),
+    };
+    (
+        inside,
+        [arrive(rank, context), arrive(rank, all_have_entered())],
+    )
+}
+
+#[test]
+fn a_part_of_another_record_is_refused(rt: HostRuntime) {
+    let mut rank = rank_of(rt.alloc(), 1, 3).expect(&rt, "a rank");
+    let answers = [Err(30), Ok(Some(Ending::Left))];
+    assert_eq!(rt; told_of_parts(&mut rank), (true, answers));
+}
+
+/// What ends the rank's barrier, where the message that would end it comes from rank 0 started anew: the lesson, and then the
+/// message.
+fn told_by_replaced(rank: &mut Rank) -> Option<[Option<Ending>; 2]> {
+    if !enter(rank, Entry::Barrier) {
+        return None;
+    }
+    let address = address_of(1);
+    match rank.collective.prepare_message(
+        &mut rank.contexts,
+        Some(address.sender),
+        address,
+        all_have_entered(),
+    ) {
+        Ok(ready) => {
+            let lesson = rank.collective.learn(&rank.contexts, 0, 1);
+            Some([
+                lesson,
+                rank.collective.on_message(&mut rank.contexts, ready),
+            ])
+        }
+        Err(_) => None,
+    }
+}
+
+#[test]
+fn a_message_is_judged_after_its_lesson(rt: HostRuntime) {
+    let mut rank = rank_of(rt.alloc(), 1, 3).expect(&rt, "a rank");
+    assert_eq!(rt;
+        told_by_replaced(&mut rank),
+        Some([Some(Ending::Replaced), None])
+    );
+}
