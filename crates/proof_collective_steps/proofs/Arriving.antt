@@ -23,7 +23,8 @@ use Rattle.payload.specs.declared.payload.Direction.TheVariants.{FromRoot, Towar
 use Rattle.payload.specs.declared.record.Elements.{Elements}
 use Rattle.payload.specs.declared.record.Record as payload
 use Rattle.perfect_groups.specs.Membership.{Present}
-use Rattle.proof_collective_steps.proofs.Carried.{attempt_follows, flipped}
+use Rattle.proof_collective_steps.proofs.Carried.{attempt_follows}
+use Rattle.proof_group_network.proofs.SplitPlans.{flipped}
 use Rattle.proof_collective_steps.proofs.KeptNotes.{noted_more}
 use Rattle.proof_collective_steps.specs.Counterparts.{AreSaid, IsNoted, IsSaid, IsWithinType, SaidFits, StandsFor, members_of, record_of}
 use Rattle.proof_collective_steps.specs.Shown.{CopiesHaveTheirGroup, HasEnded, IsShown, or_given}

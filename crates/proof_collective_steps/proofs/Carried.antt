@@ -1,7 +1,7 @@
 -- What a rank does by its verdict is what its member does.
 use Rattle.std.proofs.Common.{◌≡◌, ℕ, suc, ◌+◌, ◌*◌, ◌^◌, ◌≤◌, Bool, true, false, cond, ◌&&◌, ◌||◌, List, [], ◌∷◌, ◌++◌, length, map, Option, Some, None, if◌then◌else◌, ◌==◌, slice_index_or, option_map, is_some, inl, inr, refl, sym, ap, ◌∙◌, subst, arith}
 use Rattle.std.specs.List.{AllByRecursion, list_any}
-use Rattle.std.proofs.lemmas.Bool.{eq-eqb, eqb-false, eqb-true}
+use Rattle.std.proofs.lemmas.Bool.{eq-eqb, eqb-true}
 use Rattle.std.proofs.lemmas.List.{length-map, map-append}
 use Rattle.std.proofs.Math.ListN.{get_or-map}
 use Rattle.collective_notes.specs.Entering as entering
@@ -47,6 +47,7 @@ use Rattle.proof_collective_steps.proofs.Verdicts.{Alike, DecidesIs, here, verdi
 use Rattle.proof_collective_steps.specs.Counterparts.{AreNoted, AreSaid, GivenStandsFor, IsSaid, SaidFits, StandsFor, communicator_of, members_of, part_of, record_of}
 use Rattle.proof_collective_steps.specs.Shown.{CopiesHaveTheirGroup, IsPresent, IsShown, ending_is, or_given}
 use Rattle.proof_group_network.proofs.SortedOnce.{IsIn, all_more, all_there}
+use Rattle.proof_group_network.proofs.SplitPlans.{flipped}
 use Rattle.proof_group_network.proofs.SplitPlans.{splits_follow}
 use Rattle.proof_group_network.specs.Notices as network
 use Rattle.proof_group_network.specs.Notices.{HasDifference, HasMade, HasResult, Member, MemberEffect, Notice, attempt, attempt_in, carried_out, differences_to, left_by, notice, tells_difference}
@@ -143,15 +144,6 @@ breaks e s h m b i at ranks = (
         (λ r. said_to e i given.RecordsDiffer r (HasDifference (part_of i.entry).record_is) (ap HasDifference (sym (entered_same i.entry)))) ranks)
 
 -- MEMBERS
-
-pub flipped : (x y : ℕ) → (x == y) ≡ (y == x)
-flipped x y = go (x == y) refl (y == x) refl
-  where
-    go : (t : Bool) → (x == y) ≡ t → (u : Bool) → (y == x) ≡ u → t ≡ u
-    go true p true q = refl
-    go false p false q = refl
-    go true p false q = absurd (eqb-false y x q (sym (eqb-true x y p)))
-    go false p true q = absurd (eqb-false x y p (sym (eqb-true y x q)))
 
 and_true : (a : Bool) → (a && true) ≡ a
 and_true true = refl
