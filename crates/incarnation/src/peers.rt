@@ -67,6 +67,13 @@ impl Peers {
         self.known[rank as usize]
     }
 
+    /// The incarnation at which each rank of the job is known, by rank. It takes no memory.
+    pub fn incarnations(&self) -> &[u16]
+        ensures { result.now ≡ self.now.known }
+    {
+        self.known.as_slice()
+    }
+
     /// Judges a datagram by both of its endpoints. Refused is the first that holds of: 26 (another
     /// job), 27 (for another rank or a later incarnation of this one, or from no other rank of the
     /// job), 28 (from a former incarnation of the source), 29 (for a former incarnation of this

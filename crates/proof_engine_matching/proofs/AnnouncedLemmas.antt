@@ -1,8 +1,7 @@
 -- A receive that is matched with an announced message collects it or ends, alike.
-use Rattle.std.proofs.Common.{◌≡◌, ℕ, Bool, true, false, ◌&&◌, nat_le, List, length, Option, Some, None, refl, sym, ap, ap₂, subst, ◌∙◌, if◌then◌else◌}
+use Rattle.std.proofs.Common.{◌≡◌, ℕ, Bool, true, false, ◌&&◌, nat_le, List, length, Option, refl, sym, ap, ap₂, subst, ◌∙◌, if◌then◌else◌}
 use Rattle.layouts.specs.Buffers.{is_same_type}
 use Rattle.vocabulary.specs.declared.endpoint.Endpoint.{Endpoint}
-use Rattle.vocabulary.specs.declared.envelope.Source.TheVariants.{Rank}
 use Rattle.vocabulary.specs.declared.envelope.Status.{Status}
 use Rattle.datatypes.specs.Contents.{Contents}
 use Rattle.perfect_queues.specs.Buffers.{Handed, places_in}
@@ -14,19 +13,21 @@ use Rattle.match_queues.specs.declared.envelope.Body.{Body}
 use Rattle.match_queues.specs.declared.envelope.Body.TheVariants.{Announced}
 use Rattle.match_queues.specs.declared.envelope.Message.{Message}
 use Rattle.requests.specs.Regions.{handed_by, handed_of}
+use Rattle.shared_groups.specs.Statuses.{status_in}
 use Rattle.requests.specs.Table.{has_room, matched_progress}
 use Rattle.requests.specs.declared.outcome.Failure.TheVariants.{Truncated, WrongType}
 use Rattle.requests.specs.declared.outcome.Outcome.TheVariants as outcomes
 use Rattle.requests.specs.declared.region.Places.{Places}
 use Rattle.requests.specs.declared.region.Places.TheVariants.{All, Copies}
 use Rattle.requests.specs.declared.region.Region.{Region}
+use Rattle.requests.specs.declared.table.Posted.{Posted}
 use Rattle.requests.specs.declared.table.Progress.TheVariants.{Collecting, Finished}
 use Rattle.rank_calls.specs.Receiving.{status_of}
-use Rattle.proof_pure_network.specs.Held.{Held, count_of, fits}
+use Rattle.proof_pure_network.specs.Held.{Held, fits}
 use Rattle.proof_pure_network.specs.Jobs.{matched_job, matched_part}
-use Rattle.proof_engine_view.specs.Rows.{Fits, IsMatched, IsOnWorld, body_seen, held_of}
+use Rattle.proof_engine_view.specs.Rows.{Fits, IsMatched, IsPosted, body_seen, held_of}
 use Rattle.proof_engine_view.specs.Transfers.{Transfer}
-use Rattle.proof_engine_matching.specs.Matches.{AnnouncedAlike, AnnouncementsAgree}
+use Rattle.proof_engine_matching.specs.Matches.{AnnouncementsAgree}
 
 -- whatever its places are, a region has its buffer
 same_buffer : (b : Contents) (p : Places) → (handed_by b p).buffer ≡ b
@@ -60,27 +61,37 @@ wanted_alike p r a is =
     ∙ ap (λ (b : Contents). is_same_type b.basic a.basic && nat_le a.count (length (places_in (handed_of r)))) (handed_buffer r)
 
 -- what is left of the receive
-announced_fits : (from : Endpoint → List Transfer) (p : Receive) (r : Region) (m : Message) (a : Announcement) → p.into ≡ handed_of r → IsOnWorld p →
+announced_fits : (from : Endpoint → List Transfer) (p : Receive) (w : Posted) (m : Message) (a : Announcement) → IsPosted w p →
     fits p (held_of from (with_body m (Announced a))) ≡ true →
-    Fits (matched_progress r (status_of (with_body m (Announced a))) a.basic)
+    Fits (matched_progress w.into (status_in w.group (status_of (with_body m (Announced a)))) a.basic)
     (matched_job p (held_of from (with_body m (Announced a))) (body_seen (from m.sender) (Announced a)))
-announced_fits from p r m a is world accepts =
-    subst (λ (b : Bool). Fits (matched_progress r (status_of (with_body m (Announced a))) a.basic) (matched_part p h a.count b)) (sym (wanted_alike p r a is))
-    (ends_so p r h (status_of (with_body m (Announced a))) a.count (is_same_type r.buffer.basic a.basic) (nat_le a.count (length (places_in (handed_of r))))
-    (record { into = is; on_world = world; accepts = accepts; status = refl })
-    (ap (λ (g : Option (List ℕ)). machine.status_by (record p { group = g }) m.sender.rank m.tag a.count) world.group)
-    (ap (λ (x : Handed). x.buffer.values) is ∙ ap (λ (b : Contents). b.values) (handed_buffer r))
-    (ap (λ (x : Handed). is_same_type x.buffer.basic a.basic) is ∙ ap (λ (b : Contents). is_same_type b.basic a.basic) (handed_buffer r)))
+announced_fits from p w m a is accepts =
+    subst (λ (b : Bool). Fits (matched_progress r told a.basic) (matched_part p h a.count b)) (sym (wanted_alike p r a is.into))
+    (ends_so p r h told a.count (is_same_type r.buffer.basic a.basic) (nat_le a.count (length (places_in (handed_of r))))
+    (record { into = is.into; accepts = accepts; status = sym same })
+    same
+    (ap (λ (x : Handed). x.buffer.values) is.into ∙ ap (λ (b : Contents). b.values) (handed_buffer r))
+    (ap (λ (x : Handed). is_same_type x.buffer.basic a.basic) is.into ∙ ap (λ (b : Contents). is_same_type b.basic a.basic) (handed_buffer r)))
   where
     h : Held
     h = held_of from (with_body m (Announced a))
 
+    r : Region
+    r = w.into
+
+    -- the status that the receive has
+    told : Status
+    told = status_in w.group (status_of (with_body m (Announced a)))
+
+    same : machine.status_by p m.sender.rank m.tag a.count ≡ told
+    same = ap (λ (g : Option (List ℕ)). status_in g (status_of (with_body m (Announced a)))) is.group
+
 -- the law of announced messages
 pub announcements_agree : AnnouncementsAgree
-announcements_agree from p r m a body is world accepts =
+announcements_agree from p w m a body is accepts =
     record {
-      wanted = wanted_alike p r a is;
+      wanted = wanted_alike p w.into a is.into;
       fits = subst (λ (b : Body). fits p (held_of from (with_body m b)) ≡ true →
-          Fits (matched_progress r (status_of (with_body m b)) a.basic) (matched_job p (held_of from (with_body m b)) (body_seen (from m.sender) b)))
-          (sym body) (announced_fits from p r m a is world) accepts;
+          Fits (matched_progress w.into (status_in w.group (status_of (with_body m b))) a.basic) (matched_job p (held_of from (with_body m b)) (body_seen (from m.sender) b)))
+          (sym body) (announced_fits from p w m a is) accepts;
     }

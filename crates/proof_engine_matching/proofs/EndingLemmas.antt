@@ -1,16 +1,16 @@
 -- A receive ends alike.
-use Rattle.std.proofs.Common.{◌≡◌, ℕ, Bool, true, false, ◌&&◌, Option, None, nat_le, List, length, refl, sym, ap, subst, ◌∙◌, if◌then◌else◌}
+use Rattle.std.proofs.Common.{◌≡◌, ℕ, Bool, true, false, ◌&&◌, nat_le, List, length, refl, sym, subst, if◌then◌else◌}
 use Rattle.layouts.specs.Buffers.{is_same_type, put_at}
-use Rattle.perfect_queues.specs.Buffers.{Handed, places_in}
+use Rattle.perfect_queues.specs.Buffers.{places_in}
 use Rattle.perfect_queues.specs.Outcomes as machine
 use Rattle.perfect_queues.specs.Receives.{Receive}
 use Rattle.datatypes.specs.Contents.{Contents}
 use Rattle.match_queues.specs.declared.envelope.Message.{Message}
 use Rattle.match_queues.specs.declared.envelope.Body.{Body}
 use Rattle.match_queues.specs.declared.envelope.Body.TheVariants.{Whole}
-use Rattle.vocabulary.specs.declared.envelope.Source.{Source}
 use Rattle.proof_pure_network.specs.Held.{full}
 use Rattle.requests.specs.Outcomes.{outcome_of}
+use Rattle.shared_groups.specs.Statuses.{status_in}
 use Rattle.proof_engine_view.specs.Rows.{held_of}
 use Rattle.vocabulary.specs.declared.endpoint.Endpoint.{Endpoint}
 use Rattle.proof_engine_view.specs.Transfers.{Transfer}
@@ -34,19 +34,16 @@ ends false room basic status told buffer = refl
 abbrev with_body : Message → Body → Message
 with_body m b = record m { body = b }
 
--- how a receive on world ends
-world_ends : (from : Endpoint → List Transfer) (source : Source) (tag : Option ℕ) (context : ℕ) (into : Handed) (m : Message) (c : Contents) →
-    machine.outcome (record { source = source; tag = tag; context = context; group = None; into = into }) (full (held_of from (with_body m (Whole c))) c.values)
-    ≡ outcome_seen (outcome_of into (status_of (with_body m (Whole c))) c)
-world_ends from source tag context into m c =
-    ends (is_same_type into.buffer.basic c.basic) (nat_le (length c.values) (length (places_in into)))
-    into.buffer.basic (status_of (with_body m (Whole c))) (put_at into.buffer.values (places_in into) c.values) into.buffer.values
+-- how a receive ends with a message that is whole
+whole_ends : (from : Endpoint → List Transfer) (p : Receive) (m : Message) (c : Contents) →
+    machine.outcome p (full (held_of from (with_body m (Whole c))) c.values)
+    ≡ outcome_seen (outcome_of p.into (status_in p.group (status_of (with_body m (Whole c)))) c)
+whole_ends from p m c =
+    ends (is_same_type p.into.buffer.basic c.basic) (nat_le (length c.values) (length (places_in p.into)))
+    p.into.buffer.basic (status_in p.group (status_of (with_body m (Whole c)))) (put_at p.into.buffer.values (places_in p.into) c.values) p.into.buffer.values
 
 -- the law of outcomes
 pub outcomes_agree : OutcomesAgree
-outcomes_agree from p m c is w =
-    subst (λ (b : Body). machine.outcome p (full (held_of from (with_body m b)) c.values) ≡ outcome_seen (outcome_of p.into (status_of (with_body m b)) c)) (sym is)
-    (ap (λ (r : Receive). machine.outcome r (full (held_of from (with_body m (Whole c))) c.values)) same ∙ world_ends from p.source p.tag p.context p.into m c)
-  where
-    same : p ≡ record { source = p.source; tag = p.tag; context = p.context; group = None; into = p.into }
-    same = λ i. record { source = p.source; tag = p.tag; context = p.context; group = w.group i; into = p.into }
+outcomes_agree from p m c is =
+    subst (λ (b : Body). machine.outcome p (full (held_of from (with_body m b)) c.values) ≡ outcome_seen (outcome_of p.into (status_in p.group (status_of (with_body m b))) c)) (sym is)
+    (whole_ends from p m c)

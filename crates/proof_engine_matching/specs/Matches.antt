@@ -9,9 +9,9 @@ use Rattle.match_queues.specs.declared.queues.Arrival.TheVariants.{Kept, Matched
 use Rattle.match_queues.specs.Arrivals.{arrival_of}
 use Rattle.match_queues.specs.State.{State, after_arrival, after_post, message_at, message_for}
 use Rattle.requests.specs.Outcomes.{outcome_of}
-use Rattle.requests.specs.Regions.{handed_of}
 use Rattle.requests.specs.Table.{has_room, matched_progress}
-use Rattle.requests.specs.declared.region.Region.{Region}
+use Rattle.shared_groups.specs.Statuses.{status_in}
+use Rattle.requests.specs.declared.table.Posted.{Posted}
 use Rattle.rank_calls.specs.declared.call.Receive as engine_receive
 use Rattle.rank_calls.specs.Receiving.{posted_by, status_of}
 use Rattle.perfect_queues.specs.Outcomes.{outcome}
@@ -20,7 +20,7 @@ use Rattle.perfect_queues.specs.Receives as machine
 use Rattle.proof_pure_network.specs.Held.{Held, fits, full}
 use Rattle.proof_pure_network.specs.Jobs.{Job, Waiting, matched_job, oldest_posted}
 use Rattle.proof_pure_network.specs.Matching.{found}
-use Rattle.proof_engine_view.specs.Rows.{Fits, IsOnWorld, Row, body_seen, held_of, jobs_of, posted_job, posted_rows}
+use Rattle.proof_engine_view.specs.Rows.{Fits, IsPosted, Row, body_seen, held_of, jobs_of, posted_job, posted_rows}
 use Rattle.proof_engine_view.specs.Seen.{outcome_seen, receive_seen}
 use Rattle.proof_engine_view.specs.Transfers.{Transfer}
 
@@ -69,19 +69,21 @@ PostsMatch =
     (from : Endpoint → List Transfer) (old : State) (v : engine_receive.Receive) (key : ℕ) →
     FindsNone from old v key ⊎ ((m : Message) × (earlier : List Held) × (later : List Held) × Finds from old v key m earlier later)
 
--- a receive on world ends alike with a message that is whole
+-- a receive ends alike with a message that is whole
 abbrev pub OutcomesAgree : Type 0
 OutcomesAgree =
-    (from : Endpoint → List Transfer) (p : Receive) (m : Message) (c : Contents) → m.body ≡ Whole c → IsOnWorld p →
-    outcome p (full (held_of from m) c.values) ≡ outcome_seen (outcome_of p.into (status_of m) c)
+    (from : Endpoint → List Transfer) (p : Receive) (m : Message) (c : Contents) → m.body ≡ Whole c →
+    outcome p (full (held_of from m) c.values) ≡ outcome_seen (outcome_of p.into (status_in p.group (status_of m)) c)
 
--- an announced message is wanted by a receive on world alike, and leaves it alike
-pub record AnnouncedAlike (from : Endpoint → List Transfer) (p : Receive) (r : Region) (m : Message) (a : Announcement) : Type 0 where
-  pub wanted : machine.has_room p a.basic a.count ≡ has_room r a.basic a.count
-  pub fits : Fits (matched_progress r (status_of m) a.basic) (matched_job p (held_of from m) (body_seen (from m.sender) m.body))
+-- an announced message is wanted by a receive alike, and leaves it alike
+pub record AnnouncedAlike (from : Endpoint → List Transfer) (p : Receive) (w : Posted) (m : Message) (a : Announcement) : Type 0 where
+  pub wanted : machine.has_room p a.basic a.count ≡ has_room w.into a.basic a.count
+  pub fits :
+      Fits (matched_progress w.into (status_in w.group (status_of m)) a.basic)
+      (matched_job p (held_of from m) (body_seen (from m.sender) m.body))
 
--- A receive on world that accepts it is matched with an announced message alike
+-- A receive that accepts it is matched with an announced message alike
 abbrev pub AnnouncementsAgree : Type 0
 AnnouncementsAgree =
-    (from : Endpoint → List Transfer) (p : Receive) (r : Region) (m : Message) (a : Announcement) → m.body ≡ Announced a →
-    p.into ≡ handed_of r → IsOnWorld p → fits p (held_of from m) ≡ true → AnnouncedAlike from p r m a
+    (from : Endpoint → List Transfer) (p : Receive) (w : Posted) (m : Message) (a : Announcement) → m.body ≡ Announced a →
+    IsPosted w p → fits p (held_of from m) ≡ true → AnnouncedAlike from p w m a

@@ -13,7 +13,7 @@ use Rattle.requests.specs.declared.awaited.Awaited.{Awaited}
 use Rattle.requests.specs.declared.awaited.Awaited.TheVariants as awaiteds
 use Rattle.requests.specs.declared.outcome.Outcome.{Outcome}
 use Rattle.requests.specs.declared.outcome.Outcome.TheVariants as outcomes
-use Rattle.requests.specs.declared.region.Region.{Region}
+use Rattle.requests.specs.declared.table.Posted.{Posted}
 use Rattle.requests.specs.declared.table.Entry.{Entry}
 use Rattle.requests.specs.declared.table.Progress.{Progress}
 use Rattle.requests.specs.declared.table.Matched.{Matched}
@@ -135,7 +135,7 @@ named_same_outcome table rows t q h = subst (λ (key : ℕ). SayTheSame (rank.ou
 
     by_job : (j : Job) → h.row.job ≡ j → Stands (slot_at table h.row.key) q.serial h.row.job → SayTheSame (rank.outcome_at table) (over_at (jobs_of rows)) (record { key = h.row.key; serial = q.serial })
     by_job (Waiting p) e s =
-        let g : (b : Region) × (progress_at table h.row.key q.serial ≡ Some (Receiving b)) = progress_waiting table rows q.serial h.row.key p t (here (Waiting p) e) in
+        let g : (b : Posted) × (progress_at table h.row.key q.serial ≡ Some (Receiving b)) = progress_waiting table rows q.serial h.row.key p t (here (Waiting p) e) in
         ap job_outcome (job_at rows q.serial h.row.key (Waiting p) (here (Waiting p) e)) ∙
         ap (λ (o : Option Progress). option_map outcome_seen (rank.finished_with o)) (sym g.1)
     by_job (Over x) e s =

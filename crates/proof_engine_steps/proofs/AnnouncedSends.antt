@@ -1,5 +1,5 @@
 -- A large send of a rank to another one is that of its core in the network: it is announced, and its request waits for the answer.
-use Rattle.std.proofs.Common.{◌≡◌, ℕ, ◌+◌, ◌*◌, ◌<◌, ◌≤◌, ◌==◌, true, false, List, [], ◌∷◌, ◌++◌, length, Option, Some, None, slice_index, refl, sym, ap, ap₂, ◌∙◌, subst, append-nil}
+use Rattle.std.proofs.Common.{◌^◌, ◌≡◌, ℕ, ◌+◌, ◌*◌, ◌<◌, ◌≤◌, ◌==◌, true, false, List, [], ◌∷◌, ◌++◌, length, Option, Some, None, slice_index, refl, sym, ap, ap₂, ◌∙◌, subst, append-nil}
 use Rattle.std.specs.List.{AllByRecursion}
 use Rattle.std.proofs.lemmas.Bool.{eqb-false, leb-false, ltb-false, ltb-true}
 use Rattle.std.proofs.lemmas.List.{length-map}
@@ -42,10 +42,11 @@ use Rattle.proof_engine_steps.proofs.Waking.{Holding}
 
 -- What a large send to another rank rests on: the rank is one of the job, the tag is allowed, the elements are so many, of the
 -- width of their type, and a number is left
-record MayAnnounce (old : CoreState) (to tag : ℕ) (c : Contents) : Type 0 where
+record MayAnnounce (old : CoreState) (to context tag : ℕ) (c : Contents) : Type 0 where
   pub there : to < old.place.size
   pub apart : to ≡ old.place.endpoint.rank → ⊥
   pub low : tag ≤ highest_tag
+  pub wide : context < 2 ^ 64
   pub large : eager_limit < length c.values * size_of c.basic
   pub limit : length c.values * size_of c.basic ≤ send_limit
   pub within : AreWithin (size_of c.basic) c.values
@@ -53,7 +54,7 @@ record MayAnnounce (old : CoreState) (to tag : ℕ) (c : Contents) : Type 0 wher
 
 -- one that meets no rule and no limit may
 may_announce : (old : CoreState) (s : Send) (to tag : ℕ) → s.target ≡ Rank to → s.tag ≡ Some tag → (to == old.place.endpoint.rank) ≡ false → KeepsRules old.place s → IsWithin (calls.Isend s) →
-    is_large (sent_from s.from) ≡ true → free_fault old (calls.Isend s) ≡ None → MayAnnounce old to tag (sent_from s.from)
+    is_large (sent_from s.from) ≡ true → free_fault old (calls.Isend s) ≡ None → MayAnnounce old to s.context tag (sent_from s.from)
 may_announce old s to tag target_is tag_is other kept within large fine =
     record {
       there = leb-false old.place.size to (sym (ap (rules.is_no_target old.place.size) target_is) ∙ kept.inside);
@@ -61,7 +62,8 @@ may_announce old s to tag target_is tag_is other kept within large fine =
       low = ltb-false highest_tag tag (sym (ap rules.is_no_tag tag_is) ∙ kept.low);
       large = ltb-true eager_limit (byte_count s.from) large;
       limit = kept.few;
-      within = within;
+      wide = within.1;
+      within = within.0;
       free = number_left (or_full (send_fault old.place s) old) (announced_to old.place s) to old.transfers (is_announced_to old.place s to tag target_is tag_is other large) fine;
     }
 
@@ -74,16 +76,16 @@ rows_counted : (a : Announcements) (old : CoreState) (known : List ℕ) (core : 
 rows_counted a old known core shown = sym (ap (λ (js : List Job). length js) shown.jobs ∙ length-map shown.rows (λ (r : Row). r.job))
 
 -- its request is there, and offers the message that is announced
-large_holds : (a : Announcements) (old : CoreState) (known : List ℕ) (core : Core) (q : Request) (new : CoreState) (to tag : ℕ) (c : Contents) → (shown : IsShown a old known core) → MayAnnounce old to tag c →
+large_holds : (a : Announcements) (old : CoreState) (known : List ℕ) (core : Core) (q : Request) (new : CoreState) (to context tag : ℕ) (c : Contents) → (shown : IsShown a old known core) → MayAnnounce old to context tag c →
     IsOffering old to c q new →
-    Holding (after_out a (announcement_of core (endpoint_of known to) 0 tag c.basic c.values ∷ [])) (offering_rank old to q c new) known (core_offering core (endpoint_of known to) c.basic c.values)
+    Holding (after_out a (announcement_of core (endpoint_of known to) context tag c.basic c.values ∷ [])) (offering_rank old to q c new) known (core_offering core (endpoint_of known to) c.basic c.values)
     (shown.rows ++ offering_row q.key (endpoint_of known to) c ∷ [])
-large_holds a old known core q new to tag c shown may sent =
-    holding_started a (after_out a (announcement_of core (endpoint_of known to) 0 tag c.basic c.values ∷ [])) old (offering_rank old to q c new) known core (core_offering core (endpoint_of known to) c.basic c.values)
+large_holds a old known core q new to context tag c shown may sent =
+    holding_started a (after_out a (announcement_of core (endpoint_of known to) context tag c.basic c.values ∷ [])) old (offering_rank old to q c new) known core (core_offering core (endpoint_of known to) c.basic c.values)
     shown.rows q.key Offering (jobs.Offering (endpoint_of known to) c.basic c.values)
     (holding_of a old known core shown) sent.fresh sent.entry tt refl refl
     (shown.posted ∙ sym (append-nil (posted_rows shown.rows))) shown.held
-    (begun_under_way a known old.place old.slots shown.rows old.transfers old.queues.unexpected to q.key tag (length core.jobs) c shown.under_way shown.table sent.fresh
+    (begun_under_way a known old.place old.slots shown.rows old.transfers old.queues.unexpected to q.key context tag (length core.jobs) c shown.under_way shown.table sent.fresh
     (rows_counted a old known core shown) may.there may.apart may.free may.within may.limit)
     refl refl
 
@@ -93,19 +95,19 @@ pub large_send_shown : (a : Announcements) (old new : CoreState) (known : List �
     free_fault old (calls.Isend s) ≡ None → IsSending old s q new → IsCalled a old known core (calls.Isend s) (replies.Started q) new
 large_send_shown a old new known core s q to tag shown free target_is tag_is other kept within large fine is_sent =
     started_call a old new known core (calls.Isend s) q after (record {
-      is = called_send core own s ∙ (ap₂ (λ (t : Source) (g : Option ℕ). core_sent own core t g c) target_is tag_is
-          ∙ core_announces core own to (slice_index known to) rules.world tag c.basic c.values other may.large (shown.known_alike to));
+      is = called_send core own s ∙ (ap₂ (λ (t : Source) (g : Option ℕ). core_sent own core s.context t g c) target_is tag_is
+          ∙ core_announces core own to (slice_index known to) s.context tag c.basic c.values other may.large (shown.known_alike to));
       fit = send_fit old.place core s core_is kept;
       place = ap (λ (x : CoreState). x.place) sent.rest;
       completion = ap (λ (x : CoreState). x.completion) sent.rest;
       free = core_is;
       shown = shown_free (after_out a after.out) new known after.core rows
-          (subst (λ (x : CoreState). Holding (after_out a after.out) x known after.core rows) (sym sent.rest) (large_holds a old known core q new to tag c shown may sent))
+          (subst (λ (x : CoreState). Holding (after_out a after.out) x known after.core rows) (sym sent.rest) (large_holds a old known core q new to s.context tag c shown may sent))
           (ap (λ (x : CoreState). x.blocked) sent.rest ∙ free) core_is;
       sends = subst (λ (f : Option FrameFor). AreSent (after_out a after.out) (all_gone known (as_list f)) after.out) (sym frame_is)
-          (announcing_sent a known to (next_to old.transfers.numbers to) tag (length core.jobs) c (shown.under_way.numbered.begun to may.there may.apart));
+          (announcing_sent a known to (next_to old.transfers.numbers to) s.context tag (length core.jobs) c (shown.under_way.numbered.begun to may.there may.apart));
       leaves = subst (λ (f : Option FrameFor). AllByRecursion (CanLeave old.place) (as_list f)) (sym frame_is)
-          (announcing_leaves old.place to (next_to old.transfers.numbers to) tag c may.there may.apart may.low may.large may.limit (shown.under_way.numbered.most to), tt);
+          (announcing_leaves old.place to (next_to old.transfers.numbers to) s.context tag c may.wide may.there may.apart may.low may.large may.limit (shown.under_way.numbered.most to), tt);
       reply = ap (λ (n : ℕ). Some (call_seen (calls.Isend s), Some (machine.Started n))) (serial_told a old known core q shown sent.serial);
     })
   where
@@ -116,9 +118,9 @@ large_send_shown a old new known core s q to tag shown free target_is tag_is oth
     c = sent_from s.from
 
     after : Effect
-    after = effect (core_offering core (endpoint_of known to) c.basic c.values) (announcement_of core (endpoint_of known to) 0 tag c.basic c.values ∷ [])
+    after = effect (core_offering core (endpoint_of known to) c.basic c.values) (announcement_of core (endpoint_of known to) s.context tag c.basic c.values ∷ [])
 
-    may : MayAnnounce old to tag c
+    may : MayAnnounce old to s.context tag c
     may = may_announce old s to tag target_is tag_is other kept within large fine
 
     sent : IsOffering old to c q new
@@ -130,5 +132,5 @@ large_send_shown a old new known core s q to tag shown free target_is tag_is oth
     core_is : core.blocked ≡ None
     core_is = core_free a old known core shown free
 
-    frame_is : frame_of old s ≡ Some (announcing_frame old to tag c)
+    frame_is : frame_of old s ≡ Some (announcing_frame old to s.context tag c)
     frame_is = large_frame old s to tag target_is tag_is other large

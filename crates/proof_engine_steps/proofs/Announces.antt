@@ -231,16 +231,16 @@ not_collecting key key' d c r h got e =
 
 -- What is under way once a large message of a send is announced to another rank of the job: what was, and its offer
 pub begun_under_way :
-    (a : Announcements) (known : List ℕ) (p : Place) (slots : List (Option Entry)) (rows : List Row) (t : transfers.State) (ms : List Message) (to key tag serial : ℕ) (c : Contents) →
+    (a : Announcements) (known : List ℕ) (p : Place) (slots : List (Option Entry)) (rows : List Row) (t : transfers.State) (ms : List Message) (to key context tag serial : ℕ) (c : Contents) →
     AreUnderWay a known p rows t ms → IsTable slots rows → slot_at slots key ≡ None → length rows ≡ serial → to < p.size → (to ≡ p.endpoint.rank → ⊥) → is_full_to t.numbers to ≡ false →
     AreWithin (size_of c.basic) c.values → length c.values * size_of c.basic ≤ send_limit →
-    AreUnderWay (after_out a ((endpoint_of known to, Rts 0 tag c.basic serial (length c.values)) ∷ [])) known p (rows ++ offering_row key (endpoint_of known to) c ∷ []) (after_begin t to key c) ms
-begun_under_way a known p slots rows t ms to key tag serial c u table empty count inside other free within limit =
+    AreUnderWay (after_out a ((endpoint_of known to, Rts context tag c.basic serial (length c.values)) ∷ [])) known p (rows ++ offering_row key (endpoint_of known to) c ∷ []) (after_begin t to key c) ms
+begun_under_way a known p slots rows t ms to key context tag serial c u table empty count inside other free within limit =
     record {
-      numbered = begun_numbered a known p t.numbers to 0 tag serial c u.numbered inside other free;
+      numbered = begun_numbered a known p t.numbers to context tag serial c u.numbered inside other free;
       offers = All_append (IsOfferOf a'.to known rows') t.offers (o ∷ [])
           (offers_more a.to a'.to known rows rows' t.offers (λ x. (announced_in (frames_to x out), refl)) (offering_row key d c ∷ [], refl) u.offers)
-          (offer_begun a known rows to (next_to t.numbers to) key 0 tag serial c (u.numbered.begun to inside other) count within limit, tt);
+          (offer_begun a known rows to (next_to t.numbers to) key context tag serial c (u.numbered.begun to inside other) count within limit, tt);
       offered = λ k key' d' basic values h.
           offered_more rows t.offers key k key' d d' c basic values o refl (u.offered k key' d' basic values) (row_before rows (offering_row key d c) k (row_of key' (Offering d' basic values)) h);
       offers_apart = subst (λ (ks : List ℕ). AreApart ks) (sym (map-append (λ (x : Offer). x.request) t.offers (o ∷ [])))
@@ -255,7 +255,7 @@ begun_under_way a known p slots rows t ms to key tag serial c u table empty coun
     d = endpoint_of known to
 
     out : List (Endpoint × Frame)
-    out = (d, Rts 0 tag c.basic serial (length c.values)) ∷ []
+    out = (d, Rts context tag c.basic serial (length c.values)) ∷ []
 
     a' : Announcements
     a' = after_out a out

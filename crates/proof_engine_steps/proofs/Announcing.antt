@@ -34,13 +34,13 @@ announced_elsewhere a d x frame apart = go (x.rank == d.rank) (ne_eqb x.rank d.r
     go true is = absurd cc
 
 -- its frame stands for the network's, if its number is how many were announced before
-pub request_stands : (a : Announcements) (d : Endpoint) (number tag serial : ℕ) (c : Contents) (back : List Transfer) → number ≡ length (a.to d) →
-    StandsFor ((after_out a ((d, Rts 0 tag c.basic serial (length c.values)) ∷ [])).to d) back (request_frame number tag c) (Rts 0 tag c.basic serial (length c.values))
-request_stands a d number tag serial c back is =
+pub request_stands : (a : Announcements) (d : Endpoint) (number context tag serial : ℕ) (c : Contents) (back : List Transfer) → number ≡ length (a.to d) →
+    StandsFor ((after_out a ((d, Rts context tag c.basic serial (length c.values)) ∷ [])).to d) back (request_frame number context tag c) (Rts context tag c.basic serial (length c.values))
+request_stands a d number context tag serial c back is =
     record {
       serial = serial;
       plane = refl;
-      announced = ap (λ (ts : List Transfer). slice_get ts number) (announced_there a d 0 tag serial c)
+      announced = ap (λ (ts : List Transfer). slice_get ts number) (announced_there a d context tag serial c)
           ∙ (ap (λ (k : ℕ). slice_get (a.to d ++ transfer_of serial c ∷ []) k) is ∙ push_at (a.to d) (transfer_of serial c));
       frame_is = refl;
     }

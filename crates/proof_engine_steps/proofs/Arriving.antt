@@ -1,5 +1,5 @@
 -- A message that comes: to the queues, the slots and the rows of a rank, and to its core.
-use Rattle.std.proofs.Common.{◌≡◌, ℕ, List, [], ◌∷◌, ◌++◌, map, length, Option, Some, None, slice_get, slice_set, refl, sym, ap, ◌∙◌, subst, ◌⊎◌, inl, inr}
+use Rattle.std.proofs.Common.{ap₂, ◌≡◌, ℕ, List, [], ◌∷◌, ◌++◌, map, length, Option, Some, None, slice_get, slice_set, refl, sym, ap, ◌∙◌, subst, ◌⊎◌, inl, inr}
 use Rattle.std.proofs.lemmas.List.{length-set, map-append}
 use Rattle.datatypes.specs.Contents.{Contents}
 use Rattle.perfect_queues.specs.Buffers.{Handed}
@@ -11,6 +11,7 @@ use Rattle.match_queues.specs.declared.envelope.Message.{Message}
 use Rattle.match_queues.specs.declared.queues.Arrival.{Arrival}
 use Rattle.match_queues.specs.Arrivals.{arrival_of}
 use Rattle.match_queues.specs.State.{State, after_arrival, receive_at, receive_for}
+use Rattle.shared_groups.specs.Statuses.{status_in}
 use Rattle.requests.specs.Outcomes.{outcome_of}
 use Rattle.requests.specs.Table.{after_finish, after_message, entry_after, progress_after, slot_at}
 use Rattle.requests.specs.declared.table.Entry.{Entry}
@@ -24,7 +25,7 @@ use Rattle.proof_pure_network.specs.Core.{Core, Effect}
 use Rattle.proof_pure_network.specs.Held.{Held, full}
 use Rattle.proof_pure_network.specs.Jobs.{Job, Over, Waiting, oldest_posted}
 use Rattle.proof_pure_network.specs.Matching.{arrived, arrived_at}
-use Rattle.proof_engine_view.specs.Rows.{Fits, Holds, IsOnWorld, IsTable, Row, held_of, jobs_of, posted_rows}
+use Rattle.proof_engine_view.specs.Rows.{Fits, Holds, IsTable, Row, held_of, jobs_of, posted_rows}
 use Rattle.proof_engine_view.specs.Seen.{outcome_seen}
 use Rattle.proof_engine_view.specs.Transfers.{Announcements}
 use Rattle.proof_engine_view.specs.UnderWay.{IsFromLink}
@@ -70,17 +71,10 @@ arrives_kept links rows slots queues core m js table po he =
       same = same_rows rows;
     }
 
--- a receive that waits is on world
-on_world : (g : Progress) (p : Receive) → Fits g (Waiting p) → IsOnWorld p
-on_world (Receiving r) p f = f.1
-on_world (progresses.Collecting w) p f = absurd f
-on_world progresses.Offering p f = absurd f
-on_world (Finished o) p f = absurd f
-
 -- what the message makes of the entry is what it makes of the job
-finished_fits : (g : Progress) (p : Receive) (status : Status) (c : Contents) (x : machine.Outcome) → Fits g (Waiting p) → x ≡ outcome_seen (outcome_of p.into status c) →
+finished_fits : (g : Progress) (p : Receive) (status : Status) (c : Contents) (x : machine.Outcome) → Fits g (Waiting p) → x ≡ outcome_seen (outcome_of p.into (status_in p.group status) c) →
     Fits (progress_after g status c) (Over x)
-finished_fits (Receiving r) p status c x f h = h ∙ ap (λ (y : Handed). outcome_seen (outcome_of y status c)) f.0
+finished_fits (Receiving w) p status c x f h = h ∙ ap₂ (λ (y : Handed) (g : Option (List ℕ)). outcome_seen (outcome_of y (status_in g status) c)) f.into f.group
 finished_fits (progresses.Collecting w) p status c x f h = absurd f
 finished_fits progresses.Offering p status c x f h = absurd f
 finished_fits (Finished o) p status c x f h = absurd f
@@ -102,7 +96,7 @@ arrives_matched agree links rows slots queues core m c k key p js table he row p
       table = subst (λ (t : List (Option Entry)). IsTable t (slice_set rows k over)) (sym finish)
           (changed_table slots (slice_set slots key (Some after)) rows k key (Waiting p) (Over x) (Some after) table row (λ e. cc)
           (set_is_set slots key mine.entry (Some after) mine.there)
-          (says_entry after k (Over x) mine.serial_is (finished_fits mine.entry.progress p (status_of (whole m c)) c x mine.fits (agree links.from p (whole m c) c refl (on_world mine.entry.progress p mine.fits)))));
+          (says_entry after k (Over x) mine.serial_is (finished_fits mine.entry.progress p (status_of (whole m c)) c x mine.fits (agree links.from p (whole m c) c refl))));
       posted = po x;
       held = he;
       blocked = refl;

@@ -18,7 +18,7 @@ use Rattle.proof_pure_network.specs.Jobs.{Job, Waiting, Collecting, Offering, Ov
 use Rattle.requests.specs.Regions.{handed_of}
 use Rattle.requests.specs.Table.{cancelled_by, progress_at, slot_at}
 use Rattle.requests.specs.declared.outcome.Outcome.TheVariants as outcomes
-use Rattle.requests.specs.declared.region.Region.{Region}
+use Rattle.requests.specs.declared.table.Posted.{Posted}
 use Rattle.requests.specs.declared.table.Entry.{Entry}
 use Rattle.requests.specs.declared.table.Matched.{Matched}
 use Rattle.requests.specs.declared.table.Progress.{Progress}
@@ -177,13 +177,13 @@ cancel_still links old known core q j shown free fine there stays =
     same = dropped_still core.jobs q.serial j job stays
 
 -- a receive that waits, with its row
-record IsWaiting (rows : List Row) (q : Request) (b : Region) : Type 0 where
+record IsWaiting (rows : List Row) (q : Request) (b : Posted) : Type 0 where
   receive : receives.Receive
   there : slice_get rows q.serial ≡ Some (record { key = q.key; job = Waiting receive })
-  into : receive.into ≡ handed_of b
+  into : receive.into ≡ handed_of b.into
 
 -- the row of a receive that waits
-waiting_row : (links : Announcements) (old : CoreState) (known : List ℕ) (core : Core) (q : Request) (b : Region) → (shown : IsShown links old known core) → progress_at old.slots q.key q.serial ≡ Some (Receiving b) →
+waiting_row : (links : Announcements) (old : CoreState) (known : List ℕ) (core : Core) (q : Request) (b : Posted) → (shown : IsShown links old known core) → progress_at old.slots q.key q.serial ≡ Some (Receiving b) →
     IsWaiting shown.rows q b
 waiting_row links old known core q b shown g =
     let r : HasRow shown.rows q.serial q.key (Receiving b) = row_of old.slots shown.rows q.serial q.key (Receiving b) shown.table g in
@@ -191,23 +191,23 @@ waiting_row links old known core q b shown g =
     record {
       receive = p.0;
       there = r.there ∙ ap (λ (j : Job). Some (record { key = q.key; job = j })) p.1;
-      into = (subst (λ (j : Job). Fits (Receiving b) j) p.1 r.fits).0;
+      into = (subst (λ (j : Job). Fits (Receiving b) j) p.1 r.fits).into;
     }
 
 -- the rank once a receive that waits is cancelled
-abbrev after_dropping : CoreState → Request → Region → CoreState
+abbrev after_dropping : CoreState → Request → Posted → CoreState
 after_dropping c q b =
     record c { slots = cancelled_by c.slots q (Some (Receiving b)); queues = queues.after_cancel c.queues q.key }
 
 -- both hold the same once a receive that waits is cancelled
-cancel_holds : (links : Announcements) (old : CoreState) (known : List ℕ) (core : Core) (q : Request) (b : Region) → (shown : IsShown links old known core) → (w : IsWaiting shown.rows q b) →
+cancel_holds : (links : Announcements) (old : CoreState) (known : List ℕ) (core : Core) (q : Request) (b : Posted) → (shown : IsShown links old known core) → (w : IsWaiting shown.rows q b) →
     Holding links (after_dropping old q b) known (core_cancels core (Some q.serial)) (slice_set shown.rows q.serial (record { key = q.key; job = Over (ends.Cancelled w.receive.into.buffer.values) }))
 cancel_holds links old known core q b shown w =
     record {
       jobs = dropped_waiting core.jobs q.serial w.receive job ∙ (ap (λ (js : List Job). slice_set js q.serial (Over x)) shown.jobs ∙ sym (set_jobs shown.rows q.serial q.key (Over x)));
       count = length-set shown.rows q.serial over ∙ shown.count;
       table = changed_table old.slots (slice_set old.slots q.key (Some after)) shown.rows q.serial q.key (Waiting w.receive) (Over x) (Some after) shown.table w.there (λ e. cc)
-          (set_is_set old.slots q.key mine.entry (Some after) mine.there) (says_some q.serial (Finished (outcomes.Cancelled b.buffer)) (Over x) values_same);
+          (set_is_set old.slots q.key mine.entry (Some after) mine.there) (says_some q.serial (Finished (outcomes.Cancelled b.into.buffer)) (Over x) values_same);
       posted = cancel_posted old.queues q.key ∙ (ap (λ (ps : List posted.Receive). posted_without ps q.key) shown.posted ∙
           cancelled_rows shown.rows q.serial q.key w.receive x w.there (set_change old.slots shown.rows q.serial q.key (Waiting w.receive) (Over x) shown.table w.there (λ e. cc)).alone);
       held = shown.held ∙ ap (λ (ms : List Message). map (held_of links.from) ms) (sym (cancel_unexpected old.queues q.key));
@@ -223,7 +223,7 @@ cancel_holds links old known core q b shown w =
     over = record { key = q.key; job = Over x }
 
     after : Entry
-    after = record { serial = q.serial; progress = Finished (outcomes.Cancelled b.buffer) }
+    after = record { serial = q.serial; progress = Finished (outcomes.Cancelled b.into.buffer) }
 
     mine : Holds (slot_at old.slots q.key) q.serial (Waiting w.receive)
     mine = held_at old.slots shown.rows q.serial q.key (Waiting w.receive) shown.table w.there (λ e. cc)
@@ -231,11 +231,11 @@ cancel_holds links old known core q b shown w =
     job : slice_get core.jobs q.serial ≡ Some (Waiting w.receive)
     job = ap (λ (js : List Job). slice_get js q.serial) shown.jobs ∙ job_at shown.rows q.serial q.key (Waiting w.receive) w.there
 
-    values_same : x ≡ outcome_seen (outcomes.Cancelled b.buffer)
-    values_same = ap (λ (h : Handed). ends.Cancelled h.buffer.values) w.into ∙ ap (λ (c : Contents). ends.Cancelled c.values) (handed_buffer b)
+    values_same : x ≡ outcome_seen (outcomes.Cancelled b.into.buffer)
+    values_same = ap (λ (h : Handed). ends.Cancelled h.buffer.values) w.into ∙ ap (λ (c : Contents). ends.Cancelled c.values) (handed_buffer b.into)
 
 -- a receive that waits is cancelled
-cancel_waiting : (links : Announcements) (old : CoreState) (known : List ℕ) (core : Core) (q : Request) (b : Region) → IsShown links old known core → old.blocked ≡ None → cancel_fault old (Some q) ≡ None →
+cancel_waiting : (links : Announcements) (old : CoreState) (known : List ℕ) (core : Core) (q : Request) (b : Posted) → IsShown links old known core → old.blocked ≡ None → cancel_fault old (Some q) ≡ None →
     progress_at old.slots q.key q.serial ≡ Some (Receiving b) → IsMeant links old known core (machine.Cancel (Some q.serial)) replies.Accepted (after_dropping old q b)
 cancel_waiting links old known core q b shown free fine g =
     let w : IsWaiting shown.rows q b = waiting_row links old known core q b shown g in

@@ -9,7 +9,7 @@ use Rattle.proof_pure_network.specs.Held.{Held}
 use Rattle.proof_pure_network.specs.Jobs.{Job, Waiting, Collecting, Offering, Over, Closed}
 use Rattle.requests.specs.Table.{progress_at, progress_of, slot_at}
 use Rattle.requests.specs.declared.outcome.Outcome.{Outcome}
-use Rattle.requests.specs.declared.region.Region.{Region}
+use Rattle.requests.specs.declared.table.Posted.{Posted}
 use Rattle.requests.specs.declared.table.Entry.{Entry}
 use Rattle.requests.specs.declared.table.Matched.{Matched}
 use Rattle.requests.specs.declared.table.Progress.{Progress}
@@ -46,7 +46,7 @@ row_of table rows k key g t h = go (slot_at table key) refl h
         row_found rows k key g x (t.entries key x e) (eqb-true x.serial k c.0) c.1
 
 -- a request that is received waits
-pub waiting_of : (b : Region) (j : Job) → Fits (Receiving b) j → (p : receives.Receive) × (j ≡ Waiting p)
+pub waiting_of : (b : Posted) (j : Job) → Fits (Receiving b) j → (p : receives.Receive) × (j ≡ Waiting p)
 waiting_of b (Waiting p) f = (p, refl)
 waiting_of b (Collecting p h got) f = absurd f
 waiting_of b (Offering d basic values) f = absurd f

@@ -1,5 +1,5 @@
 -- A large send of a rank to another one: what its core in the network does with it, what it leaves of the rank, and its frame.
-use Rattle.std.proofs.Common.{◌≡◌, ℕ, ◌+◌, ◌*◌, ◌<◌, ◌≤◌, ◌==◌, ◌||◌, Bool, true, false, List, [], ◌∷◌, ◌++◌, length, Option, Some, None, if◌then◌else◌, nat_le, refl, sym, ap, ap₂, ◌∙◌, subst, arith}
+use Rattle.std.proofs.Common.{◌^◌, ◌≡◌, ℕ, ◌+◌, ◌*◌, ◌<◌, ◌≤◌, ◌==◌, ◌||◌, Bool, true, false, List, [], ◌∷◌, ◌++◌, length, Option, Some, None, if◌then◌else◌, nat_le, refl, sym, ap, ap₂, ◌∙◌, subst, arith}
 use Rattle.std.proofs.lemmas.Bool.{and_left, lt-leb}
 use Rattle.vocabulary.specs.BasicTypes.{size_of}
 use Rattle.vocabulary.specs.Limits.{eager_limit, highest_tag, send_limit}
@@ -68,9 +68,9 @@ core_announces core own to i c tag basic values other large known =
 -- it is announced to that rank
 pub is_announced_to : (p : Place) (s : Send) (to tag : ℕ) → s.target ≡ Rank to → s.tag ≡ Some tag → (to == p.endpoint.rank) ≡ false → is_large (sent_from s.from) ≡ true → announced_to p s ≡ Some to
 is_announced_to p s to tag target_is tag_is other large =
-    ap (λ (b : Bool). if b then rank_to p (destination s.target s.tag) else None) large
-    ∙ (ap₂ (λ (t : Source) (g : Option ℕ). rank_to p (destination t g)) target_is tag_is
-    ∙ ap (λ (b : Bool). rank_unless b (record { rank = to; tag = tag })) other)
+    ap (λ (b : Bool). if b then rank_to p (destination s.target s.tag s.context) else None) large
+    ∙ (ap₂ (λ (t : Source) (g : Option ℕ). rank_to p (destination t g s.context)) target_is tag_is
+    ∙ ap (λ (b : Bool). rank_unless b (record { rank = to; tag = tag; context = s.context })) other)
 
 -- where no limit refused it, a number is left for it
 free_after : (fault : Option Refused) (to : ℕ) (t : transfers.State) → or_worn_out fault (Some to) t ≡ None → is_full_to t.numbers to ≡ false
@@ -108,9 +108,9 @@ large_sending old new s q to tag target_is tag_is other large sent =
 
     rest : new ≡ left sent.started
     rest = sent.rest
-        ∙ (ap (λ (x : Option ℕ). arrived_at_itself (record old { slots = sent.started; serial = old.serial + 1; transfers = offered_by old.transfers x q.key c }) (destination s.target s.tag) c) announced
-        ∙ (ap₂ (λ (t : Source) (g : Option ℕ). arrived_at_itself (left sent.started) (destination t g) c) target_is tag_is
-        ∙ ap (λ (b : Bool). arrived_if b (left sent.started) (record { rank = to; tag = tag }) c) other))
+        ∙ (ap (λ (x : Option ℕ). arrived_at_itself (record old { slots = sent.started; serial = old.serial + 1; transfers = offered_by old.transfers x q.key c }) (destination s.target s.tag s.context) c) announced
+        ∙ (ap₂ (λ (t : Source) (g : Option ℕ). arrived_at_itself (left sent.started) (destination t g s.context) c) target_is tag_is
+        ∙ ap (λ (b : Bool). arrived_if b (left sent.started) (record { rank = to; tag = tag; context = s.context }) c) other))
 
     slots_are : new.slots ≡ sent.started
     slots_are = ap (λ (x : CoreState). x.slots) rest
@@ -118,39 +118,39 @@ large_sending old new s q to tag target_is tag_is other large sent =
 -- ---- ITS FRAME
 
 -- the frame that announces it
-abbrev pub announcing_frame : CoreState → (to tag : ℕ) → Contents → FrameFor
-announcing_frame old to tag c = record { rank = to; frame = request_frame (next_to old.transfers.numbers to) tag c }
+abbrev pub announcing_frame : CoreState → (to context tag : ℕ) → Contents → FrameFor
+announcing_frame old to context tag c = record { rank = to; frame = request_frame (next_to old.transfers.numbers to) context tag c }
 
 pub large_frame : (old : CoreState) (s : Send) (to tag : ℕ) → s.target ≡ Rank to → s.tag ≡ Some tag → (to == old.place.endpoint.rank) ≡ false → is_large (sent_from s.from) ≡ true →
-    frame_of old s ≡ Some (announcing_frame old to tag (sent_from s.from))
+    frame_of old s ≡ Some (announcing_frame old to s.context tag (sent_from s.from))
 large_frame old s to tag target_is tag_is other large =
-    ap₂ (λ (t : Source) (g : Option ℕ). frame_to old.place old.transfers (destination t g) c) target_is tag_is
-    ∙ (ap (λ (b : Bool). frame_unless b old.transfers (record { rank = to; tag = tag }) c) other
+    ap₂ (λ (t : Source) (g : Option ℕ). frame_to old.place old.transfers (destination t g s.context) c) target_is tag_is
+    ∙ (ap (λ (b : Bool). frame_unless b old.transfers (record { rank = to; tag = tag; context = s.context }) c) other
     ∙ ap (λ (b : Bool). Some (record { rank = to; frame = with_frame b })) large)
   where
     c : Contents
     c = sent_from s.from
 
     with_frame : Bool → FrameText
-    with_frame b = if b then request_frame (next_to old.transfers.numbers to) tag c else eager_frame tag c
+    with_frame b = if b then request_frame (next_to old.transfers.numbers to) s.context tag c else eager_frame s.context tag c
 
 -- it can leave the rank
-pub announcing_leaves : (p : Place) (to number tag : ℕ) (c : Contents) → to < p.size → (to ≡ p.endpoint.rank → ⊥) → tag ≤ highest_tag → eager_limit < length c.values * size_of c.basic →
-    length c.values * size_of c.basic ≤ send_limit → number ≤ most_transfers → CanLeave p (record { rank = to; frame = request_frame number tag c })
-announcing_leaves p to number tag c there apart low large limit most =
+pub announcing_leaves : (p : Place) (to number context tag : ℕ) (c : Contents) → context < 2 ^ 64 → to < p.size → (to ≡ p.endpoint.rank → ⊥) → tag ≤ highest_tag → eager_limit < length c.values * size_of c.basic →
+    length c.values * size_of c.basic ≤ send_limit → number ≤ most_transfers → CanLeave p (record { rank = to; frame = request_frame number context tag c })
+announcing_leaves p to number context tag c wide there apart low large limit most =
     let size : 0 < size_of c.basic = (sizes c.basic).positive in
     let least : length c.values ≤ length c.values * size_of c.basic = grind arith in
     record {
       there = there;
       apart = apart;
       fits = record { tag = low; large = large; limit = limit; plane = tt };
-      width = record { context = omega arith; count = omega (arith, least, limit); transfer = omega (arith, most) };
+      width = record { context = wide; count = omega (arith, least, limit); transfer = omega (arith, most) };
     }
 
 -- it stands for what the core announces
-pub announcing_sent : (a : Announcements) (known : List ℕ) (to number tag serial : ℕ) (c : Contents) → number ≡ length (a.to (endpoint_of known to)) →
-    AreSent (after_out a ((endpoint_of known to, Rts 0 tag c.basic serial (length c.values)) ∷ []))
-    (all_gone known (record { rank = to; frame = request_frame number tag c } ∷ []))
-    ((endpoint_of known to, Rts 0 tag c.basic serial (length c.values)) ∷ [])
-announcing_sent a known to number tag serial c is =
-    (refl, request_stands a (endpoint_of known to) number tag serial c (a.from (endpoint_of known to)) is, tt)
+pub announcing_sent : (a : Announcements) (known : List ℕ) (to number context tag serial : ℕ) (c : Contents) → number ≡ length (a.to (endpoint_of known to)) →
+    AreSent (after_out a ((endpoint_of known to, Rts context tag c.basic serial (length c.values)) ∷ []))
+    (all_gone known (record { rank = to; frame = request_frame number context tag c } ∷ []))
+    ((endpoint_of known to, Rts context tag c.basic serial (length c.values)) ∷ [])
+announcing_sent a known to number context tag serial c is =
+    (refl, request_stands a (endpoint_of known to) number context tag serial c (a.from (endpoint_of known to)) is, tt)

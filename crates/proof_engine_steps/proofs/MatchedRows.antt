@@ -63,8 +63,8 @@ left_by from p m x = matched_part p (held_of from (announced_as m x)) x.count (h
 matched_alike : AnnouncementsAgree → (from : Endpoint → List Transfer) (g : Progress) (p : Receive) (m : Message) (x : Announcement) → Fits g (Waiting p) →
     fits p (held_of from (announced_as m x)) ≡ true →
     (has_room p x.basic x.count ≡ wants_so g x.basic x.count) × Fits (progress_on_announcement g (status_of (announced_as m x)) x.basic) (left_by from p m x)
-matched_alike agree from (Receiving r) p m x f accepts =
-    let alike : AnnouncedAlike from p r (announced_as m x) x = agree from p r (announced_as m x) x refl f.0 f.1 accepts in
+matched_alike agree from (Receiving w) p m x f accepts =
+    let alike : AnnouncedAlike from p w (announced_as m x) x = agree from p w (announced_as m x) x refl f accepts in
     (alike.wanted, alike.fits)
 matched_alike agree from (progresses.Collecting w) p m x f accepts = absurd f
 matched_alike agree from progresses.Offering p m x f accepts = absurd f

@@ -3,7 +3,6 @@ use Rattle.std.proofs.Common.{◌≡◌, ℕ, List, [], ◌∷◌, Option, Some,
 use Rattle.std.specs.List.{AllByRecursion}
 use Rattle.perfect_queues.specs.Calls as machine
 use Rattle.perfect_queues.specs.Events.{Called, Entry, call_and_reply, told}
-use Rattle.perfect_queues.specs.Refusals.{fault}
 use Rattle.vocabulary.specs.declared.endpoint.Endpoint.{Endpoint}
 use Rattle.proof_pure_network.specs.Core.{Core, view}
 use Rattle.proof_pure_network.specs.Engine.{called, core_ready, core_settled}
@@ -15,6 +14,7 @@ use Rattle.rank_calls.specs.declared.call.Reply.TheVariants as replies
 use Rattle.rank_core.specs.Calls.{call_frame}
 use Rattle.rank_core.specs.CoreState.{CoreState}
 use Rattle.rank_calls.specs.Frames.{FrameFor, as_list}
+use Rattle.proof_engine_view.specs.Faults.{queue_fault}
 use Rattle.proof_engine_view.specs.Seen.{answer_seen, call_seen, told_call}
 use Rattle.proof_engine_view.specs.Shown.{IsShown}
 use Rattle.proof_engine_view.specs.Standing.{AreSent, CanLeave, all_gone}
@@ -42,7 +42,7 @@ told_same e call (replies.Refused why back) = refl
 
 -- what a call leaves that the machine is told as this one
 pub record IsMeant (links : Announcements) (old : CoreState) (known : List ℕ) (core : Core) (c : machine.Call) (reply : Reply) (new : CoreState) : Type 0 where
-  pub fit : fault old.place.size (view blank core) c ≡ None
+  pub fit : queue_fault old.place.size (view blank core) c ≡ None
   pub place : new.place ≡ old.place
   pub completion : new.completion ≡ old.completion
   pub shown : IsShown links new known (core_settled (called old.place.endpoint core c).core)

@@ -53,23 +53,23 @@ core_sends_own core own c tag basic values known =
 -- nothing goes out of such a send
 own_frame : (old : CoreState) (s : Send) (to tag : ℕ) → s.target ≡ Rank to → s.tag ≡ Some tag → (to == old.place.endpoint.rank) ≡ true → frame_of old s ≡ None
 own_frame old s to tag target_is tag_is own =
-    ap₂ (λ (t : Source) (g : Option ℕ). frame_to old.place old.transfers (destination t g) (sent_from s.from)) target_is tag_is
-    ∙ ap (λ (b : Bool). frame_unless b old.transfers (record { rank = to; tag = tag }) (sent_from s.from)) own
+    ap₂ (λ (t : Source) (g : Option ℕ). frame_to old.place old.transfers (destination t g s.context) (sent_from s.from)) target_is tag_is
+    ∙ ap (λ (b : Bool). frame_unless b old.transfers (record { rank = to; tag = tag; context = s.context }) (sent_from s.from)) own
 
 -- and nothing is announced, however many bytes it has
 own_to_nobody : (p : Place) (s : Send) (to tag : ℕ) → s.target ≡ Rank to → s.tag ≡ Some tag → (to == p.endpoint.rank) ≡ true → announced_to p s ≡ None
 own_to_nobody p s to tag target_is tag_is own =
     announced_nowhere p s
-    (ap₂ (λ (t : Source) (g : Option ℕ). rank_to p (destination t g)) target_is tag_is ∙ ap (λ (b : Bool). rank_unless b (record { rank = to; tag = tag })) own)
+    (ap₂ (λ (t : Source) (g : Option ℕ). rank_to p (destination t g s.context)) target_is tag_is ∙ ap (λ (b : Bool). rank_unless b (record { rank = to; tag = tag; context = s.context })) own)
 
 -- such a send is that of its core: the request starts, finished, and then the message comes
 own_send_shown : ArrivalsMatch → OutcomesAgree → (links : Announcements) (old new : CoreState) (known : List ℕ) (core : Core) (s : Send) (q : Request) (to tag : ℕ) → IsShown links old known core → old.blocked ≡ None →
     s.target ≡ Rank to → s.tag ≡ Some tag → (to == old.place.endpoint.rank) ≡ true → KeepsRules old.place s → IsSending old s q new → IsCalled links old known core (calls.Isend s) (replies.Started q) new
 own_send_shown match agree links old new known core s q to tag shown free target_is tag_is own kept is_sent =
     send_started links old new known core s q came after.left shown free kept sent.serial
-    (ap₂ (λ (t : Source) (g : Option ℕ). core_sent e core t g c) target_is tag_is ∙
-    (ap (λ (r : ℕ). core_sent e core (Rank r) (Some tag) c) (eqb-true to e.rank own) ∙
-    core_sends_own core e rules.world tag c.basic c.values (shown.known_alike e.rank ∙ shown.itself)))
+    (ap₂ (λ (t : Source) (g : Option ℕ). core_sent e core s.context t g c) target_is tag_is ∙
+    (ap (λ (r : ℕ). core_sent e core s.context (Rank r) (Some tag) c) (eqb-true to e.rank own) ∙
+    core_sends_own core e s.context tag c.basic c.values (shown.known_alike e.rank ∙ shown.itself)))
     (subst (λ (x : CoreState). Holding links x known came.core after.left) (sym rest) after.holding)
     after.blocked
     (record {
@@ -88,7 +88,7 @@ own_send_shown match agree links old new known core s q to tag shown free target
     c = sent_from s.from
 
     m : Message
-    m = own_message old.place tag c
+    m = own_message old.place s.context tag c
 
     sent : IsSmallSending old s q new
     sent = small_sending old new s q (own_to_nobody old.place s to tag target_is tag_is own) is_sent
@@ -101,8 +101,8 @@ own_send_shown match agree links old new known core s q to tag shown free target
     keeps = arrived_keeps started m
 
     rest : new ≡ rank.arrived started m
-    rest = sent.rest ∙ ap₂ (λ (t : Source) (g : Option ℕ). arrived_at_itself started (destination t g) c) target_is tag_is ∙
-        ap (λ (b : Bool). arrived_if b started (record { rank = to; tag = tag }) c) own
+    rest = sent.rest ∙ ap₂ (λ (t : Source) (g : Option ℕ). arrived_at_itself started (destination t g s.context) c) target_is tag_is ∙
+        ap (λ (b : Bool). arrived_if b started (record { rank = to; tag = tag; context = s.context }) c) own
 
     -- what the core makes of its message
     came : Effect

@@ -7,7 +7,6 @@ use Rattle.vocabulary.specs.BasicTypes.{size_of}
 use Rattle.vocabulary.specs.Endpoints.{is_same}
 use Rattle.vocabulary.specs.declared.basic_type.BasicType.{BasicType}
 use Rattle.vocabulary.specs.declared.endpoint.Endpoint.{Endpoint}
-use Rattle.vocabulary.specs.declared.envelope.Source.TheVariants as sources
 use Rattle.vocabulary.specs.declared.envelope.Status.{Status}
 use Rattle.datatypes.specs.ContentLaws.{sizes, values_of-bytes_of}
 use Rattle.datatypes.specs.Contents.{Contents, values_of}
@@ -26,7 +25,7 @@ use Rattle.rendezvous.specs.Collected.{collected_of}
 use Rattle.rendezvous.specs.Collecting as rendezvous
 use Rattle.rendezvous.specs.Collecting.{is_whole}
 use Rattle.rendezvous.specs.State as transfers
-use Rattle.rendezvous.specs.State.{after_data, blank, given, given_at, handed_out, is_due, put_back, with_data_at}
+use Rattle.rendezvous.specs.State.{blank, given_at, handed_out, is_due, put_back, with_data_at}
 use Rattle.rendezvous.specs.declared.collection.Collected.{Collected}
 use Rattle.requests.specs.Outcomes.{outcome_of}
 use Rattle.requests.specs.Table.{after_delivery, progress_on_delivery, slot_at, slot_delivered}
@@ -189,8 +188,8 @@ delivered_fits : OutcomesAgree → (g : Progress) (p : Receive) (h : Held) (got 
 delivered_fits agree (Receiving r) p h got c f basic count = absurd f
 delivered_fits agree (progresses.Collecting w) p h got c f basic count =
     ap (λ (b : BasicType). machine.outcome p (record { sender = h.sender; context = h.context; tag = h.tag; basic = b; values = c.values; request = None })) (sym basic)
-    ∙ (agree (λ e. []) p m c refl f.on_world
-    ∙ ap₂ (λ (y : Handed) (s : Status). outcome_seen (outcome_of y s c)) f.into (ap (λ (n : ℕ). record { source = sources.Rank h.sender.rank; tag = Some h.tag; count = n }) count ∙ sym f.status))
+    ∙ (agree (λ e. []) p m c refl
+    ∙ ap₂ (λ (y : Handed) (s : Status). outcome_seen (outcome_of y s c)) f.into (ap (λ (n : ℕ). machine.status_by p h.sender.rank h.tag n) count ∙ sym f.status))
   where
     m : Message
     m = record { sender = h.sender; context = h.context; tag = h.tag; body = bodies.Whole c }

@@ -29,16 +29,18 @@ use Rattle.rank_calls.specs.declared.refused.Refused.{Refused}
 use Rattle.rank_calls.specs.declared.refused.Refused.TheVariants as refusals
 use Rattle.rank_calls.specs.Frames.{FrameFor, as_list}
 use Rattle.match_queues.specs.declared.envelope.Body.TheVariants.{Announced}
-use Rattle.rank_calls.specs.Receiving.{answer_on_post, collection_on_match, transfers_with, posted_by, progress_on_post, status_of, transfers_on_post}
+use Rattle.rank_calls.specs.Receiving.{answer_on_post, collection_on_match, transfers_with, posted_by, progress_on_post, status_of, transfers_on_post, waiting_by}
+use Rattle.shared_groups.specs.Statuses.{status_in}
 use Rattle.rank_core.specs.CoreState.{CoreState}
 use Rattle.rank_core.specs.Receiving.{IsPosting, IsReceiving, IsReceivingNothing, ReceivesFrom, found_by, receive_fault, receive_frame}
 use Rattle.proof_pure_network.specs.Core.{Core, Effect, view}
 use Rattle.proof_pure_network.specs.Frames.{Frame}
 use Rattle.proof_pure_network.specs.Held.{Held, blank, full}
 use Rattle.proof_pure_network.specs.Jobs.{Over, Waiting}
-use Rattle.proof_pure_network.specs.Matching.{answer, found, posted, posted_at}
+use Rattle.proof_pure_network.specs.Matching.{found, posted, posted_at}
 use Rattle.proof_pure_network.specs.Matching as matching
-use Rattle.proof_engine_view.specs.Rows.{IsOnWorld, Row, held_of, posted_job, posted_rows}
+use Rattle.proof_engine_view.specs.Faults.{queue_fault}
+use Rattle.proof_engine_view.specs.Rows.{Row, held_of, posted_job, posted_rows}
 use Rattle.proof_engine_view.specs.Seen.{receive_seen}
 use Rattle.proof_engine_view.specs.Shown.{IsShown}
 use Rattle.proof_engine_view.specs.Standing.{AreSent, CanLeave, all_gone}
@@ -78,17 +80,13 @@ receive_rules e v fine =
 
 -- no rule of the machine is broken
 pub post_fit : (n : ℕ) (core : Core) (v : Receive) → core.blocked ≡ None → KeepsRules n v →
-    rules.fault n (view blank core) (machine.Irecv (receive_seen v)) ≡ None
+    queue_fault n (view blank core) (machine.Irecv (receive_seen v)) ≡ None
 post_fit n core v free kept =
     fault_free n core (machine.Irecv (receive_seen v)) free ∙
     no_fault false false (is_unfit_to_receive (handed_of v.into)) (is_too_short (handed_of v.into)) (rules.is_tag_above v.tag) (rules.is_source_beyond n v.source)
     refl refl kept.fit kept.long kept.low kept.inside
 
 -- BOTH
-
--- it is on world
-on_world : (v : Receive) → IsOnWorld (receive_seen v)
-on_world v = record { context = refl; group = refl }
 
 -- It is posted, in both, where it doesn't name the null process; so what it found is answered
 pub record IsPosted (old : CoreState) (core : Core) (v : Receive) : Type 0 where
@@ -97,8 +95,8 @@ pub record IsPosted (old : CoreState) (core : Core) (v : Receive) : Type 0 where
 
 -- what both have for the request
 entry_of : (old new : CoreState) (v : Receive) (q : Request) (m : Option Message) → IsPosting old v q new → message_at old.queues.unexpected (message_for (posted_by q.key v) old.queues.unexpected) ≡ m →
-    IsSet old.slots new.slots q.key (Some (record { serial = old.serial; progress = progress_on_post v.into m }))
-entry_of old new v q m h e = subst (λ (x : Option Message). IsSet old.slots new.slots q.key (Some (record { serial = old.serial; progress = progress_on_post v.into x }))) e h.entry
+    IsSet old.slots new.slots q.key (Some (record { serial = old.serial; progress = progress_on_post (waiting_by v) m }))
+entry_of old new v q m h e = subst (λ (x : Option Message). IsSet old.slots new.slots q.key (Some (record { serial = old.serial; progress = progress_on_post (waiting_by v) x }))) e h.entry
 
 -- one more request was started
 serial_of : (old new : CoreState) (v : Receive) (q : Request) → IsPosting old v q new → new.serial ≡ old.serial + 1
@@ -164,8 +162,8 @@ post_waits links old new known core v q shown free fine real h finds =
     let qs : new.queues ≡ record old.queues { posted = old.queues.posted ++ posted_by q.key v ∷ [] } = queues_of old new v q h ∙ finds.queues in
     receive_started links old new known core v q (posted_at core (receive_seen v) None) (shown.rows ++ row_of q.key (Waiting (receive_seen v)) ∷ []) shown free fine h.serial
     (core_posts links core old v None real shown.held finds.core)
-    (holding_started links links old new known core (posted_at core (receive_seen v) None).core shown.rows q.key (Receiving v.into) (Waiting (receive_seen v)) (holding_of links old known core shown) h.fresh
-    (entry_of old new v q None h finds.message) (refl, on_world v) refl (serial_of old new v q h)
+    (holding_started links links old new known core (posted_at core (receive_seen v) None).core shown.rows q.key (Receiving (waiting_by v)) (Waiting (receive_seen v)) (holding_of links old known core shown) h.fresh
+    (entry_of old new v q None h finds.message) (record { into = refl; group = refl }) refl (serial_of old new v q h)
     (ap (λ (s : State). s.posted) qs ∙ ap (λ (ps : List queued.Receive). ps ++ posted_by q.key v ∷ []) shown.posted)
     (shown.held ∙ ap (λ (s : State). map (held_of links.from) s.unexpected) (sym qs))
     (under_way_still links known old.place new.place shown.rows (shown.rows ++ row_of q.key (Waiting (receive_seen v)) ∷ []) old.transfers new.transfers old.queues.unexpected new.queues.unexpected shown.under_way
@@ -189,9 +187,9 @@ post_ends links old new known core v q m c earlier later agree shown free fine r
     let qs : new.queues ≡ after_post old.queues (posted_by q.key v) = queues_of old new v q h in
     receive_started links old new known core v q after rows' shown free fine h.serial
     (core_posts links core old v (Some (earlier, held_of links.from (whole m c), later)) real shown.held finds.core)
-    (holding_started links links old new known core after.core shown.rows q.key (Finished (outcome_of (handed_of v.into) (status_of (whole m c)) c)) (Over x)
+    (holding_started links links old new known core after.core shown.rows q.key (Finished (outcome_of (handed_of v.into) (status_in v.group (status_of (whole m c))) c)) (Over x)
     (holding_of links old known core shown) h.fresh
-    (entry_of old new v q (Some (whole m c)) h finds.message) (agree links.from (receive_seen v) (whole m c) c refl (on_world v)) refl (serial_of old new v q h)
+    (entry_of old new v q (Some (whole m c)) h finds.message) (agree links.from (receive_seen v) (whole m c) c refl) refl (serial_of old new v q h)
     (ap (λ (s : State). s.posted) qs ∙ (finds.posted ∙ (shown.posted ∙ sym (append-nil (posted_rows shown.rows)))))
     (sym (ap (λ (s : State). map (held_of links.from) s.unexpected) qs ∙ finds.unexpected))
     (under_way_still links known old.place new.place rows' rows' old.transfers new.transfers (after_post old.queues (posted_by q.key v)).unexpected new.queues.unexpected
@@ -236,12 +234,12 @@ found_part_of links old known core v key m a earlier later shown finds =
 
 -- both want it alike, and are left by it alike
 found_alike : AnnouncementsAgree → (links : Announcements) (old : CoreState) (v : Receive) (key : ℕ) (m : Message) (a : Announcement) (earlier later : List Held) →
-    Finds links.from old.queues v key (announced_as m a) earlier later → AnnouncedAlike links.from (receive_seen v) v.into (announced_as m a) a
-found_alike agree links old v key m a earlier later finds = agree links.from (receive_seen v) v.into (announced_as m a) a refl refl (on_world v) finds.accepts
+    Finds links.from old.queues v key (announced_as m a) earlier later → AnnouncedAlike links.from (receive_seen v) (waiting_by v) (announced_as m a) a
+found_alike agree links old v key m a earlier later finds = agree links.from (receive_seen v) (waiting_by v) (announced_as m a) a refl (record { into = refl; group = refl }) finds.accepts
 
 -- what is under way then
 found_under_way : (links : Announcements) (old : CoreState) (known : List ℕ) (core : Core) (v : Receive) (key : ℕ) (m : Message) (a : Announcement) → (shown : IsShown links old known core) →
-    slot_at old.slots key ≡ None → IsPartOf links.from known old.place (announced_as m a) a → AnnouncedAlike links.from (receive_seen v) v.into (announced_as m a) a →
+    slot_at old.slots key ≡ None → IsPartOf links.from known old.place (announced_as m a) a → AnnouncedAlike links.from (receive_seen v) (waiting_by v) (announced_as m a) a →
     AreUnderWay links known old.place (found_rows links shown.rows key v m a) (found_transfers old.transfers key v m a) (after_post old.queues (posted_by key v)).unexpected
 found_under_way links old known core v key m a shown fresh part alike =
     subst (λ (b : Bool). AreUnderWay links known old.place (found_rows links shown.rows key v m a) (transfers_with old.transfers (collection_on_match b (announced_as m a) (Announced a) key)) (after_post old.queues (posted_by key v)).unexpected)
@@ -254,13 +252,13 @@ found_under_way links old known core v key m a shown fresh part alike =
 -- what both hold then
 found_holds : (links : Announcements) (old new : CoreState) (known : List ℕ) (core : Core) (v : Receive) (q : Request) (m : Message) (a : Announcement) (earlier later : List Held) → (shown : IsShown links old known core) →
     IsPosting old v q new → Finds links.from old.queues v q.key (announced_as m a) earlier later → IsPartOf links.from known old.place (announced_as m a) a →
-    AnnouncedAlike links.from (receive_seen v) v.into (announced_as m a) a → Holding links new known (found_part links core v m a earlier later).core (found_rows links shown.rows q.key v m a)
+    AnnouncedAlike links.from (receive_seen v) (waiting_by v) (announced_as m a) a → Holding links new known (found_part links core v m a earlier later).core (found_rows links shown.rows q.key v m a)
 found_holds links old new known core v q m a earlier later shown h finds part alike =
     let qs : new.queues ≡ after_post old.queues (posted_by q.key v) = queues_of old new v q h in
     let rows' : List Row = found_rows links shown.rows q.key v m a in
     let waits_not : posted_job q.key (left_by links.from (receive_seen v) m a) ≡ [] =
     left_waits q.key (receive_seen v) (held_of links.from (announced_as m a)) a.count (receives.has_room (receive_seen v) a.basic a.count) in
-    holding_started links links old new known core (found_part links core v m a earlier later).core shown.rows q.key (matched_progress v.into (status_of (announced_as m a)) a.basic)
+    holding_started links links old new known core (found_part links core v m a earlier later).core shown.rows q.key (matched_progress v.into (status_in v.group (status_of (announced_as m a))) a.basic)
     (left_by links.from (receive_seen v) m a) (holding_of links old known core shown) h.fresh (entry_of old new v q (Some (announced_as m a)) h finds.message) alike.fits refl (serial_of old new v q h)
     (ap (λ (s : State). s.posted) qs ∙ (finds.posted ∙ (shown.posted ∙ (sym (append-nil (posted_rows shown.rows)) ∙ ap (λ (ps : List queued.Receive). posted_rows shown.rows ++ ps) (sym waits_not)))))
     (sym (ap (λ (s : State). map (held_of links.from) s.unexpected) qs ∙ finds.unexpected))
@@ -271,7 +269,7 @@ found_holds links old new known core v q m a earlier later shown h finds part al
 
 -- what is answered to its sender
 found_given : (links : Announcements) (old : CoreState) (known : List ℕ) (core : Core) (v : Receive) (m : Message) (a : Announcement) (earlier later : List Held) → IsPartOf links.from known old.place (announced_as m a) a →
-    AnnouncedAlike links.from (receive_seen v) v.into (announced_as m a) a → IsGiven links known old.place (answer_on_post v.into (Some (announced_as m a))) (found_part links core v m a earlier later).out
+    AnnouncedAlike links.from (receive_seen v) (waiting_by v) (announced_as m a) a → IsGiven links known old.place (answer_on_post v.into (Some (announced_as m a))) (found_part links core v m a earlier later).out
 found_given links old known core v m a earlier later part alike =
     record {
       quiet = answer_quiet (receive_seen v) (held_of links.from (announced_as m a)) (held_of links.from (announced_as m a)).body;
@@ -285,7 +283,7 @@ post_matches : (links : Announcements) (old new : CoreState) (known : List ℕ) 
     IsCalled links old known core (calls.Irecv v) (replies.Started q) new
 post_matches links old new known core v q m a earlier later agree shown free fine real h finds =
     let part : IsPartOf links.from known old.place (announced_as m a) a = found_part_of links old known core v q.key m a earlier later shown finds in
-    let alike : AnnouncedAlike links.from (receive_seen v) v.into (announced_as m a) a = found_alike agree links old v q.key m a earlier later finds in
+    let alike : AnnouncedAlike links.from (receive_seen v) (waiting_by v) (announced_as m a) a = found_alike agree links old v q.key m a earlier later finds in
     receive_started links old new known core v q (found_part links core v m a earlier later) (found_rows links shown.rows q.key v m a) shown free fine h.serial
     (core_posts links core old v (Some (earlier, held_of links.from (announced_as m a), later)) real shown.held finds.core)
     (found_holds links old new known core v q m a earlier later shown h finds part alike) refl (post_stays old new v q h)

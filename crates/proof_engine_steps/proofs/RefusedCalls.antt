@@ -14,6 +14,7 @@ use Rattle.rank_calls.specs.declared.refused.Refused.{Refused}
 use Rattle.rank_calls.specs.declared.refused.Refused.TheVariants as refusals
 use Rattle.rank_core.specs.Calls.{fault_at, free_fault}
 use Rattle.rank_core.specs.CoreState.{CoreState}
+use Rattle.proof_engine_view.specs.Faults.{queue_fault, queue_fault_by}
 use Rattle.proof_engine_view.specs.Seen.{call_meant, call_seen}
 use Rattle.proof_engine_view.specs.Shown.{IsBlocked, IsShown}
 use Rattle.proof_engine_view.specs.Transfers.{Announcements}
@@ -28,7 +29,7 @@ blocked_fault : (links : Announcements) (old : CoreState) (known : List ℕ) (co
 blocked_fault links old known core call a shown h =
     ap
     (λ (b : Option Awaited).
-    rules.fault_by old.place.size (rules.is_held b) (λ k. rules.standing (slice_get (map (request_of blank) core.jobs) k)) (call_meant old call))
+    queue_fault_by old.place.size (rules.is_held b) (λ k. rules.standing (slice_get (map (request_of blank) core.jobs) k)) (call_meant old call))
     (subst (λ (b : Option rank.Awaited). IsBlocked shown.rows b core.blocked) h shown.blocked).0
 
 -- ---- what meets a rule or a limit
@@ -55,7 +56,7 @@ faults_have_reasons links old known core call why shown fault = go old.blocked r
 
 -- while no other call is blocked
 free_faultless : (links : Announcements) (old : CoreState) (known : List ℕ) (core : Core) (call : Call) → IsShown links old known core → old.blocked ≡ None → free_fault old call ≡ None →
-    IsFaultless (rules.fault old.place.size (view blank core) (call_seen call)) old call
+    IsFaultless (queue_fault old.place.size (view blank core) (call_seen call)) old call
 free_faultless links old known core (calls.Isend s) shown free fine =
     record { own = refl; none = send_faultless links old known core s shown free (no_send_fault old s fine) }
 free_faultless links old known core (calls.Irecv v) shown free fine = record { own = refl; none = receive_faultless links old known core v shown free fine }
@@ -68,12 +69,12 @@ free_faultless links old known core (calls.Cancel q) shown free fine = cancel_wi
 pub allowed_calls_are_faultless : AllowedCallsAreFaultless
 allowed_calls_are_faultless links old known core call shown fine = go old.blocked refl fine
   where
-    go : (b : Option rank.Awaited) → old.blocked ≡ b → fault_at b old call ≡ None → IsFaultless (rules.fault old.place.size (view blank core) (call_seen call)) old call
+    go : (b : Option rank.Awaited) → old.blocked ≡ b → fault_at b old call ≡ None → IsFaultless (queue_fault old.place.size (view blank core) (call_seen call)) old call
     go (Some a) e f = absurd cc
     go None e f = free_faultless links old known core call shown e f
 
 -- so a limit of the frame, or want of memory, is a reason
 pub room_is_a_reason : AllowedCallsAreFaultless → RoomIsAReason
 room_is_a_reason allowed links old known core call why shown fine room =
-    let f : IsFaultless (rules.fault old.place.size (view blank core) (call_seen call)) old call = allowed links old known core call shown fine in
-    NoRoom room (ap (λ (c : machine.Call). rules.fault old.place.size (view blank core) c) f.own ∙ f.none)
+    let f : IsFaultless (queue_fault old.place.size (view blank core) (call_seen call)) old call = allowed links old known core call shown fine in
+    NoRoom room (ap (λ (c : machine.Call). queue_fault old.place.size (view blank core) c) f.own ∙ f.none)

@@ -12,6 +12,7 @@ use Rattle.rank_calls.specs.declared.refused.Refused.{Refused}
 use Rattle.rank_calls.specs.declared.refused.Refused.TheVariants as refusals
 use Rattle.rank_core.specs.CoreState.{CoreState}
 use Rattle.rank_core.specs.Receiving.{receive_fault}
+use Rattle.proof_engine_view.specs.Faults.{queue_fault}
 use Rattle.proof_engine_view.specs.Seen.{call_seen}
 use Rattle.proof_engine_view.specs.Shown.{IsShown}
 use Rattle.proof_engine_view.specs.Transfers.{Announcements}
@@ -22,7 +23,7 @@ use Rattle.proof_engine_steps.proofs.Starting.{core_free, fault_free}
 
 -- the machine finds no fault with a receive that meets no rule of the rank's
 pub receive_faultless : (links : Announcements) (old : CoreState) (known : List ℕ) (core : Core) (v : Receive) → IsShown links old known core → old.blocked ≡ None → receive_fault old v ≡ None →
-    rules.fault old.place.size (view blank core) (call_seen (calls.Irecv v)) ≡ None
+    queue_fault old.place.size (view blank core) (call_seen (calls.Irecv v)) ≡ None
 receive_faultless links old known core v shown free fine = post_fit old.place.size core v (core_free links old known core shown free) (receive_rules old v fine)
 
 -- a receive that breaks a rule or meets the limit

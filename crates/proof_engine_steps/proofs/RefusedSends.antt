@@ -17,6 +17,7 @@ use Rattle.rank_core.specs.CoreState.{CoreState}
 use Rattle.rank_calls.specs.Sending.{announced_to, or_worn_out, send_fault}
 use Rattle.rank_core.specs.Sending.{or_full}
 use Rattle.rendezvous.specs.State.{is_full_to}
+use Rattle.proof_engine_view.specs.Faults.{queue_fault}
 use Rattle.proof_engine_view.specs.Seen.{call_seen}
 use Rattle.proof_engine_view.specs.Shown.{IsShown}
 use Rattle.proof_engine_view.specs.Transfers.{Announcements}
@@ -92,7 +93,7 @@ send_fault_reason old core s x free fault = by_type differs refl fault
 
 -- the machine finds no fault with a send that breaks no rule of the rank's
 pub send_faultless : (links : Announcements) (old : CoreState) (known : List ℕ) (core : Core) (s : Send) → IsShown links old known core → old.blocked ≡ None → send_fault old.place s ≡ None →
-    rules.fault old.place.size (view blank core) (call_seen (calls.Isend s)) ≡ None
+    queue_fault old.place.size (view blank core) (call_seen (calls.Isend s)) ≡ None
 send_faultless links old known core s shown free fine = send_fit old.place core s (core_free links old known core shown free) (send_rules old.place s fine)
 
 -- a send that meets no limit breaks no rule

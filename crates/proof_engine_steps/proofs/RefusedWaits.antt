@@ -19,6 +19,7 @@ use Rattle.rank_calls.specs.declared.refused.Refused.{Refused}
 use Rattle.rank_calls.specs.declared.refused.Refused.TheVariants as refusals
 use Rattle.rank_core.specs.CoreState.{CoreState}
 use Rattle.rank_core.specs.Waiting.{cancel_fault, wait_fault}
+use Rattle.proof_engine_view.specs.Faults.{queue_fault, queue_fault_by}
 use Rattle.proof_engine_view.specs.Seen.{awaited_by, awaited_seen, call_seen, own_serial, request_by, serial_meant}
 use Rattle.proof_engine_view.specs.Shown.{IsShown}
 use Rattle.proof_engine_view.specs.Transfers.{Announcements}
@@ -46,7 +47,7 @@ rule_kept false f = refl
 
 -- the fault that the machine finds with a wait is by the rank's own tests
 wait_found : (links : Announcements) (old : CoreState) (known : List ℕ) (core : Core) (a : Awaited) → IsShown links old known core → old.blocked ≡ None →
-    rules.fault old.place.size (view blank core) (machine.Wait (awaited_by (serial_meant old) a)) ≡ six_if (lists.is_one_absent old.slots (awaited_requests a) || lists.is_twice (awaited_requests a))
+    queue_fault old.place.size (view blank core) (machine.Wait (awaited_by (serial_meant old) a)) ≡ six_if (lists.is_one_absent old.slots (awaited_requests a) || lists.is_twice (awaited_requests a))
 wait_found links old known core a shown free =
     fault_free old.place.size core (machine.Wait (awaited_by (serial_meant old) a)) (core_free links old known core shown free) ∙
     (ap (λ (ks : List ℕ). six_if (rules.is_one_missing (standing_at core) ks || rules.is_twice ks)) (awaited_meant (serial_meant old) a) ∙
@@ -54,10 +55,10 @@ wait_found links old known core a shown free =
 
 -- a wait that breaks a rule
 pub wait_reason : (links : Announcements) (old : CoreState) (known : List ℕ) (core : Core) (a : Awaited) (why : Refused) → IsShown links old known core → old.blocked ≡ None → wait_fault old a ≡ Some why →
-    IsReason (rules.fault old.place.size (view blank core) (machine.Wait (awaited_by (serial_meant old) a))) why
+    IsReason (queue_fault old.place.size (view blank core) (machine.Wait (awaited_by (serial_meant old) a))) why
 wait_reason links old known core a why shown free fault =
     rule_broken (lists.is_one_absent old.slots (awaited_requests a) || lists.is_twice (awaited_requests a))
-    (rules.fault old.place.size (view blank core) (machine.Wait (awaited_by (serial_meant old) a))) why (wait_found links old known core a shown free) fault
+    (queue_fault old.place.size (view blank core) (machine.Wait (awaited_by (serial_meant old) a))) why (wait_found links old known core a shown free) fault
 
 -- where a wait breaks none, all that it names is there
 pub wait_present : (old : CoreState) (a : Awaited) → wait_fault old a ≡ None → AllByRecursion (IsPresent old) (awaited_requests a)
@@ -68,15 +69,15 @@ wait_present old a fine =
 
 -- the machine finds no fault with what it means
 wait_none : (links : Announcements) (old : CoreState) (known : List ℕ) (core : Core) (a : Awaited) → IsShown links old known core → old.blocked ≡ None → wait_fault old a ≡ None →
-    rules.fault old.place.size (view blank core) (machine.Wait (awaited_by (serial_meant old) a)) ≡ None
+    queue_fault old.place.size (view blank core) (machine.Wait (awaited_by (serial_meant old) a)) ≡ None
 wait_none links old known core a shown free fine =
     wait_found links old known core a shown free ∙ ap six_if (rule_kept (lists.is_one_absent old.slots (awaited_requests a) || lists.is_twice (awaited_requests a)) fine)
 
 -- nor with what is seen of it
 pub wait_faultless : (links : Announcements) (old : CoreState) (known : List ℕ) (core : Core) (a : Awaited) → IsShown links old known core → old.blocked ≡ None → wait_fault old a ≡ None →
-    rules.fault old.place.size (view blank core) (machine.Wait (awaited_seen a)) ≡ None
+    queue_fault old.place.size (view blank core) (machine.Wait (awaited_seen a)) ≡ None
 wait_faultless links old known core a shown free fine =
-    ap (λ (x : completions.Awaited). rules.fault old.place.size (view blank core) (machine.Wait x)) (sym (awaited_own old a (wait_present old a fine))) ∙ wait_none links old known core a shown free fine
+    ap (λ (x : completions.Awaited). queue_fault old.place.size (view blank core) (machine.Wait x)) (sym (awaited_own old a (wait_present old a fine))) ∙ wait_none links old known core a shown free fine
 
 -- ---- tests
 
@@ -86,10 +87,10 @@ or_nothing true = refl
 or_nothing false = refl
 
 -- the fault of a test is that of a wait
-test_is_wait : (n : ℕ) (core : Core) (r : Option ℕ) → core.blocked ≡ None → rules.fault n (view blank core) (machine.Test r) ≡ rules.fault n (view blank core) (machine.Wait (completions.One r))
+test_is_wait : (n : ℕ) (core : Core) (r : Option ℕ) → core.blocked ≡ None → queue_fault n (view blank core) (machine.Test r) ≡ queue_fault n (view blank core) (machine.Wait (completions.One r))
 test_is_wait n core r free = fault_free n core (machine.Test r) free ∙ (go r ∙ sym (fault_free n core (machine.Wait (completions.One r)) free))
   where
-    go : (r : Option ℕ) → rules.fault_by n false (standing_at core) (machine.Test r) ≡ rules.fault_by n false (standing_at core) (machine.Wait (completions.One r))
+    go : (r : Option ℕ) → queue_fault_by n false (standing_at core) (machine.Test r) ≡ queue_fault_by n false (standing_at core) (machine.Wait (completions.One r))
     go None = refl
     go (Some k) = sym (ap six_if (or_nothing (rules.is_missing (standing_at core k))))
 
@@ -100,7 +101,7 @@ test_reason links old known core q why shown free fault =
     (wait_reason links old known core (awaiteds.One q) why shown free fault)
 
 pub test_faultless : (links : Announcements) (old : CoreState) (known : List ℕ) (core : Core) (q : Option Request) → IsShown links old known core → old.blocked ≡ None → wait_fault old (awaiteds.One q) ≡ None →
-    rules.fault old.place.size (view blank core) (machine.Test (request_by own_serial q)) ≡ None
+    queue_fault old.place.size (view blank core) (machine.Test (request_by own_serial q)) ≡ None
 test_faultless links old known core q shown free fine =
     test_is_wait old.place.size core (request_by own_serial q) (core_free links old known core shown free) ∙ wait_faultless links old known core (awaiteds.One q) shown free fine
 
@@ -113,7 +114,7 @@ turned false = refl
 
 -- the fault that the machine finds with a cancel is by the rank's own test
 cancel_found : (links : Announcements) (old : CoreState) (known : List ℕ) (core : Core) (q : Request) → IsShown links old known core → old.blocked ≡ None →
-    rules.fault old.place.size (view blank core) (machine.Cancel (Some (serial_meant old q))) ≡ six_if (not (table.is_receive (progress_at old.slots q.key q.serial)))
+    queue_fault old.place.size (view blank core) (machine.Cancel (Some (serial_meant old q))) ≡ six_if (not (table.is_receive (progress_at old.slots q.key q.serial)))
 cancel_found links old known core q shown free =
     fault_free old.place.size core (machine.Cancel (Some (serial_meant old q))) (core_free links old known core shown free) ∙
     ap (λ (b : Bool). six_if (not b)) (receive_seen links old known core q shown)
@@ -121,10 +122,10 @@ cancel_found links old known core q shown free =
 pub cancel_reason : (links : Announcements) (old : CoreState) (known : List ℕ) (core : Core) (q : Option Request) (why : Refused) → IsShown links old known core → old.blocked ≡ None → cancel_fault old q ≡ Some why →
     HasReason old core (calls.Cancel q) why
 cancel_reason links old known core None why shown free fault =
-    rule_broken true (rules.fault old.place.size (view blank core) (machine.Cancel None)) why
+    rule_broken true (queue_fault old.place.size (view blank core) (machine.Cancel None)) why
     (fault_free old.place.size core (machine.Cancel None) (core_free links old known core shown free)) fault
 cancel_reason links old known core (Some q) why shown free fault =
-    rule_broken (not (table.is_receive (progress_at old.slots q.key q.serial))) (rules.fault old.place.size (view blank core) (machine.Cancel (Some (serial_meant old q)))) why
+    rule_broken (not (table.is_receive (progress_at old.slots q.key q.serial))) (queue_fault old.place.size (view blank core) (machine.Cancel (Some (serial_meant old q)))) why
     (cancel_found links old known core q shown free) (sym (turned (table.is_receive (progress_at old.slots q.key q.serial))) ∙ fault)
 
 -- a receive that is there
@@ -142,43 +143,43 @@ cancel_present old q fine = receive_there old q (table.is_receive (progress_at o
 
 -- the machine finds no fault with what it means
 cancel_none : (links : Announcements) (old : CoreState) (known : List ℕ) (core : Core) (q : Request) → IsShown links old known core → old.blocked ≡ None → cancel_fault old (Some q) ≡ None →
-    rules.fault old.place.size (view blank core) (machine.Cancel (Some (serial_meant old q))) ≡ None
+    queue_fault old.place.size (view blank core) (machine.Cancel (Some (serial_meant old q))) ≡ None
 cancel_none links old known core q shown free fine =
     cancel_found links old known core q shown free ∙
     ap six_if (rule_kept (not (table.is_receive (progress_at old.slots q.key q.serial))) (sym (turned (table.is_receive (progress_at old.slots q.key q.serial))) ∙ fine))
 
 -- nor with what is seen of it
 pub cancel_faultless : (links : Announcements) (old : CoreState) (known : List ℕ) (core : Core) (q : Request) → IsShown links old known core → old.blocked ≡ None → cancel_fault old (Some q) ≡ None →
-    rules.fault old.place.size (view blank core) (machine.Cancel (Some q.serial)) ≡ None
+    queue_fault old.place.size (view blank core) (machine.Cancel (Some q.serial)) ≡ None
 cancel_faultless links old known core q shown free fine =
-    ap (λ (k : ℕ). rules.fault old.place.size (view blank core) (machine.Cancel (Some k))) (sym (meant_present old q (cancel_present old q fine))) ∙ cancel_none links old known core q shown free fine
+    ap (λ (k : ℕ). queue_fault old.place.size (view blank core) (machine.Cancel (Some k))) (sym (meant_present old q (cancel_present old q fine))) ∙ cancel_none links old known core q shown free fine
 
 -- ---- calls that break no rule
 
 -- a wait, whatever its form
 waits_without_fault : (links : Announcements) (old : CoreState) (known : List ℕ) (core : Core) (a : Awaited) → IsShown links old known core → old.blocked ≡ None → wait_fault old a ≡ None →
-    (machine.Wait (awaited_by (serial_meant old) a) ≡ machine.Wait (awaited_seen a)) × (rules.fault old.place.size (view blank core) (machine.Wait (awaited_seen a)) ≡ None)
+    (machine.Wait (awaited_by (serial_meant old) a) ≡ machine.Wait (awaited_seen a)) × (queue_fault old.place.size (view blank core) (machine.Wait (awaited_seen a)) ≡ None)
 waits_without_fault links old known core a shown free fine = (ap machine.Wait (awaited_own old a (wait_present old a fine)), wait_faultless links old known core a shown free fine)
 
 pub wait_without_fault : (links : Announcements) (old : CoreState) (known : List ℕ) (core : Core) (q : Option Request) → IsShown links old known core → old.blocked ≡ None → wait_fault old (awaiteds.One q) ≡ None →
-    IsFaultless (rules.fault old.place.size (view blank core) (call_seen (calls.Wait q))) old (calls.Wait q)
+    IsFaultless (queue_fault old.place.size (view blank core) (call_seen (calls.Wait q))) old (calls.Wait q)
 wait_without_fault links old known core q shown free fine = let w = waits_without_fault links old known core (awaiteds.One q) shown free fine in record { own = w.0; none = w.1 }
 
 pub waitany_without_fault : (links : Announcements) (old : CoreState) (known : List ℕ) (core : Core) (qs : List (Option Request)) → IsShown links old known core → old.blocked ≡ None → wait_fault old (awaiteds.AnyOf qs) ≡ None →
-    IsFaultless (rules.fault old.place.size (view blank core) (call_seen (calls.Waitany qs))) old (calls.Waitany qs)
+    IsFaultless (queue_fault old.place.size (view blank core) (call_seen (calls.Waitany qs))) old (calls.Waitany qs)
 waitany_without_fault links old known core qs shown free fine = let w = waits_without_fault links old known core (awaiteds.AnyOf qs) shown free fine in record { own = w.0; none = w.1 }
 
 pub waitall_without_fault : (links : Announcements) (old : CoreState) (known : List ℕ) (core : Core) (qs : List (Option Request)) → IsShown links old known core → old.blocked ≡ None → wait_fault old (awaiteds.AllOf qs) ≡ None →
-    IsFaultless (rules.fault old.place.size (view blank core) (call_seen (calls.Waitall qs))) old (calls.Waitall qs)
+    IsFaultless (queue_fault old.place.size (view blank core) (call_seen (calls.Waitall qs))) old (calls.Waitall qs)
 waitall_without_fault links old known core qs shown free fine = let w = waits_without_fault links old known core (awaiteds.AllOf qs) shown free fine in record { own = w.0; none = w.1 }
 
 pub test_without_fault : (links : Announcements) (old : CoreState) (known : List ℕ) (core : Core) (q : Option Request) → IsShown links old known core → old.blocked ≡ None → wait_fault old (awaiteds.One q) ≡ None →
-    IsFaultless (rules.fault old.place.size (view blank core) (call_seen (calls.Test q))) old (calls.Test q)
+    IsFaultless (queue_fault old.place.size (view blank core) (call_seen (calls.Test q))) old (calls.Test q)
 test_without_fault links old known core q shown free fine =
     record { own = ap machine.Test (request_own old q (wait_present old (awaiteds.One q) fine)); none = test_faultless links old known core q shown free fine }
 
 pub cancel_without_fault : (links : Announcements) (old : CoreState) (known : List ℕ) (core : Core) (q : Option Request) → IsShown links old known core → old.blocked ≡ None → cancel_fault old q ≡ None →
-    IsFaultless (rules.fault old.place.size (view blank core) (call_seen (calls.Cancel q))) old (calls.Cancel q)
+    IsFaultless (queue_fault old.place.size (view blank core) (call_seen (calls.Cancel q))) old (calls.Cancel q)
 cancel_without_fault links old known core None shown free fine = absurd cc
 cancel_without_fault links old known core (Some q) shown free fine =
     record { own = ap (λ (k : ℕ). machine.Cancel (Some k)) (meant_present old q (cancel_present old q fine)); none = cancel_faultless links old known core q shown free fine }

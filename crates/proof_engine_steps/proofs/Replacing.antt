@@ -85,7 +85,7 @@ replaces_among (x ∷ xs) slots key h = go (cases_eq key x) (cases_among key xs)
 fits_replaced : (g : Progress) (r i : ℕ) (job : Job) → Fits g job → ends_by r i job ≡ true → Fits (replaced_progress g) (ended r i job)
 fits_replaced (Receiving b) r i (Waiting p) f e =
     subst (λ (x : Bool). Fits (replaced_progress (Receiving b)) (if x then Over (machine.Replaced (Some p.into.buffer.values)) else Waiting p)) (sym e)
-    (ap (λ (h : Handed). machine.Replaced (Some h.buffer.values)) f.0 ∙ ap (λ (c : Contents). machine.Replaced (Some c.values)) (handed_buffer b))
+    (ap (λ (h : Handed). machine.Replaced (Some h.buffer.values)) f.into ∙ ap (λ (c : Contents). machine.Replaced (Some c.values)) (handed_buffer b.into))
 fits_replaced (Receiving b) r i (Collecting p h got) f e = absurd f
 fits_replaced (Receiving b) r i (Offering d basic values) f e = absurd f
 fits_replaced (Receiving b) r i (Over x) f e = absurd f

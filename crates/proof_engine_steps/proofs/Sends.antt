@@ -1,6 +1,6 @@
 -- A send of a rank to another one, or to the null process, is that of its core in the network.
 use Rattle.vocabulary.specs.Limits.{eager_limit, highest_tag, send_limit}
-use Rattle.std.proofs.Common.{◌≡◌, ℕ, ◌+◌, ◌*◌, ◌<◌, ◌≤◌, Bool, true, false, List, [], ◌∷◌, ◌++◌, length, Option, Some, None, if◌then◌else◌, ◌==◌, ◌||◌, ap₂, nat_le, nat_lt, slice_index, refl, sym, ap, ◌∙◌, subst, arith, append-nil}
+use Rattle.std.proofs.Common.{◌^◌, ◌≡◌, ℕ, ◌+◌, ◌*◌, ◌<◌, ◌≤◌, Bool, true, false, List, [], ◌∷◌, ◌++◌, length, Option, Some, None, if◌then◌else◌, ◌==◌, ◌||◌, ap₂, nat_le, nat_lt, slice_index, refl, sym, ap, ◌∙◌, subst, arith, append-nil}
 use Rattle.std.specs.List.{AllByRecursion}
 use Rattle.std.proofs.lemmas.Bool.{and_left, eqb-false, le-leb, le-ltb, leb-false, ltb-false, or_left}
 use Rattle.vocabulary.specs.BasicTypes.{size_of}
@@ -38,6 +38,7 @@ use Rattle.rank_core.specs.Sending.{IsSending, arrived_at_itself, arrived_if, fr
 use Rattle.rendezvous.specs.State.{next_to}
 use Rattle.requests.specs.Table.{IsSet, slot_at}
 use Rattle.requests.specs.declared.table.Entry.{Entry}
+use Rattle.proof_engine_view.specs.Faults.{queue_fault}
 use Rattle.proof_engine_view.specs.Frames.{endpoint_of}
 use Rattle.proof_engine_view.specs.Rows.{Row, posted_rows}
 use Rattle.proof_engine_view.specs.Seen.{call_seen}
@@ -99,7 +100,7 @@ send_over s over =
 
 -- no rule of the machine is broken
 pub send_fit : (p : Place) (core : Core) (s : Send) → core.blocked ≡ None → KeepsRules p s →
-    rules.fault p.size (view blank core) (call_seen (calls.Isend s)) ≡ None
+    queue_fault p.size (view blank core) (call_seen (calls.Isend s)) ≡ None
 send_fit p core s free kept =
     fault_free p.size core (call_seen (calls.Isend s)) free ∙
     no_fault false false (differs_in_type (handed_of s.from))
@@ -109,9 +110,9 @@ send_fit p core s free kept =
 
 -- THE CORE'S SEND
 
--- these elements go to a target, on world
-abbrev pub core_sent : Endpoint → Core → Source → Option ℕ → Contents → Effect
-core_sent e core target tag c = sends_to e core rules.world target tag c.basic c.values
+-- these elements go to a target, in a context
+abbrev pub core_sent : Endpoint → Core → (context : ℕ) → Source → Option ℕ → Contents → Effect
+core_sent e core context target tag c = sends_to e core context target tag c.basic c.values
 
 -- a small send to another rank
 core_sends : (core : Core) (own : Endpoint) (to i c tag : ℕ) (basic : BasicType) (values : List ℕ) → (to == own.rank) ≡ false → nat_le (length values * size_of basic) eager_limit ≡ true → core.known to ≡ i →
@@ -129,9 +130,9 @@ core_sends core own to i c tag basic values other small known =
 
 -- what is sent of a region
 pub called_send : (core : Core) (own : Endpoint) (s : Send) →
-    sends_to own core rules.world s.target s.tag (handed_of s.from).buffer.basic (data_of (handed_of s.from)) ≡ core_sent own core s.target s.tag (sent_from s.from)
+    sends_to own core s.context s.target s.tag (handed_of s.from).buffer.basic (data_of (handed_of s.from)) ≡ core_sent own core s.context s.target s.tag (sent_from s.from)
 called_send core own s =
-    ap (λ (b : Contents). sends_to own core rules.world s.target s.tag b.basic (data_of (handed_of s.from))) (handed_buffer s.from)
+    ap (λ (b : Contents). sends_to own core s.context s.target s.tag b.basic (data_of (handed_of s.from))) (handed_buffer s.from)
 
 -- THE RANK'S SEND
 
@@ -141,7 +142,7 @@ pub record IsSmallSending (old : CoreState) (s : Send) (q : Request) (new : Core
   pub serial : q.serial ≡ old.serial
   pub started : List (Option Entry)
   pub entry : IsSet old.slots started q.key (Some (record { serial = old.serial; progress = Finished Sent }))
-  pub rest : new ≡ arrived_at_itself (record old { slots = started; serial = old.serial + 1 }) (destination s.target s.tag) (sent_from s.from)
+  pub rest : new ≡ arrived_at_itself (record old { slots = started; serial = old.serial + 1 }) (destination s.target s.tag s.context) (sent_from s.from)
 
 -- each send whose message isn't announced is such a one
 pub small_sending : (old new : CoreState) (s : Send) (q : Request) → announced_to old.place s ≡ None → IsSending old s q new → IsSmallSending old s q new
@@ -152,18 +153,18 @@ small_sending old new s q none sent =
       started = sent.started;
       entry = subst (λ (a : Option ℕ). IsSet old.slots sent.started q.key (Some (record { serial = old.serial; progress = progress_of_send a }))) none sent.entry;
       rest = subst (λ (a : Option ℕ). new ≡ arrived_at_itself (record old { slots = sent.started; serial = old.serial + 1; transfers = offered_by old.transfers a q.key (sent_from s.from) })
-          (destination s.target s.tag) (sent_from s.from)) none sent.rest;
+          (destination s.target s.tag s.context) (sent_from s.from)) none sent.rest;
     }
 
 -- nothing is announced that goes in one frame
 pub announced_small : (p : Place) (s : Send) → is_large (sent_from s.from) ≡ false → announced_to p s ≡ None
-announced_small p s small = ap (λ (b : Bool). if b then rank_to p (destination s.target s.tag) else None) small
+announced_small p s small = ap (λ (b : Bool). if b then rank_to p (destination s.target s.tag s.context) else None) small
 
 -- nor what goes to no other rank
-pub announced_nowhere : (p : Place) (s : Send) → rank_to p (destination s.target s.tag) ≡ None → announced_to p s ≡ None
+pub announced_nowhere : (p : Place) (s : Send) → rank_to p (destination s.target s.tag s.context) ≡ None → announced_to p s ≡ None
 announced_nowhere p s nowhere = go (is_large (sent_from s.from))
   where
-    go : (b : Bool) → (if b then rank_to p (destination s.target s.tag) else None) ≡ None
+    go : (b : Bool) → (if b then rank_to p (destination s.target s.tag s.context) else None) ≡ None
     go true = nowhere
     go false = refl
 
@@ -186,7 +187,7 @@ pub record Stays (old new : CoreState) : Type 0 where
 
 -- A send that was started and announces nothing, by what the core makes of it
 pub send_started : (links : Announcements) (old new : CoreState) (known : List ℕ) (core : Core) (s : Send) (q : Request) (after : Effect) (rows : List Row) → IsShown links old known core → old.blocked ≡ None →
-    KeepsRules old.place s → q.serial ≡ old.serial → core_sent old.place.endpoint core s.target s.tag (sent_from s.from) ≡ after → Holding links new known after.core rows →
+    KeepsRules old.place s → q.serial ≡ old.serial → core_sent old.place.endpoint core s.context s.target s.tag (sent_from s.from) ≡ after → Holding links new known after.core rows →
     after.core.blocked ≡ core.blocked → Stays old new → AreQuiet after.out → AreSent (after_out links after.out) (all_gone known (as_list (frame_of old s))) after.out →
     AllByRecursion (CanLeave old.place) (as_list (frame_of old s)) → IsCalled links old known core (calls.Isend s) (replies.Started q) new
 send_started links old new known core s q after rows shown free kept serial is holding same stays quiet out leave =
@@ -206,7 +207,7 @@ send_started links old new known core s q after rows shown free kept serial is h
 -- the same, where nothing comes to the own rank
 away_shown : (links : Announcements) (old new : CoreState) (known : List ℕ) (core : Core) (s : Send) (q : Request) (after : Effect) → (shown : IsShown links old known core) → old.blocked ≡ None →
     KeepsRules old.place s → (sent : IsSmallSending old s q new) → new ≡ record old { slots = sent.started; serial = old.serial + 1 } →
-    core_sent old.place.endpoint core s.target s.tag (sent_from s.from) ≡ after → after.core ≡ pushed_over core →
+    core_sent old.place.endpoint core s.context s.target s.tag (sent_from s.from) ≡ after → after.core ≡ pushed_over core →
     AreQuiet after.out → AreSent (after_out links after.out) (all_gone known (as_list (frame_of old s))) after.out → AllByRecursion (CanLeave old.place) (as_list (frame_of old s)) →
     IsCalled links old known core (calls.Isend s) (replies.Started q) new
 away_shown links old new known core s q after shown free kept sent rest is left quiet out leave =
@@ -223,33 +224,33 @@ pub null_send_shown : (links : Announcements) (old new : CoreState) (known : Lis
     s.target ≡ Null → KeepsRules old.place s → IsSending old s q new → IsCalled links old known core (calls.Isend s) (replies.Started q) new
 null_send_shown links old new known core s q shown free is kept is_sent =
     away_shown links old new known core s q (effect (pushed_over core) []) shown free kept sent
-    (sent.rest ∙ ap (λ (t : Source). arrived_at_itself (record old { slots = sent.started; serial = old.serial + 1 }) (destination t s.tag) (sent_from s.from)) is)
-    (ap (λ (t : Source). core_sent old.place.endpoint core t s.tag (sent_from s.from)) is) refl tt
+    (sent.rest ∙ ap (λ (t : Source). arrived_at_itself (record old { slots = sent.started; serial = old.serial + 1 }) (destination t s.tag s.context) (sent_from s.from)) is)
+    (ap (λ (t : Source). core_sent old.place.endpoint core s.context t s.tag (sent_from s.from)) is) refl tt
     (none_sent (after_out links []) known (frame_of old s) none) (none_leave old.place (frame_of old s) none)
   where
     sent : IsSmallSending old s q new
-    sent = small_sending old new s q (announced_nowhere old.place s (ap (λ (t : Source). rank_to old.place (destination t s.tag)) is)) is_sent
+    sent = small_sending old new s q (announced_nowhere old.place s (ap (λ (t : Source). rank_to old.place (destination t s.tag s.context)) is)) is_sent
 
     none : frame_of old s ≡ None
-    none = ap (λ (t : Source). frame_to old.place old.transfers (destination t s.tag) (sent_from s.from)) is
+    none = ap (λ (t : Source). frame_to old.place old.transfers (destination t s.tag s.context) (sent_from s.from)) is
 
 -- THE FRAME OF A SMALL SEND
 
 -- its rank and its frame
-abbrev eager_for : (to tag : ℕ) → Contents → FrameFor
-eager_for to tag c = record { rank = to; frame = eager_frame tag c }
+abbrev eager_for : (to context tag : ℕ) → Contents → FrameFor
+eager_for to context tag c = record { rank = to; frame = eager_frame context tag c }
 
 -- elements that go in one frame go in an eager one
 small_frame : (old : CoreState) (s : Send) (to tag : ℕ) → s.target ≡ Rank to → s.tag ≡ Some tag → (to == old.place.endpoint.rank) ≡ false → is_large (sent_from s.from) ≡ false →
-    frame_of old s ≡ Some (eager_for to tag (sent_from s.from))
+    frame_of old s ≡ Some (eager_for to s.context tag (sent_from s.from))
 small_frame old s to tag target_is tag_is other small =
-    ap₂ (λ (t : Source) (g : Option ℕ). frame_to old.place old.transfers (destination t g) (sent_from s.from)) target_is tag_is
-    ∙ (ap (λ (b : Bool). frame_unless b old.transfers (record { rank = to; tag = tag }) (sent_from s.from)) other
-    ∙ ap (λ (b : Bool). Some (record { rank = to; frame = if b then request_frame (next_to old.transfers.numbers to) tag (sent_from s.from) else eager_frame tag (sent_from s.from) })) small)
+    ap₂ (λ (t : Source) (g : Option ℕ). frame_to old.place old.transfers (destination t g s.context) (sent_from s.from)) target_is tag_is
+    ∙ (ap (λ (b : Bool). frame_unless b old.transfers (record { rank = to; tag = tag; context = s.context }) (sent_from s.from)) other
+    ∙ ap (λ (b : Bool). Some (record { rank = to; frame = if b then request_frame (next_to old.transfers.numbers to) s.context tag (sent_from s.from) else eager_frame s.context tag (sent_from s.from) })) small)
 
 -- it can leave the rank
-eager_leaves : (p : Place) (to tag : ℕ) (c : Contents) → to < p.size → (to ≡ p.endpoint.rank → ⊥) → tag ≤ highest_tag → length c.values * size_of c.basic ≤ eager_limit → CanLeave p (eager_for to tag c)
-eager_leaves p to tag c there apart low count =
+eager_leaves : (p : Place) (to context tag : ℕ) (c : Contents) → context < 2 ^ 64 → to < p.size → (to ≡ p.endpoint.rank → ⊥) → tag ≤ highest_tag → length c.values * size_of c.basic ≤ eager_limit → CanLeave p (eager_for to context tag c)
+eager_leaves p to context tag c wide there apart low count =
     let sized : length (bytes_of (size_of c.basic) c.values) ≡ length c.values * size_of c.basic = length-bytes_of (size_of c.basic) c.values in
     let size : 0 < size_of c.basic = (sizes c.basic).positive in
     let least : length c.values ≤ length c.values * size_of c.basic = grind arith in
@@ -257,29 +258,29 @@ eager_leaves p to tag c there apart low count =
       there = there;
       apart = apart;
       fits = record { tag = low; size = sized; limit = omega (arith, sized, count); plane = tt };
-      width = record { context = omega arith; count = omega (arith, least, count) };
+      width = record { context = wide; count = omega (arith, least, count) };
     }
 
 -- it stands for the network's, where each element has the width of its type
-eager_stands : (tag : ℕ) (c : Contents) → AreWithin (size_of c.basic) c.values →
-    ◌≡◌ {A = Option Frame} (Some (Eager rules.world tag c.basic (values_of (size_of c.basic) (bytes_of (size_of c.basic) c.values)))) (Some (Eager rules.world tag c.basic c.values))
-eager_stands tag c within = ap (λ (values : List ℕ). Some (Eager rules.world tag c.basic values)) (values_of-bytes_of (size_of c.basic) c.values (sizes c.basic).positive within)
+eager_stands : (context tag : ℕ) (c : Contents) → AreWithin (size_of c.basic) c.values →
+    ◌≡◌ {A = Option Frame} (Some (Eager context tag c.basic (values_of (size_of c.basic) (bytes_of (size_of c.basic) c.values)))) (Some (Eager context tag c.basic c.values))
+eager_stands context tag c within = ap (λ (values : List ℕ). Some (Eager context tag c.basic values)) (values_of-bytes_of (size_of c.basic) c.values (sizes c.basic).positive within)
 
 -- a small send to another rank
 pub other_send_shown : (links : Announcements) (old new : CoreState) (known : List ℕ) (core : Core) (s : Send) (q : Request) (to tag : ℕ) → IsShown links old known core → old.blocked ≡ None →
     s.target ≡ Rank to → s.tag ≡ Some tag → (to == old.place.endpoint.rank) ≡ false → KeepsRules old.place s → IsWithin (calls.Isend s) → is_large (sent_from s.from) ≡ false → IsSending old s q new →
     IsCalled links old known core (calls.Isend s) (replies.Started q) new
 other_send_shown links old new known core s q to tag shown free target_is tag_is other kept within small is_sent =
-    away_shown links old new known core s q (effect (pushed_over core) ((endpoint_of known to, Eager rules.world tag c.basic c.values) ∷ [])) shown free kept sent
-    (sent.rest ∙ ap₂ (λ (t : Source) (g : Option ℕ). arrived_at_itself started (destination t g) c) target_is tag_is ∙
-    ap (λ (b : Bool). arrived_if b started (record { rank = to; tag = tag }) c) other)
-    (ap₂ (λ (t : Source) (g : Option ℕ). core_sent old.place.endpoint core t g c) target_is tag_is ∙
-    core_sends core old.place.endpoint to (slice_index known to) rules.world tag c.basic c.values other (le-leb (length c.values * size_of c.basic) eager_limit few) (shown.known_alike to))
+    away_shown links old new known core s q (effect (pushed_over core) ((endpoint_of known to, Eager s.context tag c.basic c.values) ∷ [])) shown free kept sent
+    (sent.rest ∙ ap₂ (λ (t : Source) (g : Option ℕ). arrived_at_itself started (destination t g s.context) c) target_is tag_is ∙
+    ap (λ (b : Bool). arrived_if b started (record { rank = to; tag = tag; context = s.context }) c) other)
+    (ap₂ (λ (t : Source) (g : Option ℕ). core_sent old.place.endpoint core s.context t g c) target_is tag_is ∙
+    core_sends core old.place.endpoint to (slice_index known to) s.context tag c.basic c.values other (le-leb (length c.values * size_of c.basic) eager_limit few) (shown.known_alike to))
     refl (tt, tt)
-    (subst (λ (f : Option FrameFor). AreSent (after_out links ((endpoint_of known to, Eager rules.world tag c.basic c.values) ∷ [])) (all_gone known (as_list f)) ((endpoint_of known to, Eager rules.world tag c.basic c.values) ∷ []))
-    (sym frame) (refl, eager_stands tag c within, tt))
+    (subst (λ (f : Option FrameFor). AreSent (after_out links ((endpoint_of known to, Eager s.context tag c.basic c.values) ∷ [])) (all_gone known (as_list f)) ((endpoint_of known to, Eager s.context tag c.basic c.values) ∷ []))
+    (sym frame) (refl, eager_stands s.context tag c within.0, tt))
     (subst (λ (f : Option FrameFor). AllByRecursion (CanLeave old.place) (as_list f)) (sym frame)
-    (eager_leaves old.place to tag c there (eqb-false to old.place.endpoint.rank other) low few, tt))
+    (eager_leaves old.place to s.context tag c within.1 there (eqb-false to old.place.endpoint.rank other) low few, tt))
   where
     c : Contents
     c = sent_from s.from
@@ -290,7 +291,7 @@ other_send_shown links old new known core s q to tag shown free target_is tag_is
     few : length c.values * size_of c.basic ≤ eager_limit
     few = ltb-false eager_limit (length c.values * size_of c.basic) small
 
-    frame : frame_of old s ≡ Some (eager_for to tag c)
+    frame : frame_of old s ≡ Some (eager_for to s.context tag c)
     frame = small_frame old s to tag target_is tag_is other small
 
     there : to < old.place.size

@@ -11,7 +11,7 @@ use Rattle.proof_pure_network.specs.Engine.{core_ready, core_settled, core_settl
 use Rattle.proof_pure_network.specs.Held.{Held}
 use Rattle.proof_pure_network.specs.Jobs.{Job, Waiting, Collecting, Offering, Over, over_at}
 use Rattle.requests.specs.declared.outcome.Outcome.{Outcome}
-use Rattle.requests.specs.declared.region.Region.{Region}
+use Rattle.requests.specs.declared.table.Posted.{Posted}
 use Rattle.requests.specs.declared.table.Entry as slots
 use Rattle.requests.specs.declared.table.Matched.{Matched}
 use Rattle.requests.specs.declared.table.Progress.{Progress}
@@ -41,12 +41,12 @@ progress_row table key k job h =
 
 -- a receive that waits is one that is received
 pub record IsReceiving (g : Progress) : Type 0 where
-  pub region : Region
-  pub is : g ≡ Receiving region
+  pub posted : Posted
+  pub is : g ≡ Receiving posted
 
 -- its progress is that it is received
 pub fits_waiting : (g : Progress) (p : Receive) → Fits g (Waiting p) → IsReceiving g
-fits_waiting (Receiving b) p f = record { region = b; is = refl }
+fits_waiting (Receiving b) p f = record { posted = b; is = refl }
 fits_waiting (progresses.Collecting w) p f = absurd f
 fits_waiting progresses.Offering p f = absurd f
 fits_waiting (Finished o) p f = absurd f
@@ -86,11 +86,11 @@ fits_offering (Finished o) d basic values f = absurd f
 
 -- what the table says of a receive that waits
 pub progress_waiting : (table : List (Option slots.Entry)) (rows : List Row) (k key : ℕ) (p : Receive) → IsTable table rows → slice_get rows k ≡ Some (record { key = key; job = Waiting p }) →
-    (b : Region) × (progress_at table key k ≡ Some (Receiving b))
+    (b : Posted) × (progress_at table key k ≡ Some (Receiving b))
 progress_waiting table rows k key p t h =
     let m : Holds (slot_at table key) k (Waiting p) = held_at table rows k key (Waiting p) t h (λ e. cc) in
     let r : IsReceiving m.entry.progress = fits_waiting m.entry.progress p m.fits in
-    (r.region, progress_row table key k (Waiting p) m ∙ ap Some r.is)
+    (r.posted, progress_row table key k (Waiting p) m ∙ ap Some r.is)
 
 -- what the table says of a request that is over
 pub progress_over : (table : List (Option slots.Entry)) (rows : List Row) (k key : ℕ) (x : machine.Outcome) → IsTable table rows → slice_get rows k ≡ Some (record { key = key; job = Over x }) →

@@ -5,7 +5,7 @@ use Rattle.std.proofs.lemmas.List.{length-map}
 use Rattle.perfect_queues.specs.Calls as machine
 use Rattle.perfect_queues.specs.Completions.{Awaited}
 use Rattle.perfect_queues.specs.Events.{call_and_reply, told}
-use Rattle.perfect_queues.specs.Refusals.{fault, fault_by, first_fault, is_held, standing}
+use Rattle.perfect_queues.specs.Refusals.{first_fault, is_held, standing}
 use Rattle.proof_pure_network.specs.Core.{Core, Effect, view}
 use Rattle.proof_pure_network.specs.Engine.{called, core_ready, core_settled}
 use Rattle.proof_pure_network.specs.Held.{blank}
@@ -21,6 +21,7 @@ use Rattle.rank_calls.specs.Frames.{FrameFor, as_list}
 use Rattle.incarnation.specs.declared.place.Place.{Place}
 use Rattle.rank_core.specs.Calls.{call_frame}
 use Rattle.rank_core.specs.CoreState.{CoreState}
+use Rattle.proof_engine_view.specs.Faults.{queue_fault, queue_fault_by}
 use Rattle.proof_engine_view.specs.Rows.{Fits, Row, held_of, posted_job, posted_rows}
 use Rattle.proof_engine_view.specs.Seen.{call_seen}
 use Rattle.proof_engine_view.specs.Shown.{IsBlocked, IsShown}
@@ -43,8 +44,8 @@ pub shown_free : (links : Announcements) (e : CoreState) (known : List ℕ) (cor
 shown_free links e known core rows h a b = shown_with links e known core rows h (subst (λ (x : Option rank.Awaited). IsBlocked rows x core.blocked) (sym a) b) (ready_free core b)
 
 -- the fault of a call while no other is blocked
-pub fault_free : (n : ℕ) (core : Core) (c : machine.Call) → core.blocked ≡ None → fault n (view blank core) c ≡ fault_by n false (λ k. standing (slice_get (map (request_of blank) core.jobs) k)) c
-fault_free n core c h = ap (λ (b : Option Awaited). fault_by n (is_held b) (λ k. standing (slice_get (map (request_of blank) core.jobs) k)) c) h
+pub fault_free : (n : ℕ) (core : Core) (c : machine.Call) → core.blocked ≡ None → queue_fault n (view blank core) c ≡ queue_fault_by n false (λ k. standing (slice_get (map (request_of blank) core.jobs) k)) c
+fault_free n core c h = ap (λ (b : Option Awaited). queue_fault_by n (is_held b) (λ k. standing (slice_get (map (request_of blank) core.jobs) k)) c) h
 
 -- no rule is broken
 pub no_fault : (a b c d e f : Bool) → a ≡ false → b ≡ false → c ≡ false → d ≡ false → e ≡ false → f ≡ false →
@@ -90,7 +91,7 @@ serial_told links e known core q s h =
 -- what a call that starts a request leaves, while no other is blocked
 pub record IsStart (links : Announcements) (old : CoreState) (known : List ℕ) (core : Core) (call : Call) (q : Request) (new : CoreState) (after : Effect) : Type 0 where
   pub is : called old.place.endpoint core (call_seen call) ≡ after
-  pub fit : fault old.place.size (view blank core) (call_seen call) ≡ None
+  pub fit : queue_fault old.place.size (view blank core) (call_seen call) ≡ None
   pub place : new.place ≡ old.place
   pub completion : new.completion ≡ old.completion
   pub free : after.core.blocked ≡ None

@@ -6,16 +6,16 @@ use Rattle.rank_calls.specs.declared.refused.Refused.TheVariants as refusals
 use Rattle.rank_core.specs.Calls.{call_fault}
 use Rattle.rank_core.specs.CoreState.{CoreState}
 use Rattle.rank_calls.specs.Refusals.{number_of_refusal}
-use Rattle.perfect_queues.specs.Refusals.{fault}
 use Rattle.proof_pure_network.specs.Core.{Core, view}
 use Rattle.proof_pure_network.specs.Held.{blank}
+use Rattle.proof_engine_view.specs.Faults.{queue_fault}
 use Rattle.proof_engine_view.specs.Seen.{call_meant, call_seen}
 use Rattle.proof_engine_view.specs.Shown.{IsShown}
 use Rattle.proof_engine_view.specs.Transfers.{Announcements}
 
--- the fault that the machine finds with what a call means at a rank
+-- the fault that the machine finds with what a call means at a rank, but for the rule on its communicator
 abbrev pub fault_seen : CoreState → Core → Call → Option ℕ
-fault_seen old core call = fault old.place.size (view blank core) (call_meant old call)
+fault_seen old core call = queue_fault old.place.size (view blank core) (call_meant old call)
 
 -- the number of a limit or of want of memory: 13 or 14
 abbrev pub IsOutOfRoom : Refused → Type 0
@@ -48,7 +48,7 @@ abbrev pub AllowedCallsAreFaultless : Type 0
 AllowedCallsAreFaultless =
     (a : Announcements) (old : CoreState) (known : List ℕ) (core : Core) (call : Call) →
     IsShown a old known core → call_fault old call ≡ None →
-    IsFaultless (fault old.place.size (view blank core) (call_seen call)) old call
+    IsFaultless (queue_fault old.place.size (view blank core) (call_seen call)) old call
 
 -- So where a call is refused that meets none, for a limit or for want of memory, that is a reason
 abbrev pub RoomIsAReason : Type 0

@@ -14,13 +14,13 @@ use Rattle.rank_calls.specs.Hearing.{NewsText}
 use Rattle.rank_core.specs.Hearing.{after_news, news_fault, news_frames}
 use Rattle.vocabulary.specs.declared.endpoint.Endpoint.{Endpoint}
 use Rattle.perfect_queues.specs.Events.{call_and_reply, told}
-use Rattle.perfect_queues.specs.Refusals.{fault}
 use Rattle.proof_pure_network.specs.Core.{Core, Effect, effect, new_core, view}
 use Rattle.proof_pure_network.specs.Engine.{called, came, core_ready, core_settled, met}
 use Rattle.proof_pure_network.specs.Frames.{Frame}
 use Rattle.proof_pure_network.specs.Held.{blank}
 use Rattle.proof_pure_network.specs.Jobs.{Job, is_collecting}
 use Rattle.proof_engine_view.specs.Frames.{known_after}
+use Rattle.proof_engine_view.specs.Faults.{queue_fault}
 use Rattle.proof_engine_view.specs.Seen.{call_seen, told_call, told_completion}
 use Rattle.proof_engine_view.specs.Shown.{IsShown}
 use Rattle.proof_engine_view.specs.Standing.{AreSent, CanLeave, IsMeant, all_gone}
@@ -37,7 +37,7 @@ OpeningIsShown =
 
 -- a call of the rank is the call of its core in the network
 pub record IsCalled (a : Announcements) (old : CoreState) (known : List ℕ) (core : Core) (call : Call) (reply : Reply) (new : CoreState) : Type 0 where
-  pub fit : fault old.place.size (view blank core) (call_seen call) ≡ None
+  pub fit : queue_fault old.place.size (view blank core) (call_seen call) ≡ None
   -- it leaves the rank's place, and the answer of an earlier call
   pub place : new.place ≡ old.place
   pub completion : new.completion ≡ old.completion

@@ -1,4 +1,5 @@
 pub mod Seen
+pub mod Faults
 pub mod Frames
 pub mod Transfers
 pub mod Standing

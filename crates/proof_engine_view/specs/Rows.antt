@@ -1,7 +1,6 @@
 -- A rank's requests by their serials, each with the key under which it stands in the table.
-use Rattle.std.specs.Prelude.{◌≡◌, ℕ, true, List, [], ◌∷◌, ◌++◌, map, Option, Some, None, slice_get}
+use Rattle.std.specs.Prelude.{◌≡◌, ℕ, true, List, [], ◌∷◌, ◌++◌, map, Option, Some, slice_get}
 use Rattle.vocabulary.specs.declared.endpoint.Endpoint.{Endpoint}
-use Rattle.vocabulary.specs.declared.envelope.Source.TheVariants.{Rank}
 use Rattle.match_queues.specs.declared.envelope.Receive as posted
 use Rattle.match_queues.specs.declared.envelope.Message.{Message}
 use Rattle.match_queues.specs.declared.envelope.Body.{Body}
@@ -9,11 +8,13 @@ use Rattle.match_queues.specs.declared.envelope.Body.TheVariants as bodies
 use Rattle.match_queues.specs.Bodies.{basic_of}
 use Rattle.requests.specs.declared.table.Entry.{Entry}
 use Rattle.requests.specs.declared.table.Matched.{Matched}
+use Rattle.requests.specs.declared.table.Posted.{Posted}
 use Rattle.requests.specs.declared.table.Progress.{Progress}
 use Rattle.requests.specs.declared.table.Progress.TheVariants.{Receiving, Finished}
 use Rattle.requests.specs.declared.table.Progress.TheVariants as progresses
 use Rattle.requests.specs.Regions.{handed_of}
 use Rattle.requests.specs.Table.{slot_at}
+use Rattle.perfect_queues.specs.Outcomes.{status_by}
 use Rattle.perfect_queues.specs.Receives.{Receive}
 use Rattle.proof_pure_network.specs.Held.{Held, Part, Whole, count_of, fits}
 use Rattle.proof_pure_network.specs.Held as held
@@ -30,26 +31,25 @@ pub record Row : Type 0 where
 abbrev pub jobs_of : List Row → List Job
 jobs_of rows = map (λ (r : Row). r.job) rows
 
--- the receive is on world
-pub record IsOnWorld (p : Receive) : Type 0 where
-  pub context : p.context ≡ 0
-  pub group : p.group ≡ None
+-- a receive that waits is this one: its data go there, and its status names the source by its group
+pub record IsPosted (w : Posted) (p : Receive) : Type 0 where
+  pub into : p.into ≡ handed_of w.into
+  pub group : p.group ≡ w.group
 
 -- a receive was matched with this announced message, which it accepts: its data go where the receive's go, and the status is
--- the message's
+-- what the receive has of the message
 pub record IsMatched (w : Matched) (p : Receive) (h : Held) : Type 0 where
   pub into : p.into ≡ handed_of w.into
-  pub on_world : IsOnWorld p
   pub accepts : fits p h ≡ true
-  pub status : w.status ≡ record { source = Rank h.sender.rank; tag = Some h.tag; count = count_of h.body }
+  pub status : w.status ≡ status_by p h.sender.rank h.tag (count_of h.body)
 
 -- how far the request is says what the job says; which data a receive has so far, and what a send offers, the transfers say
 abbrev pub Fits : Progress → Job → Type 0
-Fits (Receiving r) (Waiting p) = (p.into ≡ handed_of r) × IsOnWorld p
-Fits (Receiving r) (Collecting p h got) = ⊥
-Fits (Receiving r) (Offering d basic values) = ⊥
-Fits (Receiving r) (Over x) = ⊥
-Fits (Receiving r) Closed = ⊥
+Fits (Receiving w) (Waiting p) = IsPosted w p
+Fits (Receiving w) (Collecting p h got) = ⊥
+Fits (Receiving w) (Offering d basic values) = ⊥
+Fits (Receiving w) (Over x) = ⊥
+Fits (Receiving w) Closed = ⊥
 Fits (progresses.Collecting w) (Waiting p) = ⊥
 Fits (progresses.Collecting w) (Collecting p h got) = IsMatched w p h
 Fits (progresses.Collecting w) (Offering d basic values) = ⊥

@@ -25,7 +25,6 @@ use Rattle.perfect_queues.specs.Receives as machine_receives
 use Rattle.perfect_queues.specs.Calls as machine
 use Rattle.perfect_queues.specs.Completions as completions
 use Rattle.perfect_queues.specs.Events.{Entry, Called, Completed}
-use Rattle.perfect_queues.specs.Refusals.{world}
 
 -- how an operation ended
 abbrev pub outcome_seen : Outcome → machine_outcomes.Outcome
@@ -43,14 +42,14 @@ answer_seen (answers.Index i o) = completions.ForAny (Some (i, outcome_seen o))
 answer_seen answers.IndexUndefined = completions.ForAny None
 answer_seen (answers.All os) = completions.ForAll (map outcome_seen os)
 
--- a receive on world
+-- a receive, in the context of its communicator and with its group
 abbrev pub receive_seen : Receive → machine_receives.Receive
 receive_seen v =
-    record { source = v.source; tag = v.tag; context = world; group = None; into = handed_of v.into }
+    record { source = v.source; tag = v.tag; context = v.context; group = v.group; into = handed_of v.into }
 
--- a send on world
+-- a send, in the context of its communicator
 abbrev pub send_seen : Send → machine.Call
-send_seen s = machine.Isend world s.target s.tag (handed_of s.from)
+send_seen s = machine.Isend s.context s.target s.tag (handed_of s.from)
 
 -- a request is named by its serial; what that is may depend on the rank
 abbrev pub request_by : (Request → ℕ) → Option Request → Option ℕ

@@ -54,29 +54,29 @@ few_elements tag c small =
     omega (arith, sized, least, small.count)
 
 -- few bytes under a tag may be sent
-sendable_at : (t : Source) (g : Option ℕ) (c : Contents) → length c.values * size_of c.basic ≤ send_limit → is_no_tag g ≡ false →
-    IfSome (destination t g) (λ (d : Destination). IsSendable d.tag c)
-sendable_at Any g c few tagged = tt
-sendable_at Null g c few tagged = tt
-sendable_at (Rank to) None c few tagged = tt
-sendable_at (Rank to) (Some tag) c few tagged =
+sendable_at : (t : Source) (g : Option ℕ) (x : ℕ) (c : Contents) → length c.values * size_of c.basic ≤ send_limit → is_no_tag g ≡ false →
+    IfSome (destination t g x) (λ (d : Destination). IsSendable d.tag c)
+sendable_at Any g x c few tagged = tt
+sendable_at Null g x c few tagged = tt
+sendable_at (Rank to) None x c few tagged = tt
+sendable_at (Rank to) (Some tag) x c few tagged =
     let sized : length (bytes_of (size_of c.basic) c.values) ≡ length c.values * size_of c.basic = length-bytes_of (size_of c.basic) c.values in
     record { count = omega (arith, sized, few); tag_is = grind (arith, common_steps, tagged) }
 
 -- a target that is a rank is one of the job's
-there_at : (n : ℕ) (t : Source) (g : Option ℕ) → is_no_target n t ≡ false → IfSome (destination t g) (λ (d : Destination). d.rank < n)
-there_at n Any g there = tt
-there_at n Null g there = tt
-there_at n (Rank to) None there = tt
-there_at n (Rank to) (Some tag) there = grind (arith, common_steps, there)
+there_at : (n : ℕ) (t : Source) (g : Option ℕ) (x : ℕ) → is_no_target n t ≡ false → IfSome (destination t g x) (λ (d : Destination). d.rank < n)
+there_at n Any g x there = tt
+there_at n Null g x there = tt
+there_at n (Rank to) None x there = tt
+there_at n (Rank to) (Some tag) x there = grind (arith, common_steps, there)
 
 -- what it sends may be sent
-pub is_sendable : (p : Place) (s : Send) → send_fault p s ≡ None → IfSome (destination s.target s.tag) (λ (d : Destination). IsSendable d.tag (sent_from s.from))
-is_sendable p s none = sendable_at s.target s.tag (sent_from s.from) (within_limit p s none) (has_tag p s none)
+pub is_sendable : (p : Place) (s : Send) → send_fault p s ≡ None → IfSome (destination s.target s.tag s.context) (λ (d : Destination). IsSendable d.tag (sent_from s.from))
+is_sendable p s none = sendable_at s.target s.tag s.context (sent_from s.from) (within_limit p s none) (has_tag p s none)
 
 -- it goes to a rank of the job
-pub is_there : (p : Place) (s : Send) → send_fault p s ≡ None → IfSome (destination s.target s.tag) (λ (d : Destination). d.rank < p.size)
-is_there p s none = there_at p.size s.target s.tag (has_target p s none)
+pub is_there : (p : Place) (s : Send) → send_fault p s ≡ None → IfSome (destination s.target s.tag s.context) (λ (d : Destination). d.rank < p.size)
+is_there p s none = there_at p.size s.target s.tag s.context (has_target p s none)
 
 -- so does its frame
 rank_at : (own : Bool) (n : ℕ) (d : Destination) → d.rank < n → IfSome (rank_unless own d) (λ (rank : ℕ). rank < n)
@@ -89,5 +89,5 @@ rank_within p None there = tt
 rank_within p (Some d) there = rank_at (d.rank == p.endpoint.rank) p.size d there
 
 -- the rank that its frame goes to is one of the job's
-pub rank_is_there : (p : Place) (s : Send) → send_fault p s ≡ None → IfSome (rank_to p (destination s.target s.tag)) (λ (rank : ℕ). rank < p.size)
-rank_is_there p s none = rank_within p (destination s.target s.tag) (is_there p s none)
+pub rank_is_there : (p : Place) (s : Send) → send_fault p s ≡ None → IfSome (rank_to p (destination s.target s.tag s.context)) (λ (rank : ℕ). rank < p.size)
+rank_is_there p s none = rank_within p (destination s.target s.tag s.context) (is_there p s none)

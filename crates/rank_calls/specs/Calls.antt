@@ -1,5 +1,5 @@
 -- What is known of calls, and of what is made ready for them.
-use Rattle.std.specs.Prelude.{◌≡◌, ◌≤◌, ℕ, Option, Some, None}
+use Rattle.std.specs.Prelude.{◌≡◌, ◌≤◌, ◌<◌, ◌^◌, ℕ, Option, Some, None}
 use Rattle.vocabulary.specs.BasicTypes.{size_of}
 use Rattle.datatypes.specs.Contents.{AreWithin}
 use Rattle.requests.specs.declared.region.Places.TheVariants as places
@@ -14,9 +14,9 @@ use Rattle.rank_calls.specs.declared.prepared.Prepared.{Prepared}
 use Rattle.rank_calls.specs.declared.prepared.Prepared.TheVariants as prepareds
 use Rattle.rendezvous.specs.Collecting.{Collecting}
 
--- each element that a call sends has the width of its type
+-- each element that a call sends has the width of its type, and its context has 64 bits
 abbrev pub IsWithin : Call → Type 0
-IsWithin (calls.Isend s) = AreWithin (size_of s.from.buffer.basic) ((sent_from s.from).values)
+IsWithin (calls.Isend s) = AreWithin (size_of s.from.buffer.basic) ((sent_from s.from).values) × (s.context < 2 ^ 64)
 IsWithin (calls.Irecv v) = Unit {0}
 IsWithin (calls.Wait q) = Unit {0}
 IsWithin (calls.Test q) = Unit {0}

@@ -8,6 +8,7 @@ use Rattle.match_queues.specs.declared.queues.Arrival.{Arrival}
 use Rattle.match_queues.specs.declared.queues.Arrival.TheVariants.{Kept, Matched}
 use Rattle.requests.specs.declared.region.Region.{Region}
 use Rattle.requests.specs.declared.table.Entry.{Entry}
+use Rattle.requests.specs.declared.table.Posted.{Posted}
 use Rattle.requests.specs.declared.table.Progress.{Progress}
 use Rattle.requests.specs.declared.table.Progress.TheVariants.{Receiving, Finished}
 use Rattle.rendezvous.specs.State as transfers
@@ -23,14 +24,19 @@ use Rattle.vocabulary.specs.BasicTypes.{size_of}
 use Rattle.rank_calls.specs.Frames.{FrameFor}
 use Rattle.requests.specs.Outcomes.{outcome_of}
 use Rattle.requests.specs.Regions.{handed_of}
+use Rattle.shared_groups.specs.Statuses.{status_in}
 use Rattle.requests.specs.Table.{slot_at, after_announcement, after_finish, has_room, matched_progress, wants_by}
 use Rattle.rank_calls.specs.declared.call.Receive.{Receive}
 
--- the receive as it stands in the queue, under its key in the table; it is on world, whose context is 0
+-- the receive as it stands in the queue, under its key in the table
 abbrev pub posted_by : ℕ → Receive → posted.Receive
-posted_by key v = record { request = key; context = 0; source = v.source; tag = v.tag }
+posted_by key v = record { request = key; context = v.context; source = v.source; tag = v.tag }
 
--- the status that a message gives (MPI 3.1, 3.2.5)
+-- the receive as it waits under its key in the table
+abbrev pub waiting_by : Receive → Posted
+waiting_by v = record { into = v.into; group = v.group }
+
+-- the status that a message gives (MPI 3.1, 3.2.5), whose source is a rank of world
 abbrev pub status_of : Message → Status
 status_of m = record { source = sources.Rank m.sender.rank; tag = Some m.tag; count = count_of m.body }
 
@@ -55,15 +61,15 @@ collecting m a key = record {
   bytes = [];
 }
 
--- how far a receive is once it was matched with a message
+-- how far a receive is once it was matched with a message of this status, whose source is a rank of its communicator
 abbrev pub progress_on_match : Region → Status → Body → Progress
 progress_on_match r status (Whole elements) = Finished (outcome_of (handed_of r) status elements)
 progress_on_match r status (Announced a) = matched_progress r status a.basic
 
 -- how far a receive is once it was posted: it waits, or it was matched with the message that was found
-abbrev pub progress_on_post : Region → Option Message → Progress
-progress_on_post r None = Receiving r
-progress_on_post r (Some m) = progress_on_match r (status_of m) m.body
+abbrev pub progress_on_post : Posted → Option Message → Progress
+progress_on_post p None = Receiving p
+progress_on_post p (Some m) = progress_on_match p.into (status_in p.group (status_of m)) m.body
 
 -- WHAT IS COLLECTED
 

@@ -3,15 +3,17 @@ use Rattle.std.specs.Prelude.{◌≡◌, ℕ, Option, Some, None}
 use Rattle.datagram.specs.declared.refused.Refused as lower
 use Rattle.datagram.specs.declared.refused.Refused.TheVariants as lowers
 use Rattle.rank_calls.specs.declared.refused.Refused.{Refused}
-use Rattle.rank_calls.specs.declared.refused.Refused.TheVariants.{Count, WrongType, Tag, Rank, Request, Limit, OutOfMemory, Short, Magic, Version, Kind, Length, ForeignJob, NotForMe, StaleSource, StaleTarget, BadFrame, OutOfWindow, ClockBack}
+use Rattle.rank_calls.specs.declared.refused.Refused.TheVariants.{Count, WrongType, Tag, Communicator, Rank, Request, Replaced, Limit, OutOfMemory, Short, Magic, Version, Kind, Length, ForeignJob, NotForMe, StaleSource, StaleTarget, BadFrame, OutOfWindow, ClockBack}
 
 -- the number that a call or an event answers
 abbrev pub number_of_refusal : Refused → ℕ
 number_of_refusal Count = 1
 number_of_refusal WrongType = 2
 number_of_refusal Tag = 3
+number_of_refusal Communicator = 4
 number_of_refusal Rank = 5
 number_of_refusal Request = 6
+number_of_refusal Replaced = 11
 number_of_refusal Limit = 13
 number_of_refusal OutOfMemory = 14
 number_of_refusal Short = 21

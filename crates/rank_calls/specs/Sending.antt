@@ -43,12 +43,13 @@ or_worn_out None (Some rank) t = if is_full_to t.numbers rank then Some refusals
 
 -- WHERE IT GOES
 
--- The rank that a send goes to, with its tag. To the null process nothing goes (3.11); a wildcard is refused, and goes nowhere.
-abbrev pub destination : Source → Option ℕ → Option Destination
-destination (Rank to) (Some tag) = Some (record { rank = to; tag = tag })
-destination (Rank to) None = None
-destination Any tag = None
-destination Null tag = None
+-- The rank that a send goes to, with its tag and context. To the null process nothing goes (3.11); a wildcard is refused, and
+-- goes nowhere.
+abbrev pub destination : Source → Option ℕ → (context : ℕ) → Option Destination
+destination (Rank to) (Some tag) context = Some (record { rank = to; tag = tag; context = context })
+destination (Rank to) None context = None
+destination Any tag context = None
+destination Null tag context = None
 
 -- whether it is the own rank: then the message goes into its own queues without a frame (3.2.4)
 abbrev pub is_own : Place → Option Destination → Bool
@@ -57,7 +58,7 @@ is_own p (Some d) = d.rank == p.endpoint.rank
 
 -- the same of a send
 abbrev pub is_to_itself : Place → Send → Bool
-is_to_itself p s = is_own p (destination s.target s.tag)
+is_to_itself p s = is_own p (destination s.target s.tag s.context)
 
 -- THE FRAME
 
@@ -70,31 +71,32 @@ pub record IsSendable (tag : ℕ) (c : Contents) : Type 0 where
 abbrev pub is_large : Contents → Bool
 is_large c = nat_lt eager_limit (length c.values * size_of c.basic)
 
--- the frame of these elements under this tag, on world, whose context is 0
-abbrev pub eager_frame : (tag : ℕ) → Contents → FrameText
-eager_frame tag c = EagerFrame (record {
+-- the frame of these elements in this context and under this tag
+abbrev pub eager_frame : (context tag : ℕ) → Contents → FrameText
+eager_frame context tag c = EagerFrame (record {
   plane = PointToPoint;
   basic = c.basic;
   tag = tag;
-  context = 0;
+  context = context;
   count = length c.values;
   elements = bytes_of (size_of c.basic) c.values;
 })
 
--- the frame that announces these elements under this tag as the transfer with this number, on world
-abbrev pub request_frame : (transfer tag : ℕ) → Contents → FrameText
-request_frame transfer tag c = RequestFrame (record {
+-- the frame that announces these elements in this context and under this tag as the transfer with this number
+abbrev pub request_frame : (transfer context tag : ℕ) → Contents → FrameText
+request_frame transfer context tag c = RequestFrame (record {
   plane = PointToPoint;
   basic = c.basic;
   tag = tag;
-  context = 0;
+  context = context;
   count = length c.values;
   transfer = transfer;
 })
 
 -- the frame of these elements: they go in it, or it announces them as the next transfer to their rank
 abbrev pub frame_with : State → Destination → Contents → FrameText
-frame_with t d c = if is_large c then request_frame (next_to t.numbers d.rank) d.tag c else eager_frame d.tag c
+frame_with t d c =
+    if is_large c then request_frame (next_to t.numbers d.rank) d.context d.tag c else eager_frame d.context d.tag c
 
 -- the frame that goes to another rank
 abbrev pub frame_unless : Bool → State → Destination → Contents → Option FrameFor
@@ -118,13 +120,13 @@ rank_to p (Some d) = rank_unless (d.rank == p.endpoint.rank) d
 
 -- to which other rank the message of a send is announced, if it is one that doesn't go in one frame
 abbrev pub announced_to : Place → Send → Option ℕ
-announced_to p s = if is_large (sent_from s.from) then rank_to p (destination s.target s.tag) else None
+announced_to p s = if is_large (sent_from s.from) then rank_to p (destination s.target s.tag s.context) else None
 
 -- THE MESSAGE TO THE OWN RANK
 
--- the message of these elements to the own rank, on world
-abbrev pub own_message : Place → (tag : ℕ) → Contents → Message
-own_message p tag c = record { sender = p.endpoint; context = 0; tag = tag; body = Whole c }
+-- the message of these elements to the own rank, in this context and under this tag
+abbrev pub own_message : Place → (context tag : ℕ) → Contents → Message
+own_message p context tag c = record { sender = p.endpoint; context = context; tag = tag; body = Whole c }
 
 -- how far a send is in its own call: one whose message is announced waits for its receiver's answer
 abbrev pub progress_of_send : Option ℕ → Progress

@@ -4,27 +4,34 @@ ghost use Rattle.std.specs.Prelude.{◌≡◌, IfOk};
 
 use crate::refused::Refused;
 use requests::{Answer, Region, Request, RequestList};
+use shared_groups::{Members, shared};
 use std::alloc::{AllocError, Global};
 use vocabulary::Source;
 
-/// A standard send on `world` (MPI 3.1, 3.4 and 3.7.2).
+/// A standard send on a communicator (MPI 3.1, 3.4 and 3.7.2).
 #[derive(Debug, Drop)]
 pub struct Send {
-    /// The rank that it goes to, or the null process (3.11). Any rank is no target: it is refused.
+    /// The rank of world that it goes to, or the null process (3.11). Any rank is no target: it is refused.
     pub target: Source,
     /// The tag, at most 2,147,483,647. The wildcard, `None`, is no tag of a send: it is refused.
     pub tag: Option<u32>,
+    /// The context of the communicator (6.2.4); that of world is 0.
+    pub context: u64,
     /// Where the data are taken from.
     pub from: Region,
 }
 
-/// A receive on `world` (MPI 3.1, 3.2.4 and 3.7.2).
+/// A receive on a communicator (MPI 3.1, 3.2.4 and 3.7.2).
 #[derive(Debug, Drop)]
 pub struct Receive {
-    /// Whom it names.
+    /// Whom it names, as a rank of world.
     pub source: Source,
     /// The tag that it wants, at most 2,147,483,647; `None` is the wildcard.
     pub tag: Option<u32>,
+    /// The context of the communicator (6.2.4); that of world is 0.
+    pub context: u64,
+    /// The group of the communicator, by which its status names the source (3.2.5); `None` is that of world.
+    pub group: Option<Members>,
     /// Where the data go. The receive takes the buffer with it, and its outcome hands it back.
     pub into: Region,
 }
@@ -75,7 +82,7 @@ pub struct Handed<T> {
 }
 
 impl Call {
-    /// The same call once more.
+    /// The same call once more; the group of a receive is shared.
     pub fn try_clone(&self, alloc: Global) -> Result<Call, AllocError>
         ensures { IfOk result (λ copy. copy ≡ self.now) }
     {
@@ -83,11 +90,14 @@ impl Call {
             Call::Isend(send) => Ok(Call::Isend(Send {
                 target: send.target,
                 tag: send.tag,
+                context: send.context,
                 from: send.from.try_clone(alloc)?,
             })),
             Call::Irecv(receive) => Ok(Call::Irecv(Receive {
                 source: receive.source,
                 tag: receive.tag,
+                context: receive.context,
+                group: shared(&receive.group)?,
                 into: receive.into.try_clone(alloc)?,
             })),
             Call::Wait(request) => Ok(Call::Wait(*request)),

@@ -6,7 +6,7 @@ ghost use Rattle.datagram.specs.Spelling.{FrameFits, frame_text};
 ghost use Rattle.perfect_queues.specs.Outcomes.{null_status};
 ghost use Rattle.perfect_queues.specs.Refusals.{is_tag_above, is_source_beyond};
 ghost use Rattle.rank_calls.specs.Frames.{addressed};
-ghost use Rattle.rank_calls.specs.Receiving.{answer_by, answer_on_post, collection_on_match, collection_on_post, posted_by, progress_on_post, status_of};
+ghost use Rattle.rank_calls.specs.Receiving.{answer_by, answer_on_post, collection_on_match, collection_on_post, posted_by, progress_on_match, progress_on_post, status_of};
 
 use crate::call::Receive;
 use crate::refused::Refused;
@@ -14,7 +14,8 @@ use crate::sending::Addressed;
 use datagram::{ClearToSend, Clearance, Frame};
 use match_queues::{Body, Message};
 use rendezvous::Collection;
-use requests::{Progress, ReceiveRegion, Region, match_announced, received};
+use requests::{Posted, Progress, ReceiveRegion, Region, match_announced, received};
+use shared_groups::status_in;
 use std::alloc::Global;
 use vocabulary::{HIGHEST_TAG, Source, Status};
 
@@ -44,13 +45,13 @@ pub fn posted_by(key: usize, receive: &Receive) -> match_queues::Receive
 {
     match_queues::Receive {
         request: key,
-        context: 0,
+        context: receive.context,
         source: receive.source,
         tag: receive.tag,
     }
 }
 
-/// The status that a message gives.
+/// The status that a message gives, whose source is a rank of world.
 pub fn status_of(message: &Message) -> Status
     ensures { result ≡ status_of message.now }
 {
@@ -73,14 +74,21 @@ pub fn null_status() -> Status
 }
 
 /// How far a receive is, once it was posted and found this message or none.
-pub fn progress_on_post(into: ReceiveRegion, found: Option<Message>) -> Progress
-    ensures { result ≡ progress_on_post into found }
+pub fn progress_on_post(posted: Posted, found: Option<Message>) -> Progress
+    ensures { result ≡ progress_on_post posted found }
 {
     let Some(message) = found else {
-        return Progress::Receiving(into);
+        return Progress::Receiving(posted);
     };
-    let status = status_of(&message);
-    match message.body {
+    let status = status_in(&posted.group, status_of(&message));
+    progress_on_match(posted.into, status, message.body)
+}
+
+/// How far a receive into this region is, once it was matched with a message of this status and body.
+fn progress_on_match(into: ReceiveRegion, status: Status, body: Body) -> Progress
+    ensures { result ≡ progress_on_match into status body }
+{
+    match body {
         Body::Whole(elements) => Progress::Finished(received(into, status, &elements)),
         Body::Announced(announcement) => match_announced(into, status, announcement.basic),
     }

@@ -18,6 +18,9 @@ pub enum Refused {
     /// A tag above 2,147,483,647, or the wildcard in a send (ERR_TAG).
     #[error("the tag is out of range")]
     Tag,
+    /// MPI_COMM_NULL, or no communicator that the rank holds (ERR_COMM).
+    #[error("there is no such communicator")]
+    Communicator,
     /// No such rank, or any rank in a send (ERR_RANK).
     #[error("there is no such rank")]
     Rank,
@@ -25,6 +28,9 @@ pub enum Refused {
     /// blocked (ERR_REQUEST).
     #[error("there is no such request, it is named twice or no receive, or an earlier call is blocked")]
     Request,
+    /// A member of the communicator was started anew. MPI 3.1 has no restarts of a rank: this rule is this project's own.
+    #[error("a member of the communicator was started anew")]
+    Replaced,
     /// A limit is reached.
     #[error("a limit is reached")]
     Limit,
@@ -79,8 +85,10 @@ impl Refused {
             Refused::Count => 1,
             Refused::WrongType => 2,
             Refused::Tag => 3,
+            Refused::Communicator => 4,
             Refused::Rank => 5,
             Refused::Request => 6,
+            Refused::Replaced => 11,
             Refused::Limit => 13,
             Refused::OutOfMemory => 14,
             Refused::Short => 21,

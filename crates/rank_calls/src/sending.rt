@@ -2,11 +2,10 @@
 
 ghost use Rattle.std.specs.Prelude.{◌≡◌, ◌<◌, Some, None, IfSome, false, true};
 ghost use Rattle.datagram.specs.Spelling.{frame_text, FrameFits};
-ghost use Rattle.vocabulary.specs.BasicTypes.{size_of};
-ghost use Rattle.datatypes.specs.Contents.{AreWithin};
 ghost use Rattle.perfect_queues.specs.Refusals.{is_no_tag, is_no_target};
 ghost use Rattle.requests.specs.Regions.{sent_from};
-ghost use Rattle.rank_calls.specs.Calls.{IsPacked};
+ghost use Rattle.rank_calls.specs.Calls.{IsPacked, IsWithin};
+ghost use Rattle.rank_calls.specs.declared.call.Call.TheVariants as calls;
 ghost use Rattle.rank_calls.specs.Frames.{addressed};
 ghost use Rattle.rank_calls.specs.Sending.{IsSendable, announced_to, destination, eager_frame, frame_to, frame_with, is_large, is_own, own_message, rank_to, request_frame, send_fault};
 
@@ -19,7 +18,6 @@ use datatypes::Buffer;
 use incarnation::Place;
 use match_queues::{Body, Message};
 use rendezvous::Transfers;
-use requests::Region;
 use vocabulary::{EAGER_LIMIT, SEND_LIMIT, Source};
 
 /// A frame for a rank.
@@ -31,13 +29,15 @@ pub struct Addressed<'a> {
     pub frame: Frame<'a>,
 }
 
-/// The rank that a message goes to, and its tag.
+/// The rank that a message goes to, its tag and its context.
 #[derive(Clone, Copy, Debug)]
 pub struct Destination {
-    /// The rank.
+    /// The rank of world.
     pub rank: u16,
     /// The tag.
     pub tag: u32,
+    /// The context of its communicator.
+    pub context: u64,
 }
 
 fn is_no_tag(tag: Option<u32>) -> bool
@@ -82,12 +82,12 @@ pub fn fault_of(place: Place, send: &Send) -> Option<Refused>
     None
 }
 
-/// The rank that a send goes to, with its tag: none where it goes to the null process (MPI 3.1, 3.11).
-pub fn destination_of(target: Source, tag: Option<u32>) -> Option<Destination>
-    ensures { result ≡ destination target tag }
+/// The rank that a send goes to, with its tag and context: none where it goes to the null process (MPI 3.1, 3.11).
+pub fn destination_of(target: Source, tag: Option<u32>, context: u64) -> Option<Destination>
+    ensures { result ≡ destination target tag context }
 {
     match (target, tag) {
-        (Source::Rank(rank), Some(tag)) => Some(Destination { rank, tag }),
+        (Source::Rank(rank), Some(tag)) => Some(Destination { rank, tag, context }),
         _ => None,
     }
 }
@@ -132,38 +132,38 @@ pub fn announced_to(place: Place, send: &Send) -> Option<u16>
     if !send.from.is_above(EAGER_LIMIT) {
         return None;
     }
-    rank_to(place, destination_of(send.target, send.tag))
+    rank_to(place, destination_of(send.target, send.tag, send.context))
 }
 
-/// The frame of these elements under a tag, lent from them.
-fn eager_frame(tag: u32, elements: &Buffer) -> Frame<'_>
+/// The frame of these elements in a context and under a tag, lent from them.
+fn eager_frame(context: u64, tag: u32, elements: &Buffer) -> Frame<'_>
     requires sendable { IsSendable tag elements.now }
     requires small { is_large elements.now ≡ false }
-    ensures exact { frame_text result ≡ eager_frame tag elements.now }
+    ensures exact { frame_text result ≡ eager_frame context tag elements.now }
     ensures fits { FrameFits (frame_text result) }
 {
     Frame::Eager(Eager {
         plane: Plane::PointToPoint,
         basic: elements.basic(),
         tag,
-        context: 0,
+        context,
         count: elements.len() as u32,
         elements: elements.as_bytes(),
     })
 }
 
-/// The frame that announces these elements under a tag, as the transfer with this number.
-fn request_frame(transfer: u32, tag: u32, elements: &Buffer) -> Frame<'static>
+/// The frame that announces these elements in a context and under a tag, as the transfer with this number.
+fn request_frame(transfer: u32, context: u64, tag: u32, elements: &Buffer) -> Frame<'static>
     requires sendable { IsSendable tag elements.now }
     requires large { is_large elements.now ≡ true }
-    ensures exact { frame_text result ≡ request_frame transfer tag elements.now }
+    ensures exact { frame_text result ≡ request_frame transfer context tag elements.now }
     ensures fits { FrameFits (frame_text result) }
 {
     Frame::RequestToSend(RequestToSend {
         plane: Plane::PointToPoint,
         basic: elements.basic(),
         tag,
-        context: 0,
+        context,
         count: elements.len() as u32,
         transfer,
     })
@@ -182,11 +182,12 @@ fn frame_with<'a>(
     if is_large(elements) {
         return request_frame(
             transfers.next_to(destination.rank),
+            destination.context,
             destination.tag,
             elements,
         );
     }
-    eager_frame(destination.tag, elements)
+    eager_frame(destination.context, destination.tag, elements)
 }
 
 /// The frame with which these elements go to another rank; none goes to the own one.
@@ -243,21 +244,23 @@ pub fn into_elements(send: Send, prepared: Prepared) -> Buffer
     }
 }
 
-/// The message of these elements to the own rank.
-pub fn own_message(place: Place, tag: u32, elements: Buffer) -> Message
-    ensures { result ≡ own_message place tag elements }
+/// The message of these elements to the own rank, in a context and under a tag.
+pub fn own_message(place: Place, context: u64, tag: u32, elements: Buffer) -> Message
+    ensures { result ≡ own_message place context tag elements }
 {
     Message {
         sender: place.endpoint,
-        context: 0,
+        context,
         tag,
         body: Body::Whole(elements),
     }
 }
 
-/// The bytes of a buffer show that each element has the width of its type.
-pub fn show_widths(region: &Region)
-    ensures { AreWithin (size_of region.now.buffer.basic) ((sent_from region.now).values) }
+/// What a send shows of itself: by the bytes of its buffer each element has the width of its type, and its context has 64
+/// bits.
+pub fn show_widths(send: &Send)
+    ensures { IsWithin (calls.Isend send.now) }
 {
-    let _bytes = region.buffer.as_bytes();
+    let _bytes = send.from.buffer.as_bytes();
+    let _context = send.context;
 }

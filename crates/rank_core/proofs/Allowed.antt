@@ -75,7 +75,7 @@ there_if false o n rank is there = absurd cc
 -- what it offers goes to a rank of the job
 pub offer_is_there : (c : CoreState) (s : Send) (rank : ℕ) → free_fault c (Isend s) ≡ None → announced_to c.place s ≡ Some rank → rank < c.place.size
 offer_is_there c s rank none is =
-    there_if (is_large (sent_from s.from)) (rank_to c.place (destination s.target s.tag)) c.place.size rank is (rank_is_there c.place s (free_send c s none))
+    there_if (is_large (sent_from s.from)) (rank_to c.place (destination s.target s.tag s.context)) c.place.size rank is (rank_is_there c.place s (free_send c s none))
 
 -- and is within the limit of a message
 pub offer_is_within : (c : CoreState) (s : Send) (elements : Contents) → free_fault c (Isend s) ≡ None → elements ≡ sent_from s.from →
@@ -97,7 +97,7 @@ send_room c s none = long_enough c.place s (sendable c s none)
 
 -- its frame goes to a rank of the job
 pub send_there : (c : CoreState) (s : Send) → call_fault c (Isend s) ≡ None →
-    IfSome (rank_to c.place (destination s.target s.tag)) (λ (rank : ℕ). rank < c.place.size)
+    IfSome (rank_to c.place (destination s.target s.tag s.context)) (λ (rank : ℕ). rank < c.place.size)
 send_there c s none = rank_is_there c.place s (sendable c s none)
 
 -- a receive's types and places fit

@@ -14,7 +14,9 @@ use Rattle.rank_calls.specs.declared.refused.Refused.TheVariants as refusals
 use Rattle.rank_core.specs.CoreState.{CoreState, Held, CanStart}
 use Rattle.rendezvous.specs.Collecting.{Collecting}
 use Rattle.rank_calls.specs.Receiving.{collection_on_post}
-use Rattle.rank_core.specs.Receiving.{found_by, receive_fault, receive_frame, IsReceiving}
+use Rattle.rank_core.specs.Receiving.{found_by, receive_fault, receive_frame, receive_rule, IsReceiving}
+use Rattle.incarnation.specs.declared.place.Place.{Place}
+use Rattle.rank_calls.specs.Hearing.{first_of}
 use Rattle.rank_calls.specs.Sending.{send_fault, destination, is_to_itself, announced_to, or_worn_out, rank_to}
 use Rattle.rank_core.specs.Sending.{or_full, frame_of, IsSending}
 use Rattle.rank_calls.specs.Frames.{FrameFor}
@@ -40,6 +42,53 @@ fault_at None c call = free_fault c call
 abbrev pub call_fault : CoreState → Call → Option Refused
 call_fault c call = fault_at c.blocked c call
 
+-- ITS RULES APART FROM ITS LIMITS
+
+-- the fault of a call by its requests (6), while no earlier one is blocked
+abbrev pub free_request_fault : CoreState → Call → Option Refused
+free_request_fault c (calls.Isend s) = None
+free_request_fault c (calls.Irecv v) = None
+free_request_fault c (calls.Wait q) = wait_fault c (One q)
+free_request_fault c (calls.Test q) = wait_fault c (One q)
+free_request_fault c (calls.Waitany qs) = wait_fault c (AnyOf qs)
+free_request_fault c (calls.Waitall qs) = wait_fault c (AllOf qs)
+free_request_fault c (calls.Cancel q) = cancel_fault c q
+
+-- while an earlier call is blocked, it is that (6)
+abbrev pub request_fault_at : Option Awaited → CoreState → Call → Option Refused
+request_fault_at (Some a) c call = Some refusals.Request
+request_fault_at None c call = free_request_fault c call
+
+-- the fault of a call by its requests, or by an earlier call that is blocked (6)
+abbrev pub request_fault : CoreState → Call → Option Refused
+request_fault c call = request_fault_at c.blocked c call
+
+-- the fault of a call by what it hands in: the first of 2, 1, 3 and 5
+abbrev pub argument_fault : Place → Call → Option Refused
+argument_fault p (calls.Isend s) = send_fault p s
+argument_fault p (calls.Irecv v) = receive_rule p.size v
+argument_fault p (calls.Wait q) = None
+argument_fault p (calls.Test q) = None
+argument_fault p (calls.Waitany qs) = None
+argument_fault p (calls.Waitall qs) = None
+argument_fault p (calls.Cancel q) = None
+
+-- the limit that a call meets (13): no request can be started, or no transfer to a rank where its message is announced
+abbrev pub limit_fault : CoreState → Call → Option Refused
+limit_fault c (calls.Isend s) = or_worn_out (or_full None c) (announced_to c.place s) c.transfers
+limit_fault c (calls.Irecv v) = or_full None c
+limit_fault c (calls.Wait q) = None
+limit_fault c (calls.Test q) = None
+limit_fault c (calls.Waitany qs) = None
+limit_fault c (calls.Waitall qs) = None
+limit_fault c (calls.Cancel q) = None
+
+-- A call meets its rules on requests, then those on what it hands in, and then the limits
+abbrev pub IsCutFault : CoreState → Call → Type 0
+IsCutFault c call = call_fault c call ≡ first_of (request_fault c call) (first_of (argument_fault c.place call) (limit_fault c call))
+
+-- ITS FRAME
+
 -- the frame that a call gives to another rank
 abbrev pub call_frame : CoreState → Call → Option FrameFor
 call_frame c (calls.Isend s) = frame_of c s
@@ -52,7 +101,7 @@ call_frame c (calls.Cancel q) = None
 
 -- to which other rank it goes
 abbrev pub call_rank : CoreState → Call → Option ℕ
-call_rank c (calls.Isend s) = rank_to c.place (destination s.target s.tag)
+call_rank c (calls.Isend s) = rank_to c.place (destination s.target s.tag s.context)
 call_rank c (calls.Irecv v) = option_map (λ f. f.rank) (receive_frame v.source c v)
 call_rank c (calls.Wait q) = None
 call_rank c (calls.Test q) = None

@@ -1,5 +1,5 @@
 -- What a receive does to the core (MPI 3.1, 3.2.4 and 3.7).
-use Rattle.std.specs.Prelude.{◌≡◌, ◌+◌, Option, Some, None, if◌then◌else◌}
+use Rattle.std.specs.Prelude.{◌≡◌, ◌+◌, ℕ, Option, Some, None, if◌then◌else◌}
 use Rattle.vocabulary.specs.declared.envelope.Source.{Source}
 use Rattle.vocabulary.specs.declared.envelope.Source.TheVariants as sources
 use Rattle.perfect_queues.specs.Buffers.{is_too_short}
@@ -17,7 +17,17 @@ use Rattle.rank_calls.specs.declared.call.Receive.{Receive}
 use Rattle.rank_calls.specs.declared.refused.Refused.{Refused}
 use Rattle.rank_calls.specs.declared.refused.Refused.TheVariants as refusals
 use Rattle.rank_core.specs.CoreState.{CoreState}
-use Rattle.rank_calls.specs.Receiving.{posted_by, progress_on_post, transfers_on_post, answer_on_post}
+use Rattle.rank_calls.specs.Receiving.{posted_by, progress_on_post, transfers_on_post, answer_on_post, waiting_by}
+
+-- The first rule that a receive breaks: buffer and layout differ in basic type, or a place is named twice; the buffer is too short;
+-- the tag is above the highest; there is no such rank.
+unfoldable pub receive_rule : (size : ℕ) → Receive → Option Refused
+receive_rule size v =
+    if is_unfit_to_receive (handed_of v.into) then Some refusals.WrongType
+    else (if is_too_short (handed_of v.into) then Some refusals.Count
+    else (if is_tag_above v.tag then Some refusals.Tag
+    else (if is_source_beyond size v.source then Some refusals.Rank
+    else None)))
 
 -- The first rule or limit that a receive meets: buffer and layout differ in basic type, or a place is named twice; the buffer
 -- is too short; the tag is above the highest; there is no such rank; no request can be started.
@@ -49,7 +59,7 @@ pub record IsPosting (old : CoreState) (v : Receive) (r : Request) (new : CoreSt
   pub serial : r.serial ≡ old.serial
   pub entry : IsSet old.slots new.slots r.key (Some (record {
     serial = old.serial;
-    progress = progress_on_post v.into (message_at old.queues.unexpected (message_for (posted_by r.key v) old.queues.unexpected));
+    progress = progress_on_post (waiting_by v) (message_at old.queues.unexpected (message_for (posted_by r.key v) old.queues.unexpected));
   }))
   pub rest : new ≡ record old {
     slots = new.slots;

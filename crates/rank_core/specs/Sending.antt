@@ -28,7 +28,7 @@ or_full None c = if is_full c.slots c.serial then Some refusals.Limit else None
 
 -- the frame that a send gives to another rank
 abbrev pub frame_of : CoreState → Send → Option FrameFor
-frame_of c s = frame_to c.place c.transfers (destination s.target s.tag) (sent_from s.from)
+frame_of c s = frame_to c.place c.transfers (destination s.target s.tag s.context) (sent_from s.from)
 
 -- THE MESSAGE TO THE OWN RANK
 
@@ -42,7 +42,7 @@ arrived c m = record c {
 
 -- so it is where the destination is the own rank
 abbrev pub arrived_if : Bool → CoreState → Destination → Contents → CoreState
-arrived_if true c d elements = arrived c (own_message c.place d.tag elements)
+arrived_if true c d elements = arrived c (own_message c.place d.context d.tag elements)
 arrived_if false c d elements = c
 
 -- what these elements make of the core where they go to the own rank
@@ -77,4 +77,4 @@ pub record IsSending (old : CoreState) (s : Send) (r : Request) (new : CoreState
         serial = old.serial + 1;
         transfers = offered_by old.transfers (announced_to old.place s) r.key (sent_from s.from);
       })
-      (destination s.target s.tag) (sent_from s.from)
+      (destination s.target s.tag s.context) (sent_from s.from)

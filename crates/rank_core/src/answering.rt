@@ -24,7 +24,9 @@ use rank_calls::{
     null_status, own_message, posted_by, progress_on_post,
 };
 use rendezvous::Collection;
-use requests::{Awaited, AwaitedAll, Outcome, Progress, ReceiveRegion, Request, RequestList};
+use requests::{
+    Awaited, AwaitedAll, Outcome, Posted, Progress, ReceiveRegion, Request, RequestList,
+};
 use vocabulary::Source;
 
 impl Core {
@@ -37,7 +39,7 @@ impl Core {
         if let Some(destination) = destination
             && destination.rank == self.place.endpoint.rank
         {
-            self.arrive(own_message(self.place, destination.tag, elements));
+            self.arrive(own_message(self.place, destination.context, destination.tag, elements));
         }
     }
 
@@ -52,7 +54,7 @@ impl Core {
         ensures placed { self.new.state.place ≡ self.old.state.place }
     {
         let announced = announced_to(self.place, &send);
-        let destination = destination_of(send.target, send.tag);
+        let destination = destination_of(send.target, send.tag, send.context);
         let elements = into_elements(send, prepared);
         match announced {
             Some(rank) => self.offer(rank, elements),
@@ -115,7 +117,9 @@ impl Core {
         let posted = posted_by(self.requests.next_key(), &receive);
         self.collect(collection);
         let found = self.queues.post(posted);
-        let progress = progress_on_post(ReceiveRegion::new(receive.into), found);
+        let Receive { into, group, .. } = receive;
+        let into = ReceiveRegion::new(into);
+        let progress = progress_on_post(Posted { into, group }, found);
         self.requests.start(progress)
     }
 

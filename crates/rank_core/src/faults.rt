@@ -1,16 +1,16 @@
 //! Which rule or limit a call meets first, and to whom its frame goes.
 
 ghost use Rattle.std.specs.Prelude.{◌≡◌, ◌<◌, Some, None, IfSome};
-ghost use Rattle.vocabulary.specs.BasicTypes.{size_of};
-ghost use Rattle.datatypes.specs.Contents.{AreWithin};
 ghost use Rattle.datagram.specs.Spelling.{frame_text, FrameFits};
 ghost use Rattle.requests.specs.Lists.{named};
-ghost use Rattle.requests.specs.Regions.{sent_from};
 ghost use Rattle.requests.specs.declared.awaited.Awaited.TheVariants.{One};
 ghost use Rattle.rank_calls.specs.Calls.{IsPacked, IsWithin};
-ghost use Rattle.rank_core.specs.Calls.{CanAnswer, call_fault, call_frame, call_rank};
+ghost use Rattle.rank_calls.specs.Hearing.{first_of};
+ghost use Rattle.rank_core.specs.Calls.{CanAnswer, IsCutFault, argument_fault, call_fault, call_frame, call_rank, limit_fault, request_fault};
 ghost use Rattle.rank_calls.specs.Frames.{addressed};
-ghost use Rattle.rank_core.specs.Receiving.{receive_fault, receive_frame};
+ghost use Rattle.rank_calls.specs.declared.call.Call.{Call};
+ghost use Rattle.rank_core.specs.CoreState.{CoreState};
+ghost use Rattle.rank_core.specs.Receiving.{receive_frame, receive_rule};
 ghost use Rattle.rank_calls.specs.Sending.{announced_to, or_worn_out, send_fault};
 ghost use Rattle.rank_core.specs.Sending.{frame_of, or_full};
 ghost use Rattle.rank_core.specs.Waiting.{cancel_fault, requests_fault, wait_fault};
@@ -24,28 +24,18 @@ use rank_calls::{
 use requests::{Request, RequestList};
 use vocabulary::Source;
 
-impl Core {
-    fn fault_of_send(&self, send: &Send) -> Option<Refused>
-        ensures fault { result ≡ or_worn_out (or_full (send_fault self.now.state.place send.now) self.now.state)
-            (announced_to self.now.state.place send.now) self.now.state.transfers }
-        ensures within { AreWithin (size_of send.now.from.buffer.basic) ((sent_from send.now.from).values) }
-    {
-        show_widths(&send.from);
-        if let Some(fault) = fault_of(self.place, send) {
-            return Some(fault);
-        }
-        if self.requests.is_full() {
-            return Some(Refused::Limit);
-        }
-        match announced_to(self.place, send) {
-            Some(rank) if self.transfers.is_full_to(rank) => Some(Refused::Limit),
-            _ => None,
-        }
-    }
+/// A law of `fault_of_requests`, `fault_of_arguments` and `limit_of`: the first fault that they find, asked in this order, is
+/// that of the call. So whoever has rules of its own that stand between them may ask it, and where all three find none, a call
+/// may be made ready.
+#[tactic(auto, using(crate::proofs::Cuts::cut))]
+pub fn faults_are_cut()
+    ensures { (c : CoreState) (call : Call) → IsCutFault c call }
+{}
 
-    #[tactic(auto, unfolding(crate::specs::Receiving::receive_fault))]
-    fn fault_of_receive(&self, receive: &Receive) -> Option<Refused>
-        ensures { result ≡ receive_fault self.now.state receive.now }
+impl Core {
+    #[tactic(auto, unfolding(crate::specs::Receiving::receive_rule))]
+    fn rule_of_receive(&self, receive: &Receive) -> Option<Refused>
+        ensures { result ≡ receive_rule self.now.state.place.size receive.now }
     {
         if receive.into.is_unfit_to_receive() {
             return Some(Refused::WrongType);
@@ -59,10 +49,30 @@ impl Core {
         if is_source_beyond(self.place.size, receive.source) {
             return Some(Refused::Rank);
         }
+        None
+    }
+
+    fn limit_of_send(&self, send: &Send) -> Option<Refused>
+        ensures { result ≡ or_worn_out (or_full None self.now.state) (announced_to self.now.state.place send.now)
+            self.now.state.transfers }
+    {
         if self.requests.is_full() {
             return Some(Refused::Limit);
         }
-        None
+        match announced_to(self.place, send) {
+            Some(rank) if self.transfers.is_full_to(rank) => Some(Refused::Limit),
+            _ => None,
+        }
+    }
+
+    fn limit_of_receive(&self) -> Option<Refused>
+        ensures { result ≡ or_full None self.now.state }
+    {
+        if self.requests.is_full() {
+            Some(Refused::Limit)
+        } else {
+            None
+        }
     }
 
     /// The null request can always be waited for.
@@ -108,24 +118,75 @@ impl Core {
         }
     }
 
-    /// The first rule or limit that a call meets: 6 (an earlier call is blocked, there is no such request, a list names one
-    /// twice, or what is cancelled is no receive), 2 (buffer and layout are of different basic types, or a receive names a
-    /// place twice), 1 (more than 1,048,576 bytes of data in a send, or the buffer is too short), 3 (the tag is above
-    /// the greatest, or the wildcard in a send), 5 (no such rank, or any rank in a send), 13 (65,536 requests are there, no
-    /// serial is left, or no number of a transfer to the rank). It takes no memory (MPI 3.1, 3.2.2, 3.7 and 4.1.11).
-    pub fn fault_of(&self, call: &Call) -> Option<Refused>
-        ensures fault { result ≡ call_fault self.now.state call.now }
-        ensures within { result ≡ None → IsWithin call.now }
+    /// The fault of a call by its requests, which is 6: an earlier call is blocked, there is no such request, a list names
+    /// one twice, or what is cancelled is no receive. It takes no memory (MPI 3.1, 3.7 and 3.8.4).
+    pub fn fault_of_requests(&self, call: &Call) -> Option<Refused>
+        ensures { result ≡ request_fault self.now.state call.now }
     {
         if self.blocked.is_some() {
             return Some(Refused::Request);
         }
         match call {
-            Call::Isend(send) => self.fault_of_send(send),
-            Call::Irecv(receive) => self.fault_of_receive(receive),
+            Call::Isend(_) | Call::Irecv(_) => None,
             Call::Wait(request) | Call::Test(request) => self.fault_of_wait(*request),
             Call::Waitany(list) | Call::Waitall(list) => self.fault_of_list(list),
             Call::Cancel(request) => self.fault_of_cancel(*request),
+        }
+    }
+
+    /// The fault of a call by what it hands in, the first of 2 (buffer and layout are of different basic types, or a receive
+    /// names a place twice), 1 (more than 1,048,576 bytes of data in a send, or the buffer is too short), 3 (the tag is above
+    /// the greatest, or the wildcard in a send) and 5 (no such rank of world, or any rank in a send). It takes no memory
+    /// (MPI 3.1, 3.2.2 and 4.1.11).
+    pub fn fault_of_arguments(&self, call: &Call) -> Option<Refused>
+        ensures fault { result ≡ argument_fault self.now.state.place call.now }
+        ensures within { IsWithin call.now }
+    {
+        match call {
+            Call::Isend(send) => {
+                show_widths(send);
+                fault_of(self.place, send)
+            }
+            Call::Irecv(receive) => self.rule_of_receive(receive),
+            Call::Wait(_) | Call::Test(_) | Call::Waitany(_) | Call::Waitall(_) | Call::Cancel(_) =>
+                { None }
+        }
+    }
+
+    /// The limit that a call meets, which is 13: 65,536 requests are there, no serial is left, or no number of a transfer to
+    /// the rank. It takes no memory.
+    pub fn limit_of(&self, call: &Call) -> Option<Refused>
+        ensures { result ≡ limit_fault self.now.state call.now }
+    {
+        match call {
+            Call::Isend(send) => self.limit_of_send(send),
+            Call::Irecv(_) => self.limit_of_receive(),
+            Call::Wait(_) | Call::Test(_) | Call::Waitany(_) | Call::Waitall(_) | Call::Cancel(_) =>
+                { None }
+        }
+    }
+
+    /// The first rule or limit that a call meets beyond those on its requests.
+    fn fault_beyond_requests(&self, call: &Call) -> Option<Refused>
+        ensures fault { result ≡ first_of (argument_fault self.now.state.place call.now) (limit_fault self.now.state call.now) }
+        ensures within { IsWithin call.now }
+    {
+        match self.fault_of_arguments(call) {
+            Some(fault) => Some(fault),
+            None => self.limit_of(call),
+        }
+    }
+
+    /// The first rule or limit that a call meets: of its requests, then of what it hands in, and then the limits. It takes no
+    /// memory.
+    #[tactic(auto, using(crate::proofs::Cuts::by_request, crate::proofs::Cuts::by_rest))]
+    pub fn fault_of(&self, call: &Call) -> Option<Refused>
+        ensures fault { result ≡ call_fault self.now.state call.now }
+        ensures within { result ≡ None → IsWithin call.now }
+    {
+        match self.fault_of_requests(call) {
+            Some(fault) => Some(fault),
+            None => self.fault_beyond_requests(call),
         }
     }
 
@@ -136,7 +197,10 @@ impl Core {
         ensures there { call_fault self.now.state call.now ≡ None → IfSome result (λ rank. rank < self.now.state.place.size) }
     {
         match call {
-            Call::Isend(send) => rank_to(self.place, destination_of(send.target, send.tag)),
+            Call::Isend(send) => rank_to(
+                self.place,
+                destination_of(send.target, send.tag, send.context),
+            ),
             Call::Irecv(receive) => match self.answer_of_receive(receive) {
                 Some(answer) => Some(answer.rank),
                 None => None,
@@ -171,7 +235,7 @@ impl Core {
         ensures there { IfSome result (λ a. a.rank < self.now.state.place.size) }
     {
         let elements = elements_of(send, prepared);
-        let destination = destination_of(send.target, send.tag);
+        let destination = destination_of(send.target, send.tag, send.context);
         frame_to(self.place, &self.transfers, destination, elements)
     }
 

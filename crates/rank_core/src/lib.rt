@@ -13,6 +13,7 @@ mod preparing;
 mod preparing_news;
 mod rank;
 
+pub use faults::faults_are_cut;
 pub use rank::Core;
 pub use rank_calls::{
     Addressed, Call, Handed, News, Prepared, Ready, Receive, Refused, Reply, Send,

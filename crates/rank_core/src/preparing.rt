@@ -55,7 +55,8 @@ impl Core {
         ensures err { IfErr result (λ e. e ≡ refusals.OutOfMemory) }
     {
         self.make_room_to_start()?;
-        self.make_room_if(is_own(self.place, destination_of(send.target, send.tag)))?;
+        let destination = destination_of(send.target, send.tag, send.context);
+        self.make_room_if(is_own(self.place, destination))?;
         self.make_room_to_offer(announced_to(self.place, send).is_some())?;
         packed(self.alloc, send)
     }

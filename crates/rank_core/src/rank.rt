@@ -1,6 +1,6 @@
 //! The core of one rank.
 
-ghost use Rattle.std.specs.Prelude.{◌≡◌, IfErr, IfOk, None};
+ghost use Rattle.std.specs.Prelude.{◌≡◌, IfErr, IfOk, None, is_some};
 ghost use Rattle.rank_core.specs.CoreState.{opening};
 ghost use Rattle.rank_calls.specs.declared.refused.Refused.TheVariants as refusals;
 
@@ -82,6 +82,13 @@ impl Core {
         ensures { result ≡ self.now.state.place }
     {
         self.place
+    }
+
+    /// Whether an earlier call is blocked on requests.
+    pub fn is_blocked(&self) -> bool
+        ensures { result ≡ is_some self.now.state.blocked }
+    {
+        self.blocked.is_some()
     }
 
     /// Hands out the answer of a blocked call, once, after the event in which it was ready. An answer that isn't taken is

@@ -2,6 +2,7 @@
 
 use datatypes::{Block, Buffer, Layout};
 use requests::*;
+use shared_groups::Members;
 use std::alloc::Global;
 use vocabulary::{BasicType, Source, Status};
 
@@ -47,7 +48,10 @@ fn judged(region: Region) -> Option<ReceiveRegion> {
 
 fn receiving(alloc: Global) -> Option<Progress> {
     let region = Region::whole(Buffer::new(alloc, BasicType::Byte));
-    Some(Progress::Receiving(judged(region)?))
+    Some(Progress::Receiving(Posted {
+        into: judged(region)?,
+        group: None,
+    }))
 }
 
 /// What is seen of a request before an empty message comes to it, then, and after that.
@@ -72,6 +76,35 @@ fn received_once(alloc: Global) -> Option<[Seen; 3]> {
 fn a_receive_ends_once(rt: HostRuntime) {
     let seen = [Seen::Pending, Seen::Received(empty_status()), Seen::Absent];
     assert_eq!(rt; received_once(rt.alloc()), Some(seen));
+}
+
+/// What a receive on a communicator of ranks 4 and 2 of world sees of an empty message from this rank of world.
+fn received_in_group(alloc: Global, sender: u16) -> Option<Seen> {
+    let mut requests = Requests::new(alloc);
+    requests.reserve().ok()?;
+    let group = Some(Members::from_slice(alloc, &[4, 2]).ok()?);
+    let into = judged(Region::whole(Buffer::new(alloc, BasicType::Byte)))?;
+    let request = requests.start(Progress::Receiving(Posted { into, group }));
+    let status = Status {
+        source: Source::Rank(sender),
+        ..empty_status()
+    };
+    requests.finish(request.key, status, &Buffer::new(alloc, BasicType::Byte));
+    Some(look(&mut requests, request))
+}
+
+#[test]
+fn a_status_names_a_rank_of_the_communicator(rt: HostRuntime) {
+    for (sender, rank) in [(4, 0), (2, 1)] {
+        let status = Status {
+            source: Source::Rank(rank),
+            ..empty_status()
+        };
+        assert_eq!(rt;
+            received_in_group(rt.alloc(), sender),
+            Some(Seen::Received(status))
+        );
+    }
 }
 
 /// What is seen of a receive and of a finished send, and of a key that was never given, once all that wait are replaced.

@@ -21,7 +21,7 @@ is_waiting (Some (Finished o)) = false
 
 -- a receive that waits has ended, and its buffer is as it was (MPI 3.1, 3.8.4)
 abbrev pub cancelled_progress : Progress → Progress
-cancelled_progress (Receiving r) = Finished (Cancelled r.buffer)
+cancelled_progress (Receiving p) = Finished (Cancelled p.into.buffer)
 cancelled_progress (Collecting w) = Collecting w
 cancelled_progress Offering = Offering
 cancelled_progress (Finished o) = Finished o

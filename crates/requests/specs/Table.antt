@@ -18,6 +18,7 @@ use Rattle.requests.specs.declared.table.Tested.{Tested}
 use Rattle.requests.specs.declared.table.Tested.TheVariants as tests
 use Rattle.requests.specs.Outcomes.{outcome_of}
 use Rattle.requests.specs.Regions.{handed_of}
+use Rattle.shared_groups.specs.Statuses.{status_in}
 
 -- what stands under each key, the key of the next request, for how many there is memory, and how many were started
 pub record Table : Type 0 where
@@ -47,9 +48,10 @@ pub record IsSet (old new : List (Option Entry)) (key : ℕ) (slot : Option Entr
   pub changed : slot_at new key ≡ slot
   pub others : (other : ℕ) → other ≢ key → slot_at new other ≡ slot_at old other
 
--- how far a request is once its message came: a receive that waits ends with it
+-- How far a request is once its message came: a receive that waits ends with it. The message's status names its source as a rank
+-- of world, the receive's as one of its communicator
 abbrev pub progress_after : Progress → Status → Contents → Progress
-progress_after (Receiving r) status m = Finished (outcome_of (handed_of r) status m)
+progress_after (Receiving p) status m = Finished (outcome_of (handed_of p.into) (status_in p.group status) m)
 progress_after (Collecting w) status m = Collecting w
 progress_after Offering status m = Offering
 progress_after (Finished o) status m = Finished o
@@ -89,8 +91,8 @@ TestGives old key (Some (Finished o)) tested new = (tested ≡ tests.Done o) × 
 -- a receive that waits has ended, and its buffer is as it was (MPI 3.1, 3.8.4)
 abbrev pub cancelled_by : List (Option Entry) → Request → Option Progress → List (Option Entry)
 cancelled_by slots q None = slots
-cancelled_by slots q (Some (Receiving r)) =
-    slice_set slots q.key (Some (record { serial = q.serial; progress = Finished (outcomes.Cancelled r.buffer) }))
+cancelled_by slots q (Some (Receiving p)) =
+    slice_set slots q.key (Some (record { serial = q.serial; progress = Finished (outcomes.Cancelled p.into.buffer) }))
 cancelled_by slots q (Some (Collecting w)) = slots
 cancelled_by slots q (Some Offering) = slots
 cancelled_by slots q (Some (Finished o)) = slots
@@ -121,7 +123,7 @@ is_receive (Some (Finished o)) = is_receives o
 
 -- a receive that waits or collects ends, and its buffer is as it was; a send that waits for an answer ends without one
 abbrev pub replaced_progress : Progress → Progress
-replaced_progress (Receiving r) = Finished (outcomes.Replaced (Some r.buffer))
+replaced_progress (Receiving p) = Finished (outcomes.Replaced (Some p.into.buffer))
 replaced_progress (Collecting w) = Finished (outcomes.Replaced (Some w.into.buffer))
 replaced_progress Offering = Finished (outcomes.Replaced None)
 replaced_progress (Finished o) = Finished o
@@ -164,7 +166,7 @@ matched_progress r status basic =
 
 -- how far a request is once an announced message was matched with it
 abbrev pub progress_on_announcement : Progress → Status → BasicType → Progress
-progress_on_announcement (Receiving r) status basic = matched_progress r status basic
+progress_on_announcement (Receiving p) status basic = matched_progress p.into (status_in p.group status) basic
 progress_on_announcement (Collecting w) status basic = Collecting w
 progress_on_announcement Offering status basic = Offering
 progress_on_announcement (Finished o) status basic = Finished o
@@ -181,7 +183,7 @@ after_announcement slots key status basic = slot_announced (slot_at slots key) s
 
 -- whether a request wants the data of an announced message that is matched with it, by how far it is
 abbrev pub wants_so : Progress → BasicType → (count : ℕ) → Bool
-wants_so (Receiving r) basic count = has_room r basic count
+wants_so (Receiving p) basic count = has_room p.into basic count
 wants_so (Collecting w) basic count = false
 wants_so Offering basic count = false
 wants_so (Finished o) basic count = false

@@ -12,6 +12,7 @@ use crate::outcome::{Failure, Outcome, received};
 use crate::refused::Refused;
 use crate::region::ReceiveRegion;
 use datatypes::Buffer;
+use shared_groups::{Members, status_in};
 use slab::Slab;
 use std::alloc::Global;
 use std::marker::Model;
@@ -30,20 +31,29 @@ pub struct Request {
     pub serial: u64,
 }
 
+/// A receive that waits for its message.
+#[derive(Debug, Drop)]
+pub struct Posted {
+    /// Where the data go.
+    pub into: ReceiveRegion,
+    /// The group of its communicator, by which its status names the source (MPI 3.1, 3.2.5). `None` is that of world.
+    pub group: Option<Members>,
+}
+
 /// A receive that was matched with an announced message, and waits for its data.
 #[derive(Debug, Drop)]
 pub struct Matched {
     /// Where the data go.
     pub into: ReceiveRegion,
-    /// What the message says of itself.
+    /// What the message says of itself; its source is a rank of the receive's communicator.
     pub status: Status,
 }
 
 /// How far an operation is.
 #[derive(Debug, Drop)]
 pub enum Progress {
-    /// A receive into this region waits for its message.
-    Receiving(ReceiveRegion),
+    /// This receive waits for its message.
+    Receiving(Posted),
     /// A receive was matched with an announced message, whose data come in pieces.
     Collecting(Matched),
     /// A send has announced its message, and waits for its receiver's answer.
@@ -92,8 +102,9 @@ fn advance(entry: &mut Entry, status: Status, message: &Buffer)
     ensures { entry.new ≡ after_message entry.old status message.now }
 {
     match mem::replace(&mut entry.progress, Progress::Finished(Outcome::Sent)) {
-        Progress::Receiving(region) => {
-            entry.progress = Progress::Finished(received(region, status, message));
+        Progress::Receiving(Posted { into, group }) => {
+            let status = status_in(&group, status);
+            entry.progress = Progress::Finished(received(into, status, message));
         }
         other => entry.progress = other,
     }
@@ -105,7 +116,9 @@ fn announce(entry: &mut Entry, status: Status, basic: BasicType)
     ensures { entry.new ≡ record entry.old { progress = progress_on_announcement entry.old.progress status basic } }
 {
     match mem::replace(&mut entry.progress, Progress::Offering) {
-        Progress::Receiving(into) => entry.progress = match_announced(into, status, basic),
+        Progress::Receiving(Posted { into, group }) => {
+            entry.progress = match_announced(into, status_in(&group, status), basic);
+        }
         other => entry.progress = other,
     }
 }
@@ -152,8 +165,8 @@ fn end_replaced(entry: &mut Entry)
     ensures { entry.new ≡ replaced_entry entry.old }
 {
     match mem::replace(&mut entry.progress, Progress::Finished(Outcome::Sent)) {
-        Progress::Receiving(region) => {
-            entry.progress = Progress::Finished(Outcome::Replaced(Some(region.into_buffer())));
+        Progress::Receiving(posted) => {
+            entry.progress = Progress::Finished(Outcome::Replaced(Some(posted.into.into_buffer())));
         }
         Progress::Collecting(matched) => {
             let buffer = matched.into.into_buffer();
@@ -169,8 +182,8 @@ fn end_cancelled(entry: &mut Entry)
     ensures { entry.new ≡ cancelled_entry entry.old }
 {
     match mem::replace(&mut entry.progress, Progress::Finished(Outcome::Sent)) {
-        Progress::Receiving(region) => {
-            entry.progress = Progress::Finished(Outcome::Cancelled(region.into_buffer()));
+        Progress::Receiving(posted) => {
+            entry.progress = Progress::Finished(Outcome::Cancelled(posted.into.into_buffer()));
         }
         other => entry.progress = other,
     }
@@ -235,7 +248,8 @@ impl Requests {
         Request { key, serial }
     }
 
-    /// Gives the receive under this key the message that was matched with it. Anything else stays as it is.
+    /// Gives the receive under this key the message that was matched with it, of which the status names the source as a
+    /// rank of world. Anything else stays as it is.
     pub fn finish(&mut self, key: usize, status: Status, message: &Buffer)
         ensures { self.new ≡ record self.old { slots = after_finish self.old.slots key status message.now } }
     {
@@ -244,8 +258,9 @@ impl Requests {
         }
     }
 
-    /// Matches the receive under this key with an announced message of this status and type: it collects its data where
-    /// it has room for them, and else is over (MPI 3.1, 3.2.4 and 3.3.1). Anything else stays as it is.
+    /// Matches the receive under this key with an announced message of this type, and of this status, which names the
+    /// source as a rank of world: it collects its data where it has room for them, and else is over (MPI 3.1, 3.2.4 and
+    /// 3.3.1). Anything else stays as it is.
     pub fn announce(&mut self, key: usize, status: Status, basic: BasicType)
         ensures { self.new ≡ record self.old { slots = after_announcement self.old.slots key status basic } }
     {
@@ -260,7 +275,7 @@ impl Requests {
     {
         match self.entries.get(key) {
             Some(entry) => match &entry.progress {
-                Progress::Receiving(into) => into.has_room(basic, count),
+                Progress::Receiving(posted) => posted.into.has_room(basic, count),
                 Progress::Collecting(_) | Progress::Offering | Progress::Finished(_) => false,
             },
             None => false,

@@ -84,6 +84,13 @@ impl Sessions {
         })
     }
 
+    /// The incarnation at which each rank of the job is known, by rank. It takes no memory.
+    pub fn incarnations(&self) -> &[u16]
+        ensures { result.now ≡ self.now.known }
+    {
+        self.knowledge.incarnations()
+    }
+
     /// Which rank of which job this is, and at which incarnation. It knows one incarnation of each rank of the job, and
     /// has a session with each.
     pub fn place(&self) -> Place
