@@ -1,7 +1,7 @@
 //! What a rank tells the other members of a communicator.
 
 ghost use Rattle.std.specs.Prelude.{◌≡◌};
-ghost use Rattle.collective_notes.specs.Messages.{says};
+ghost use Rattle.collective_notes.specs.Messages.{IsWithinType, says};
 ghost use Rattle.payload.specs.Spelling.{payload_text};
 
 use datatypes::Buffer;
@@ -45,7 +45,8 @@ pub struct Message {
 impl Message {
     /// The payload that goes out: record and part.
     pub fn payload(&self) -> Payload<'_>
-        ensures { payload_text result ≡ says self.now }
+        ensures says { payload_text result ≡ says self.now }
+        ensures within { IsWithinType self.now.given }
     {
         let part = match &self.given {
             Given::RecordsDiffer => Part::RecordsDiffer,

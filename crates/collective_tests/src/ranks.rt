@@ -113,10 +113,8 @@ fn enter(
     place: usize,
     entry: Entry,
 ) -> Option<Option<Ending>> {
-    if rank
-        .collective
-        .fault_of(&rank.contexts, place, entry)
-        .is_some()
+    if rank.collective.fault_of(&rank.contexts, place).is_some()
+        || rank.collective.meets_limit(&rank.contexts, place, entry)
     {
         return None;
     }

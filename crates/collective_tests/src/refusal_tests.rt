@@ -15,17 +15,20 @@ const SPLIT: Entry = Entry::Split(Choice {
     key: 0,
 });
 
-/// The number of the rule that entering would break, where it would break one.
+/// The number of the rule or limit that entering would meet first, where it would meet one.
 fn fault(rank: &Rank, place: usize, entry: Entry) -> Option<u8> {
-    match rank.collective.fault_of(&rank.contexts, place, entry) {
+    match rank.collective.fault_of(&rank.contexts, place) {
         Some(refused) => Some(refused.number()),
+        None if rank.collective.meets_limit(&rank.contexts, place, entry) => Some(13),
         None => None,
     }
 }
 
 /// The rank enters a collective on world; whether it is in one then.
 fn enter(rank: &mut Rank, entry: Entry) -> bool {
-    if rank.collective.fault_of(&rank.contexts, 0, entry).is_some() {
+    if rank.collective.fault_of(&rank.contexts, 0).is_some()
+        || rank.collective.meets_limit(&rank.contexts, 0, entry)
+    {
         return false;
     }
     match rank.collective.prepare_entry(&mut rank.contexts, 0, entry) {

@@ -1,6 +1,7 @@
 mod Bounds
+mod Fitting
 mod Lacking
 mod Others
-mod Plans
+pub mod Plans
 mod Readiness
-mod Rows
+pub mod Rows

@@ -1,5 +1,5 @@
 -- What each call on the collectives of a rank answers and leaves.
-use Rattle.std.specs.Prelude.{◌≡◌, ◌+◌, ◌^◌, ℕ, Bool, false, ◌&&◌, ◌||◌, ◌==◌, List, [], ◌∷◌, ◌++◌, length, Option, Some, None, Result, Ok, Err, is_some, nat_lt, nat_le, slice_get, if◌then◌else◌}
+use Rattle.std.specs.Prelude.{◌≡◌, ◌+◌, ◌^◌, ℕ, Bool, false, ◌&&◌, ◌||◌, ◌==◌, List, [], ◌∷◌, ◌++◌, length, Option, Some, None, Result, Ok, Err, is_none, is_some, nat_lt, nat_le, slice_get, if◌then◌else◌}
 use Rattle.std.specs.List.{list_any}
 use Rattle.collective_notes.specs.Arrivals.{ArrivalGives}
 use Rattle.collective_notes.specs.Entering.{is_making}
@@ -46,14 +46,29 @@ is_limited own tallies h c e =
     nat_le most_collectives (count_in tallies (number_of c.context)) ||
     is_making_limited own h e (members_incarnation own (number_of c.context)) c.group
 
--- the rule that entering a collective of a communicator breaks, where it is held
-abbrev pub fault_on : State → ContextsState → Option Communicator → Entry → Option Refused
-fault_on s h None e = Some refusals.NoCommunicator
-fault_on s h (Some c) e = if is_limited s.own s.tallies h c e then Some refusals.Limit else None
+-- whether entering a collective meets a limit, where the communicator is held
+abbrev pub limit_on : State → ContextsState → Option Communicator → Entry → Bool
+limit_on s h None e = false
+limit_on s h (Some c) e = is_limited s.own s.tallies h c e
 
--- the first rule that entering breaks: 6 while the rank is in a collective, 4, 13
+-- whether entering a collective of the communicator at a place meets a limit
+abbrev pub limit_at : State → ContextsState → (place : ℕ) → Entry → Bool
+limit_at s h place e = limit_on s h (slice_get h.held place) e
+
+-- the first rule that entering at a place breaks, before the limits: 6 while the rank is in a collective, 4
+abbrev pub entry_rule : State → ContextsState → (place : ℕ) → Option Refused
+entry_rule s h place =
+    if is_some s.present then Some refusals.Blocked else
+    (if is_none (slice_get h.held place) then Some refusals.NoCommunicator else None)
+
+-- an entry that breaks no rule meets a limit or none
+abbrev pub or_limit : Option Refused → (is_limited : Bool) → Option Refused
+or_limit None limited = if limited then Some refusals.Limit else None
+or_limit (Some refused) limited = Some refused
+
+-- the first rule or limit that entering meets: 6, 4, 13. That a member is known at another incarnation (11) isn't judged here
 abbrev pub entry_fault : State → ContextsState → (place : ℕ) → Entry → Option Refused
-entry_fault s h place e = if is_some s.present then Some refusals.Blocked else fault_on s h (slice_get h.held place) e
+entry_fault s h place e = or_limit (entry_rule s h place) (limit_at s h place e)
 
 -- the number of the context of a communicator, where there is one
 abbrev pub context_of : Option Communicator → ℕ

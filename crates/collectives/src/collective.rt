@@ -4,7 +4,7 @@
 //! changes nothing but room, and then it is carried out, which can't fail.
 
 ghost use Rattle.std.specs.Prelude.{◌≡◌, ◌<◌, ◌≤◌, ◌+◌, ◌^◌, [], if◌then◌else◌, is_some, vec_len, vec_capacity};
-ghost use Rattle.collectives.specs.Calls.{entered, entry_fault, inside_of, is_ended, kept_with, learned, lesson_ending, met, most_collectives, with_note};
+ghost use Rattle.collectives.specs.Calls.{entered, entry_rule, inside_of, is_ended, kept_with, learned, lesson_ending, limit_at, met, most_collectives, with_note};
 ghost use Rattle.collective_notes.specs.Tallies.{count_in};
 ghost use Rattle.collectives.specs.State.{is_left, opening};
 ghost use Rattle.collectives.specs.Steps.{MeetsLimit, after_step, contexts_after, ending_of, left};
@@ -68,6 +68,13 @@ impl Collective {
         }
     }
 
+    /// Who the rank is: its rank in `world`, and its incarnation.
+    pub fn own(&self) -> Endpoint
+        ensures { result ≡ self.now.state.own }
+    {
+        self.own
+    }
+
     /// The collective that the rank is in.
     pub fn present(&self) -> Option<Inside>
         ensures { result ≡ self.now.state.present }
@@ -75,25 +82,39 @@ impl Collective {
         self.present
     }
 
-    /// The first rule that entering would break now, of 6 (the rank is in a collective), 4 (no communicator is held at the
-    /// place) and 13 (2,147,483,647 collectives were entered on the communicator; for a copy or a split 4,096 communicators
-    /// are held, or at member 0 fewer contexts are left to give than there are members). It takes no memory.
+    /// The first rule that entering would break now, of 6 (the rank is in a collective) and 4 (no communicator is held at the
+    /// place). It takes no memory.
     ///
-    /// That a member is known at another incarnation (11) comes between 4 and 13. The caller, who knows the incarnations of
-    /// all ranks, judges it.
-    pub fn fault_of(&self, contexts: &Contexts, place: usize, entry: Entry) -> Option<Refused>
-        ensures { result ≡ entry_fault self.now.state contexts.now.state place entry }
+    /// That a member is known at another incarnation (11) comes behind them, and before the limits (13): the caller, who knows
+    /// the incarnations of all ranks, judges it.
+    pub fn fault_of(&self, contexts: &Contexts, place: usize) -> Option<Refused>
+        ensures { result ≡ entry_rule self.now.state contexts.now.state place }
     {
         if self.present.is_some() {
             return Some(Refused::Blocked);
         }
-        let Some(communicator) = contexts.communicator(place) else {
+        if contexts.communicator(place).is_none() {
             return Some(Refused::NoCommunicator);
-        };
-        if is_limited(self.own, &self.tallies, contexts, communicator, entry) {
-            return Some(Refused::Limit);
         }
         None
+    }
+
+    /// Whether entering a collective of the communicator at a place meets a limit (13): 2,147,483,647 collectives were entered
+    /// on it; for a copy or a split 4,096 communicators are held, or at member 0 fewer contexts are left to give than there
+    /// are members. Where no communicator is held at the place it meets none. It takes no memory.
+    pub fn meets_limit(&self, contexts: &Contexts, place: usize, entry: Entry) -> bool
+        ensures { result ≡ limit_at self.now.state contexts.now.state place entry }
+    {
+        match contexts.communicator(place) {
+            Some(communicator) => is_limited(
+                self.own,
+                &self.tallies,
+                contexts,
+                communicator,
+                entry,
+            ),
+            None => false,
+        }
     }
 
     /// What the rank is in once it has entered.

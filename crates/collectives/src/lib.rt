@@ -14,4 +14,5 @@ mod step;
 mod telling;
 
 pub use collective::{Collective, ReadyEntry, ReadyMessage};
-pub use step::{Ending, Outcome, Step};
+pub use limits::members_incarnation;
+pub use step::Ending;

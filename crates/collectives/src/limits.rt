@@ -11,8 +11,9 @@ use vocabulary::Endpoint;
 /// So many collectives are entered on a communicator at most.
 const MOST_COLLECTIVES: u32 = 2_147_483_647;
 
-/// The incarnation of the members of the communicator with this context.
-pub(crate) fn members_incarnation(own: Endpoint, context: u64) -> u16
+/// The incarnation of the members of the communicator with this context, as the rank at `own` knows them: 0 in `world`, and
+/// in every other one that of the rank itself.
+pub fn members_incarnation(own: Endpoint, context: u64) -> u16
     ensures { result ≡ members_incarnation own context }
 {
     if context == 0 { 0 } else { own.incarnation }

@@ -1,9 +1,10 @@
 //! Entries and messages made ready: all growths are made, and nothing else changes.
 
-ghost use Rattle.std.specs.Prelude.{◌≡◌, ◌<◌, ◌≤◌, ◌+◌, ◌++◌, None, ◌↔◌, Err, IfErr, IfOk, IsOkUnless, IsTrue, List, Ok, OnOk, Option, Some, length, vec_len, vec_capacity};
+ghost use Rattle.std.specs.Prelude.{◌≡◌, ◌<◌, ◌≤◌, ◌+◌, ◌++◌, false, All, None, ◌↔◌, Err, IfErr, IfOk, IsOkUnless, IsTrue, List, Ok, OnOk, Option, Some, length, vec_len, vec_capacity};
 ghost use Rattle.std.specs.Option.{option_to_list};
-ghost use Rattle.collectives.specs.Calls.{IsReady, MessageRefused, entry_fault, inside_of, kept_with, met, most_collectives, note_kept};
+ghost use Rattle.collectives.specs.Calls.{IsReady, MessageRefused, entry_rule, inside_of, kept_with, limit_at, met, most_collectives, note_kept};
 ghost use Rattle.collectives.specs.State.{ranks_at};
+ghost use Rattle.collective_notes.specs.Messages.{IsFitting};
 ghost use Rattle.collective_notes.specs.Tallies.{count_in};
 ghost use Rattle.payload.specs.Spelling.{payload_text};
 ghost use Rattle.collectives.specs.Steps.{IsPrepared, IsPreparedEntry, IsRefusal, LacksFor, MeetsLimit, entry_messages};
@@ -212,7 +213,7 @@ impl ReadyEntry {
     pub fn messages(&self) -> &[Message]
         ensures { result.now ≡ self.now.step.messages }
     {
-        self.step.messages()
+        self.step.messages.as_slice()
     }
 }
 
@@ -221,7 +222,7 @@ impl ReadyMessage {
     pub fn messages(&self) -> &[Message]
         ensures { result.now ≡ self.now.step.messages }
     {
-        self.step.messages()
+        self.step.messages.as_slice()
     }
 }
 
@@ -236,9 +237,11 @@ impl Collective {
         place: usize,
         entry: Entry,
     ) -> Result<ReadyEntry, Refused>
-        requires { entry_fault self.old.state contexts.old.state place entry ≡ None }
+        requires rule { entry_rule self.old.state contexts.old.state place ≡ None }
+        requires limit { limit_at self.old.state contexts.old.state place entry ≡ false }
         ensures inside { IfOk result (λ ready. ready.inside ≡ inside_of self.old.state contexts.old.state place entry) }
         ensures step { IfOk result (λ ready. IsPreparedEntry self.old.state.own (inside_of self.old.state contexts.old.state place entry) contexts.old.state self.old.state.kept ready.step) }
+        ensures fits { IfOk result (λ ready. All IsFitting ready.step.messages) }
         ensures within { IfOk result (λ ready. MeetsLimit contexts.old.state ready.step → ⊥) }
         ensures number { OnOk result (count_in self.old.state.tallies (inside_of self.old.state contexts.old.state place entry).context < most_collectives) }
         ensures err { IfErr result (IsRefusal contexts.old.state (IsPreparedEntry self.old.state.own (inside_of self.old.state contexts.old.state place entry) contexts.old.state self.old.state.kept)) }
@@ -285,6 +288,7 @@ impl Collective {
         payload: Payload<'_>,
     ) -> Result<ReadyMessage, Refused>
         ensures ready { IfOk result (IsReady (met self.old.state contexts.old.state lesson) contexts.old.state address (payload_text payload.entry)) }
+        ensures fits { IfOk result (λ ready. All IsFitting ready.step.messages) }
         ensures within { IfOk result (λ ready. MeetsLimit contexts.old.state ready.step → ⊥) }
         ensures err { IfErr result (MessageRefused (met self.old.state contexts.old.state lesson) contexts.old.state address (payload_text payload.entry)) }
         ensures room { OnOk result (0 < self.new.more_notes) }

@@ -1,7 +1,5 @@
 //! What a rank does of itself in a collective, made ready before anything changes.
 
-ghost use Rattle.std.specs.Prelude.{◌≡◌};
-
 use collective_notes::Message;
 use context_agreement::Communicator;
 use std::marker::Model;
@@ -48,13 +46,4 @@ impl Model for Step {
     ghost Value = { Prepared };
 
     ghost view = { λ s. record { outcome = s.outcome; drawn = s.drawn; messages = s.messages.items } };
-}
-
-impl Step {
-    /// What goes out, in order: each to another member.
-    pub fn messages(&self) -> &[Message]
-        ensures { result.now ≡ self.now.messages }
-    {
-        self.messages.as_slice()
-    }
 }

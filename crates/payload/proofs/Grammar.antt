@@ -497,7 +497,7 @@ payload_from : (bytes body : List ℕ) (p : PayloadText) (phase : Phase) → hea
 unfolding payload_of
 payload_from bytes body p phase head phase_is rest part = rw (head, phase_is, rest, part) refl
 
-payload_again : (p : PayloadText) → PayloadFits p → payload_of (spelling p) ≡ Some p
+pub payload_again : (p : PayloadText) → PayloadFits p → payload_of (spelling p) ≡ Some p
 unfolding spelling
 payload_again p fits =
     let phase = phase_of p.part in

@@ -3,7 +3,7 @@ use Rattle.std.proofs.Common.{◌≡◌, ℕ, ◌<◌, Bool, true, false, not, �
 use Rattle.std.proofs.lemmas.Option.{same_Some}
 use Rattle.collective_notes.specs.Arrivals.{ArrivalGives, note_of, ranks_in, said_of}
 use Rattle.collectives.specs.Calls.{MessageGives, note_kept, with_note}
-use Rattle.collective_notes.specs.Messages.{part_said}
+use Rattle.collective_notes.specs.Messages.{IsWithinType, part_said}
 use Rattle.collective_notes.specs.Notes.{member_at}
 use Rattle.collectives.specs.State.{State, is_left, is_of_present, members_incarnation}
 use Rattle.collectives.specs.State as state
@@ -26,8 +26,9 @@ use Rattle.perfect_groups.specs.Membership.{Present}
 use Rattle.proof_collective_steps.proofs.Carried.{attempt_follows}
 use Rattle.proof_group_network.proofs.SplitPlans.{flipped}
 use Rattle.proof_collective_steps.proofs.KeptNotes.{noted_more}
-use Rattle.proof_collective_steps.specs.Counterparts.{AreSaid, IsNoted, IsSaid, IsWithinType, SaidFits, StandsFor, members_of, record_of}
-use Rattle.proof_collective_steps.specs.Shown.{CopiesHaveTheirGroup, HasEnded, IsShown, or_given}
+use Rattle.proof_collective_steps.specs.Counterparts.{AreSaid, IsNoted, IsSaid, SaidFits, StandsFor, members_of, record_of}
+use Rattle.proof_collective_steps.specs.Shown.{HasEnded, IsShown, or_given}
+use Rattle.proof_group_network.specs.Copies.{CopiesHaveTheirGroup}
 use Rattle.proof_collective_steps.specs.StepLaws.{MessagesArrive, MessagesFollow, ReadyMessagesGive}
 use Rattle.proof_group_network.specs.Notices as network
 use Rattle.proof_group_network.specs.Notices.{HasEntered, HasMade, HasResult, Member, Notice, attempt, is_elsewhere, noted}
@@ -52,7 +53,7 @@ left_same : (e : Endpoint) (s : State) (h : ContextsState) (m : Member) (before 
 left_same e s h m before b n x a =
     λ t. nat_lt (a.number t) ((ap (λ (c : ℕ). m.membership.count c) a.context ∙ b.count n.context) t) && elsewhere_same e h before s.present m.membership.present b.present n x a t
 
-noted_shown : (e : Endpoint) (s : State) (h : ContextsState) (m : Member) (before : Option Ending) → IsShown e s h m before → (n : Note) (x : network.Note) → IsNoted e n x →
+pub noted_shown : (e : Endpoint) (s : State) (h : ContextsState) (m : Member) (before : Option Ending) → IsShown e s h m before → (n : Note) (x : network.Note) → IsNoted e n x →
     IsShown e (state.noted s n) h (noted m x.sender x.notice) before
 noted_shown e s h m before b n x a =
     subst (λ (v : Bool). IsShown e (state.noted s n) h (if v then m else record { membership = m.membership; serial = m.serial; kept = m.kept ++ x ∷ [] }) before) (sym (left_same e s h m before b n x a))
@@ -80,7 +81,7 @@ same_present m x w = go (network.is_left m.membership w)
     go true = refl
     go false = refl
 
-same_own : (s : State) (n : Note) → (state.noted s n).own ≡ s.own
+pub same_own : (s : State) (n : Note) → (state.noted s n).own ≡ s.own
 same_own s n = go (is_left s n)
   where
     go : (v : Bool) → (if v then s else record s { kept = s.kept ++ n ∷ [] }).own ≡ s.own

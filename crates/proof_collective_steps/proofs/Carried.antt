@@ -45,7 +45,8 @@ use Rattle.perfect_groups.specs.Results.{new_groups}
 use Rattle.proof_collective_steps.proofs.KeptNotes.{GroupIs, found_same, without_same}
 use Rattle.proof_collective_steps.proofs.Verdicts.{Alike, DecidesIs, here, verdicts_alike}
 use Rattle.proof_collective_steps.specs.Counterparts.{AreNoted, AreSaid, GivenStandsFor, IsSaid, SaidFits, StandsFor, communicator_of, members_of, part_of, record_of}
-use Rattle.proof_collective_steps.specs.Shown.{CopiesHaveTheirGroup, IsPresent, IsShown, ending_is, or_given}
+use Rattle.proof_collective_steps.specs.Shown.{IsPresent, IsShown, ending_is, or_given}
+use Rattle.proof_group_network.specs.Copies.{CopiesHaveTheirGroup}
 use Rattle.proof_group_network.proofs.SortedOnce.{IsIn, all_more, all_there}
 use Rattle.proof_group_network.proofs.SplitPlans.{flipped}
 use Rattle.proof_group_network.proofs.SplitPlans.{splits_follow}

@@ -28,7 +28,8 @@ use Rattle.proof_collective_steps.proofs.Carried.{attempt_follows, every, others
 use Rattle.proof_collective_steps.proofs.Counting.{raised_count}
 use Rattle.proof_collective_steps.proofs.Verdicts.{Alike, here, verdicts_alike}
 use Rattle.proof_collective_steps.specs.Counterparts.{AreSaid, GivenStandsFor, IsSaid, communicator_of, part_of}
-use Rattle.proof_collective_steps.specs.Shown.{CopiesHaveTheirGroup, HasItsGroup, IsShown}
+use Rattle.proof_collective_steps.specs.Shown.{IsShown}
+use Rattle.proof_group_network.specs.Copies.{CopiesHaveTheirGroup, HasItsGroup}
 use Rattle.proof_collective_steps.specs.StepLaws.{EntriesFollow, entry_notices}
 use Rattle.proof_group_network.specs.Network.{is_broken}
 use Rattle.proof_group_network.specs.Notices as network
@@ -80,7 +81,7 @@ joining e i ranks false =
 
 -- THE MEMBER HAS ENTERED
 
-member_incarnation : (e : Endpoint) (inc : ℕ) (ranks : List ℕ) → list_any (λ m. is_same m e) (map (member_at inc) ranks) ≡ true → e.incarnation ≡ inc
+pub member_incarnation : (e : Endpoint) (inc : ℕ) (ranks : List ℕ) → list_any (λ m. is_same m e) (map (member_at inc) ranks) ≡ true → e.incarnation ≡ inc
 member_incarnation e inc [] h = absurd cc
 member_incarnation e inc (r ∷ rs) h = go (λ k. member_incarnation e inc rs k) (r == e.rank) (inc == e.incarnation) refl h
   where

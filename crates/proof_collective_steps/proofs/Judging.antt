@@ -1,9 +1,10 @@
 -- Entering breaks a rule at the rank just where it does so at the member.
 use Rattle.std.proofs.Common.{◌≡◌, ℕ, ◌+◌, ◌<◌, ◌≤◌, ◌^◌, Bool, true, false, not, ◌&&◌, ◌||◌, List, length, Option, Some, None, option_map, is_some, if◌then◌else◌, ◌==◌, slice_get, nat_le, nat_lt, inl, inr, refl, sym, ap, ◌∙◌, subst, arith}
+use Rattle.std.specs.Prelude.{is_none}
 use Rattle.std.proofs.lemmas.Bool.{cases_lt, eqb-true, le-leb, le-ltb, leb-true, lt-ltb}
 use Rattle.std.proofs.lemmas.List.{length-map}
 use Rattle.std.proofs.lemmas.Option.{slice_get-map}
-use Rattle.collectives.specs.Calls.{entry_fault, fault_on, most_collectives}
+use Rattle.collectives.specs.Calls.{entry_fault, limit_on, most_collectives, or_limit}
 use Rattle.collective_notes.specs.Entering as entering
 use Rattle.collective_notes.specs.Notes.{member_at}
 use Rattle.collectives.specs.State.{State, members_incarnation}
@@ -12,6 +13,7 @@ use Rattle.collective_notes.specs.Verdicts.{is_first}
 use Rattle.collective_notes.specs.declared.entry.Entry.{Entry}
 use Rattle.collective_notes.specs.declared.entry.Entry.TheVariants as entries
 use Rattle.collective_notes.specs.declared.entry.Inside.{Inside}
+use Rattle.collective_notes.specs.declared.refused.Refused.{Refused}
 use Rattle.collective_notes.specs.declared.refused.Refused.TheVariants as refusals
 use Rattle.context_agreement.specs.Communicators.{ContextsState}
 use Rattle.context_agreement.specs.Numbers.{number_of}
@@ -71,6 +73,16 @@ on_held e h m place x holds n count false true false false lacking a b c d = (ho
 on_held e h m place x holds n count false true false true true a b c d = (holds, inr (b, inr d))
 on_held e h m place x holds n count false true false true false a b c d = (holds, d)
 
+-- what entering breaks where the rank is in no collective, by the communicator at the place
+abbrev fault_on : State → ContextsState → Option held.Communicator → Entry → Option Refused
+fault_on s h o x = or_limit (if is_none o then Some refusals.NoCommunicator else None) (limit_on s h o x)
+
+-- the same, whether or not it is in one
+abbrev fault_by : State → ContextsState → (place : ℕ) → Option Inside → Entry → Option Refused
+fault_by s h place i x =
+    or_limit (if is_some i then Some refusals.Blocked else (if is_none (slice_get h.held place) then Some refusals.NoCommunicator else None))
+    (limit_on s h (slice_get h.held place) x)
+
 judged : (e : Endpoint) (s : State) (h : ContextsState) (m : Member) → IsShown e s h m None → (place : ℕ) (x : Entry) → m.membership.present ≡ None → (o : Option held.Communicator) → slice_get h.held place ≡ o →
     IsJudged e h m place x (fault_on (record s { own = e }) h o x)
 judged e s h m b place x out o q = go o q (sym (ap (λ (cs : List Communicator). slice_get cs place) (sym b.held)) ∙ slice_get-map (communicator_of e) h.held place)
@@ -90,8 +102,8 @@ entries_are_judged e s h m place x b = go s.present refl b.present
   where
     go : (i : Option Inside) → s.present ≡ i → IsPresent e h i m.membership.present → IsJudged e h m place x (entry_fault s h place x)
     go (Some i) at p =
-        subst (λ (o : Option Inside). IsJudged e h m place x (if is_some o then Some refusals.Blocked else fault_on s h (slice_get h.held place) x)) (sym at) (ap is_within p.is)
+        subst (λ (o : Option Inside). IsJudged e h m place x (fault_by s h place o x)) (sym at) (ap is_within p.is)
     go None at p =
-        subst (λ (o : Option Inside). IsJudged e h m place x (if is_some o then Some refusals.Blocked else fault_on s h (slice_get h.held place) x)) (sym at)
+        subst (λ (o : Option Inside). IsJudged e h m place x (fault_by s h place o x)) (sym at)
         (subst (λ (o : Endpoint). IsJudged e h m place x (fault_on (record s { own = o }) h (slice_get h.held place) x)) (sym b.own)
         (judged e s h m b place x p (slice_get h.held place) refl))

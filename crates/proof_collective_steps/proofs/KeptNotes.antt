@@ -24,7 +24,7 @@ use Rattle.perfect_groups.specs.Communicators.{Communicator}
 use Rattle.perfect_groups.specs.Results.{all_agree, all_parts, with_first}
 use Rattle.perfect_queues.specs.Refusals.{world}
 use Rattle.proof_collective_steps.specs.Counterparts.{AreNoted, IsNoted, SaidFits, StandsFor, part_of, record_of}
-use Rattle.proof_collective_steps.specs.Shown.{HasItsGroup}
+use Rattle.proof_group_network.specs.Copies.{HasItsGroup}
 use Rattle.proof_group_network.specs.Notices as network
 use Rattle.proof_group_network.specs.Notices.{HasDifference, HasMade, is_of_it, part_known, part_told, result_said, result_told, this_part, this_result}
 use Rattle.proof_group_network.specs.Splits as splits

@@ -6,3 +6,5 @@ pub mod Arriving
 pub mod Counting
 pub mod Joining
 pub mod Judging
+pub mod Sending
+pub mod RankSteps

@@ -19,7 +19,7 @@ use Rattle.perfect_groups.specs.Communicators.{Communicator}
 use Rattle.perfect_groups.specs.Results.{all_parts}
 use Rattle.proof_collective_steps.proofs.KeptNotes.{AllTold, Heard, HeardIs, all_known, differs_same, heard, placed}
 use Rattle.proof_collective_steps.specs.Counterparts.{AreNoted, part_of}
-use Rattle.proof_collective_steps.specs.Shown.{HasItsGroup}
+use Rattle.proof_group_network.specs.Copies.{HasItsGroup}
 use Rattle.proof_group_network.specs.Notices as network
 use Rattle.proof_group_network.specs.Notices.{part_known, result_told, verdict_by}
 use Rattle.proof_group_network.specs.Splits as splits

@@ -13,7 +13,6 @@ use Rattle.collective_notes.specs.declared.note.Said.{Said}
 use Rattle.collective_notes.specs.declared.note.Said.TheVariants as said
 use Rattle.context_agreement.specs.Numbers.{number_of}
 use Rattle.context_agreement.specs.declared.communicator.Communicator as held
-use Rattle.datatypes.specs.Contents.{AreWithin}
 use Rattle.payload.specs.Spelling.{SaysNothing, elements_of}
 use Rattle.payload.specs.declared.operation.Operation.{Operation}
 use Rattle.payload.specs.declared.operation.Operation.TheVariants as operations
@@ -147,9 +146,3 @@ AreSaid e [] [] = Unit {0}
 AreSaid e [] (x ∷ xs) = ⊥
 AreSaid e (m ∷ ms) [] = ⊥
 AreSaid e (m ∷ ms) (x ∷ xs) = IsSaid e m x × AreSaid e ms xs
-
--- each element that a message carries, and each rank, is within its type: a buffer keeps it so
-abbrev pub IsWithinType : Given → Type 0
-IsWithinType (given.Elements way b) = AreWithin (size_of b.basic) b.values
-IsWithinType (given.NewGroup number ranks) = AreWithin (size_of ranks.basic) ranks.values
-IsWithinType _ = Unit {0}

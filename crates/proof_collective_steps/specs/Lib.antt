@@ -1,3 +1,5 @@
 pub mod Counterparts
 pub mod Shown
 pub mod StepLaws
+pub mod Sending
+pub mod RankLaws

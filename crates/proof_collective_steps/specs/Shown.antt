@@ -1,6 +1,5 @@
 -- When what a rank keeps of collectives and communicators stands for its member of the pure network.
-use Rattle.std.specs.Prelude.{◌≡◌, ℕ, ◌≤◌, true, false, ◌==◌, List, map, Option, Some, None, slice_get}
-use Rattle.std.specs.List.{AllByRecursion}
+use Rattle.std.specs.Prelude.{◌≡◌, ℕ, ◌≤◌, map, Option, Some, None, slice_get}
 use Rattle.collectives.specs.State.{State, members_incarnation}
 use Rattle.collective_notes.specs.Tallies.{count_in}
 use Rattle.collective_notes.specs.declared.entry.Inside as code
@@ -9,12 +8,9 @@ use Rattle.collectives.specs.declared.step.Ending.TheVariants as endings
 use Rattle.context_agreement.specs.Communicators.{ContextsState}
 use Rattle.context_agreement.specs.Numbers.{number_of}
 use Rattle.context_agreement.specs.declared.communicator.Communicator as held
-use Rattle.perfect_groups.specs.Collectives.{Record, dup}
-use Rattle.perfect_groups.specs.Communicators.{Communicator}
 use Rattle.perfect_groups.specs.Membership.{Comm, Ending, Failed, Inside, Left, Out, Present}
-use Rattle.perfect_queues.specs.Refusals.{world}
 use Rattle.proof_collective_steps.specs.Counterparts.{AreNoted, communicator_of, part_of}
-use Rattle.proof_group_network.specs.Notices.{HasMade, Member, Note, is_of_it}
+use Rattle.proof_group_network.specs.Notices.{Member}
 use Rattle.vocabulary.specs.declared.endpoint.Endpoint.{Endpoint}
 
 -- the rank at e is in a collective of a communicator that it holds, and whose members have its own incarnation
@@ -60,17 +56,3 @@ pub record IsShown (e : Endpoint) (s : State) (h : ContextsState) (m : Member) (
 abbrev pub or_given : (before after : Option steps.Ending) → Option steps.Ending
 or_given None x = x
 or_given (Some y) x = Some y
-
--- A note of a copy of this collective tells of the members of the communicator that was copied, in a context that isn't
--- world's. A message of a copy names the context alone, and the rank takes the group that it holds; in the network it is so
--- since there is one group for each context
-abbrev pub HasItsGroup : Communicator → (number : ℕ) → Note → Type 0
-HasItsGroup c k x =
-    (r : Record) (d : Communicator) → is_of_it c.context k x ≡ true → x.notice.said ≡ HasMade r (Some d) → r.kind ≡ dup →
-    (d.members ≡ c.members) × ((d.context == world) ≡ false)
-
--- the notes of the collective that a member is in do
-abbrev pub CopiesHaveTheirGroup : Option Present → List Note → Type 0
-CopiesHaveTheirGroup None notes = Unit {0}
-CopiesHaveTheirGroup (Some (Out o)) notes = Unit {0}
-CopiesHaveTheirGroup (Some (Inside c k p)) notes = AllByRecursion (HasItsGroup c k) notes

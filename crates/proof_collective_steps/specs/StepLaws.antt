@@ -2,7 +2,7 @@
 use Rattle.std.specs.Prelude.{◌≡◌, ℕ, ◌≤◌, ◌⊎◌, true, false, ◌++◌, List, length, Option, Some, None, Ok, slice_get}
 use Rattle.collective_notes.specs.Arrivals.{ArrivalGives}
 use Rattle.collectives.specs.Calls.{EntryGives, IsReady, MessageGives, entered, entry_fault, inside_of, learned, lesson_ending, most_collectives, with_note}
-use Rattle.collective_notes.specs.Messages.{says}
+use Rattle.collective_notes.specs.Messages.{IsWithinType, says}
 use Rattle.collectives.specs.State.{State}
 use Rattle.collectives.specs.Steps.{IsPreparedEntry, Prepared, after_step, contexts_after, ending_of}
 use Rattle.collective_notes.specs.declared.address.Address.{Address}
@@ -19,8 +19,9 @@ use Rattle.payload.specs.Spelling.{PayloadText}
 use Rattle.perfect_groups.specs.Communicators.{Communicator, is_member}
 use Rattle.perfect_groups.specs.Faults.{is_within}
 use Rattle.perfect_groups.specs.Results.{is_making}
-use Rattle.proof_collective_steps.specs.Counterparts.{AreSaid, IsNoted, IsSaid, IsWithinType, part_of}
-use Rattle.proof_collective_steps.specs.Shown.{CopiesHaveTheirGroup, IsShown, or_given}
+use Rattle.proof_collective_steps.specs.Counterparts.{AreSaid, IsNoted, IsSaid, part_of}
+use Rattle.proof_collective_steps.specs.Shown.{IsShown, or_given}
+use Rattle.proof_group_network.specs.Copies.{CopiesHaveTheirGroup}
 use Rattle.proof_group_network.specs.Network.{has_serials, is_broken, member_settled}
 use Rattle.proof_group_network.specs.Notices as network
 use Rattle.proof_group_network.specs.Notices.{Member, Notice, attempt, joins_unless, member_entering, member_learned, noted, verdict}

@@ -412,6 +412,11 @@ tried_hears n members entered made links e c k p y real h inside v = by_said y i
 pub clash : false ≡ true → ⊥
 clash z = absurd (grind arith)
 
+-- communicators that are numbered have these members
+numbered_members : (e : Endpoint) (i : ℕ) (gs : List (List Endpoint)) → map (λ (x : Communicator). x.members) (numbered e i gs) ≡ gs
+numbered_members e i [] = refl
+numbered_members e i (ms ∷ rest) = ap (λ (xs : List (List Endpoint)). ms ∷ xs) (numbered_members e (suc i) rest)
+
 -- leaving by what was entered
 tried_decides : (n : ℕ) (members : Endpoint → Member) (entered : Entered) (made : Made) (links : Endpoint → Endpoint → NoticeLink) (e : Endpoint) (c : Communicator) (k : ℕ) (p : Part) (ps : List Part) → n ≤ 65536 → IsReal e → Honest n (groups_by members entered made) (λ x. (members x).kept) links →
     (members e).membership.present ≡ Some (Inside c k p) → verdict e c k p (members e).kept ≡ Decides ps →
@@ -559,7 +564,7 @@ tried_decides n members entered made links e c k p ps le real h inside v = go (i
 
         outs : (t : Bool) → answers_others p.record_is.kind ≡ t → AllByRecursion (λ (o : Endpoint × Notice). IsTrue n g' e o.0 o.1) (results_to e c k p ps true new t)
         outs false tq = tt
-        outs true tq = others_all (λ (o : Endpoint × Notice). IsTrue n g' e o.0 o.1) e (λ x. notice c.context k (result_for c p ps true new x)) c.members (λ x. record { result = result (then_made true) more x tq; makes = bq; all = new; made = with_made_here made c.context k new; value = refl })
+        outs true tq = others_all (λ (o : Endpoint × Notice). IsTrue n g' e o.0 o.1) e (λ x. notice c.context k (result_for c p ps true new x)) c.members (λ x. record { result = result (then_made true) more x tq; makes = bq; all = new; made = with_made_here made c.context k new; groups = numbered_members e m.serial (new_groups p.record_is.kind c.members ps); value = refl })
 
         made_here : Tried n members entered made links e (left true) (then_made true) (out true)
         made_here =

@@ -174,12 +174,12 @@ within_none None h = refl
 within_none (Some x) h = absurd (grind arith)
 
 -- a call that is taken finds its caller in no collective, and names a root that there is
-record IsFree (known : ℕ → ℕ) (m : Membership) (c : Call) : Type 0 where
+pub record IsFree (known : ℕ → ℕ) (m : Membership) (c : Call) : Type 0 where
   pub present : m.present ≡ None
   pub rooted : wrong_root m c ≡ false
   pub replaced : wrong_incarnation known m c ≡ false
 
-free_call : (e : Endpoint) (l : Local) (m : Membership) (c : Call) → fault e l m c ≡ None → IsFree l.known m c
+pub free_call : (e : Endpoint) (l : Local) (m : Membership) (c : Call) → fault e l m c ≡ None → IsFree l.known m c
 free_call e l m c h = record { present = within_none m.present (or_false (is_held l.blocked) (is_within m.present) held.0).1; rooted = no_fault_at tests 6 (wrong_root m c, 7) h refl; replaced = no_fault_at tests 8 (wrong_incarnation l.known m c, 11) h refl }
   where
     first : Bool
@@ -211,7 +211,7 @@ root_there m (Enter comm p) t h w r = go (held_at m comm) h w
         second true b x y = y
         second false b x y = absurd (grind arith)
 
-none_replaced : (known : ℕ → ℕ) (m : Membership) (c : Call) (t : Communicator × Part) → entry_of m c ≡ Some t → wrong_incarnation known m c ≡ false → list_any (is_replaced known) t.0.members ≡ false
+pub none_replaced : (known : ℕ → ℕ) (m : Membership) (c : Call) (t : Communicator × Part) → entry_of m c ≡ Some t → wrong_incarnation known m c ≡ false → list_any (is_replaced known) t.0.members ≡ false
 none_replaced known m (Isend comm to tag from) t h w = absurd (grind arith)
 none_replaced known m (Irecv comm source tag into) t h w = absurd (grind arith)
 none_replaced known m (Wait a) t h w = absurd (grind arith)

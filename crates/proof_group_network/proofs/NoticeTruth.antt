@@ -1,5 +1,5 @@
 -- What notices tell is true, and stays true.
-use Rattle.std.proofs.Common.{◌≡◌, ℕ, Bool, true, false, ◌&&◌, ◌||◌, not, List, [], ◌∷◌, Option, Some, None, if◌then◌else◌, ◌==◌, refl, sym, ◌∙◌, subst, arith}
+use Rattle.std.proofs.Common.{◌≡◌, ℕ, Bool, true, false, ◌&&◌, ◌||◌, not, List, [], ◌∷◌, map, Option, Some, None, if◌then◌else◌, ◌==◌, refl, sym, ◌∙◌, subst, arith}
 use Rattle.std.specs.List.{AllByRecursion, list_any}
 use Rattle.std.proofs.lemmas.Bool.{eqb-true, and_parts}
 use Rattle.std.proofs.lemmas.Option.{same_Some}
@@ -7,7 +7,7 @@ use Rattle.perfect_groups.proofs.GroupProofs.{there_more}
 use Rattle.perfect_groups.specs.Collectives.{Part, Record, agree}
 use Rattle.perfect_groups.specs.Communicators.{Communicator}
 use Rattle.perfect_groups.specs.Membership.{Groups, mine}
-use Rattle.perfect_groups.specs.Results.{all_agree, all_parts, awaited, handed_to, is_making, with_first}
+use Rattle.perfect_groups.specs.Results.{all_agree, all_parts, awaited, handed_to, is_making, new_groups, with_first}
 use Rattle.perfect_groups.specs.Soundness.{Grows, IsThere}
 use Rattle.perfect_queues.proofs.EndpointLemmas.{same_eq}
 use Rattle.proof_group_network.specs.Notices.{HasDifference, HasEntered, HasMade, HasResult, Note, Notice, Said, is_differing, is_of_it, part_known, part_said, part_told, result_said, result_told, this_part, this_result}
@@ -61,6 +61,8 @@ pub record MadeIs (n : ℕ) (E : ℕ → ℕ → Endpoint → Option Part) (M : 
   pub makes : is_making r.kind ≡ true
   pub all : List Communicator
   pub made : M c k ≡ Some all
+  -- of the groups that the members asked for
+  pub groups : map (λ (x : Communicator). x.members) all ≡ new_groups r.kind result.comm.members result.parts
   pub value : mine d all ≡ o
 
 abbrev pub IsTrueSaid : ℕ → Groups → (s d : Endpoint) → (c k : ℕ) → Said → Type 0
@@ -98,7 +100,7 @@ result_more n g g' s d c k r grow t =
 pub true_more : (n : ℕ) (g g' : Groups) (s d : Endpoint) (c k : ℕ) (x : Said) → Grows g g' → IsTrueSaid n g s d c k x → IsTrueSaid n g' s d c k x
 true_more n g g' s d c k (HasEntered p) grow t = grow.entered c k s p t
 true_more n g g' s d c k (HasResult r v) grow t = record { result = result_more n g g' s d c k r grow t.result; makes = t.makes; value = t.value }
-true_more n g g' s d c k (HasMade r o) grow t = record { result = result_more n g g' s d c k r grow t.result; makes = t.makes; all = t.all; made = grow.made c k t.all t.made; value = t.value }
+true_more n g g' s d c k (HasMade r o) grow t = record { result = result_more n g g' s d c k r grow t.result; makes = t.makes; all = t.all; made = grow.made c k t.all t.made; groups = t.groups; value = t.value }
 true_more n g g' s d c k (HasDifference r) grow t = difference_more g g' c k grow t
 
 pub all_true : (n : ℕ) (g g' : Groups) (s d : Endpoint) (xs : List Notice) → Grows g g' → AllByRecursion (IsTrue n g s d) xs → AllByRecursion (IsTrue n g' s d) xs

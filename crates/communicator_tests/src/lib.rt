@@ -1,0 +1,13 @@
+//! Each call on the communicators of a rank on its happy path, the rules that it breaks, and groups that are shared.
+#![tactic(auto)]
+
+#[cfg(test)]
+mod entering_tests;
+#[cfg(test)]
+mod members_tests;
+#[cfg(test)]
+mod naming_tests;
+#[cfg(test)]
+mod ranks;
+#[cfg(test)]
+mod rules_tests;

@@ -1,0 +1,74 @@
+//! A rank that holds communicators, enters collectives and is told of them. Each step answers plain values.
+
+use communicators::{Address, Communicators, Ending, Entry, entries_are_allowed};
+use payload::{Choice, NewGroup, Part, Payload, Record};
+use std::alloc::Global;
+use vocabulary::Endpoint;
+
+/// How many messages go out, and the ending of the collective that the rank leaves; or the number of the refusal.
+pub(crate) type Step = Result<(usize, Option<Ending>), u8>;
+
+/// A split in which all have one colour and one key.
+pub(crate) const SPLIT: Entry = Entry::Split(Choice {
+    colour: Some(0),
+    key: 0,
+});
+
+/// The message by which a split gives the communicator of ranks 1 and 0 of world, in this order.
+pub(crate) const TURNED: Payload<'static> = Payload {
+    entered: Record::Split,
+    part: Part::NewGroup(NewGroup {
+        context: 9,
+        ranks: &[0, 1, 0, 0],
+    }),
+};
+
+/// The communicators of a rank of a job with so many ranks, none of which was started anew.
+pub(crate) fn rank_of(alloc: Global, rank: u16, size: u16) -> Option<Communicators> {
+    let own = Endpoint {
+        rank,
+        incarnation: 0,
+    };
+    Communicators::new(alloc, own, size).ok()
+}
+
+/// The rank enters a collective of the communicator at a place, where no rank is known to be replaced.
+#[tactic(auto, using(crate::proofs::Entering::entry_allowed))]
+pub(crate) fn enter(rank: &mut Communicators, place: usize, entry: Entry) -> Step {
+    if let Some(fault) = rank.fault_of_entry(false, &[], Some(place), entry) {
+        return Err(fault.number());
+    }
+    // An entry that breaks no rule can be made ready.
+    entries_are_allowed();
+    match rank.prepare_entry(place, entry) {
+        Ok(ready) => {
+            let told = ready.messages().len();
+            Ok((told, rank.enter(ready)))
+        }
+        Err(refused) => Err(refused.number()),
+    }
+}
+
+/// A message of rank 0 of the first collective on world comes to the rank.
+pub(crate) fn arrive(rank: &mut Communicators, payload: Payload<'_>) -> Step {
+    let address = Address {
+        sender: Endpoint {
+            rank: 0,
+            incarnation: 0,
+        },
+        context: 0,
+        number: 0,
+    };
+    match rank.prepare_message(None, address, payload) {
+        Ok(ready) => {
+            let told = ready.messages().len();
+            Ok((told, rank.on_message(ready)))
+        }
+        Err(refused) => Err(refused.number()),
+    }
+}
+
+/// Rank 1 of two gets the communicator of ranks 1 and 0 at place 2; whether it did.
+pub(crate) fn turn(rank: &mut Communicators) -> bool {
+    enter(rank, 0, SPLIT).is_ok() && arrive(rank, TURNED).is_ok() && !rank.lacks(Some(2))
+}

@@ -1,0 +1,4 @@
+pub mod Carrying
+pub mod Arriving
+pub mod EventSteps
+pub mod MessageSteps

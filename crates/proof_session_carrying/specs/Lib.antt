@@ -1,0 +1,4 @@
+pub mod Carrying
+pub mod CarryLaws
+pub mod EventLaws
+pub mod MessageLaws
