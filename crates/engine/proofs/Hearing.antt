@@ -1,19 +1,18 @@
 -- What is heard in a datagram: at which incarnation its source is known then, and what a refusal leaves.
-use Rattle.std.proofs.Common.{◌≡◌, ◌<◌, ℕ, List, [], ◌∷◌, length, max, Option, Some, None, Result, Ok, Err, Bool, true, false, refl, sym, ap, subst, ◌∙◌, arith, append-nil, inl, inr}
+use Rattle.std.proofs.Common.{◌≡◌, ◌<◌, ℕ, List, [], ◌∷◌, length, max, Option, Some, None, Result, Ok, Err, Bool, true, false, refl, sym, ap, subst, ◌∙◌, arith, inl, inr}
 use Rattle.std.proofs.lemmas.Grind.{common_steps}
 use Rattle.std.proofs.lemmas.List.{get_or-set_same}
 use Rattle.std.specs.Prelude.{OnOk, slice_index}
 use Rattle.vocabulary.specs.declared.endpoint.Endpoint.{Endpoint}
 use Rattle.datagram.specs.declared.datagram.Header.{Header}
 use Rattle.datagram.specs.declared.refused.Refused as reading
-use Rattle.datagram.specs.Spelling.{BodyText, FrameBody, AckBody, ResetBody, DatagramText}
+use Rattle.datagram.specs.Spelling.{BodyText, EagerText, FrameBody, AckBody, ResetBody, DatagramText}
 use Rattle.datagram.specs.Reading.{datagram_of}
 use Rattle.incarnation.specs.declared.judgement.Judgement.{Judgement}
 use Rattle.incarnation.specs.declared.judgement.Judgement.TheVariants.{Current, Learn}
 use Rattle.incarnation.specs.declared.refused.Refused as judging
 use Rattle.incarnation.specs.declared.refused.Refused.TheVariants as judgings
 use Rattle.incarnation.specs.Judging.{judgement}
-use Rattle.rank_core.specs.CoreState.{CoreState}
 use Rattle.rank_calls.specs.declared.refused.Refused.{Refused}
 use Rattle.rank_calls.specs.declared.refused.Refused.TheVariants as refusals
 use Rattle.sessions.specs.declared.refused.Refused as lower
@@ -21,28 +20,22 @@ use Rattle.sessions.specs.declared.refused.Refused.TheVariants as lowers
 use Rattle.sessions.specs.declared.heard.Unheard.{Unheard}
 use Rattle.sessions.specs.Peers.{peer_at}
 use Rattle.sessions.specs.SessionsState.{SessionsState, knowledge}
-use Rattle.sessions.specs.Heard.{WordText, Acknowledges, Repeats, Hands, Nothing, HeardText, heard_by, heard_in, heard_of, said, session_met, stale, word_of}
+use Rattle.sessions.specs.Heard.{WordText, HeardText, heard_by, heard_in, heard_of, said, session_met, stale, word_of}
 use Rattle.sessions.specs.Events as links
 use Rattle.sessions.specs.Events.{Sending, TurnedAway, after_send, after_sends, taught_known}
 use Rattle.engine.specs.EngineState.{EngineState}
 use Rattle.engine.specs.Refusals.{of_sessions}
-use Rattle.engine.specs.Datagrams.{DatagramGives, HeardGives, HearingGives, RefusedDatagramLeaves, SourceIsKnown, replies, says_nothing}
-use Rattle.engine.proofs.Calling.{both, joined}
-
--- ---- what says nothing new
-
-nothing_at : (e : EngineState) (source : Endpoint) (lesson : Bool) (word : WordText) → says_nothing lesson word ≡ true →
-    HeardGives e (record { source = source; lesson = lesson; word = word }) (Ok tt) e
-nothing_at e source true word is = absurd cc
-nothing_at e source false (Acknowledges n) is = absurd cc
-nothing_at e source false Repeats is = absurd cc
-nothing_at e source false (Hands b) is = absurd cc
-nothing_at e source false Nothing is =
-    (refl, ap (λ (out : List (ℕ × List ℕ)). record e { sessions = record e.sessions { out = out } }) (sym (append-nil e.sessions.out)))
-
--- it is taken in, and nothing changes
-pub nothing_heard : (e : EngineState) (h : HeardText) → says_nothing h.lesson h.word ≡ true → HeardGives e h (Ok tt) e
-nothing_heard e h is = nothing_at e h.source h.lesson h.word is
+use Rattle.engine.specs.Datagrams.{
+  DatagramGives,
+  HeardGives,
+  HeardGivesBy,
+  HearingGives,
+  RefusedDatagramLeaves,
+  SourceIsKnown,
+  notice_in,
+  replies,
+}
+use Rattle.engine.specs.Frames.{step_sendings}
 
 -- ---- at which incarnation the source is known then
 
@@ -101,6 +94,15 @@ known_sends : (s : SessionsState) (fs : List Sending) → (after_sends s fs).kno
 known_sends s [] = refl
 known_sends s (f ∷ fs) = known_sends (after_send s f) fs
 
+-- what was heard was carried out, with these frames
+record IsCarried (old : SessionsState) (h : HeardText) (new : SessionsState) : Type 0 where
+  frames : List Sending
+  carried : new ≡ links.after_event old (Some h) frames
+
+carried_by : (n : Option EagerText) (old new : EngineState) (h : HeardText) (x : Unit {0}) → HeardGivesBy n old h (Ok x) new → IsCarried old.sessions h new.sessions
+carried_by None old new h x gives = record { frames = replies old.core h; carried = ap (λ (e : EngineState). e.sessions) gives.1 }
+carried_by (Some t) old new h x gives = record { frames = step_sendings old.sessions.place gives.ready.step.messages; carried = gives.sessions }
+
 -- the source of what was taken in is known at the incarnation in its header
 pub heard_is_known : (old new : EngineState) (bytes : List ℕ) (h : HeardText) (result : Result (Unit {0}) Refused) →
     length old.sessions.known ≡ old.sessions.place.size → heard_of old.sessions bytes ≡ Ok h → HeardGives old h result new →
@@ -109,8 +111,9 @@ unfolding heard_of
 heard_is_known old new bytes h (Err e) each heard gives = tt
 heard_is_known old new bytes h (Ok x) each heard gives = λ d is.
     let by : heard_by (judgement (knowledge old.sessions) d.header) old.sessions d ≡ Ok h = sym (ap (heard_in old.sessions) is) ∙ heard in
-    ap (λ (e : EngineState). slice_index e.sessions.known d.header.source.rank) gives.1
-    ∙ ap (λ (known : List ℕ). slice_index known d.header.source.rank) (known_sends (links.after_heard old.sessions (Some h)) (replies old.core h))
+    let goes : IsCarried old.sessions h new.sessions = carried_by (notice_in h.word) old new h x gives in
+    ap (λ (s : SessionsState). slice_index s.known d.header.source.rank) goes.carried
+    ∙ ap (λ (known : List ℕ). slice_index known d.header.source.rank) (known_sends (links.after_heard old.sessions (Some h)) goes.frames)
     ∙ subst (λ (r : Result HeardText Unheard). Knows r old.sessions d.header.source) by
     (judged_knows (judgement (knowledge old.sessions) d.header) old.sessions d each refl)
 
@@ -121,8 +124,10 @@ left_as_it_was : (r : Refused) (old new : EngineState) → new ≡ old → Refus
 left_as_it_was refusals.Count old new is = is
 left_as_it_was refusals.WrongType old new is = is
 left_as_it_was refusals.Tag old new is = is
+left_as_it_was refusals.Communicator old new is = is
 left_as_it_was refusals.Rank old new is = is
 left_as_it_was refusals.Request old new is = is
+left_as_it_was refusals.Replaced old new is = is
 left_as_it_was refusals.Limit old new is = is
 left_as_it_was refusals.OutOfMemory old new is = is
 left_as_it_was refusals.Short old new is = is
@@ -174,23 +179,37 @@ bytes_tell : (bytes : List ℕ) (s : SessionsState) → ResetsTell (heard_of s b
 unfolding heard_of
 bytes_tell bytes s = read_tells (datagram_of bytes) s
 
+-- nothing but the sessions changed
+abbrev IsElsewhere : EngineState → EngineState → Type 0
+IsElsewhere old new = new ≡ record old { sessions = new.sessions }
+
+-- nor they
+kept : (old new : EngineState) → IsElsewhere old new → new.sessions ≡ old.sessions → new ≡ old
+kept old new is sessions = is ∙ ap (λ (s : SessionsState). record old { sessions = s }) sessions
+
 -- with a reset only what goes out changed
-with_reset_leaves : (old new : EngineState) (out : List (ℕ × List ℕ)) → new.core ≡ old.core → new.sessions ≡ record old.sessions { out = out } →
+with_reset_leaves : (old new : EngineState) (out : List (ℕ × List ℕ)) → IsElsewhere old new → new.sessions ≡ record old.sessions { out = out } →
     RefusedDatagramLeaves (Err refusals.StaleTarget) old new
-with_reset_leaves old new out core sessions =
-    both core (sessions ∙ ap (λ (s : SessionsState). record old.sessions { out = s.out }) (sym sessions))
+with_reset_leaves old new out is sessions =
+    is ∙ ap (λ (s : SessionsState). record old { sessions = s })
+    (sessions ∙ ap (λ (s : SessionsState). record old.sessions { out = s.out }) (sym sessions))
 
 turned_away_leaves : (old new : EngineState) (reset : Option Endpoint) (refused e : lower.Refused) → ResetTells reset refused →
-    new.core ≡ old.core → TurnedAway reset refused old.sessions e new.sessions → RefusedDatagramLeaves (Err (of_sessions e)) old new
-turned_away_leaves old new None refused e tells core away = left_as_it_was (of_sessions e) old new (both core away.1)
-turned_away_leaves old new (Some source) refused e tells core (inl away) =
-    subst (λ (r : lower.Refused). RefusedDatagramLeaves (Err (of_sessions r)) old new) (sym (away.0 ∙ tells)) (with_reset_leaves old new _ core away.1)
-turned_away_leaves old new (Some source) refused e tells core (inr away) = left_as_it_was (of_sessions e) old new (both core away.1)
+    IsElsewhere old new → TurnedAway reset refused old.sessions e new.sessions → RefusedDatagramLeaves (Err (of_sessions e)) old new
+turned_away_leaves old new None refused e tells is away = left_as_it_was (of_sessions e) old new (kept old new is away.1)
+turned_away_leaves old new (Some source) refused e tells is (inl away) =
+    subst (λ (r : lower.Refused). RefusedDatagramLeaves (Err (of_sessions r)) old new) (sym (away.0 ∙ tells)) (with_reset_leaves old new _ is away.1)
+turned_away_leaves old new (Some source) refused e tells is (inr away) = left_as_it_was (of_sessions e) old new (kept old new is away.1)
+
+-- what is heard and refused changes nothing
+unheard_leaves : (n : Option EagerText) (old new : EngineState) (h : HeardText) (e : Refused) → HeardGivesBy n old h (Err e) new → new ≡ old
+unheard_leaves None old new h e gives = gives.2
+unheard_leaves (Some t) old new h e gives = gives.1
 
 hearing_leaves : (heard : Result HeardText Unheard) (old new : EngineState) (result : Result (Unit {0}) Refused) → ResetsTell heard →
     HearingGives heard old result new → RefusedDatagramLeaves result old new
 hearing_leaves (Ok h) old new (Ok x) tells gives = tt
-hearing_leaves (Ok h) old new (Err e) tells gives = left_as_it_was e old new gives.2
+hearing_leaves (Ok h) old new (Err e) tells gives = left_as_it_was e old new (unheard_leaves (notice_in h.word) old new h e gives)
 hearing_leaves (Err u) old new result tells gives =
     subst (λ (r : Result (Unit {0}) Refused). RefusedDatagramLeaves r old new) (sym gives.1)
     (turned_away_leaves old new u.reset u.refused gives.0 tells gives.2 gives.3)
@@ -202,7 +221,7 @@ refusal_leaves old new bytes result gives = hearing_leaves (heard_of old.session
 
 -- ---- turning away
 
--- the core stays as it is
-pub turned_away : (c : CoreState) (s t : SessionsState) (u : Unheard) (e : lower.Refused) → TurnedAway u.reset u.refused s e t →
-    HearingGives (Err u) (joined c s) (Err (of_sessions e)) (joined c t)
-turned_away c s t u e away = (e, refl, refl, away)
+-- all but the sessions stays as it is
+pub turned_away : (e : EngineState) (t : SessionsState) (u : Unheard) (why : lower.Refused) → TurnedAway u.reset u.refused e.sessions why t →
+    HearingGives (Err u) e (Err (of_sessions why)) (record e { sessions = t })
+turned_away e t u why away = (why, refl, refl, away)

@@ -1,4 +1,10 @@
-pub mod Calling
-pub mod Hearing
-pub mod Frames
+pub mod Limits
+pub mod Clear
+pub mod Asks
+pub mod Answering
+pub mod Entered
+pub mod Ruled
+pub mod Stepping
+pub mod Taken
 pub mod Replies
+pub mod Hearing

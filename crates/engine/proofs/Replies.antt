@@ -21,7 +21,7 @@ use Rattle.requests.specs.declared.table.Entry.{Entry}
 use Rattle.rank_core.specs.CoreState.{CoreState}
 use Rattle.rank_calls.specs.declared.sending.Addressed.{Addressed}
 use Rattle.rank_calls.specs.Frames.{FrameFor, addressed_text, as_list}
-use Rattle.rank_calls.specs.Hearing.{CanGo, HeardFits, announced_of, data_frames, wanted_frames}
+use Rattle.rank_calls.specs.Hearing.{CanGo, announced_of, data_frames, wanted_frames}
 use Rattle.rank_core.specs.Hearing.{called_for, news_frames, taught}
 use Rattle.rank_calls.specs.Receiving.{answer_on_arrival}
 use Rattle.sessions.specs.declared.heard.Outgoing.{Outgoing}
@@ -29,8 +29,8 @@ use Rattle.sessions.specs.declared.refused.Refused as lower
 use Rattle.sessions.specs.declared.refused.Refused.TheVariants as lowers
 use Rattle.sessions.specs.Refusals as lowest
 use Rattle.sessions.specs.Events.{AreFor, CanSend, Sending, most_answers, sendings}
-use Rattle.sessions.specs.Heard.{Acknowledges, Hands, HeardText, Nothing, Repeats, WordFits, WordText}
-use Rattle.engine.specs.Calls.{outgoing_of, sending_of}
+use Rattle.sessions.specs.Heard.{Acknowledges, Hands, HeardText, Nothing, Repeats, WordText}
+use Rattle.engine.specs.Frames.{outgoing_of, sending_of}
 use Rattle.engine.specs.Datagrams.{frame_in, news_of, replies}
 
 -- ---- to whom they go
@@ -122,13 +122,6 @@ few_go_out c h os out old says each window =
     (window h.source.rank (length (news_frames c (news_of h))) are)
 
 -- ---- what becomes of it
-
--- what is handed up is within the format's limits
-pub news_fit : (w : WordText) → WordFits w → HeardFits (frame_in w)
-news_fit (Acknowledges n) fits = tt
-news_fit Repeats fits = tt
-news_fit (Hands f) fits = fits
-news_fit Nothing fits = tt
 
 -- where there is no limit, only memory was wanting
 pub only_memory : (l : Option lower.Refused) (e : lower.Refused) → l ≡ None → lowest.IsRefusal l e → e ≡ lowers.OutOfMemory

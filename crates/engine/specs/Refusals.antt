@@ -1,7 +1,11 @@
--- The refusals of the sessions, as the engine's.
+-- The refusals of the sessions, of communicators and of collectives, as the engine's.
 use Rattle.std.specs.Prelude.{Option, Some, None}
+use Rattle.collective_notes.specs.declared.refused.Refused as notes
+use Rattle.collective_notes.specs.declared.refused.Refused.TheVariants as notes_refusals
+use Rattle.communicators.specs.declared.fault.Fault as rules
+use Rattle.communicators.specs.declared.fault.Fault.TheVariants as rule_faults
 use Rattle.rank_calls.specs.declared.refused.Refused.{Refused}
-use Rattle.rank_calls.specs.declared.refused.Refused.TheVariants.{Rank, Limit, OutOfMemory, Short, Magic, Version, Kind, Length, ForeignJob, NotForMe, StaleSource, StaleTarget, BadFrame, OutOfWindow, ClockBack}
+use Rattle.rank_calls.specs.declared.refused.Refused.TheVariants.{Communicator, Rank, Replaced, Request, Limit, OutOfMemory, Short, Magic, Version, Kind, Length, ForeignJob, NotForMe, StaleSource, StaleTarget, BadFrame, OutOfWindow, ClockBack}
 use Rattle.sessions.specs.declared.refused.Refused as lower
 use Rattle.sessions.specs.declared.refused.Refused.TheVariants as lowers
 
@@ -32,3 +36,18 @@ fault_of_sessions (Some e) = Some (of_sessions e)
 abbrev pub first_fault : Option Refused → Option Refused → Option Refused
 first_fault (Some e) other = Some e
 first_fault None other = other
+
+-- a rule that a call breaks by its communicator, or a limit that it meets there
+abbrev pub of_rule : rules.Fault → Refused
+of_rule rule_faults.Blocked = Request
+of_rule rule_faults.NoCommunicator = Communicator
+of_rule rule_faults.Replaced = Replaced
+of_rule rule_faults.Limit = Limit
+
+-- a refusal of collectives
+abbrev pub of_collectives : notes.Refused → Refused
+of_collectives notes_refusals.NoCommunicator = Communicator
+of_collectives notes_refusals.Blocked = Request
+of_collectives notes_refusals.Limit = Limit
+of_collectives notes_refusals.OutOfMemory = OutOfMemory
+of_collectives notes_refusals.BadFrame = BadFrame

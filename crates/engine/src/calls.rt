@@ -1,44 +1,42 @@
 //! How an engine answers calls.
 
-ghost use Rattle.std.specs.Prelude.{◌≡◌, ◌≤◌, ◌<◌, ◌+◌, length, All, IfOk, OnErr, None};
-ghost use Rattle.rank_calls.specs.Calls.{IsTaken, IsWithin, NeedsMemory};
-ghost use Rattle.rank_core.specs.Calls.{CanAnswer, call_fault, call_frame};
-ghost use Rattle.sessions.specs.Events.{CanSend, sendings};
-ghost use Rattle.engine.specs.Calls.{CallGives, FrameGives, RefusedLeaves, fault_of, frame_limit};
+ghost use Rattle.std.specs.Prelude.{◌≡◌, ◌≤◌, ◌<◌, ◌+◌, ◌*◌, length, Option, IfErr, IfOk, OnErr, OnOk, None};
+ghost use Rattle.collectives.specs.declared.step.Ending.{Ending};
+ghost use Rattle.rank_calls.specs.Calls.{NeedsMemory};
+ghost use Rattle.rank_core.specs.Calls.{CanAnswer, call_frame};
+ghost use Rattle.engine.specs.Asks.{AnswerGives, AskGives, CanAsk, CanAskBy, IsAsked, IsClear, IsOnRequests, call_named, engine_of, groups_of};
+ghost use Rattle.engine.specs.Calls.{CallGives, CoreGives, RefusedLeaves};
+ghost use Rattle.engine.specs.Faults.{fault_of};
+ghost use Rattle.engine.specs.Frames.{after_frame};
+ghost use Rattle.engine.specs.declared.call.Call as engine_calls;
+ghost use Rattle.engine.specs.declared.call.Call.TheVariants as calls;
+ghost use Rattle.vocabulary.specs.declared.envelope.Source.TheVariants.{Null};
 
+use crate::asked::{Asked, told, with_members};
+use crate::call::{Call, Receive, Send};
 use crate::engine::Engine;
-use crate::refusals::of_sessions;
-use rank_core::{Call, Core, Prepared, Refused, Reply};
+use crate::judging::{Judged, ask_on_requests, ask_to_receive, ask_to_send, judgement};
+use crate::reply::Reply;
+use communicators::Communicators;
+use rank_core::{Core, Handed, Prepared, Refused};
 use sessions::{Outgoing, Sessions};
+use std::alloc::Global;
 
-/// The limit that the frame of a call meets, if the call has one. It takes no memory.
-#[tactic(auto, using(crate::proofs::Frames::no_limit_is_met))]
-fn limit_of_frame(core: &Core, sessions: &Sessions, call: &Call) -> Option<Refused>
-    requires allowed { call_fault core.now.state call.now ≡ None }
-    requires place { core.now.state.place ≡ sessions.now.place }
-    ensures { result ≡ frame_limit sessions.now (call_frame core.now.state call.now) }
-{
-    let Some(rank) = core.rank_of(call) else {
-        return None;
-    };
-    match sessions.limit_to(rank) {
-        Some(limit) => Some(of_sessions(limit)),
-        None => None,
-    }
-}
-
-/// Sends the frame of a call that breaks no rule, if it has one: it is lent from the call, or from what was made ready.
-#[tactic(auto, using(crate::proofs::Frames::frame_needs))]
+/// Sends the frame of what the core is asked, if it has one, which meets no limit: it is lent from the call, or from what was
+/// made ready.
+#[tactic(auto, using(crate::proofs::Limits::frame_needs))]
 fn send_frame(
     core: &Core,
     sessions: &mut Sessions,
-    call: &Call,
+    call: &rank_core::Call,
     prepared: &Prepared,
 ) -> Result<(), Refused>
-    requires allowed { call_fault core.now.state call.now ≡ None }
+    requires clear { IsClear core.now.state sessions.old call.now }
     requires ready { CanAnswer core.now call.now prepared.now }
     requires place { core.now.state.place ≡ sessions.old.place }
-    ensures sent { FrameGives sessions.old (call_frame core.now.state call.now) result sessions.new }
+    ensures sent { OnOk result (sessions.new ≡ after_frame sessions.old (call_frame core.now.state call.now)) }
+    ensures unchanged { OnErr result (sessions.new ≡ sessions.old) }
+    ensures err { IfErr result (λ e. e ≡ Refused.OutOfMemory) }
     ensures need { OnErr result (NeedsMemory call.now) }
     ensures few { length sessions.new.out ≤ length sessions.old.out + 1 }
     ensures placed { sessions.new.place ≡ sessions.old.place }
@@ -52,26 +50,28 @@ fn send_frame(
     };
     match sessions.carry_out(None, &[outgoing]) {
         Ok(()) => Ok(()),
-        Err(refused) => Err(of_sessions(refused)),
+        Err(_) => Err(Refused::OutOfMemory),
     }
 }
 
-/// Makes way in both halves for a call that breaks no rule: the limit of its frame is looked at, what it needs is made
-/// ready, and its frame, if it has one, is sent.
-#[tactic(auto, using(crate::proofs::Frames::limit_needs))]
-fn make_way(core: &mut Core, sessions: &mut Sessions, call: &Call) -> Result<Prepared, Refused>
-    requires allowed { call_fault core.old.state call.now ≡ None }
+/// Makes way in the core and the sessions for what breaks no rule and meets no limit: what it needs is made ready, and its
+/// frame, if it has one, is sent.
+fn make_way(
+    core: &mut Core,
+    sessions: &mut Sessions,
+    call: &rank_core::Call,
+) -> Result<Prepared, Refused>
+    requires clear { IsClear core.old.state sessions.old call.now }
     requires place { core.old.state.place ≡ sessions.old.place }
-    ensures sent { FrameGives sessions.old (call_frame core.old.state call.now) result sessions.new }
+    ensures sent { OnOk result (sessions.new ≡ after_frame sessions.old (call_frame core.old.state call.now)) }
+    ensures unchanged { OnErr result (sessions.new ≡ sessions.old) }
     ensures room { IfOk result (λ prepared. CanAnswer core.new call.now prepared) }
+    ensures err { IfErr result (λ e. e ≡ Refused.OutOfMemory) }
     ensures need { OnErr result (NeedsMemory call.now) }
     ensures kept { core.new.state ≡ core.old.state }
     ensures few { length sessions.new.out ≤ length sessions.old.out + 1 }
     ensures placed { sessions.new.place ≡ sessions.old.place }
 {
-    if let Some(limit) = limit_of_frame(core, sessions, call) {
-        return Err(limit);
-    }
     let prepared = core.prepare(call)?;
     match send_frame(core, sessions, call, &prepared) {
         Ok(()) => Ok(prepared),
@@ -79,43 +79,223 @@ fn make_way(core: &mut Core, sessions: &mut Sessions, call: &Call) -> Result<Pre
     }
 }
 
-impl Engine {
-    /// The first rule or limit that a call would be refused by now, of 6, 2, 1, 3, 5 and 13: see `call`. It takes no memory; a
-    /// call that meets none is refused for want of memory (14) alone.
-    pub fn fault_of(&self, call: &Call) -> Option<Refused>
-        ensures { result ≡ fault_of self.now call.now }
-    {
-        if let Some(fault) = self.core.fault_of(call) {
-            return Some(fault);
+/// The core's answer to what breaks no rule and meets no limit; or it comes back for want of memory.
+#[tactic(auto, using(crate::proofs::Answering::answer_given))]
+fn answer(core: &mut Core, sessions: &mut Sessions, call: rank_core::Call) -> rank_core::Reply
+    requires clear { IsClear core.old.state sessions.old call }
+    requires place { core.old.state.place ≡ sessions.old.place }
+    ensures exact { AnswerGives core.old.state sessions.old call result core.new.state sessions.new }
+    ensures few { length sessions.new.out ≤ length sessions.old.out + 1 }
+    ensures placed { sessions.new.place ≡ sessions.old.place }
+    ensures core_placed { core.new.state.place ≡ core.old.state.place }
+{
+    match make_way(core, sessions, &call) {
+        Ok(prepared) => core.answer(call, prepared),
+        Err(refused) => rank_core::Reply::Refused(refused, call),
+    }
+}
+
+/// The engine's answer to a call by which the core is asked this.
+#[tactic(auto, using(crate::proofs::Clear::clear_same))]
+fn answer_asked(
+    alloc: Global,
+    core: &mut Core,
+    communicators: &Communicators,
+    sessions: &mut Sessions,
+    asked: Asked,
+) -> Reply
+    requires can { CanAsk core.old.state (groups_of communicators.now) sessions.old asked }
+    requires place { core.old.state.place ≡ sessions.old.place }
+    ensures exact { (ended : Option Ending) (call : engine_calls.Call) →
+        IsAsked (engine_of core.old.state (groups_of communicators.now) ended sessions.old) call asked →
+        CoreGives (engine_of core.old.state (groups_of communicators.now) ended sessions.old) call result
+        (engine_of core.new.state (groups_of communicators.now) ended sessions.new) }
+    ensures few { length sessions.new.out ≤ length sessions.old.out + 1 }
+    ensures placed { sessions.new.place ≡ sessions.old.place }
+    ensures core_placed { core.new.state.place ≡ core.old.state.place }
+{
+    match with_members(alloc, communicators, asked) {
+        Ok(asked) => {
+            let Asked { comm, named, call } = asked;
+            told(comm, named, answer(core, sessions, call))
         }
-        limit_of_frame(&self.core, &self.sessions, call)
+        Err(asked) => Reply::Refused(Refused::OutOfMemory, asked.into_call()),
+    }
+}
+
+/// The engine's answer to a call by which the core is asked this, unless it was refused.
+fn answer_unless_refused(
+    alloc: Global,
+    core: &mut Core,
+    communicators: &Communicators,
+    sessions: &mut Sessions,
+    asked: Result<Asked, Handed<Call>>,
+) -> Reply
+    requires can { CanAskBy core.old.state (groups_of communicators.now) sessions.old asked }
+    requires place { core.old.state.place ≡ sessions.old.place }
+    ensures exact { (ended : Option Ending) (call : engine_calls.Call) →
+        AskGives (engine_of core.old.state (groups_of communicators.now) ended sessions.old) call asked →
+        CoreGives (engine_of core.old.state (groups_of communicators.now) ended sessions.old) call result
+        (engine_of core.new.state (groups_of communicators.now) ended sessions.new) }
+    ensures few { length sessions.new.out ≤ length sessions.old.out + 1 }
+    ensures placed { sessions.new.place ≡ sessions.old.place }
+    ensures core_placed { core.new.state.place ≡ core.old.state.place }
+{
+    match asked {
+        Ok(asked) => answer_asked(alloc, core, communicators, sessions, asked),
+        Err(handed) => Reply::Refused(handed.refused, handed.value),
+    }
+}
+
+impl Engine {
+    /// What the core is to be asked by a send, unless it is refused by now.
+    fn asked_by_send(&self, send: Send) -> Result<Asked, Handed<Call>>
+        ensures { AskGives self.now (calls.Isend send) result }
+    {
+        ask_to_send(&self.core, &self.communicators, &self.sessions, send)
     }
 
-    /// Answers a call.
-    ///
-    /// Refused is the first that holds of: 6 (an earlier call is blocked, there is no such request, a list names one twice,
-    /// or what is cancelled is no receive), 2 (buffer and layout are of different basic types, or a receive names a place
-    /// twice), 1 (more than 1,048,576 bytes of data in a send, or the buffer is too short), 3 (the tag is above the
-    /// greatest, or the wildcard in a send), 5 (no such rank, or any rank in a send), 13 (65,536 requests are there, no
-    /// number is left for a large message to the rank, or a number would come round), 14. A refusal hands the call back,
-    /// and changes nothing. A send to the own rank (MPI 3.1, 3.2.4) or to the null process (3.11) emits no datagram; one of
-    /// more than 1,024 bytes to another rank is announced, and finished once that rank answers. A receive that takes a
-    /// message which was announced answers it: its data are to come where the receive has their type and places for them,
-    /// and else it has ended without them.
-    pub fn call(&mut self, call: Call) -> Reply
-        ensures exact { CallGives self.old call result self.new }
-        ensures within { IsTaken result → IsWithin call }
+    /// What the core is to be asked by a receive, unless it is refused by now.
+    fn asked_by_receive(&self, receive: Receive) -> Result<Asked, Handed<Call>>
+        ensures { AskGives self.now (calls.Irecv receive) result }
+    {
+        ask_to_receive(&self.core, &self.communicators, &self.sessions, receive)
+    }
+
+    /// What the core is to be asked by a call on requests, unless it is refused by now.
+    fn asked_on_requests(&self, call: rank_core::Call) -> Result<Asked, Handed<Call>>
+        requires { IsOnRequests call }
+        ensures { AskGives self.now (call_named None Null call) result }
+    {
+        ask_on_requests(&self.core, &self.communicators, call)
+    }
+
+    /// Answers a call by which the core is asked this, unless it was refused.
+    #[tactic(auto, using(crate::proofs::Asks::can_ask))]
+    fn reply_to(&mut self, asked: Result<Asked, Handed<Call>>) -> Reply
+        requires { CanAskBy self.old.core self.old.groups self.old.sessions asked }
+        ensures exact { (call : engine_calls.Call) → AskGives self.old call asked → CoreGives self.old call result self.new }
+        ensures few { length self.new.sessions.out ≤ length self.old.sessions.out + 1 }
+        ensures placed { self.new.sessions.place ≡ self.old.sessions.place }
+        ensures core_placed { self.new.core.place ≡ self.old.core.place }
+    {
+        answer_unless_refused(
+            self.alloc,
+            &mut self.core,
+            &self.communicators,
+            &mut self.sessions,
+            asked,
+        )
+    }
+
+    /// Answers a send.
+    fn isend(&mut self, send: Send) -> Reply
+        ensures exact { CoreGives self.old (calls.Isend send) result self.new }
         ensures unchanged { RefusedLeaves result self.old self.new }
         ensures few { length self.new.sessions.out ≤ length self.old.sessions.out + 1 }
         ensures placed { self.new.sessions.place ≡ self.old.sessions.place }
         ensures core_placed { self.new.core.place ≡ self.old.core.place }
     {
-        if let Some(refused) = self.core.fault_of(&call) {
-            return Reply::Refused(refused, call);
+        let asked = self.asked_by_send(send);
+        self.reply_to(asked)
+    }
+
+    /// Answers a receive.
+    fn irecv(&mut self, receive: Receive) -> Reply
+        ensures exact { CoreGives self.old (calls.Irecv receive) result self.new }
+        ensures unchanged { RefusedLeaves result self.old self.new }
+        ensures few { length self.new.sessions.out ≤ length self.old.sessions.out + 1 }
+        ensures placed { self.new.sessions.place ≡ self.old.sessions.place }
+        ensures core_placed { self.new.core.place ≡ self.old.core.place }
+    {
+        let asked = self.asked_by_receive(receive);
+        self.reply_to(asked)
+    }
+
+    /// Answers a call on requests.
+    fn call_on_requests(&mut self, call: rank_core::Call) -> Reply
+        requires { IsOnRequests call }
+        ensures exact { CoreGives self.old (call_named None Null call) result self.new }
+        ensures unchanged { RefusedLeaves result self.old self.new }
+        ensures few { length self.new.sessions.out ≤ length self.old.sessions.out + 1 }
+        ensures placed { self.new.sessions.place ≡ self.old.sessions.place }
+        ensures core_placed { self.new.core.place ≡ self.old.core.place }
+    {
+        let asked = self.asked_on_requests(call);
+        self.reply_to(asked)
+    }
+
+    /// The first rule or limit of a call on requests.
+    #[tactic(auto, using(crate::proofs::Asks::judged_fault, crate::proofs::Asks::judged_back))]
+    fn judge_on_requests(&self, call: rank_core::Call) -> Judged
+        requires { IsOnRequests call }
+        ensures fault { result.fault ≡ fault_of self.now (call_named None Null call) }
+        ensures back { result.call ≡ call_named None Null call }
+    {
+        judgement(self.asked_on_requests(call))
+    }
+
+    /// The first rule or limit that a call would be refused by now, of 6, 4, 2, 1, 3, 5, 11 and 13: see `call`; and the call as it
+    /// was handed in. It takes no memory; a call that meets none is refused for want of memory (14), and a collective also where
+    /// what the rank then does of itself meets a limit (13).
+    #[tactic(auto, using(crate::proofs::Asks::judged_fault, crate::proofs::Asks::judged_back))]
+    pub fn judge(&self, call: Call) -> Judged
+        ensures fault { result.fault ≡ fault_of self.now call }
+        ensures back { result.call ≡ call }
+    {
+        match call {
+            Call::Isend(send) => judgement(self.asked_by_send(send)),
+            Call::Irecv(receive) => judgement(self.asked_by_receive(receive)),
+            Call::Wait(request) => self.judge_on_requests(rank_core::Call::Wait(request)),
+            Call::Test(request) => self.judge_on_requests(rank_core::Call::Test(request)),
+            Call::Waitany(list) => self.judge_on_requests(rank_core::Call::Waitany(list)),
+            Call::Waitall(list) => self.judge_on_requests(rank_core::Call::Waitall(list)),
+            Call::Cancel(request) => self.judge_on_requests(rank_core::Call::Cancel(request)),
+            Call::Enter(comm, entry) => Judged {
+                fault: self.fault_of_entry(comm, entry),
+                call: Call::Enter(comm, entry),
+            },
+            Call::Ask(comm, question) => Judged {
+                fault: self.fault_of_question(comm, question),
+                call: Call::Ask(comm, question),
+            },
         }
-        match make_way(&mut self.core, &mut self.sessions, &call) {
-            Ok(prepared) => self.core.answer(call, prepared),
-            Err(refused) => Reply::Refused(refused, call),
+    }
+
+    /// Answers a call.
+    ///
+    /// Refused is the first that holds of: 6 (an earlier call is blocked, on requests or in a collective; there is no such
+    /// request, a list names one twice, or what is cancelled is no receive), 4 (MPI_COMM_NULL, or the rank holds no such
+    /// communicator, nor one to compare with), 2 (buffer and layout are of different basic types, or a receive names a place
+    /// twice), 1 (more than 1,048,576 bytes of data in a send, or the buffer is too short), 3 (the tag is above the greatest, or
+    /// the wildcard in a send), 5 (no such rank in the communicator, or any rank in a send), 11 (the member that is named is known
+    /// at another incarnation, which counts off `world` alone; in a collective any member), 13 (65,536 requests are there, no
+    /// number is left for a large message to the rank or for a frame to it, a communicator can't be held or given, or no further
+    /// collective may be entered on it), 14. A refusal hands the call back, and changes nothing. A send to the own rank (MPI 3.1,
+    /// 3.2.4) or to the null process (3.11) emits no datagram; one of more than 1,024 bytes to another rank is announced, and
+    /// finished once that rank answers. A receive that takes a message which was announced answers it: its data are to come
+    /// where the receive has their type and places for them, and else it has ended without them. A collective is entered, and
+    /// the other members are told; where it has not ended by that, the rank is blocked in it (5.1).
+    #[tactic(auto, using(crate::proofs::Answering::few_by_one))]
+    pub fn call(&mut self, call: Call) -> Reply
+        ensures exact { CallGives self.old call result self.new }
+        ensures unchanged { RefusedLeaves result self.old self.new }
+        ensures few { length self.new.sessions.out ≤ length self.old.sessions.out + 65 * self.old.sessions.place.size }
+        ensures placed { self.new.sessions.place ≡ self.old.sessions.place }
+        ensures core_placed { self.new.core.place ≡ self.old.core.place }
+    {
+        // The place shows that the job has a rank at least.
+        let _place = self.sessions.place();
+        match call {
+            Call::Isend(send) => self.isend(send),
+            Call::Irecv(receive) => self.irecv(receive),
+            Call::Wait(request) => self.call_on_requests(rank_core::Call::Wait(request)),
+            Call::Test(request) => self.call_on_requests(rank_core::Call::Test(request)),
+            Call::Waitany(list) => self.call_on_requests(rank_core::Call::Waitany(list)),
+            Call::Waitall(list) => self.call_on_requests(rank_core::Call::Waitall(list)),
+            Call::Cancel(request) => self.call_on_requests(rank_core::Call::Cancel(request)),
+            Call::Enter(comm, entry) => self.enter(comm, entry),
+            Call::Ask(comm, question) => self.ask(comm, question),
         }
     }
 }

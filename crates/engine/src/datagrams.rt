@@ -1,17 +1,24 @@
 //! How an engine takes datagrams in.
 
-ghost use Rattle.std.specs.Prelude.{◌≡◌, ◌≤◌, ◌<◌, ◌+◌, length, map, IfErr, IfOk, None, OnErr, OnOk, Some};
+ghost use Rattle.std.specs.Prelude.{◌≡◌, ◌≤◌, ◌<◌, ◌+◌, ◌*◌, length, map, option_map, IfErr, IfOk, None, Ok, Err, OnErr, OnOk, Option, Some};
+ghost use Rattle.collectives.specs.declared.step.Ending.{Ending};
+ghost use Rattle.datagram.specs.Spelling.{eager_text};
 ghost use Rattle.rank_calls.specs.Hearing.{frame_option, news_text};
 ghost use Rattle.rank_core.specs.Hearing.{CanTake, news_fault};
 ghost use Rattle.sessions.specs.Heard.{heard_text, word_text, CanHear, WordFits};
 ghost use Rattle.sessions.specs.Events.{after_event, event_limit};
-ghost use Rattle.engine.specs.Calls.{outgoing_of};
+ghost use Rattle.engine.specs.EngineState.{or_before};
+ghost use Rattle.engine.specs.Frames.{outgoing_of};
 ghost use Rattle.engine.specs.Refusals.{fault_of_sessions};
-ghost use Rattle.engine.specs.Datagrams.{DatagramGives, HeardGives, SourceIsKnown, RefusedDatagramLeaves, frame_in, news_of, replies, says_nothing};
+ghost use Rattle.engine.specs.Steps.{engine_of};
+ghost use Rattle.engine.specs.Datagrams.{DatagramGives, HeardGives, NewsGives, SourceIsKnown, RefusedDatagramLeaves, frame_in, news_of, notice_in, replies, says_nothing};
 
 use crate::engine::Engine;
+use crate::notices::{learn, lesson_in, or_before, take_message};
 use crate::refusals::of_sessions;
-use datagram::Frame;
+use collectives::Ending;
+use communicators::Communicators;
+use datagram::{Eager, Frame, Plane};
 use rank_core::{Addressed, Core, News, Ready, Refused};
 use sessions::{Heard, Outgoing, Sessions, Word};
 use std::alloc::Global;
@@ -25,6 +32,19 @@ fn frame_in<'a>(word: Word<'a>) -> Option<Frame<'a>>
         Word::Acknowledges(_) => None,
         Word::Repeats => None,
         Word::Nothing => None,
+    }
+}
+
+/// The message of a collective that is handed up, if one is.
+fn notice_in<'a>(word: Word<'a>) -> Option<Eager<'a>>
+    ensures { option_map eager_text result ≡ notice_in (word_text word.entry) }
+{
+    let Word::Hands(Frame::Eager(message)) = word else {
+        return None;
+    };
+    match message.plane {
+        Plane::Collective => Some(message),
+        Plane::PointToPoint => None,
     }
 }
 
@@ -112,20 +132,27 @@ fn limit_of_heard(core: &Core, sessions: &Sessions, heard: Heard<'_>) -> Option<
     }
 }
 
-/// Both halves take in what is heard, or refuse it.
-fn hear(core: &mut Core, sessions: &mut Sessions, heard: Heard<'_>) -> Result<(), Refused>
+/// All parts take in what is heard and is no message of a collective, or refuse it. Answered is with what a collective
+/// ends by it.
+fn take_news(
+    core: &mut Core,
+    communicators: &mut Communicators,
+    sessions: &mut Sessions,
+    heard: Heard<'_>,
+) -> Result<Option<Ending>, Refused>
     requires can { CanHear sessions.old (Some (heard_text heard)) }
     requires fits { WordFits (word_text heard.word) }
     requires place { core.old.state.place ≡ sessions.old.place }
-    ensures exact { HeardGives
-        (record { core = core.old.state; sessions = sessions.old }) (heard_text heard.entry) result
-        (record { core = core.new.state; sessions = sessions.new }) }
+    ensures ok { IfOk result (λ ending. (before : Option Ending) → NewsGives (engine_of core.old communicators.old before sessions.old)
+        (heard_text heard.entry) (Ok tt) (engine_of core.new communicators.new (or_before ending before) sessions.new)) }
+    ensures err { IfErr result (λ e. (before : Option Ending) → NewsGives (engine_of core.old communicators.old before sessions.old)
+        (heard_text heard.entry) (Err e) (engine_of core.new communicators.new before sessions.new)) }
     ensures few { length sessions.new.out ≤ length sessions.old.out + 65 }
     ensures placed { sessions.new.place ≡ sessions.old.place }
     ensures core_placed { core.new.state.place ≡ core.old.state.place }
 {
     if says_nothing(heard) {
-        return Ok(());
+        return Ok(None);
     }
     let news = news_of(heard);
     if let Some(fault) = core.fault_of_news(news) {
@@ -137,18 +164,69 @@ fn hear(core: &mut Core, sessions: &mut Sessions, heard: Heard<'_>) -> Result<()
     let ready = core.prepare_news(news)?;
     carry_out(core, sessions, heard, &ready)?;
     core.take_news(news, ready);
-    Ok(())
+    Ok(learn(communicators, lesson_in(heard)))
+}
+
+/// All parts take in what is heard, or refuse it. Answered is with what a collective ends by it.
+fn hear(
+    alloc: Global,
+    core: &mut Core,
+    communicators: &mut Communicators,
+    sessions: &mut Sessions,
+    heard: Heard<'_>,
+) -> Result<Option<Ending>, Refused>
+    requires can { CanHear sessions.old (Some (heard_text heard)) }
+    requires fits { WordFits (word_text heard.word) }
+    requires there { heard.source.rank < sessions.old.place.size }
+    requires place { core.old.state.place ≡ sessions.old.place }
+    ensures ok { IfOk result (λ ending. (before : Option Ending) → HeardGives (engine_of core.old communicators.old before sessions.old)
+        (heard_text heard.entry) (Ok tt) (engine_of core.new communicators.new (or_before ending before) sessions.new)) }
+    ensures err { IfErr result (λ e. (before : Option Ending) → HeardGives (engine_of core.old communicators.old before sessions.old)
+        (heard_text heard.entry) (Err e) (engine_of core.new communicators.new before sessions.new)) }
+    ensures few { length sessions.new.out ≤ length sessions.old.out + 65 * sessions.old.place.size }
+    ensures placed { sessions.new.place ≡ sessions.old.place }
+    ensures core_placed { core.new.state.place ≡ core.old.state.place }
+{
+    match notice_in(heard.word) {
+        Some(message) => take_message(alloc, core, communicators, sessions, heard, message),
+        None => take_news(core, communicators, sessions, heard),
+    }
 }
 
 impl Engine {
+    /// Takes in what is heard, or refuses it. With what a collective ends by it is kept until that is handed out.
+    fn take_heard(&mut self, heard: Heard<'_>) -> Result<(), Refused>
+        requires can { CanHear self.old.sessions (Some (heard_text heard)) }
+        requires fits { WordFits (word_text heard.word) }
+        requires there { heard.source.rank < self.old.sessions.place.size }
+        ensures exact { HeardGives self.old (heard_text heard.entry) result self.new }
+        ensures few { length self.new.sessions.out ≤ length self.old.sessions.out + 65 * self.old.sessions.place.size }
+        ensures placed { self.new.sessions.place ≡ self.old.sessions.place }
+        ensures core_placed { self.new.core.place ≡ self.old.core.place }
+    {
+        let ending = hear(
+            self.alloc,
+            &mut self.core,
+            &mut self.communicators,
+            &mut self.sessions,
+            heard,
+        )?;
+        self.ended = or_before(ending, self.ended);
+        Ok(())
+    }
+
     /// Takes a datagram in.
     ///
     /// Refused is the first that holds of: 21 to 25 and 30 (the bytes spell no datagram), 26 (another job), 27 (for
     /// another rank or a later incarnation of this one, or from no other rank of the job), 28 (from a former incarnation
     /// of its source), 29 (for a former incarnation of this rank: where the datagram is no reset itself, one reset goes
-    /// out to its source), 31 (a number outside the window), 30 (for now a message of a collective operation; an
-    /// announcement under another number than the next of its session; an answer to a transfer that is not offered; data
-    /// that are not due), 13 and 14. A refusal changes nothing, but for that reset; without memory for the reset it is 14.
+    /// out to its source), 31 (a number outside the window), 30 (a message of a collective that can't be read,
+    /// or carries what doesn't fit its record; an announcement under another number than the next of its session; an answer
+    /// to a transfer that is not offered; data that are not due), 13 and 14. A refusal changes nothing, but for that reset;
+    /// without memory for the reset it is 14.
+    ///
+    /// A message of a collective is kept until the rank has entered that collective; then, or where it has, the rank does of
+    /// itself all that follows, the others are told, and a rank that is thereby through leaves.
     ///
     /// An announcement of a large message that a receive waits for is answered: its data are to come where the receive
     /// has their type and places for them, and else the message is used up without them. Data that are asked for go out
@@ -158,21 +236,21 @@ impl Engine {
     /// handled. Both directions of the session start anew, so of a frame or an acknowledgement only number 0 is within
     /// the window; receives that name the rank or collect from it end as replaced, with their buffers as they were, and so do
     /// sends that wait for its answer; messages from its former incarnations that were not received are dropped, with
-    /// what came of those of which some data came. A reset that teaches nothing changes nothing. MPI 3.1 has
-    /// no restarts of a rank: these rules are this project's own. What is not refused leaves its source known at the
-    /// incarnation in its header.
+    /// what came of those of which some data came; and a collective that the rank is in with a former one among its members
+    /// ends with 11. A reset that teaches nothing changes nothing. MPI 3.1 has no restarts of a rank: these rules are this
+    /// project's own. What is not refused leaves its source known at the incarnation in its header.
     pub fn on_datagram(&mut self, bytes: &[u8]) -> Result<(), Refused>
         ensures exact { DatagramGives self.old bytes.now result self.new }
         ensures known { OnOk result (SourceIsKnown self.new bytes.now) }
         ensures unchanged { RefusedDatagramLeaves result self.old self.new }
-        ensures few { length self.new.sessions.out ≤ length self.old.sessions.out + 65 }
+        ensures few { length self.new.sessions.out ≤ length self.old.sessions.out + 65 * self.old.sessions.place.size }
         ensures placed { self.new.sessions.place ≡ self.old.sessions.place }
         ensures core_placed { self.new.core.place ≡ self.old.core.place }
     {
         // The place shows that there is a known incarnation for each rank.
         let _place = self.sessions.place();
         match self.sessions.judge(bytes) {
-            Ok(heard) => hear(&mut self.core, &mut self.sessions, heard),
+            Ok(heard) => self.take_heard(heard),
             Err(unheard) => Err(of_sessions(self.sessions.turn_away(unheard))),
         }
     }

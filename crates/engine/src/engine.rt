@@ -1,14 +1,17 @@
 //! The engine of one rank.
 
-ghost use Rattle.std.specs.Prelude.{◌≡◌, ◌≤◌, ◌+◌, ◌*◌, ◌↔◌, length, [], All, IsTrue, IfOk, OnOk, OnErr, None, IfErr};
+ghost use Rattle.std.specs.Prelude.{◌≡◌, ◌≤◌, ◌+◌, ◌*◌, ◌↔◌, length, All, IsTrue, IfOk, OnOk, OnErr, None, IfErr};
 ghost use Rattle.rank_calls.specs.Refusals.{IsRefusal};
 ghost use Rattle.sessions.specs.Peers.{IsIdlePeer};
 ghost use Rattle.sessions.specs.SessionsState.{SessionGives};
 ghost use Rattle.engine.specs.Places.{place_fault};
-ghost use Rattle.engine.specs.EngineState.{opening, without_completion, without_out};
+ghost use Rattle.engine.specs.EngineState.{completion_by, completion_of, opening, without_completion, without_out};
 ghost use Rattle.engine.specs.Ticks.{TickGives};
 
-use crate::refusals::of_sessions;
+use crate::refusals::{of_collectives, of_sessions};
+use crate::reply::Completion;
+use collectives::Ending;
+use communicators::Communicators;
 use datagram::Bytes;
 use incarnation::Place;
 use rank_core::{Core, Refused};
@@ -20,8 +23,14 @@ use std::marker::Model;
 /// One rank of a job.
 #[derive(Drop)]
 pub struct Engine {
+    /// Where the memory of its own comes from.
+    pub(crate) alloc: Global,
     /// Its calls, requests and messages.
     pub(crate) core: Core,
+    /// The communicators that it holds, and its collectives.
+    pub(crate) communicators: Communicators,
+    /// With what the collective ended that it was blocked in, until that is handed out.
+    pub(crate) ended: Option<Ending>,
     /// Its sessions with the other ranks.
     pub(crate) sessions: Sessions,
 }
@@ -32,14 +41,30 @@ impl Model for Engine {
 
     ghost Value = { EngineState };
 
-    ghost view = { λ e. record { core = e.core.state; sessions = e.sessions } };
+    ghost view = { λ e. record {
+      core = e.core.state;
+      groups = record { collective = e.communicators.collective.state; contexts = e.communicators.contexts.state };
+      ended = e.ended;
+      sessions = e.sessions;
+    } };
 
     ghost invariant = { λ e. e.core.state.place ≡ e.sessions.place };
 }
 
+/// The answer of a blocked call: that of its collective, or that of its requests.
+fn completion_by(ended: Option<Ending>, answer: Option<Answer>) -> Option<Completion>
+    ensures { result ≡ completion_by ended answer }
+{
+    match (ended, answer) {
+        (Some(ending), _) => Some(Completion::Collective(ending)),
+        (None, Some(answer)) => Some(Completion::Requests(answer)),
+        (None, None) => None,
+    }
+}
+
 impl Engine {
-    /// The engine of a rank at its start: nothing is pending, its clock is at 0, no session has begun, and every other
-    /// rank is known at incarnation 0.
+    /// The engine of a rank at its start: it holds `world` and `self`, nothing is pending, its clock is at 0, no session has
+    /// begun, and every other rank is known at incarnation 0.
     ///
     /// Refused with 5 where the rank is not below the size, with 13 where the size is above 256, and with 14.
     pub fn new(alloc: Global, place: Place) -> Result<Engine, Refused>
@@ -52,7 +77,16 @@ impl Engine {
             Err(refused) => return Err(of_sessions(refused)),
         };
         let core = Core::new(alloc, place)?;
-        Ok(Engine { core, sessions })
+        match Communicators::new(alloc, place.endpoint, place.size) {
+            Ok(communicators) => Ok(Engine {
+                alloc,
+                core,
+                communicators,
+                ended: None,
+                sessions,
+            }),
+            Err(refused) => Err(of_collectives(refused)),
+        }
     }
 
     /// Which rank of which job this is, and at which incarnation.
@@ -88,13 +122,14 @@ impl Engine {
         self.sessions.take_out()
     }
 
-    /// Hands out the answer of a blocked call, once, after the event in which it was ready. An answer that isn't taken is
-    /// lost when the next one comes.
-    pub fn take_completion(&mut self) -> Option<Answer>
-        ensures completion { result ≡ self.old.core.completion }
+    /// Hands out the answer of a blocked call, once, after the event in which it was ready: of its requests, or of the
+    /// collective that it entered. It is to be taken after each such event: of two answers that were not taken one is lost.
+    pub fn take_completion(&mut self) -> Option<Completion>
+        ensures completion { result ≡ completion_of self.old }
         ensures rest { self.new ≡ without_completion self.old }
     {
-        self.core.take_completion()
+        let answer = self.core.take_completion();
+        completion_by(self.ended.take(), answer)
     }
 
     /// Whether no frame of any session waits or is unacknowledged. It takes no memory.

@@ -1,8 +1,9 @@
-//! The refusals of the sessions, as the engine's.
+//! The refusals of the sessions, of communicators and of collectives, as the engine's.
 
 ghost use Rattle.std.specs.Prelude.{◌≡◌};
-ghost use Rattle.engine.specs.Refusals.{of_sessions};
+ghost use Rattle.engine.specs.Refusals.{of_collectives, of_rule, of_sessions};
 
+use communicators::Fault;
 use rank_core::Refused;
 
 /// A refusal of the sessions.
@@ -25,5 +26,30 @@ pub(crate) fn of_sessions(refused: sessions::Refused) -> Refused
         sessions::Refused::BadFrame => Refused::BadFrame,
         sessions::Refused::OutOfWindow => Refused::OutOfWindow,
         sessions::Refused::ClockBack => Refused::ClockBack,
+    }
+}
+
+/// A rule that a call breaks by its communicator, or a limit that it meets there.
+pub(crate) fn of_rule(fault: Fault) -> Refused
+    ensures { result ≡ of_rule fault }
+{
+    match fault {
+        Fault::Blocked => Refused::Request,
+        Fault::NoCommunicator => Refused::Communicator,
+        Fault::Replaced => Refused::Replaced,
+        Fault::Limit => Refused::Limit,
+    }
+}
+
+/// A refusal of collectives.
+pub(crate) fn of_collectives(refused: communicators::Refused) -> Refused
+    ensures { result ≡ of_collectives refused }
+{
+    match refused {
+        communicators::Refused::NoCommunicator => Refused::Communicator,
+        communicators::Refused::Blocked => Refused::Request,
+        communicators::Refused::Limit => Refused::Limit,
+        communicators::Refused::OutOfMemory => Refused::OutOfMemory,
+        communicators::Refused::BadFrame => Refused::BadFrame,
     }
 }

@@ -2,7 +2,7 @@
 //! failed; a test makes the engines, calls one helper and compares.
 
 use datatypes::Buffer;
-use engine::{Call, Engine, Place, Receive, Refused, Reply, Send, Session};
+use engine::{Call, Completion, Engine, Place, Receive, Refused, Reply, Send, Session};
 use requests::{Answer, Outcome, Region, Request, RequestList};
 use std::alloc::Global;
 use vocabulary::{BasicType, Endpoint, Source};
@@ -43,6 +43,7 @@ fn started(reply: Reply) -> Option<Request> {
 
 fn start_send(alloc: Global, engine: &mut Engine) -> Option<Request> {
     let call = Call::Isend(Send {
+        comm: Some(0),
         target: Source::Rank(1),
         tag: Some(3),
         from: Region::whole(copies(alloc, 7, 1)?),
@@ -52,6 +53,7 @@ fn start_send(alloc: Global, engine: &mut Engine) -> Option<Request> {
 
 fn start_receive(alloc: Global, engine: &mut Engine, source: Source) -> Option<Request> {
     let call = Call::Irecv(Receive {
+        comm: Some(0),
         source,
         tag: None,
         into: Region::whole(copies(alloc, 0, 2)?),
@@ -62,6 +64,7 @@ fn start_receive(alloc: Global, engine: &mut Engine, source: Source) -> Option<R
 /// A send of rank 0 to itself, of no elements.
 fn send_to_itself(alloc: Global) -> Call {
     Call::Isend(Send {
+        comm: Some(0),
         target: Source::Rank(0),
         tag: Some(3),
         from: Region::whole(Buffer::new(alloc, BasicType::Uint8)),
@@ -98,6 +101,14 @@ fn deliver_twice(from: &mut Engine, to: &mut Engine) -> Option<()> {
         to.on_datagram(bytes.as_slice()).ok()?;
     }
     Some(())
+}
+
+/// The answer of a call on requests that was blocked.
+fn completed(engine: &mut Engine) -> Option<Answer> {
+    match engine.take_completion() {
+        Some(Completion::Requests(answer)) => Some(answer),
+        _ => None,
+    }
 }
 
 fn received_count(answer: Option<Answer>) -> Option<u64> {
@@ -147,7 +158,7 @@ fn pass_message(
     let wanted = start_receive(alloc, receiver, Source::Any)?;
     let blocked = is_blocked(receiver, wanted);
     deliver(sender, receiver)?;
-    let count = received_count(receiver.take_completion());
+    let count = received_count(completed(receiver));
     deliver(receiver, sender)?;
     Some((blocked, count, sender.is_idle()))
 }
@@ -193,7 +204,7 @@ fn learn_by_message(
     let blocked = is_blocked(receiver, named);
     deliver(sender, receiver)?;
     deliver(receiver, sender)?;
-    let replaced = is_replaced(receiver.take_completion());
+    let replaced = is_replaced(completed(receiver));
     let count = done_count(receiver.call(Call::Wait(Some(any))));
     let incarnation = incarnation_of(receiver.session(0));
     Some((blocked, replaced, count, incarnation, sender.is_idle()))
@@ -370,11 +381,12 @@ fn wait_for_several(
     deliver(sender, receiver)?;
     let _second = start_send(alloc, sender)?;
     deliver(sender, receiver)?;
-    Some((place, outcome_count(receiver.take_completion())))
+    Some((place, outcome_count(completed(receiver))))
 }
 
 fn send_to_nobody(alloc: Global) -> Call {
     Call::Isend(Send {
+        comm: Some(0),
         target: Source::Null,
         tag: Some(3),
         from: Region::whole(Buffer::new(alloc, BasicType::Uint8)),

@@ -1,8 +1,8 @@
 //! Large messages from rank 0 to rank 1.
 
 use crate::steps::{
-    Ending, Room, answered, deliver, ended, is_blocked, number_of_refusal, send_of, start_receive,
-    start_send, started, two_ranks, used_up,
+    Ending, Room, answered, completed, deliver, ended, is_blocked, number_of_refusal, send_of,
+    start_receive, start_send, started, two_ranks, used_up,
 };
 use datatypes::Buffer;
 use engine::{Call, Engine, Refused, Reply};
@@ -50,7 +50,7 @@ fn answer_announcement(
     deliver(receiver, sender)?;
     Some(Answered {
         blocked,
-        sent: is_sent(sender.take_completion()),
+        sent: is_sent(completed(sender)),
         emitted: sender.take_out().len(),
         end: ended(receiver, wanted),
     })
@@ -270,7 +270,7 @@ fn learn_while_announced(
         return None;
     }
     deliver(restarted, sender)?;
-    Some((blocked, is_replaced(sender.take_completion())))
+    Some((blocked, is_replaced(completed(sender))))
 }
 
 /// The same, and how a receive of the restarted rank ends by a message of 1,025 bytes that is sent then.

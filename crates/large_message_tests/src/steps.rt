@@ -2,7 +2,7 @@
 //! step failed.
 
 use datatypes::Buffer;
-use engine::{Call, Engine, Place, Receive, Refused, Reply, Send};
+use engine::{Call, Completion, Engine, Place, Receive, Refused, Reply, Send};
 use requests::{Answer, Outcome, Region, Request};
 use std::alloc::Global;
 use vocabulary::{BasicType, Endpoint, Source};
@@ -85,6 +85,7 @@ fn zeros(alloc: Global, room: Room) -> Option<Buffer> {
 /// A send of these elements under tag 3.
 pub(crate) fn send_of(target: Source, elements: Buffer) -> Call {
     Call::Isend(Send {
+        comm: Some(0),
         target,
         tag: Some(3),
         from: Region::whole(elements),
@@ -117,6 +118,7 @@ pub(crate) fn start_receive(
     room: Room,
 ) -> Option<Request> {
     let call = Call::Irecv(Receive {
+        comm: Some(0),
         source,
         tag: Some(3),
         into: Region::whole(zeros(alloc, room)?),
@@ -127,6 +129,14 @@ pub(crate) fn start_receive(
 pub(crate) fn number_of_refusal(reply: Reply) -> Option<u8> {
     match reply {
         Reply::Refused(refused, _call) => Some(refused.number()),
+        _ => None,
+    }
+}
+
+/// The answer of a call on requests that was blocked.
+pub(crate) fn completed(engine: &mut Engine) -> Option<Answer> {
+    match engine.take_completion() {
+        Some(Completion::Requests(answer)) => Some(answer),
         _ => None,
     }
 }

@@ -1,6 +1,6 @@
 use Rattle.std.proofs.Common.{Some, None, sym, ◌∙◌}
-use Rattle.engine.proofs.Frames.{limit_is_met}
-use Rattle.engine.proofs.calls.limit_of_frame.Goals as goal
+use Rattle.engine.proofs.Limits.{limit_is_met}
+use Rattle.engine.proofs.judging.limit_of_frame.Goals as goal
 
 pub returns-in-Some-limit_to : goal.returns-in-Some-limit_to
 returns-in-Some-limit_to c =

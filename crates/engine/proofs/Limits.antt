@@ -21,7 +21,7 @@ use Rattle.rendezvous.specs.State.{State}
 use Rattle.sessions.specs.declared.refused.Refused as lower
 use Rattle.sessions.specs.Events.{event_limit}
 use Rattle.sessions.specs.SessionsState.{SessionsState}
-use Rattle.engine.specs.Calls.{frame_limit}
+use Rattle.engine.specs.Frames.{frame_limit}
 use Rattle.engine.specs.Refusals.{fault_of_sessions}
 
 -- every frame to this rank meets this limit
@@ -37,25 +37,25 @@ met_by s (Some f) rank limit is met =
     ap fault_of_sessions (subst (λ (r : ℕ). IsLimitTo s r limit) same met f.frame)
 
 -- by whether the destination is the own rank
-met_unless : (s : SessionsState) (own : Bool) (t : State) (to tag : ℕ) (m : Contents) (rank : ℕ) (limit : Option lower.Refused) →
-    rank_unless own (record { rank = to; tag = tag }) ≡ Some rank → IsLimitTo s rank limit →
-    fault_of_sessions limit ≡ frame_limit s (frame_unless own t (record { rank = to; tag = tag }) m)
-met_unless s true t to tag m rank limit is met = absurd cc
-met_unless s false t to tag m rank limit is met =
-    met_by s (Some (record { rank = to; frame = frame_with t (record { rank = to; tag = tag }) m })) rank limit is met
+met_unless : (s : SessionsState) (own : Bool) (t : State) (to tag context : ℕ) (m : Contents) (rank : ℕ) (limit : Option lower.Refused) →
+    rank_unless own (record { rank = to; tag = tag; context = context }) ≡ Some rank → IsLimitTo s rank limit →
+    fault_of_sessions limit ≡ frame_limit s (frame_unless own t (record { rank = to; tag = tag; context = context }) m)
+met_unless s true t to tag context m rank limit is met = absurd cc
+met_unless s false t to tag context m rank limit is met =
+    met_by s (Some (record { rank = to; frame = frame_with t (record { rank = to; tag = tag; context = context }) m })) rank limit is met
 
 -- by the destination
-met_to : (s : SessionsState) (p : Place) (t : State) (target : Source) (tag : Option ℕ) (m : Contents) (rank : ℕ) (limit : Option lower.Refused) →
-    rank_to p (destination target tag) ≡ Some rank → IsLimitTo s rank limit → fault_of_sessions limit ≡ frame_limit s (frame_to p t (destination target tag) m)
-met_to s p t Any g m rank limit is met = absurd cc
-met_to s p t Null g m rank limit is met = absurd cc
-met_to s p t (Rank to) None m rank limit is met = absurd cc
-met_to s p t (Rank to) (Some tag) m rank limit is met = met_unless s (to == p.endpoint.rank) t to tag m rank limit is met
+met_to : (s : SessionsState) (p : Place) (t : State) (target : Source) (tag : Option ℕ) (context : ℕ) (m : Contents) (rank : ℕ) (limit : Option lower.Refused) →
+    rank_to p (destination target tag context) ≡ Some rank → IsLimitTo s rank limit → fault_of_sessions limit ≡ frame_limit s (frame_to p t (destination target tag context) m)
+met_to s p t Any g context m rank limit is met = absurd cc
+met_to s p t Null g context m rank limit is met = absurd cc
+met_to s p t (Rank to) None context m rank limit is met = absurd cc
+met_to s p t (Rank to) (Some tag) context m rank limit is met = met_unless s (to == p.endpoint.rank) t to tag context m rank limit is met
 
 -- the limit of a frame is that of its rank
 pub limit_is_met : (s : SessionsState) (c : CoreState) (call : Call) (rank : ℕ) (limit : Option lower.Refused) → call_rank c call ≡ Some rank →
     IsLimitTo s rank limit → fault_of_sessions limit ≡ frame_limit s (call_frame c call)
-limit_is_met s c (Isend v) rank limit is met = met_to s c.place c.transfers v.target v.tag (sent_from v.from) rank limit is met
+limit_is_met s c (Isend v) rank limit is met = met_to s c.place c.transfers v.target v.tag v.context (sent_from v.from) rank limit is met
 limit_is_met s c (Irecv v) rank limit is met = met_by s (receive_frame v.source c v) rank limit is met
 limit_is_met s c (Wait q) rank limit is met = absurd cc
 limit_is_met s c (Test q) rank limit is met = absurd cc
@@ -69,22 +69,22 @@ none_by s None is = refl
 none_by s (Some f) is = absurd cc
 
 -- the own rank gets no frame
-none_unless : (s : SessionsState) (own : Bool) (t : State) (to tag : ℕ) (m : Contents) → rank_unless own (record { rank = to; tag = tag }) ≡ None →
-    frame_limit s (frame_unless own t (record { rank = to; tag = tag }) m) ≡ None
-none_unless s true t to tag m is = refl
-none_unless s false t to tag m is = absurd cc
+none_unless : (s : SessionsState) (own : Bool) (t : State) (to tag context : ℕ) (m : Contents) → rank_unless own (record { rank = to; tag = tag; context = context }) ≡ None →
+    frame_limit s (frame_unless own t (record { rank = to; tag = tag; context = context }) m) ≡ None
+none_unless s true t to tag context m is = refl
+none_unless s false t to tag context m is = absurd cc
 
 -- nor does the null process
-none_to : (s : SessionsState) (p : Place) (t : State) (target : Source) (tag : Option ℕ) (m : Contents) → rank_to p (destination target tag) ≡ None →
-    frame_limit s (frame_to p t (destination target tag) m) ≡ None
-none_to s p t Any g m is = refl
-none_to s p t Null g m is = refl
-none_to s p t (Rank to) None m is = refl
-none_to s p t (Rank to) (Some tag) m is = none_unless s (to == p.endpoint.rank) t to tag m is
+none_to : (s : SessionsState) (p : Place) (t : State) (target : Source) (tag : Option ℕ) (context : ℕ) (m : Contents) → rank_to p (destination target tag context) ≡ None →
+    frame_limit s (frame_to p t (destination target tag context) m) ≡ None
+none_to s p t Any g context m is = refl
+none_to s p t Null g context m is = refl
+none_to s p t (Rank to) None context m is = refl
+none_to s p t (Rank to) (Some tag) context m is = none_unless s (to == p.endpoint.rank) t to tag context m is
 
 -- where no frame goes to another rank, no limit is met
 pub no_limit_is_met : (s : SessionsState) (c : CoreState) (call : Call) → call_rank c call ≡ None → frame_limit s (call_frame c call) ≡ None
-no_limit_is_met s c (Isend v) is = none_to s c.place c.transfers v.target v.tag (sent_from v.from) is
+no_limit_is_met s c (Isend v) is = none_to s c.place c.transfers v.target v.tag v.context (sent_from v.from) is
 no_limit_is_met s c (Irecv v) is = none_by s (receive_frame v.source c v) is
 no_limit_is_met s c (Wait q) is = refl
 no_limit_is_met s c (Test q) is = refl

@@ -1,0 +1,108 @@
+-- What entering a collective gives.
+use Rattle.std.proofs.Common.{◌≡◌, ℕ, Option, Some, None, refl, sym, ap, subst, ◌∙◌, inl, inr}
+use Rattle.collective_notes.specs.declared.entry.Entry.{Entry}
+use Rattle.collectives.specs.State.{State}
+use Rattle.collectives.specs.declared.step.Ending.{Ending}
+use Rattle.context_agreement.specs.Communicators.{ContextsState}
+use Rattle.rank_calls.specs.declared.refused.Refused.{Refused}
+use Rattle.rank_calls.specs.declared.refused.Refused.TheVariants as refusals
+use Rattle.sessions.specs.SessionsState.{SessionsState}
+use Rattle.engine.specs.Calls.{EnteringGives, IsEntered, IsRefused, LacksRoom, WhyRefused, reply_on_entry}
+use Rattle.engine.specs.EngineState.{EngineState}
+use Rattle.engine.specs.Entering.{Goes, WhyNot}
+use Rattle.engine.specs.Faults.{fault_of}
+use Rattle.engine.specs.declared.call.Call.{Call}
+use Rattle.engine.specs.declared.call.Call.TheVariants as calls
+use Rattle.engine.specs.declared.reply.Reply.{Reply}
+use Rattle.engine.specs.declared.reply.Reply.TheVariants as replies
+
+-- the engine with other groups and sessions
+abbrev pub moved : EngineState → State → ContextsState → SessionsState → EngineState
+moved e t k links = record { core = e.core; groups = record { collective = t; contexts = k }; ended = e.ended; sessions = links }
+
+-- a rule or limit refuses a call
+pub refused_by : (e : EngineState) (call : Call) (why : Refused) → fault_of e call ≡ Some why → IsRefused e call why call e
+refused_by e call why fault = record {
+  handed = refl;
+  unchanged = refl;
+  reason = subst (λ (f : Option Refused). WhyRefused f e call why) (sym fault) refl;
+}
+
+-- where there is none, want of room does
+pub refused_for : (e new : EngineState) (call : Call) (why : Refused) → fault_of e call ≡ None → new ≡ e → LacksRoom e call why → IsRefused e call why call new
+refused_for e new call why free same lacks = record {
+  handed = refl;
+  unchanged = same;
+  reason = subst (λ (f : Option Refused). WhyRefused f e call why) (sym free) lacks;
+}
+
+-- why a rank doesn't enter
+pub lacks_room : (e : EngineState) (place : ℕ) (x : Entry) (why : Refused) → WhyNot e.groups.collective e.groups.contexts e.sessions place x why →
+    LacksRoom e (calls.Enter (Some place) x) why
+lacks_room e place x refusals.OutOfMemory not = inl refl
+lacks_room e place x refusals.Limit not = inr (refl, (not.step, not.prepared, not.limit))
+lacks_room e place x refusals.Count not = absurd not
+lacks_room e place x refusals.WrongType not = absurd not
+lacks_room e place x refusals.Tag not = absurd not
+lacks_room e place x refusals.Communicator not = absurd not
+lacks_room e place x refusals.Rank not = absurd not
+lacks_room e place x refusals.Request not = absurd not
+lacks_room e place x refusals.Replaced not = absurd not
+lacks_room e place x refusals.Short not = absurd not
+lacks_room e place x refusals.Magic not = absurd not
+lacks_room e place x refusals.Version not = absurd not
+lacks_room e place x refusals.Kind not = absurd not
+lacks_room e place x refusals.Length not = absurd not
+lacks_room e place x refusals.ForeignJob not = absurd not
+lacks_room e place x refusals.NotForMe not = absurd not
+lacks_room e place x refusals.StaleSource not = absurd not
+lacks_room e place x refusals.StaleTarget not = absurd not
+lacks_room e place x refusals.BadFrame not = absurd not
+lacks_room e place x refusals.OutOfWindow not = absurd not
+lacks_room e place x refusals.ClockBack not = absurd not
+
+is_entered : (e : EngineState) (t : State) (k : ContextsState) (links : SessionsState) (place : ℕ) (x : Entry) (ending : Option Ending) →
+    fault_of e (calls.Enter (Some place) x) ≡ None → Goes e.groups.collective e.groups.contexts e.sessions place x ending t k links →
+    IsEntered e (Some place) x (reply_on_entry ending) (moved e t k links)
+is_entered e t k links place x ending free goes = record {
+  allowed = free;
+  place = place;
+  named = refl;
+  ending = ending;
+  step = goes.step;
+  enters = goes.enters;
+  replied = refl;
+  whole = goes.whole;
+  goes = goes.goes;
+  sessions = goes.sent;
+  core = refl;
+  ended = refl;
+}
+
+-- a rank enters
+pub entered : (e : EngineState) (t : State) (k : ContextsState) (links : SessionsState) (place : ℕ) (x : Entry) (ending : Option Ending) →
+    fault_of e (calls.Enter (Some place) x) ≡ None → Goes e.groups.collective e.groups.contexts e.sessions place x ending t k links →
+    EnteringGives e (Some place) x (reply_on_entry ending) (moved e t k links)
+entered e t k links place x None free goes = is_entered e t k links place x None free goes
+entered e t k links place x (Some o) free goes = is_entered e t k links place x (Some o) free goes
+
+-- the same, told of the parts of the engine
+pub entered_at : (e now new : EngineState) (t : State) (k : ContextsState) (links : SessionsState) (comm : Option ℕ) (place : ℕ) (x : Entry) (ending : Option Ending)
+    (r reply : Reply) → e ≡ now → comm ≡ Some place → reply ≡ r → r ≡ reply_on_entry ending → fault_of now (calls.Enter comm x) ≡ None →
+    Goes e.groups.collective e.groups.contexts e.sessions place x ending t k links → new ≡ moved e t k links → EnteringGives now comm x reply new
+entered_at e now new t k links comm place x ending r reply same named back is free goes moves =
+    subst (λ (s : EngineState). fault_of s (calls.Enter comm x) ≡ None → EnteringGives s comm x reply new) same
+    (subst (λ (o : Option ℕ). fault_of e (calls.Enter o x) ≡ None → EnteringGives e o x reply new) (sym named)
+    (λ allowed.
+    subst (λ (a : Reply). EnteringGives e (Some place) x a new) (sym (back ∙ is))
+    (subst (λ (s : EngineState). EnteringGives e (Some place) x (reply_on_entry ending) s) (sym moves) (entered e t k links place x ending allowed goes)))) free
+
+-- or it is refused
+pub stays_out : (e now new : EngineState) (comm : Option ℕ) (place : ℕ) (x : Entry) (why : Refused) (reply : Reply) → e ≡ now → comm ≡ Some place →
+    reply ≡ replies.Refused why (calls.Enter (Some place) x) → fault_of now (calls.Enter comm x) ≡ None →
+    WhyNot e.groups.collective e.groups.contexts e.sessions place x why → new ≡ e → EnteringGives now comm x reply new
+stays_out e now new comm place x why reply same named back free not stays =
+    subst (λ (a : Reply). EnteringGives now comm x a new) (sym (back ∙ ap (λ (o : Option ℕ). replies.Refused why (calls.Enter o x)) (sym named)))
+    (refused_for now new (calls.Enter comm x) why free (stays ∙ same)
+    (subst (λ (o : Option ℕ). LacksRoom now (calls.Enter o x) why) (sym named)
+    (subst (λ (s : EngineState). LacksRoom s (calls.Enter (Some place) x) why) same (lacks_room e place x why not))))

@@ -1,0 +1,9 @@
+use Rattle.std.proofs.Common.{subst, arith}
+use Rattle.payload.specs.Spelling.{PayloadFits}
+use Rattle.engine.proofs.frames.write.Goals as goal
+
+pub returns-in-Ok-clause-whole : goal.returns-in-Ok-clause-whole
+returns-in-Ok-clause-whole c = record {
+  fits = subst PayloadFits c.payload.ensures.says c.in-Ok.ensures.fits;
+  context = omega (arith, c.context_of.ensures, c.context_of.type_inv);
+}

@@ -1,0 +1,102 @@
+//! How a rank enters a collective.
+
+ghost use Rattle.std.specs.Prelude.{◌≡◌, ◌≤◌, ◌+◌, ◌*◌, None, OnErr, IfErr, IfOk, length, false};
+ghost use Rattle.collectives.specs.Calls.{entry_rule, limit_at};
+ghost use Rattle.engine.specs.Calls.{EnteringGives, RefusedLeaves, reply_on_entry};
+ghost use Rattle.engine.specs.Entering.{Goes, WhyNot};
+ghost use Rattle.engine.specs.Faults.{fault_of};
+ghost use Rattle.engine.specs.declared.call.Call.TheVariants as calls;
+
+use crate::call::Call;
+use crate::engine::Engine;
+use crate::frames::send_step;
+use crate::refusals::{of_collectives, of_rule};
+use crate::reply::Reply;
+use collective_notes::Entry;
+use collectives::Ending;
+use communicators::{Communicators, entries_are_allowed};
+use rank_core::Refused;
+use sessions::Sessions;
+use std::alloc::Global;
+
+/// Enters a collective of the communicator at a place, which breaks no rule and meets no limit: what the rank then does of
+/// itself is made ready and its frames are sent, and only then it has entered. Refused is 13 and 14; then nothing changes.
+fn go_in(
+    alloc: Global,
+    communicators: &mut Communicators,
+    sessions: &mut Sessions,
+    place: usize,
+    entry: Entry,
+) -> Result<Option<Ending>, Refused>
+    requires rule { entry_rule communicators.old.collective.state communicators.old.contexts.state place ≡ None }
+    requires limit { limit_at communicators.old.collective.state communicators.old.contexts.state place entry ≡ false }
+    ensures ok { IfOk result (λ ending. Goes communicators.old.collective.state communicators.old.contexts.state sessions.old place entry ending communicators.new.collective.state communicators.new.contexts.state sessions.new) }
+    ensures err { IfErr result (WhyNot communicators.old.collective.state communicators.old.contexts.state sessions.old place entry) }
+    ensures collective { OnErr result (communicators.new.collective.state ≡ communicators.old.collective.state) }
+    ensures contexts { OnErr result (communicators.new.contexts.state ≡ communicators.old.contexts.state) }
+    ensures sessions { OnErr result (sessions.new ≡ sessions.old) }
+    ensures few { length sessions.new.out ≤ length sessions.old.out + 64 * sessions.old.place.size }
+    ensures placed { sessions.new.place ≡ sessions.old.place }
+{
+    let ready = match communicators.prepare_entry(place, entry) {
+        Ok(ready) => ready,
+        Err(refused) => return Err(of_collectives(refused)),
+    };
+    send_step(alloc, sessions, None, ready.messages())?;
+    Ok(communicators.enter(ready))
+}
+
+/// The answer to an entry: with what the rank left at once, or that it is blocked.
+fn reply_on_entry(ending: Option<Ending>) -> Reply
+    ensures { result ≡ reply_on_entry ending }
+{
+    match ending {
+        Some(ending) => Reply::Left(ending),
+        None => Reply::Blocked,
+    }
+}
+
+impl Engine {
+    /// The first rule or limit that entering a collective meets, of 6, 4, 11 and 13. It takes no memory.
+    pub(crate) fn fault_of_entry(&self, comm: Option<usize>, entry: Entry) -> Option<Refused>
+        ensures { result ≡ fault_of self.now (calls.Enter comm entry) }
+    {
+        let known = self.sessions.incarnations();
+        match self
+            .communicators
+            .fault_of_entry(self.core.is_blocked(), known, comm, entry)
+        {
+            Some(fault) => Some(of_rule(fault)),
+            None => None,
+        }
+    }
+
+    /// Enters a collective (MPI 3.1, 5.3 and 6.4.2). Refused is the first that holds of 6, 4, 11, 13 and 14; a refusal hands
+    /// the call back, and changes nothing.
+    pub(crate) fn enter(&mut self, comm: Option<usize>, entry: Entry) -> Reply
+        ensures exact { EnteringGives self.old comm entry result self.new }
+        ensures unchanged { RefusedLeaves result self.old self.new }
+        ensures few { length self.new.sessions.out ≤ length self.old.sessions.out + 64 * self.old.sessions.place.size }
+        ensures placed { self.new.sessions.place ≡ self.old.sessions.place }
+        ensures core_placed { self.new.core.place ≡ self.old.core.place }
+    {
+        if let Some(fault) = self.fault_of_entry(comm, entry) {
+            return Reply::Refused(fault, Call::Enter(comm, entry));
+        }
+        // An entry that meets none can be made ready.
+        entries_are_allowed();
+        let Some(place) = comm else {
+            return Reply::Refused(Refused::Communicator, Call::Enter(comm, entry));
+        };
+        match go_in(
+            self.alloc,
+            &mut self.communicators,
+            &mut self.sessions,
+            place,
+            entry,
+        ) {
+            Ok(ending) => reply_on_entry(ending),
+            Err(refused) => Reply::Refused(refused, Call::Enter(comm, entry)),
+        }
+    }
+}

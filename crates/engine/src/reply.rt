@@ -1,0 +1,48 @@
+//! What calls answer.
+
+use crate::call::Call;
+use collectives::Ending;
+use communicators::Comparison;
+use rank_core::Refused;
+use requests::{Answer, Request};
+
+/// The answer to a question about a communicator (MPI 3.1, 6.4.1).
+#[derive(Debug, Drop)]
+pub enum Fact {
+    /// A rank, or a number of members. A rank that is no member has the number of members (our own).
+    Number(usize),
+    /// The ranks of `world` of the members, in order.
+    Ranks(Vec<u16>),
+    /// How the two communicators compare.
+    Compares(Comparison),
+}
+
+/// What a call answers.
+#[derive(Debug, Drop)]
+pub enum Reply {
+    /// The operation is started under this request.
+    Started(Request),
+    /// What was asked for is finished, and ended so.
+    Done(Answer),
+    /// The request of a test is unfinished.
+    Pending,
+    /// The cancel was taken.
+    Accepted,
+    /// The answer is not ready. It is handed out once, as the completion of the event in which it is.
+    Blocked,
+    /// The collective that was entered has ended at once, so.
+    Left(Ending),
+    /// What was asked about a communicator.
+    Fact(Fact),
+    /// The call broke this rule, or met a limit or want of memory. It is handed back, and nothing changed.
+    Refused(Refused, Call),
+}
+
+/// The answer of a call that was blocked.
+#[derive(Debug, Drop)]
+pub enum Completion {
+    /// Of requests.
+    Requests(Answer),
+    /// Of a collective: with what it ended.
+    Collective(Ending),
+}
