@@ -1,11 +1,11 @@
 -- What a rank's core gives is what its sessions are to send.
-use Rattle.std.proofs.Common.{◌≡◌, ℕ, List, [], ◌∷◌, map, Option, Some, None, refl, ap}
+use Rattle.std.proofs.Common.{◌≡◌, ℕ, List, [], ◌∷◌, map, refl, ap}
 use Rattle.std.specs.List.{AllByRecursion}
 use Rattle.std.proofs.lemmas.Bool.{ne_eqb}
 use Rattle.vocabulary.specs.declared.endpoint.Endpoint.{Endpoint}
 use Rattle.datagram.specs.Spelling.{FrameText}
-use Rattle.rank_calls.specs.Frames.{FrameFor, as_list}
-use Rattle.engine.specs.Calls.{sending_of, sendings_of}
+use Rattle.rank_calls.specs.Frames.{FrameFor}
+use Rattle.engine.specs.Frames.{sending_of}
 use Rattle.proof_engine_view.specs.Standing.{CanLeave, all_gone, gone_to}
 use Rattle.proof_link_truth.specs.Events.{MaySendAll, all_addressed}
 use Rattle.proof_link_truth.specs.Wire.{place_of}
@@ -20,8 +20,3 @@ may_send n own (f ∷ fs) all =
 pub all_same : (known : List ℕ) (fs : List FrameFor) → all_addressed known (map sending_of fs) ≡ all_gone known fs
 all_same known [] = refl
 all_same known (f ∷ fs) = ap (λ (ts : List (Endpoint × FrameText)). gone_to known f ∷ ts) (all_same known fs)
-
--- the frame of a call, as a list
-pub listed : (f : Option FrameFor) → sendings_of f ≡ map sending_of (as_list f)
-listed None = refl
-listed (Some f) = refl

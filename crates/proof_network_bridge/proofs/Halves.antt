@@ -1,21 +1,12 @@
--- What is true of the engines of a world, by their two halves.
-use Rattle.std.proofs.Common.{◌≡◌, ℕ, zero, suc, Bool, true, false, List, [], ◌∷◌, ◌++◌, Option, Some, None, if◌then◌else◌, refl, sym, ap, subst, ◌∙◌, arith, inl, inr}
+-- What is true of the sessions of a world's engines.
+use Rattle.std.proofs.Common.{◌≡◌, ℕ, zero, suc, List, [], ◌∷◌, ◌++◌, Option, Some, None, refl, sym, ap, subst, ◌∙◌, arith, inl, inr}
 use Rattle.std.specs.Prelude.{option_map, slice_get, slice_set}
 use Rattle.std.proofs.lemmas.List.{map-set}
 use Rattle.std.proofs.lemmas.Option.{same_Some, slice_get-map}
-use Rattle.rank_calls.specs.declared.call.Call.{Call}
-use Rattle.rank_calls.specs.declared.call.Reply.{Reply}
-use Rattle.rank_calls.specs.declared.call.Reply.TheVariants as replies
 use Rattle.rank_calls.specs.declared.refused.Refused.{Refused}
-use Rattle.rank_calls.specs.declared.refused.Refused.TheVariants.{Limit}
-use Rattle.rank_calls.specs.Calls.{IsTaken}
-use Rattle.rank_calls.specs.Frames.{FrameFor}
 use Rattle.sessions.specs.declared.refused.Refused as lower
-use Rattle.sessions.specs.declared.refused.Refused.TheVariants as lowers
-use Rattle.sessions.specs.Events.{Sending, TurnedAway, after_event, after_send, after_sends, is_worn_out, sends_limit}
-use Rattle.sessions.specs.Peers.{peer_at}
+use Rattle.sessions.specs.Events.{Sending, TurnedAway, after_send, after_sends}
 use Rattle.sessions.specs.SessionsState.{SessionsState}
-use Rattle.engine.specs.Calls.{CallGives, IsAnswered, after_frame, frame_limit, sendings_of}
 use Rattle.engine.specs.EngineState.{EngineState, emptied}
 use Rattle.engine.specs.Refusals.{fault_of_sessions, first_fault}
 use Rattle.vocabulary.specs.declared.endpoint.Endpoint.{Endpoint}
@@ -56,16 +47,7 @@ pub leaves_engines : (n r : ℕ) (engines : List EngineState) (datagrams : List 
 leaves_engines n r engines datagrams mid links current truth =
     subst (λ (ss : List SessionsState). AreTrue n ss (datagrams ++ mid.sessions.out) links current) (sym (sessions_set engines r (emptied mid))) truth
 
--- ---- calls
-
--- a call that was taken was answered
-pub answered : (old new : EngineState) (call : Call) (reply : Reply) → IsTaken reply → CallGives old call reply new → IsAnswered old call reply new
-answered old new call (replies.Refused why back) taken gives = absurd taken
-answered old new call (replies.Started q) taken gives = gives
-answered old new call (replies.Done o) taken gives = gives
-answered old new call replies.Pending taken gives = gives
-answered old new call replies.Accepted taken gives = gives
-answered old new call replies.Blocked taken gives = gives
+-- ---- faults
 
 -- where neither of two is, the first is not
 pub neither_fault : (a b : Option Refused) → first_fault a b ≡ None → (a ≡ None) × (b ≡ None)
@@ -77,38 +59,14 @@ pub no_limit : (o : Option lower.Refused) → fault_of_sessions o ≡ None → o
 no_limit None h = refl
 no_limit (Some e) h = absurd cc
 
--- the frame of a call meets no limit
-pub frame_free : (s : SessionsState) (f : Option FrameFor) → frame_limit s f ≡ None → sends_limit s (sendings_of f) ≡ None
-frame_free s None h = refl
-frame_free s (Some f) h = no_limit (sends_limit s (sendings_of (Some f))) h
-
--- the only limit that it can meet is that of numbers
-pub frame_full : (s : SessionsState) (f : Option FrameFor) (why : Refused) → frame_limit s f ≡ Some why → why ≡ Limit
-frame_full s None why h = absurd cc
-frame_full s (Some f) why h = go (is_worn_out (peer_at s.peers f.rank).sender) h
-  where
-    go : (t : Bool) → fault_of_sessions (if t then Some lowers.Limit else None) ≡ Some why → why ≡ Limit
-    go true is = sym (same_Some Limit why is)
-    go false is = absurd cc
-
--- to send it is an event in which nothing was heard
-pub frame_event : (s : SessionsState) (f : Option FrameFor) → after_frame s f ≡ after_event s None (sendings_of f)
-frame_event s None = refl
-frame_event s (Some f) = refl
-
 -- ---- what stays
 
--- what sessions know, and where they stand
+-- what sessions know, and where they stand,
 pub record Keeps (old new : SessionsState) : Type 0 where
   pub place : new.place ≡ old.place
   pub known : new.known ≡ old.known
 
--- stays where they send the frame of a call
-pub frame_keeps : (s : SessionsState) (f : Option FrameFor) → Keeps s (after_frame s f)
-frame_keeps s None = record { place = refl; known = refl }
-frame_keeps s (Some f) = record { place = refl; known = refl }
-
--- and where they send several
+-- stays where they send several
 pub sends_keep : (s : SessionsState) (fs : List Sending) → Keeps s (after_sends s fs)
 sends_keep s [] = record { place = refl; known = refl }
 sends_keep s (f ∷ fs) =

@@ -1,62 +1,54 @@
--- What a world of engines hears, the pure network with communicators hears; and what is refused is nothing to it.
-use Rattle.std.proofs.Common.{◌≡◌, ℕ, ◌<◌, ◌≤◌, Bool, true, false, nat_lt, List, [], ◌++◌, Option, Some, None, Result, Ok, Err, refl, sym, ap, subst, ◌∙◌, arith}
-use Rattle.std.specs.Prelude.{slice_get, slice_index}
-use Rattle.std.specs.List.{AllByRecursion}
+-- A word that is no message of a collective, at an engine and in the pure network with communicators.
+use Rattle.std.proofs.Common.{◌≡◌, ℕ, ◌≤◌, Bool, true, false, nat_lt, List, Option, Some, None, refl, sym, ap, subst, ◌∙◌, arith}
+use Rattle.std.specs.Prelude.{if◌then◌else◌, option_map, slice_get, slice_index}
 use Rattle.std.proofs.lemmas.Bool.{eqb-false, le-ltb, lt-ltb}
-use Rattle.perfect_groups.specs.Events.{Entry}
-use Rattle.perfect_queues.specs.Events.{told}
-use Rattle.vocabulary.specs.declared.endpoint.Endpoint.{Endpoint}
+use Rattle.collectives.specs.Calls as collective_calls
+use Rattle.collectives.specs.State.{State}
+use Rattle.collectives.specs.declared.step.Ending.{Ending}
 use Rattle.datagram.specs.Spelling.{FrameText}
+use Rattle.engine.specs.Datagrams.{ended_by, groups_met}
+use Rattle.engine.specs.EngineState.{EngineState, GroupsState, completion_by, completion_of, or_before}
 use Rattle.incarnation.specs.declared.place.Place.{Place}
-use Rattle.rank_core.specs.CoreState.{CoreState}
-use Rattle.rank_calls.specs.Frames.{FrameFor}
+use Rattle.perfect_groups.specs.Events.{ended_with, ready_by, told_of}
+use Rattle.perfect_groups.specs.Membership as membership
+use Rattle.perfect_groups.specs.Membership.{Present}
+use Rattle.perfect_queues.specs.Completions as completions
+use Rattle.perfect_queues.specs.Events.{told}
 use Rattle.rank_calls.specs.Hearing.{NewsText}
-use Rattle.rank_core.specs.Hearing.{after_news, news_fault, news_frames}
-use Rattle.sessions.specs.declared.heard.Unheard.{Unheard}
-use Rattle.sessions.specs.declared.refused.Refused as below_refused
-use Rattle.sessions.specs.Events as below_events
-use Rattle.sessions.specs.Events.{Sending, after_event, event_limit, first_limit, heard_limit, sends_limit, taught_known}
-use Rattle.sessions.specs.Heard.{Acknowledges, Hands, HeardText, Nothing, Repeats, WordText, heard_of}
+use Rattle.rank_core.specs.CoreState.{CoreState}
+use Rattle.rank_core.specs.Hearing.{after_news}
+use Rattle.requests.specs.declared.answer.Answer.{Answer}
+use Rattle.sessions.specs.Events.{taught_known}
 use Rattle.sessions.specs.SessionsState.{SessionsState}
-use Rattle.engine.specs.Datagrams.{HearingGives, after_heard, frame_in, heard_fault, news_of, replies}
-use Rattle.engine.specs.EngineState.{EngineState}
-use Rattle.engine.specs.Refusals.{fault_of_sessions}
-use Rattle.proof_pure_network.specs.Announced.{MeetingsStand}
-use Rattle.proof_pure_network.specs.Core.{Core, Effect}
-use Rattle.proof_pure_network.specs.Engine.{came, core_ready, core_settled, met}
-use Rattle.proof_pure_network.specs.Frames.{Frame}
-use Rattle.proof_pure_network.specs.Links.{Link, accept_all, handed_on}
-use Rattle.proof_pure_network.specs.Network.{Network, here}
-use Rattle.proof_group_network.specs.Network.{Happening, Word}
-use Rattle.proof_group_network.proofs.LinksOfMessages.{group_meetings_stand}
+use Rattle.vocabulary.specs.declared.endpoint.Endpoint.{Endpoint}
+use Rattle.proof_collective_steps.proofs.RankSteps.{ended_is, lessons_of_ranks_follow}
+use Rattle.proof_collective_steps.specs.RankLaws.{lesson_at, lesson_ends}
+use Rattle.proof_collective_steps.specs.Shown as collectives
+use Rattle.proof_collective_steps.specs.Shown.{HasEnded, ending_is}
+use Rattle.proof_engine_steps.specs.Steps.{IsFromOther, IsHeard, heard_by_core}
 use Rattle.proof_engine_view.specs.Frames.{known_after}
 use Rattle.proof_engine_view.specs.Seen as in_queues
 use Rattle.proof_engine_view.specs.Shown.{IsShown}
-use Rattle.proof_engine_view.specs.Standing.{CanLeave, all_gone}
-use Rattle.proof_engine_view.specs.Standing as standing
-use Rattle.proof_engine_view.specs.Transfers.{Announcements, AnnouncementsGrow, after_out, announced_in, announcements_of}
-use Rattle.proof_engine_view.proofs.Growing.{sent_more}
-use Rattle.proof_engine_steps.specs.Steps.{IsFromOther, IsHeard, IsWithinFields, NewsAreShown, heard_by_core}
-use Rattle.proof_engine_steps.proofs.UnderWay.{others_may_announce}
+use Rattle.proof_engine_view.specs.Transfers.{Announcements, after_out, announcements_of}
+use Rattle.proof_group_network.specs.Happened.{IsWord}
+use Rattle.proof_group_network.specs.Network.{GroupNetwork, member_settled}
+use Rattle.proof_group_network.specs.NoticesStand.{heard_member}
 use Rattle.proof_link_truth.specs.Events as below
-use Rattle.proof_link_truth.specs.Events.{EventsAreTrue, HearingIsTrue, HearsTruth, IsFromDatagram, IsLesson, IsNext, IsTrueWord, LeavesTrue, MaySendAll, RefusalsAreTrue, RestIsTrue, all_addressed, links_heeded}
-use Rattle.proof_link_truth.specs.Links as lower
+use Rattle.proof_link_truth.specs.Events.{IsLesson, IsTrueWord, LeavesTrue, links_heeded}
 use Rattle.proof_link_truth.specs.Wire.{place_of}
-use Rattle.proof_network_bridge.specs.Carried.{AreCarried, announced_by}
-use Rattle.proof_network_bridge.specs.Following.{DatagramsFollow, LeavesFollowed, RefusalsFollow}
-use Rattle.proof_network_bridge.specs.Joined.{IsFollowed, IsJoined, messages_after, network_after, sessions_in}
-use Rattle.proof_network_bridge.specs.OnWorld.{entries_on_world, told_completion}
-use Rattle.proof_network_bridge.proofs.Carried.{IsMeant, accept_all_alike, handed_alike, next_alike}
-use Rattle.proof_network_bridge.proofs.Carrying.{all_same, may_send}
-use Rattle.proof_network_bridge.proofs.Following.{followed_after, followed_still, is_at}
-use Rattle.proof_network_bridge.proofs.Halves.{Keeps, away_keeps, neither_fault, no_limit, sends_keep}
-use Rattle.proof_network_bridge.proofs.Networks.{IsWord, heard, learnt}
-use Rattle.proof_network_bridge.proofs.Worlds.{IsHeld, handed_grow_out, handed_to_same, held_at, held_out, only_handed, only_out, place_is}
+use Rattle.proof_pure_network.specs.Core.{Core}
+use Rattle.proof_pure_network.specs.Engine.{core_ready, core_settled}
+use Rattle.proof_pure_network.specs.Frames.{Frame}
+use Rattle.proof_pure_network.specs.Network.{Network, here}
+use Rattle.proof_network_bridge.specs.Joined.{IsHeldBy, IsJoined}
+use Rattle.proof_network_bridge.specs.OnWorld.{entries_on_world}
+use Rattle.proof_network_bridge.specs.Seen.{told_completion}
+use Rattle.proof_network_bridge.proofs.Worlds.{place_is}
 
 -- ---- what the two halves say of a word
 
 -- both know the same once they heard it
-known_alike : (lesson : Bool) (known : List ℕ) (s : Endpoint) → taught_known lesson known s ≡ known_after lesson known s
+pub known_alike : (lesson : Bool) (known : List ℕ) (s : Endpoint) → taught_known lesson known s ≡ known_after lesson known s
 known_alike true known s = refl
 known_alike false known s = refl
 
@@ -71,15 +63,15 @@ lesson_fresh true known incarnation above = omega (arith, above)
 lesson_fresh false known incarnation same = omega (arith, same)
 
 -- the word of another rank that the engine hears is one that the network takes in
-is_word : (n r : ℕ) (engines : List EngineState) (datagrams : List (ℕ × List ℕ)) (w : Network) (old : EngineState) (s : Endpoint) (lesson : Bool) → IsJoined n engines datagrams w →
-    slice_get engines r ≡ Some old → below.IsHeard n r w.current old.sessions.known s lesson → IsWord n r w s
+pub is_word : (n r : ℕ) (engines : List EngineState) (datagrams : List (ℕ × List ℕ)) (w : GroupNetwork) (old : EngineState) (s : Endpoint) (lesson : Bool) → IsJoined n engines datagrams w →
+    slice_get engines r ≡ Some old → below.IsHeard n r w.net.current old.sessions.known s lesson → IsWord n r w s
 is_word n r engines datagrams w old s lesson j there h =
-    let known : (w.core (here w r)).known s.rank ≡ slice_index old.sessions.known s.rank = (j.shown r old there).known_alike s.rank in
+    let known : (w.net.core (here w.net r)).known s.rank ≡ slice_index old.sessions.known s.rank = (j.held r old there).queues.known_alike s.rank in
     let fresh = lesson_fresh lesson (slice_index old.sessions.known s.rank) s.incarnation h.incarnation in
     record { there = (place_is n r engines datagrams w old j there).0; apart = h.apart; begun = h.begun; fresh = omega (arith, known, fresh) }
 
 -- and one that the core takes for another rank's
-is_from_other : (n r : ℕ) (w : Network) (old : CoreState) (known : List ℕ) (news : NewsText) → old.place ≡ place_of n (here w r) →
+pub is_from_other : (n r : ℕ) (w : Network) (old : CoreState) (known : List ℕ) (news : NewsText) → old.place ≡ place_of n (here w r) →
     below.IsHeard n r w.current known news.source news.lesson → IsFromOther old known news
 is_from_other n r w old known news place h =
     let size_is : old.place.size ≡ n = ap (λ (p : Place). p.size) place in
@@ -91,250 +83,102 @@ is_from_other n r w old known news place h =
       lesson = lesson_is news.lesson (slice_index known news.source.rank) news.source.incarnation h.incarnation;
     }
 
+-- ---- the lesson
+
+-- who teaches the rank, if the word is a lesson
+abbrev pub taught : Endpoint → (lesson : Bool) → Option Endpoint
+taught s lesson = if lesson then Some s else None
+
+-- the lesson that the network's rank learns is the one that the engine's learns
+pub lesson_same : (n r : ℕ) (w : GroupNetwork) (old : EngineState) (s : Endpoint) (lesson : Bool) → IsHeldBy w r old → below.IsHeard n r w.net.current old.sessions.known s lesson → lesson_at w r s ≡ taught s lesson
+lesson_same n r w old s lesson held h =
+    ap (λ (b : Bool). if b then Some s else None)
+    (ap (λ (k : ℕ). nat_lt k s.incarnation) (held.queues.known_alike s.rank) ∙ lesson_is lesson (slice_index old.sessions.known s.rank) s.incarnation h.incarnation)
+
+-- an ending that comes first
+or_before_none : (o before : Option Ending) → before ≡ None → or_before o before ≡ o
+or_before_none (Some x) before is = refl
+or_before_none None before is = is
+
+-- the ending that a lesson gives
+pub ended_alike : (g : GroupsState) (o : Option Endpoint) (before : Option Ending) → before ≡ None → or_before (ended_by g o) before ≡ lesson_ends g.collective g.contexts o
+ended_alike g None before is = is
+ended_alike g (Some a) before is = or_before_none (collective_calls.lesson_ending g.collective g.contexts a.rank a.incarnation) before is
+
+-- ---- what is seen
+
+-- the answer that is ready is the same, where each of its two halves is
+pub told_alike : (own : Endpoint) (o : Option Ending) (k : Option (completions.Answer × List ℕ)) (c : Option Answer) → told own None k ≡ in_queues.told_completion own c →
+    told_of own None (ready_by (option_map ending_is o) k) ≡ told_completion own (completion_by o c)
+told_alike own (Some x) k c h = refl
+told_alike own None None None h = refl
+told_alike own None None (Some b) h = absurd cc
+told_alike own None (Some a) None h = absurd cc
+told_alike own None (Some a) (Some b) h = ap entries_on_world h
+
 -- ---- a word that is heard
 
 -- what a core hears of a word, with a frame or without
-abbrev news : Endpoint → (lesson : Bool) → Option FrameText → NewsText
+abbrev pub news : Endpoint → (lesson : Bool) → Option FrameText → NewsText
 news s lesson b = record { source = s; lesson = lesson; frame = b }
 
 -- the engine once it heard that, with these sessions
-abbrev after : EngineState → Endpoint → (lesson : Bool) → SessionsState → Option FrameText → EngineState
-after old s lesson t b = record { core = after_news old.core (news s lesson b); sessions = t }
-
--- what its sessions know and where they stand then
-record IsLearnt (old : EngineState) (s : Endpoint) (lesson : Bool) (t : SessionsState) : Type 0 where
-  known : t.known ≡ known_after lesson old.sessions.known s
-  place : t.place ≡ old.sessions.place
-
--- it holds what the network's core holds
-held_after : (a : Announcements) (old : EngineState) (core : Core) (s : Endpoint) (lesson : Bool) (t : SessionsState) (b : Option FrameText) (x : Option Frame) → old.core.place ≡ old.sessions.place →
-    IsHeard a old.core old.sessions.known core (news s lesson b) x → IsLearnt old s lesson t →
-    IsHeld (after_out a (heard_by_core core s x).out) (after old s lesson t b) (core_settled (heard_by_core core s x).core)
-held_after a old core s lesson t b x placed h learnt_now = record {
-  shown = subst (λ (known : List ℕ). IsShown (after_out a (heard_by_core core s x).out) (after_news old.core (news s lesson b)) known (core_settled (heard_by_core core s x).core)) (sym learnt_now.known) h.shown;
-  placed = h.place ∙ placed ∙ sym learnt_now.place;
+abbrev pub after : EngineState → Endpoint → (lesson : Bool) → SessionsState → Option FrameText → EngineState
+after old s lesson t b = record {
+  core = after_news old.core (news s lesson b);
+  groups = groups_met old.groups (taught s lesson);
+  ended = or_before (ended_by old.groups (taught s lesson)) old.ended;
+  sessions = t;
 }
 
+-- what its sessions know and where they stand then
+pub record IsLearnt (old : EngineState) (s : Endpoint) (lesson : Bool) (t : SessionsState) : Type 0 where
+  pub known : t.known ≡ known_after lesson old.sessions.known s
+  pub place : t.place ≡ old.sessions.place
+
+-- what it holds of queues is what the network's core holds
+pub queues_after : (a : Announcements) (old : EngineState) (core : Core) (s : Endpoint) (lesson : Bool) (known : List ℕ) (b : Option FrameText) (x : Option Frame) →
+    IsHeard a old.core old.sessions.known core (news s lesson b) x → known ≡ known_after lesson old.sessions.known s →
+    IsShown (after_out a (heard_by_core core s x).out) (after_news old.core (news s lesson b)) known (core_settled (heard_by_core core s x).core)
+queues_after a old core s lesson known b x h is =
+    subst (λ (k : List ℕ). IsShown (after_out a (heard_by_core core s x).out) (after_news old.core (news s lesson b)) k (core_settled (heard_by_core core s x).core)) (sym is) h.shown
+
+-- and of groups what its member holds
+pub groups_after : (r : ℕ) (w : GroupNetwork) (old : EngineState) (s : Endpoint) (lesson : Bool) → IsHeldBy w r old → lesson_at w r s ≡ taught s lesson →
+    collectives.IsShown (here w.net r) (groups_met old.groups (taught s lesson)).collective old.groups.contexts (member_settled (heard_member w r s)) None
+groups_after r w old s lesson held same =
+    subst (λ (o : Option Endpoint). collectives.IsShown (here w.net r) (collective_calls.met old.groups.collective old.groups.contexts o) old.groups.contexts (member_settled (heard_member w r s)) None) same
+    (lessons_of_ranks_follow w r s old.groups.collective old.groups.contexts held.groups).0
+
 -- what is seen of it
-told_after : (a : Announcements) (old : EngineState) (core : Core) (own : Endpoint) (s : Endpoint) (lesson : Bool) (t : SessionsState) (b : Option FrameText) (x : Option Frame) →
-    old.core.place ≡ old.sessions.place → old.sessions.place.endpoint ≡ own → IsHeard a old.core old.sessions.known core (news s lesson b) x →
-    told own None (core_ready (heard_by_core core s x).core) ≡ in_queues.told_completion old.sessions.place.endpoint (after_news old.core (news s lesson b)).completion
-told_after a old core own s lesson t b x placed stands h =
-    ap (λ (d : Endpoint). told d None (core_ready (heard_by_core core s x).core)) (sym (ap (λ (p : Place). p.endpoint) placed ∙ stands)) ∙ h.tells
-    ∙ ap (λ (p : Place). in_queues.told_completion p.endpoint (after_news old.core (news s lesson b)).completion) placed
-
--- a word without a frame: nothing is sent for it
-plainly : (n r : ℕ) (engines : List EngineState) (datagrams : List (ℕ × List ℕ)) (history : List Entry) (old : EngineState) (f : IsFollowed n engines datagrams history) →
-    slice_get engines r ≡ Some old → (s : Endpoint) (lesson : Bool) (t : SessionsState) → IsWord n r (messages_after n f.happenings) s →
-    IsHeard (announcements_of (messages_after n f.happenings).link (here (messages_after n f.happenings) r)) old.core old.sessions.known
-    ((messages_after n f.happenings).core (here (messages_after n f.happenings) r)) (news s lesson None) None → IsLearnt old s lesson t →
-    LeavesTrue n (sessions_in engines) datagrams r t f.joined.carried (messages_after n f.happenings).current →
-    LeavesFollowed n engines datagrams r (after old s lesson t None) (history ++ told_completion old.sessions.place.endpoint (after_news old.core (news s lesson None)).completion)
-plainly n r engines datagrams history old f there s lesson t word h learnt_now truth =
-    let w : Network = messages_after n f.happenings in
-    let own : Endpoint = here w r in
-    let core : Core = w.core own in
-    let a : Announcements = announcements_of w.link own in
-    let held : IsHeld a old core = held_at n r engines datagrams w old f.joined there in
-    let stands : old.sessions.place.endpoint ≡ own = ap (λ (p : Place). p.endpoint) (place_is n r engines datagrams w old f.joined there).1 in
-    let made = followed_after n r engines datagrams history _ (after old s lesson t None) (Word s r 0 []) (core_settled (met core s)) f.joined.carried w.link f (learnt n r (network_after n f.happenings) s f.alone word) f.joined.alike (only_out w.link own []) truth
-    (held_out w.link own [] (after old s lesson t None) (core_settled (met core s)) (held_after a old core s lesson t None None held.placed h learnt_now)) in
-    subst (λ (es : List Entry). LeavesFollowed n engines datagrams r (after old s lesson t None) (history ++ es)) (ap entries_on_world (told_after a old core own s lesson t None None held.placed stands h)) made
-
--- a word with the next frame of its link, for which frames may be sent
-with_frame : (n r : ℕ) (engines : List EngineState) (datagrams : List (ℕ × List ℕ)) (history : List Entry) (old : EngineState) (f : IsFollowed n engines datagrams history) →
-    slice_get engines r ≡ Some old → (s : Endpoint) (lesson : Bool) (t : SessionsState) (b : FrameText) (x : Frame) →
-    slice_get ((messages_after n f.happenings).link s (here (messages_after n f.happenings) r)).accepted ((messages_after n f.happenings).link s (here (messages_after n f.happenings) r)).handed ≡ Some x →
-    IsWord n r (messages_after n f.happenings) s →
-    IsHeard (announcements_of (messages_after n f.happenings).link (here (messages_after n f.happenings) r)) old.core old.sessions.known
-    ((messages_after n f.happenings).core (here (messages_after n f.happenings) r)) (news s lesson (Some b)) (Some x) → IsLearnt old s lesson t →
-    LeavesTrue n (sessions_in engines) datagrams r t
-    (lower.accept_all (lower.handed_on f.joined.carried s (here (messages_after n f.happenings) r)) (here (messages_after n f.happenings) r)
-    (all_gone (known_after lesson old.sessions.known s) (news_frames old.core (news s lesson (Some b))))) (messages_after n f.happenings).current →
-    LeavesFollowed n engines datagrams r (after old s lesson t (Some b)) (history ++ told_completion old.sessions.place.endpoint (after_news old.core (news s lesson (Some b))).completion)
-with_frame n r engines datagrams history old f there s lesson t b x next word h learnt_now truth =
-    let w : Network = messages_after n f.happenings in
-    let own : Endpoint = here w r in
-    let core : Core = w.core own in
-    let a : Announcements = announcements_of w.link own in
-    let held : IsHeld a old core = held_at n r engines datagrams w old f.joined there in
-    let stands : old.sessions.place.endpoint ≡ own = ap (λ (p : Place). p.endpoint) (place_is n r engines datagrams w old f.joined there).1 in
-    let effect : Effect = came (met core s) s x in
-    let texts : List (Endpoint × FrameText) = all_gone (known_after lesson old.sessions.known s) (news_frames old.core (news s lesson (Some b))) in
-    let handed : Endpoint → Endpoint → Link = handed_on w.link s own in
-    let final : Announcements = announcements_of (accept_all handed own effect.out) own in
-    let grows : AnnouncementsGrow (after_out a effect.out) final = handed_grow_out w.link s own effect.out in
-    let alike : AreCarried (lower.accept_all (lower.handed_on f.joined.carried s own) own texts) (accept_all handed own effect.out) =
-    accept_all_alike (lower.handed_on f.joined.carried s own) handed own texts effect.out (handed_alike f.joined.carried w.link s own f.joined.alike)
-    (sent_more (after_out a effect.out) final texts effect.out grows h.sends) in
-    let before : IsHeld (after_out a effect.out) (after old s lesson t (Some b)) (core_settled effect.core) = held_after a old core s lesson t (Some b) (Some x) held.placed h learnt_now in
-    let made = followed_after n r engines datagrams history _ (after old s lesson t (Some b)) (Word s r 1 []) (core_settled effect.core) (lower.accept_all (lower.handed_on f.joined.carried s own) own texts)
-    (accept_all handed own effect.out) f (heard n r (network_after n f.happenings) s x f.alone word next) alike (only_handed w.link s own effect.out) truth
-    (record {
-      shown = others_may_announce (after_out a effect.out) final (after_news old.core (news s lesson (Some b))) t.known (core_settled effect.core) before.shown grows (λ d. handed_to_same w.link s own effect.out d);
-      placed = before.placed;
-    }) in
-    subst (λ (es : List Entry). LeavesFollowed n engines datagrams r (after old s lesson t (Some b)) (history ++ es))
-    (ap entries_on_world (told_after a old core own s lesson t (Some b) (Some x) held.placed stands h)) made
-
--- ---- a datagram that is taken in
-
--- what is heard of a word: with the frame that the link hands up, if it hands one up
-abbrev WordHeard : Network → (own s : Endpoint) → EngineState → (lesson : Bool) → WordText → Type 0
-WordHeard w own s old lesson (Acknowledges number) = IsHeard (announcements_of w.link own) old.core old.sessions.known (w.core own) (news s lesson None) None
-WordHeard w own s old lesson Repeats = IsHeard (announcements_of w.link own) old.core old.sessions.known (w.core own) (news s lesson None) None
-WordHeard w own s old lesson Nothing = IsHeard (announcements_of w.link own) old.core old.sessions.known (w.core own) (news s lesson None) None
-WordHeard w own s old lesson (Hands b) =
-    (x : Frame) × (slice_get (w.link s own).accepted (w.link s own).handed ≡ Some x)
-    × IsHeard (announcements_of w.link own) old.core old.sessions.known (w.core own) (news s lesson (Some b)) (Some x)
-
--- it may come, and so it is heard
-word_heard : NewsAreShown → (n r : ℕ) (hs : List Happening) → n ≤ 256 → (carried : lower.Links) (old : EngineState) (s : Endpoint) (lesson : Bool) (x : WordText) → AreCarried carried (messages_after n hs).link →
-    IsHeld (announcements_of (messages_after n hs).link (here (messages_after n hs) r)) old ((messages_after n hs).core (here (messages_after n hs) r)) → old.core.completion ≡ None →
-    IsFromOther old.core old.sessions.known (news s lesson (frame_in x)) → IsTrueWord carried s (here (messages_after n hs) r) x → news_fault old.core (news s lesson (frame_in x)) ≡ None →
-    WordHeard (messages_after n hs) (here (messages_after n hs) r) s old lesson x
-word_heard shows n r hs few carried old s lesson x alike held free other says taken = go x other says taken
+pub told_after : (r : ℕ) (w : GroupNetwork) (old : EngineState) (s : Endpoint) (lesson : Bool) (t : SessionsState) (b : Option FrameText) (x : Option Frame) →
+    IsHeldBy w r old → old.ended ≡ None → lesson_at w r s ≡ taught s lesson → old.sessions.place.endpoint ≡ here w.net r →
+    IsHeard (announcements_of w.net.link (here w.net r)) old.core old.sessions.known (w.net.core (here w.net r)) (news s lesson b) x →
+    told_of (here w.net r) None (ready_by (ended_with (heard_member w r s).membership.present) (core_ready (heard_by_core (w.net.core (here w.net r)) s x).core))
+    ≡ told_completion old.sessions.place.endpoint (completion_of (after old s lesson t b))
+told_after r w old s lesson t b x held free same stands h =
+    ap (λ (o : Option membership.Ending). told_of own None (ready_by o ready)) (ended_is own old.groups.contexts (lesson_ends old.groups.collective old.groups.contexts (lesson_at w r s)) heard_state.present (heard_member w r s).membership.present heard.present)
+    ∙ told_alike own (lesson_ends old.groups.collective old.groups.contexts (lesson_at w r s)) ready completion tells
+    ∙ ap (λ (o : Option Ending). told_completion own (completion_by o completion)) (ap (lesson_ends old.groups.collective old.groups.contexts) same ∙ sym (ended_alike old.groups (taught s lesson) old.ended free))
+    ∙ ap (λ (e : Endpoint). told_completion e (completion_of (after old s lesson t b))) (sym stands)
   where
-    w : Network
-    w = messages_after n hs
-
     own : Endpoint
-    own = here w r
+    own = here w.net r
 
-    a : Announcements
-    a = announcements_of w.link own
+    ready : Option (completions.Answer × List ℕ)
+    ready = core_ready (heard_by_core (w.net.core own) s x).core
 
-    m : MeetingsStand w
-    m = group_meetings_stand n hs (omega (arith, few))
+    completion : Option Answer
+    completion = (after_news old.core (news s lesson b)).completion
 
-    shown : (b : Option FrameText) (f : Option Frame) → IsFromOther old.core old.sessions.known (news s lesson b) → standing.IsMeant a s b f → IsWithinFields b → news_fault old.core (news s lesson b) ≡ None →
-        IsHeard a old.core old.sessions.known (w.core own) (news s lesson b) f
-    shown b f other meant within taken = shows a old.core old.sessions.known (w.core own) (news s lesson b) f held.shown free (record {
-      other = other;
-      meant = meant;
-      within = within;
-      taken = taken;
-      once = λ e k i j x y at ix aj iy. m.once e own k i j x y at ix aj iy;
-      untold = λ d late. ap announced_in (m.untold own d (subst (λ (k : ℕ). k < d.incarnation) (sym (held.shown.known_alike d.rank)) late));
-    })
+    heard_state : State
+    heard_state = collective_calls.met old.groups.collective old.groups.contexts (lesson_at w r s)
 
-    go : (x : WordText) → IsFromOther old.core old.sessions.known (news s lesson (frame_in x)) → IsTrueWord carried s own x → news_fault old.core (news s lesson (frame_in x)) ≡ None → WordHeard w own s old lesson x
-    go (Acknowledges number) other says taken = shown None None other tt tt taken
-    go Repeats other says taken = shown None None other tt tt taken
-    go Nothing other says taken = shown None None other tt tt taken
-    go (Hands b) other says taken =
-        let meant : IsMeant (announced_by w.link s own) (announced_by w.link own s) (w.link s own).accepted (w.link s own).handed b =
-        next_alike (announced_by w.link s own) (announced_by w.link own s) (carried s own) (w.link s own) b (alike s own) says.next in
-        (meant.frame, meant.there, shown (Some b) (Some meant.frame) other meant.stands says.carried.width taken)
+    heard : collectives.IsShown own heard_state old.groups.contexts (heard_member w r s) (lesson_ends old.groups.collective old.groups.contexts (lesson_at w r s))
+    heard = (lessons_of_ranks_follow w r s old.groups.collective old.groups.contexts held.groups).1
 
--- the frames that the rank gives for it can leave
-word_leaves : (w : Network) (own s : Endpoint) (old : EngineState) (lesson : Bool) (x : WordText) → WordHeard w own s old lesson x → AllByRecursion (CanLeave old.core.place) (news_frames old.core (news s lesson (frame_in x)))
-word_leaves w own s old lesson (Acknowledges number) h = h.leaves
-word_leaves w own s old lesson Repeats h = h.leaves
-word_leaves w own s old lesson Nothing h = h.leaves
-word_leaves w own s old lesson (Hands b) h = h.2.leaves
+    at_own : old.core.place.endpoint ≡ own
+    at_own = ap (λ (p : Place). p.endpoint) held.placed ∙ stands
 
--- any word, with what is sent for it
-by_word : (n r : ℕ) (engines : List EngineState) (datagrams : List (ℕ × List ℕ)) (history : List Entry) (old : EngineState) (f : IsFollowed n engines datagrams history) →
-    slice_get engines r ≡ Some old → (s : Endpoint) (lesson : Bool) (t : SessionsState) (x : WordText) → IsWord n r (messages_after n f.happenings) s →
-    WordHeard (messages_after n f.happenings) (here (messages_after n f.happenings) r) s old lesson x → IsLearnt old s lesson t →
-    LeavesTrue n (sessions_in engines) datagrams r t
-    (lower.accept_all (links_heeded f.joined.carried s (here (messages_after n f.happenings) r) x) (here (messages_after n f.happenings) r)
-    (all_gone (known_after lesson old.sessions.known s) (news_frames old.core (news s lesson (frame_in x))))) (messages_after n f.happenings).current →
-    LeavesFollowed n engines datagrams r (after old s lesson t (frame_in x))
-    (history ++ told_completion old.sessions.place.endpoint (after_news old.core (news s lesson (frame_in x))).completion)
-by_word n r engines datagrams history old f there s lesson t (Acknowledges number) word h learnt_now truth = plainly n r engines datagrams history old f there s lesson t word h learnt_now truth
-by_word n r engines datagrams history old f there s lesson t Repeats word h learnt_now truth = plainly n r engines datagrams history old f there s lesson t word h learnt_now truth
-by_word n r engines datagrams history old f there s lesson t (Hands b) word h learnt_now truth = with_frame n r engines datagrams history old f there s lesson t b h.0 h.1 word h.2 learnt_now truth
-by_word n r engines datagrams history old f there s lesson t Nothing word h learnt_now truth = plainly n r engines datagrams history old f there s lesson t word h learnt_now truth
-
--- what neither of two limits refuses, the second doesn't
-second_none : (a b : Option below_refused.Refused) → first_limit a b ≡ None → b ≡ None
-second_none None b h = h
-second_none (Some e) b h = absurd cc
-
--- what is heard in it is followed
-heard_follows : NewsAreShown → HearingIsTrue → EventsAreTrue → (n r : ℕ) (engines : List EngineState) (datagrams : List (ℕ × List ℕ)) (history : List Entry) (old : EngineState) (h : HeardText) →
-    (f : IsFollowed n engines datagrams history) → slice_get engines r ≡ Some old → IsFromDatagram datagrams r old.sessions h → heard_fault old h ≡ None →
-    LeavesFollowed n engines datagrams r (after_heard old h) (history ++ told_completion old.sessions.place.endpoint (after_heard old h).core.completion)
-heard_follows shows hearing events n r engines datagrams history old h f there comes fine =
-    by_word n r engines datagrams history old f there h.source h.lesson (after_event old.sessions (Some h) sendings) h.word
-    (is_word n r engines datagrams w old h.source h.lesson f.joined there truth.heard) seen
-    (record { known = keeps.known ∙ known_alike h.lesson old.sessions.known h.source; place = keeps.place }) leaves
-  where
-    w : Network
-    w = messages_after n f.happenings
-
-    own : Endpoint
-    own = here w r
-
-    frames : List FrameFor
-    frames = news_frames old.core (news_of h)
-
-    sendings : List Sending
-    sendings = replies old.core h
-
-    keeps : Keeps (below_events.after_heard old.sessions (Some h)) (after_event old.sessions (Some h) sendings)
-    keeps = sends_keep (below_events.after_heard old.sessions (Some h)) sendings
-
-    here_is : below.IsAt (sessions_in engines) r old.sessions
-    here_is = is_at n r engines datagrams w old f.joined there
-
-    truth : HearsTruth n r w.current old.sessions f.joined.carried h
-    truth = hearing n r (sessions_in engines) datagrams f.joined.carried w.current old.sessions h f.joined.links here_is comes
-
-    stands : old.core.place ≡ place_of n own
-    stands = f.joined.placed r old there ∙ (place_is n r engines datagrams w old f.joined there).1
-
-    free : (news_fault old.core (news_of h) ≡ None) × (fault_of_sessions (event_limit old.sessions (Some h) sendings) ≡ None)
-    free = neither_fault (news_fault old.core (news_of h)) (fault_of_sessions (event_limit old.sessions (Some h) sendings)) fine
-
-    seen : WordHeard w own h.source old h.lesson h.word
-    seen = word_heard shows n r f.happenings f.few f.joined.carried old h.source h.lesson h.word f.joined.alike (held_at n r engines datagrams w old f.joined there) (f.joined.clean r old there).completion
-        (is_from_other n r w old.core old.sessions.known (news_of h) stands truth.heard) truth.word free.0
-
-    limit : sends_limit (below_events.after_heard old.sessions (Some h)) sendings ≡ None
-    limit = second_none (heard_limit old.sessions (Some h)) (sends_limit (below_events.after_heard old.sessions (Some h)) sendings) (no_limit (event_limit old.sessions (Some h) sendings) free.1)
-
-    may : MaySendAll n own.rank sendings
-    may = may_send n own frames (subst (λ (p : Place). AllByRecursion (CanLeave p) frames) stands (word_leaves w own h.source old h.lesson h.word seen))
-
-    gone : all_addressed (below_events.after_heard old.sessions (Some h)).known sendings ≡ all_gone (known_after h.lesson old.sessions.known h.source) frames
-    gone = all_same (below_events.after_heard old.sessions (Some h)).known frames ∙ ap (λ (k : List ℕ). all_gone k frames) (known_alike h.lesson old.sessions.known h.source)
-
-    leaves : LeavesTrue n (sessions_in engines) datagrams r (after_event old.sessions (Some h) sendings)
-        (lower.accept_all (links_heeded f.joined.carried h.source own h.word) own (all_gone (known_after h.lesson old.sessions.known h.source) frames)) w.current
-    leaves = subst (λ (ts : List (Endpoint × FrameText)). LeavesTrue n (sessions_in engines) datagrams r (after_event old.sessions (Some h) sendings)
-        (lower.accept_all (links_heeded f.joined.carried h.source own h.word) own ts) w.current) gone
-        (events n r (sessions_in engines) datagrams f.joined.carried w.current old.sessions (Some h) sendings f.joined.links here_is comes may limit)
-
-pub datagrams_follow : NewsAreShown → HearingIsTrue → EventsAreTrue → DatagramsFollow
-datagrams_follow shows hearing events n r number bytes engines datagrams history old mid f there emitted gives = go (heard_of old.sessions bytes) refl gives
-  where
-    go : (o : Result HeardText Unheard) → heard_of old.sessions bytes ≡ o → HearingGives o old (Ok tt) mid
-        → LeavesFollowed n engines datagrams r mid (history ++ told_completion old.sessions.place.endpoint mid.core.completion)
-    go (Ok h) is g =
-        subst (λ (e : EngineState). LeavesFollowed n engines datagrams r e (history ++ told_completion old.sessions.place.endpoint e.core.completion)) (sym g.1)
-        (heard_follows shows hearing events n r engines datagrams history old h f there (record { number = number; bytes = bytes; there = emitted; hears = is }) g.0)
-    go (Err u) is g = absurd (let e = g.1 in cc)
-
--- ---- a datagram that is refused
-
-pub refusals_follow : RestIsTrue → RefusalsAreTrue → RefusalsFollow
-refusals_follow rest refusals n r number bytes engines datagrams history old mid why f there emitted gives = go (heard_of old.sessions bytes) refl gives
-  where
-    w : Network
-    w = messages_after n f.happenings
-
-    here_is : below.IsAt (sessions_in engines) r old.sessions
-    here_is = is_at n r engines datagrams w old f.joined there
-
-    go : (o : Result HeardText Unheard) → heard_of old.sessions bytes ≡ o → HearingGives o old (Err why) mid → LeavesFollowed n engines datagrams r mid history
-    go (Ok h) is g =
-        subst (λ (e : EngineState). LeavesFollowed n engines datagrams r e history) (sym g.2)
-        (followed_still n r engines datagrams history old old f there (record { core = refl; known = refl; place = refl })
-        (rest n r (sessions_in engines) datagrams f.joined.carried w.current old.sessions f.joined.links here_is))
-    go (Err u) is g =
-        let keeps : Keeps old.sessions mid.sessions = away_keeps old.sessions mid.sessions u.reset u.refused g.0 g.3 in
-        followed_still n r engines datagrams history old mid f there (record { core = g.2; known = keeps.known; place = keeps.place })
-        (refusals n r number bytes (sessions_in engines) datagrams f.joined.carried w.current old.sessions mid.sessions u g.0 f.joined.links here_is emitted is g.3)
+    tells : told own None ready ≡ in_queues.told_completion own completion
+    tells = subst (λ (e : Endpoint). told e None ready ≡ in_queues.told_completion e completion) at_own h.tells

@@ -1,133 +1,164 @@
 -- Whoever follows the pure network with communicators is seen as a run of the machine of queues and groups.
-use Rattle.std.proofs.Common.{◌≡◌, ℕ, List, Option, Some, None, refl, sym, ap, subst, ◌∙◌, inl, inr, arith}
+use Rattle.std.proofs.Common.{◌≡◌, ℕ, zero, suc, ◌<◌, ◌≤◌, List, [], ◌∷◌, Option, Some, None, map, sym, ap, subst, ◌∙◌, inl, inr, arith, append-nil}
 use Rattle.std.specs.Prelude.{slice_get, slice_index}
-use Rattle.perfect_queues.specs.Calls as machine_calls
-use Rattle.perfect_queues.specs.Refusals.{fault}
-use Rattle.vocabulary.specs.declared.endpoint.Endpoint.{Endpoint}
+use Rattle.std.proofs.lemmas.Option.{same_Some}
+use Rattle.engine.specs.Calls.{CallGives, IsTaken}
+use Rattle.engine.specs.EngineState.{EngineState, member_of}
+use Rattle.engine.specs.declared.call.Call.{Call}
+use Rattle.engine.specs.declared.reply.Reply.{Reply}
+use Rattle.engine.specs.declared.reply.Reply.TheVariants as replies
 use Rattle.incarnation.specs.declared.place.Place.{Place}
-use Rattle.rank_calls.specs.declared.call.Call.{Call}
-use Rattle.rank_calls.specs.declared.call.Reply.{Reply}
-use Rattle.rank_calls.specs.declared.call.Reply.TheVariants as replies
-use Rattle.rank_calls.specs.declared.refused.Refused.{Refused}
-use Rattle.rank_calls.specs.Calls.{IsTaken}
-use Rattle.rank_core.specs.Calls.{call_fault, call_frame}
-use Rattle.sessions.specs.SessionsState.{SessionsState}
-use Rattle.engine.specs.Calls.{CallGives, IsAnswered, WhyRefused, frame_limit}
-use Rattle.engine.specs.EngineState.{EngineState}
-use Rattle.engine.specs.Refusals.{first_fault}
-use Rattle.proof_pure_network.specs.Core.{Core, view}
-use Rattle.proof_pure_network.specs.Held.{blank}
-use Rattle.perfect_groups.specs.Faults as groups_faults
-use Rattle.proof_pure_network.specs.Network.{Network}
-use Rattle.proof_group_network.proofs.NetworkRest.{is_run_of_groups}
-use Rattle.proof_group_network.specs.Network.{GroupNetwork, NoticesAreHanded}
-use Rattle.proof_group_network.specs.Notices.{Notice}
-use Rattle.proof_engine_view.specs.Seen.{call_meant, call_seen, own_serial, serial_meant}
+use Rattle.perfect_groups.specs.Calls as machine_calls
+use Rattle.perfect_groups.specs.Calls.{held_at}
+use Rattle.perfect_groups.specs.Communicators.{Communicator}
+use Rattle.perfect_groups.specs.Events as machine_events
+use Rattle.perfect_groups.specs.Events.{Event}
+use Rattle.perfect_groups.specs.Faults.{fault}
+use Rattle.perfect_groups.specs.Laws.{OneGroupForEachContext}
+use Rattle.perfect_groups.specs.Machine.{Machine, machine_opening}
+use Rattle.perfect_groups.specs.Membership.{Groups, Membership}
+use Rattle.perfect_groups.specs.Runs.{IsRun, after_run}
+use Rattle.perfect_groups.specs.Soundness.{IsAmong, IsReal}
+use Rattle.proof_collective_steps.specs.Counterparts.{communicator_of}
+use Rattle.proof_engine_steps.specs.Refused.{IsReason}
 use Rattle.proof_engine_view.specs.Shown.{IsShown}
-use Rattle.proof_engine_view.specs.Transfers.{Announcements, announcements_of}
-use Rattle.proof_network_bridge.specs.Carried.{announced_by}
-use Rattle.proof_engine_steps.specs.Refused.{AllowedCallsAreFaultless, FaultsHaveReasons, HasReason, IsFaultless, IsReason, RoomIsAReason}
+use Rattle.proof_engine_view.specs.Transfers.{announcements_of}
+use Rattle.proof_group_network.proofs.NetworkRest.{is_run_of_groups}
+use Rattle.proof_group_network.specs.Network.{GroupNetwork, IsRunOfGroups, NoticesAreHanded}
 use Rattle.proof_link_truth.specs.Events.{IdleIsStill, Knows}
+use Rattle.proof_link_truth.specs.Quiet.{AreQuiet}
 use Rattle.proof_link_truth.specs.Wire.{at}
-use Rattle.proof_network_bridge.specs.Following.{FollowingIsRun}
-use Rattle.proof_network_bridge.specs.Joined.{IsJoined, IsOnWorldAlone, network_after, sessions_in}
-use Rattle.proof_network_bridge.specs.OnWorld.{IsOnWorld, call_on_world}
-use Rattle.proof_network_bridge.proofs.Carried.{none_in_flight}
-use Rattle.proof_network_bridge.proofs.Halves.{IsOf, answered, engine_there, frame_full, neither_fault}
-use Rattle.proof_network_bridge.proofs.Networks.{world_first}
-use Rattle.proof_network_bridge.proofs.WorldCalls.{engines_call_on_world}
+use Rattle.proof_pure_network.specs.Core.{view}
+use Rattle.proof_pure_network.specs.Held.{blank}
+use Rattle.proof_pure_network.specs.Network.{IsQuiet, here}
+use Rattle.proof_session_carrying.specs.MessageLaws.{StillTextsAreQuiet}
+use Rattle.rank_calls.specs.declared.refused.Refused.{Refused}
+use Rattle.sessions.specs.SessionsState.{SessionsState}
+use Rattle.vocabulary.specs.declared.endpoint.Endpoint.{Endpoint}
+use Rattle.proof_network_bridge.specs.Following.{FollowingIsRun, IsFaultless, fault_in}
+use Rattle.proof_network_bridge.specs.Joined.{IsFollowed, IsJoined, network_after, sessions_in}
+use Rattle.proof_network_bridge.specs.Seen.{call_meant, call_seen}
+use Rattle.proof_network_bridge.proofs.Halves.{IsOf, engine_there}
 use Rattle.proof_network_bridge.proofs.Worlds.{place_is}
 
--- ---- the quiet clause
+-- ---- what is said of calls
+
+-- the fault of a call at the endpoint that is at rank r
+abbrev pub fault_at : GroupNetwork → (r : ℕ) → machine_calls.Call → Option ℕ
+fault_at w r c = fault (here w.net r) (view blank (w.net.core (here w.net r))) (w.member (here w.net r)).membership c
+
+-- a call that an engine refuses has a reason in the network
+abbrev pub RefusedHasReason : Type 0
+RefusedHasReason =
+    (n r : ℕ) (engines : List EngineState) (datagrams : List (ℕ × List ℕ)) (history : List machine_events.Entry) (e mid : EngineState) (call back : Call) (why : Refused) →
+    (f : IsFollowed n engines datagrams history) → slice_get engines r ≡ Some e → CallGives e call (replies.Refused why back) mid →
+    IsReason (fault_at (network_after n f.happenings) r (call_meant e.core call)) why
+
+-- the network finds no fault with a call that an engine takes
+abbrev pub TakenIsFaultless : Type 0
+TakenIsFaultless =
+    (n r : ℕ) (engines : List EngineState) (datagrams : List (ℕ × List ℕ)) (history : List machine_events.Entry) (e mid : EngineState) (call : Call) (reply : Reply) →
+    (f : IsFollowed n engines datagrams history) → slice_get engines r ≡ Some e → IsTaken reply → CallGives e call reply mid →
+    IsFaultless (fault_at (network_after n f.happenings) r (call_seen call)) e.core call
+
+-- ---- where nothing is on its way
 
 -- what a core knows its rank's sessions know too
-knows_too : (n : ℕ) (engines : List EngineState) (datagrams : List (ℕ × List ℕ)) (w : Network) (s d : Endpoint) → IsJoined n engines datagrams w →
-    s.incarnation ≡ w.current s.rank → (w.core s).known d.rank ≡ d.incarnation → Knows (sessions_in engines) s.rank d
+knows_too : (n : ℕ) (engines : List EngineState) (datagrams : List (ℕ × List ℕ)) (w : GroupNetwork) (s d : Endpoint) → IsJoined n engines datagrams w →
+    s.incarnation ≡ w.net.current s.rank → (w.net.core s).known d.rank ≡ d.incarnation → Knows (sessions_in engines) s.rank d
 knows_too n engines datagrams w s d j current knows t there =
     let o : IsOf engines s.rank t = engine_there engines s.rank t there in
-    let shown : IsShown (announcements_of w.link s) o.engine.core o.engine.sessions.known (w.core s) =
-    subst (λ (i : ℕ). IsShown (announcements_of w.link (at s.rank i)) o.engine.core o.engine.sessions.known (w.core (at s.rank i))) (sym current) (j.shown s.rank o.engine o.there) in
+    let shown : IsShown (announcements_of w.net.link s) o.engine.core o.engine.sessions.known (w.net.core s) =
+    subst (λ (i : ℕ). IsShown (announcements_of w.net.link (at s.rank i)) o.engine.core o.engine.sessions.known (w.net.core (at s.rank i))) (sym current) (j.held s.rank o.engine o.there).queues in
     ap (λ (x : SessionsState). slice_index x.known d.rank) (sym o.sessions_are) ∙ sym (shown.known_alike d.rank) ∙ knows
 
--- ---- the faults of calls
+-- where sessions are quiet, so is the network
+still : IdleIsStill → StillTextsAreQuiet → (n : ℕ) (engines : List EngineState) (datagrams : List (ℕ × List ℕ)) (w : GroupNetwork) → IsJoined n engines datagrams w → AreQuiet (sessions_in engines) →
+    IsQuiet w.net × NoticesAreHanded w
+still idle texts n engines datagrams w j quiet =
+    texts w j.texts j.sessions j.between (λ s d s_is d_is d_knows s_knows.
+    idle n (sessions_in engines) datagrams j.texts w.net.current j.links quiet s d s_is d_is
+    (knows_too n engines datagrams w s d j s_is s_knows) (knows_too n engines datagrams w d s j d_is d_knows))
 
--- the core of an engine's endpoint holds what the engine's core holds
-shown_there : (n r : ℕ) (engines : List EngineState) (datagrams : List (ℕ × List ℕ)) (w : Network) (e : EngineState) → IsJoined n engines datagrams w →
-    slice_get engines r ≡ Some e → IsShown (announcements_of w.link e.sessions.place.endpoint) e.core e.sessions.known (w.core e.sessions.place.endpoint)
-shown_there n r engines datagrams w e j there =
-    subst (λ (p : Place). IsShown (announcements_of w.link p.endpoint) e.core e.sessions.known (w.core p.endpoint)) (sym (place_is n r engines datagrams w e j there).1) (j.shown r e there)
+-- ---- the endpoints of engines
 
--- the fault of a call is the same by the engine's size and by the world's
-fault_there : (n r : ℕ) (engines : List EngineState) (datagrams : List (ℕ × List ℕ)) (w : Network) (e : EngineState) (core : Core) (c : machine_calls.Call) → IsJoined n engines datagrams w →
-    slice_get engines r ≡ Some e → fault e.core.place.size (view blank core) c ≡ fault n (view blank core) c
-fault_there n r engines datagrams w e core c j there =
-    ap (λ (p : Place). fault p.size (view blank core) c) (j.placed r e there ∙ (place_is n r engines datagrams w e j there).1)
+-- the endpoint of the engine at a rank is the one that is there
+endpoint_is : (n r : ℕ) (engines : List EngineState) (datagrams : List (ℕ × List ℕ)) (w : GroupNetwork) (e : EngineState) → IsJoined n engines datagrams w → slice_get engines r ≡ Some e →
+    e.sessions.place.endpoint ≡ here w.net r
+endpoint_is n r engines datagrams w e j there = ap (λ (p : Place). p.endpoint) (place_is n r engines datagrams w e j there).1
 
--- a refusal by the first of two faults, or for want of memory
-refused_by : FaultsHaveReasons → RoomIsAReason → (a : Announcements) (e : EngineState) (core : Core) (call : Call) (why : Refused) → IsShown a e.core e.sessions.known core →
-    (found limit : Option Refused) → call_fault e.core call ≡ found → frame_limit e.sessions (call_frame e.core call) ≡ limit → WhyRefused (first_fault found limit) call why →
-    HasReason e.core core call why
-refused_by faults room a e core call why shown (Some x) limit is at_limit reason = faults a e.core e.sessions.known core call why shown (is ∙ ap Some (sym reason))
-refused_by faults room a e core call why shown None (Some x) is at_limit reason =
-    room a e.core e.sessions.known core call why shown is (inl (reason ∙ frame_full e.sessions (call_frame e.core call) x at_limit))
-refused_by faults room a e core call why shown None None is at_limit reason = room a e.core e.sessions.known core call why shown is (inr reason.0)
+-- its rank and incarnation have 16 bits each
+real_there : (n r : ℕ) (engines : List EngineState) (datagrams : List (ℕ × List ℕ)) (w : GroupNetwork) (e : EngineState) → n ≤ 256 → IsJoined n engines datagrams w → slice_get engines r ≡ Some e →
+    IsReal e.sessions.place.endpoint
+real_there n r engines datagrams w e few j there =
+    let within : r < n = (place_is n r engines datagrams w e j there).0 in
+    let last : w.net.current r ≤ 65535 = j.links.last r in
+    subst IsReal (sym (endpoint_is n r engines datagrams w e j there)) (omega (arith, within, few), omega (arith, last))
 
--- what an engine refuses, it refuses for a reason that the machine has too
-refuses_too : FaultsHaveReasons → RoomIsAReason → (n r : ℕ) (engines : List EngineState) (datagrams : List (ℕ × List ℕ)) (w : Network) (e mid : EngineState) (call back : Call) (why : Refused)
-    (found : Option ℕ) → IsJoined n engines datagrams w → slice_get engines r ≡ Some e → CallGives e call (replies.Refused why back) mid →
-    found ≡ fault n (view blank (w.core e.sessions.place.endpoint)) (call_meant e.core call) → IsReason found why
-refuses_too faults room n r engines datagrams w e mid call back why found j there gives is =
-    let core : Core = w.core e.sessions.place.endpoint in
-    subst (λ (o : Option ℕ). IsReason o why) (fault_there n r engines datagrams w e core (call_meant e.core call) j there ∙ sym is)
-    (refused_by faults room (announcements_of w.link e.sessions.place.endpoint) e core call why (shown_there n r engines datagrams w e j there) (call_fault e.core call) (frame_limit e.sessions (call_frame e.core call)) refl refl gives.reason)
+-- what the groups of a machine hold there, where they are the network's
+held_there : (n r : ℕ) (engines : List EngineState) (datagrams : List (ℕ × List ℕ)) (w : GroupNetwork) (e : EngineState) (held : Endpoint → Membership) → IsJoined n engines datagrams w → slice_get engines r ≡ Some e →
+    ((x : Endpoint) → (held x).held ≡ (w.member x).membership.held) → (held e.sessions.place.endpoint).held ≡ (member_of e.groups).held
+held_there n r engines datagrams w e held j there same =
+    let shown = (j.held r e there).groups in
+    same e.sessions.place.endpoint ∙ ap (λ (x : Endpoint). (w.member x).membership.held) (endpoint_is n r engines datagrams w e j there) ∙ shown.held
+    ∙ ap (λ (x : Endpoint). map (communicator_of x) e.groups.contexts.held) (sym shown.own)
 
--- what an engine takes, the machine finds no fault with
-takes_too : AllowedCallsAreFaultless → (n r : ℕ) (engines : List EngineState) (datagrams : List (ℕ × List ℕ)) (w : Network) (e mid : EngineState) (call : Call) (reply : Reply)
-    (found : Option ℕ) → IsJoined n engines datagrams w → slice_get engines r ≡ Some e → IsTaken reply → CallGives e call reply mid →
-    found ≡ fault n (view blank (w.core e.sessions.place.endpoint)) (call_seen call) → IsFaultless found e.core call
-takes_too faultless n r engines datagrams w e mid call reply found j there taken gives is =
-    let core : Core = w.core e.sessions.place.endpoint in
-    let answer : IsAnswered e call reply mid = answered e mid call reply taken gives in
-    let free = neither_fault (call_fault e.core call) (frame_limit e.sessions (call_frame e.core call)) answer.allowed in
-    subst (λ (o : Option ℕ). IsFaultless o e.core call) (fault_there n r engines datagrams w e core (call_seen call) j there ∙ sym is)
-    (faultless (announcements_of w.link e.sessions.place.endpoint) e.core e.sessions.known core call (shown_there n r engines datagrams w e j there) free.0)
+-- ---- one group
+
+among_at : (cs : List Communicator) (i : ℕ) (a : Communicator) → slice_get cs i ≡ Some a → IsAmong a cs
+among_at [] i a h = absurd cc
+among_at (c ∷ cs) zero a h = inl (sym (same_Some c a h))
+among_at (c ∷ cs) (suc i) a h = inr (among_at cs i a h)
+
+-- what a place names is held
+among_held : (m : Membership) (place : Option ℕ) (a : Communicator) → held_at m place ≡ Some a → IsAmong a m.held
+among_held m None a h = absurd cc
+among_held m (Some i) a h = among_at m.held i a h
+
+-- communicators that two endpoints hold after a run
+one_of : OneGroupForEachContext → (n : ℕ) (events : List Event) (x y : Endpoint) (a b : Communicator) → n ≤ 256 → IsRun n (machine_opening n) events → IsReal x → IsReal y →
+    IsAmong a ((after_run (machine_opening n) events).groups.of x).held → IsAmong b ((after_run (machine_opening n) events).groups.of y).held → a.context ≡ b.context → a ≡ b
+one_of law n events x y a b few run rx ry ha hb same =
+    law n events [] x y a b (omega (arith, few)) (subst (IsRun n (machine_opening n)) (sym (append-nil events)) run) rx ry ha
+    (subst (λ (vs : List Event). IsAmong b ((after_run (machine_opening n) vs).groups.of y).held) (sym (append-nil events)) hb) same
 
 -- ---- the run
 
--- the machine's fault with a call on world is that of its queues
-fault_on_world : (n : ℕ) (w : GroupNetwork) (e : Endpoint) (q : machine_calls.Call) → IsOnWorldAlone n w → IsOnWorld q → (found : Option ℕ) → found ≡ groups_faults.fault e (view blank (w.net.core e)) (w.member e).membership (call_on_world q) →
-    found ≡ fault n (view blank (w.net.core e)) q
-fault_on_world n w e q a is found h = h ∙ (world_first n w e (view blank (w.net.core e)) q a is).judged
-
--- no notice is under way
-none_to_hand : (n : ℕ) (w : GroupNetwork) → IsOnWorldAlone n w → NoticesAreHanded w
-none_to_hand n w a s d now here d_knows s_knows i x there = absurd (nothing (sym there ∙ ap (λ (xs : List Notice). slice_get xs i) (a.silent s d)))
-  where
-    nothing : Some x ≡ None → ⊥
-    nothing h = cc
-
-pub following_is_run : IdleIsStill → FaultsHaveReasons → RoomIsAReason → AllowedCallsAreFaultless → FollowingIsRun
-following_is_run idle faults room faultless n engines datagrams history f =
-    let g : GroupNetwork = network_after n f.happenings in
-    let w : Network = g.net in
-    let m = is_run_of_groups n f.happenings (omega (arith, f.few)) in
+pub following_is_run : IdleIsStill → StillTextsAreQuiet → OneGroupForEachContext → RefusedHasReason → TakenIsFaultless → FollowingIsRun
+following_is_run idle texts one refused taken n engines datagrams history f =
     record {
       events = m.events;
       run = m.run;
       tells = m.tells ∙ f.seen;
-      now = λ r e there. m.current r ∙ sym (ap (λ (p : Place). p.endpoint.incarnation) (place_is n r engines datagrams w e f.joined there).1);
+      now = λ r e there. m.current r ∙ sym (ap (λ (x : Endpoint). x.incarnation) (endpoint_is n r engines datagrams w e f.joined there));
       knows = λ r e there x.
-          m.knows e.sessions.place.endpoint x ∙ ap (λ (p : Place). (w.core p.endpoint).known x) (place_is n r engines datagrams w e f.joined there).1
-          ∙ (f.joined.shown r e there).known_alike x;
+          m.knows e.sessions.place.endpoint x ∙ ap (λ (y : Endpoint). (w.net.core y).known x) (endpoint_is n r engines datagrams w e f.joined there)
+          ∙ (f.joined.held r e there).queues.known_alike x;
       refuses = λ r e mid call back why there gives.
-          refuses_too faults room n r engines datagrams w e mid call back why _ f.joined there gives
-          (fault_on_world n g e.sessions.place.endpoint (call_meant e.core call) f.alone (engines_call_on_world (serial_meant e.core) call) _ (m.faults e.sessions.place.endpoint (call_on_world (call_meant e.core call))));
-      takes = λ r e mid call reply there taken gives.
-          takes_too faultless n r engines datagrams w e mid call reply _ f.joined there taken gives
-          (fault_on_world n g e.sessions.place.endpoint (call_seen call) f.alone (engines_call_on_world own_serial call) _ (m.faults e.sessions.place.endpoint (call_on_world (call_seen call))));
-      quiet = λ still. m.quiet (λ s d s_is d_is d_knows s_knows.
-          none_in_flight (announced_by w.link s d) (announced_by w.link d s) (f.joined.carried s d) (w.link s d) (f.joined.alike s d)
-          (idle n (sessions_in engines) datagrams f.joined.carried w.current f.joined.links still s d s_is d_is
-          (knows_too n engines datagrams w s d f.joined s_is s_knows) (knows_too n engines datagrams w d s f.joined d_is d_knows)));
-      leaves = λ still. m.leaves (none_to_hand n g f.alone);
+          subst (λ (o : Option ℕ). IsReason o why) (sym (faults r e there (call_meant e.core call))) (refused n r engines datagrams history e mid call back why f there gives);
+      takes = λ r e mid call reply there is gives.
+          subst (λ (o : Option ℕ). IsFaultless o e.core call) (sym (faults r e there (call_seen call))) (taken n r engines datagrams history e mid call reply f there is gives);
+      holds = holds;
+      one_group = λ r x e d first second a b e_there d_there a_is b_is same.
+          one_of one n m.events e.sessions.place.endpoint d.sessions.place.endpoint a b f.few m.run (real_there n r engines datagrams w e f.few f.joined e_there) (real_there n x engines datagrams w d f.few f.joined d_there)
+          (subst (IsAmong a) (sym (holds r e e_there)) (among_held (member_of e.groups) first a a_is)) (subst (IsAmong b) (sym (holds x d d_there)) (among_held (member_of d.groups) second b b_is)) same;
+      quiet = λ quiet. m.quiet (still idle texts n engines datagrams w f.joined quiet).0;
+      leaves = λ quiet. m.leaves (still idle texts n engines datagrams w f.joined quiet).1;
     }
+  where
+    w : GroupNetwork
+    w = network_after n f.happenings
+
+    m : IsRunOfGroups n w
+    m = is_run_of_groups n f.happenings (omega (arith, f.few))
+
+    ends : Machine
+    ends = after_run (machine_opening n) m.events
+
+    faults : (r : ℕ) (e : EngineState) → slice_get engines r ≡ Some e → (c : machine_calls.Call) → fault_in ends e.sessions.place.endpoint c ≡ fault_at w r c
+    faults r e there c =
+        m.faults e.sessions.place.endpoint c
+        ∙ ap (λ (x : Endpoint). fault x (view blank (w.net.core x)) (w.member x).membership c) (endpoint_is n r engines datagrams w e f.joined there)
+
+    holds : (r : ℕ) (e : EngineState) → slice_get engines r ≡ Some e → (ends.groups.of e.sessions.place.endpoint).held ≡ (member_of e.groups).held
+    holds r e there = held_there n r engines datagrams w e ends.groups.of f.joined there (λ x. ap (λ (g : Groups). (g.of x).held) m.groups)

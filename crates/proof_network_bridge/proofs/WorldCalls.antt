@@ -18,21 +18,7 @@ use Rattle.perfect_queues.specs.Refusals.{world}
 use Rattle.perfect_queues.specs.State.{Local}
 use Rattle.vocabulary.specs.declared.endpoint.Endpoint.{Endpoint}
 use Rattle.vocabulary.specs.declared.envelope.Source.{Source}
-use Rattle.rank_calls.specs.declared.call.Call as engine
-use Rattle.rank_calls.specs.declared.call.Call.TheVariants as calls
-use Rattle.requests.specs.declared.table.Request.{Request}
-use Rattle.proof_engine_view.specs.Seen.{call_by}
 use Rattle.proof_network_bridge.specs.OnWorld.{IsOnWorld, call_on_world, entries_on_world}
-
--- every call of an engine is on world
-pub engines_call_on_world : (f : Request → ℕ) (call : engine.Call) → IsOnWorld (call_by f call)
-engines_call_on_world f (calls.Isend s) = refl
-engines_call_on_world f (calls.Irecv v) = (refl, refl)
-engines_call_on_world f (calls.Wait q) = tt
-engines_call_on_world f (calls.Test q) = tt
-engines_call_on_world f (calls.Waitany qs) = tt
-engines_call_on_world f (calls.Waitall qs) = tt
-engines_call_on_world f (calls.Cancel q) = tt
 
 -- a receive on world is what its source, tag and buffer say
 pub receive_is : (source : Source) (tag : Option ℕ) (context : ℕ) (group : Option (List ℕ)) (into : Handed) → context ≡ world → group ≡ None →

@@ -1,14 +1,15 @@
--- What joins a world to a network stays after an event.
-use Rattle.std.proofs.Common.{◌≡◌, ◌⊎◌, inl, inr, ℕ, zero, suc, ◌<◌, ◌≤◌, Bool, true, false, List, [], ◌∷◌, ◌++◌, Some, if◌then◌else◌, refl, sym, ap, subst, ◌∙◌, arith, append-nil}
-use Rattle.std.specs.Prelude.{slice_get, slice_set}
-use Rattle.std.proofs.lemmas.Bool.{ne_eqb}
+-- What stays of a world's links and ranks after an event at one of them.
+use Rattle.std.proofs.Common.{◌≡◌, ◌⊎◌, inl, inr, ℕ, zero, suc, ◌<◌, Bool, true, false, List, [], ◌∷◌, ◌++◌, Some, if◌then◌else◌, refl, sym, ap, ◌∙◌, arith, append-nil}
+use Rattle.std.specs.Prelude.{slice_get, slice_set, ◌==◌}
+use Rattle.std.proofs.lemmas.Bool.{eqb-false}
 use Rattle.std.proofs.lemmas.Option.{same_Some, slice_get_within}
 use Rattle.vocabulary.specs.Endpoints.{is_same}
 use Rattle.perfect_queues.specs.State.{with_number}
 use Rattle.vocabulary.specs.declared.endpoint.Endpoint.{Endpoint}
 use Rattle.perfect_queues.proofs.EndpointLemmas.{same_eq}
-use Rattle.engine.specs.EngineState.{EngineState, emptied}
-use Rattle.proof_pure_network.specs.Core.{Core, new_core}
+use Rattle.rank_core.specs.CoreState.{CoreState}
+use Rattle.engine.specs.EngineState.{EngineState}
+use Rattle.proof_pure_network.specs.Core.{Core}
 use Rattle.proof_pure_network.specs.Announced.{LinksGrow}
 use Rattle.proof_pure_network.specs.Frames.{Frame}
 use Rattle.proof_pure_network.specs.Links.{Link, accept_all, handed_on}
@@ -16,19 +17,16 @@ use Rattle.proof_pure_network.proofs.Announced.{accepted_out, hand_accepted}
 use Rattle.proof_pure_network.proofs.LinksGrow.{grow_both, handed_grows, out_grows}
 use Rattle.proof_pure_network.proofs.Tokens as below_frames
 use Rattle.proof_pure_network.proofs.Tokens.{link_else}
-use Rattle.proof_engine_view.specs.Transfers.{Announcements, AnnouncementsGrow, after_out, announced_in, announcements_of, frames_to}
+use Rattle.proof_engine_view.specs.Transfers.{AnnouncementsGrow, after_out, announced_in, announcements_of, frames_to}
 use Rattle.proof_engine_view.proofs.Growing.{announced_append, announced_grow}
 use Rattle.proof_engine_steps.proofs.UnderWay.{others_may_announce}
 use Rattle.proof_pure_network.specs.Network.{Network, here}
-use Rattle.proof_pure_network.proofs.EventKept.{current_more}
 use Rattle.proof_engine_view.specs.Shown.{IsShown}
-use Rattle.proof_link_truth.specs.Links as below
-use Rattle.proof_link_truth.specs.Truth.{AreTrue}
-use Rattle.proof_link_truth.specs.Wire.{at, place_of}
-use Rattle.proof_network_bridge.specs.Carried.{AreCarried}
-use Rattle.proof_network_bridge.specs.Joined.{IsClean, IsJoined, sessions_in}
+use Rattle.proof_group_network.specs.Network.{GroupNetwork, Happening, happens, run}
+use Rattle.proof_link_truth.specs.Events.{IsAt}
+use Rattle.proof_link_truth.specs.Wire.{place_of}
+use Rattle.proof_network_bridge.specs.Joined.{IsJoined, sessions_in}
 use Rattle.proof_network_bridge.proofs.Halves.{sessions_there}
-use Rattle.proof_network_bridge.proofs.Networks.{IsMoved, anew, with_new, with_old}
 
 -- what stands at a place of a list of which one place was set
 pub set_cases : {A : Type 0} (xs : List A) (k : ℕ) (y : A) (j : ℕ) (e : A) → slice_get (slice_set xs k y) j ≡ Some e →
@@ -63,69 +61,41 @@ later_apart w d r later = go (is_same d (here w r)) refl
         let incarnation_is : d.incarnation ≡ w.current r = ap (λ (e : Endpoint). e.incarnation) is in
         absurd (omega (arith, later, rank_is, incarnation_is))
 
--- an engine holds what a core of the network holds, and its halves stand at one place
-pub record IsHeld (a : Announcements) (e : EngineState) (core : Core) : Type 0 where
-  pub shown : IsShown a e.core e.sessions.known core
-  pub placed : e.core.place ≡ e.sessions.place
-
--- the engine at a rank does
-pub held_at : (n r : ℕ) (engines : List EngineState) (datagrams : List (ℕ × List ℕ)) (w : Network) (e : EngineState) → IsJoined n engines datagrams w → slice_get engines r ≡ Some e →
-    IsHeld (announcements_of w.link (here w r)) e (w.core (here w r))
-held_at n r engines datagrams w e j there = record { shown = j.shown r e there; placed = j.placed r e there }
-
 -- where the sessions of the engine at a rank stand
-pub place_is : (n r : ℕ) (engines : List EngineState) (datagrams : List (ℕ × List ℕ)) (w : Network) (e : EngineState) → IsJoined n engines datagrams w → slice_get engines r ≡ Some e →
-    (r < n) × (e.sessions.place ≡ place_of n (here w r))
+pub place_is : (n r : ℕ) (engines : List EngineState) (datagrams : List (ℕ × List ℕ)) (w : GroupNetwork) (e : EngineState) → IsJoined n engines datagrams w → slice_get engines r ≡ Some e →
+    (r < n) × (e.sessions.place ≡ place_of n (here w.net r))
 place_is n r engines datagrams w e j there =
     let sessions = sessions_there engines r e there in
     (omega (arith, slice_get_within (sessions_in engines) r e.sessions sessions, j.links.count), (j.links.tells r e.sessions sessions).place)
 
--- what is emitted and answered doesn't belong to the core
-pub held_emptied : (a : Announcements) (e : EngineState) (core : Core) → IsHeld a e core → IsHeld a (emptied e) core
-held_emptied a e core h =
-    record {
-      shown = record {
-        rows = h.shown.rows;
-        jobs = h.shown.jobs;
-        count = h.shown.count;
-        table = h.shown.table;
-        posted = h.shown.posted;
-        held = h.shown.held;
-        under_way = h.shown.under_way;
-        blocked = h.shown.blocked;
-        pending = h.shown.pending;
-        width = h.shown.width;
-        known_alike = h.shown.known_alike;
-        itself = h.shown.itself;
-      };
-      placed = h.placed;
-    }
-
-pub clean_emptied : (e : EngineState) → IsClean (emptied e)
-clean_emptied e = record { out = refl; completion = refl }
+-- the sessions of a rank of the world, out of which everything was taken
+pub is_at : (n r : ℕ) (engines : List EngineState) (datagrams : List (ℕ × List ℕ)) (w : GroupNetwork) (old : EngineState) → IsJoined n engines datagrams w → slice_get engines r ≡ Some old →
+    IsAt (sessions_in engines) r old.sessions
+is_at n r engines datagrams w old j there = record { there = sessions_there engines r old there; out = (j.clean r old there).out }
 
 -- links that took in more from one endpoint alone
 pub record OnlyFrom (own : Endpoint) (old new : Endpoint → Endpoint → Link) : Type 0 where
   pub grow : LinksGrow old new
   pub others : (s d : Endpoint) → is_same s own ≡ false → (new s d).accepted ≡ (old s d).accepted
 
--- what another engine holds is under the numbers that the new links give
-held_more : (own x : Endpoint) (old new : Endpoint → Endpoint → Link) (e : EngineState) (core : Core) → OnlyFrom own old new → is_same x own ≡ false → IsHeld (announcements_of old x) e core →
-    IsHeld (announcements_of new x) e core
-held_more own x old new e core o apart h =
-    record {
-      shown = others_may_announce (announcements_of old x) (announcements_of new x) e.core e.sessions.known core h.shown
-          (record {
-            to = λ d. announced_grow (old x d).accepted (new x d).accepted (o.grow.accepted x d);
-            from = λ s. announced_grow (old s x).accepted (new s x).accepted (o.grow.accepted s x);
-          })
-          (λ d. ap announced_in (o.others x d apart));
-      placed = h.placed;
-    }
+-- what another core holds is under the numbers that the new links give
+pub shown_more : (own x : Endpoint) (old new : Endpoint → Endpoint → Link) (c : CoreState) (known : List ℕ) (core : Core) → OnlyFrom own old new → is_same x own ≡ false → IsShown (announcements_of old x) c known core →
+    IsShown (announcements_of new x) c known core
+shown_more own x old new c known core o apart h =
+    others_may_announce (announcements_of old x) (announcements_of new x) c known core h
+    (record {
+      to = λ d. announced_grow (old x d).accepted (new x d).accepted (o.grow.accepted x d);
+      from = λ s. announced_grow (old s x).accepted (new s x).accepted (o.grow.accepted s x);
+    })
+    (λ d. ap announced_in (o.others x d apart))
 
 -- what goes out at e after the next frame was handed up to it
 pub only_out : (links : Endpoint → Endpoint → Link) (e : Endpoint) (out : List (Endpoint × Frame)) → OnlyFrom e links (accept_all links e out)
 only_out links e out = record { grow = out_grows links e out; others = λ s d apart. ap (λ (l : Link). l.accepted) (link_else links e s d out apart) }
+
+-- and what goes nowhere
+pub only_same : (links : Endpoint → Endpoint → Link) (e : Endpoint) → OnlyFrom e links links
+only_same links e = only_out links e []
 
 pub only_handed : (links : Endpoint → Endpoint → Link) (s e : Endpoint) (out : List (Endpoint × Frame)) → OnlyFrom e links (accept_all (handed_on links s e) e out)
 only_handed links s e out =
@@ -158,14 +128,10 @@ after_grows links e out =
     }
 
 -- what is held under the former is held under the latter
-pub held_out : (links : Endpoint → Endpoint → Link) (own : Endpoint) (out : List (Endpoint × Frame)) (e : EngineState) (core : Core) → IsHeld (after_out (announcements_of links own) out) e core →
-    IsHeld (announcements_of (accept_all links own out) own) e core
-held_out links own out e core h =
-    record {
-      shown = others_may_announce (after_out (announcements_of links own) out) (announcements_of (accept_all links own out) own) e.core e.sessions.known core h.shown (after_grows links own out)
-          (λ d. announced_after links own out d);
-      placed = h.placed;
-    }
+pub shown_out : (links : Endpoint → Endpoint → Link) (own : Endpoint) (out : List (Endpoint × Frame)) (c : CoreState) (known : List ℕ) (core : Core) → IsShown (after_out (announcements_of links own) out) c known core →
+    IsShown (announcements_of (accept_all links own out) own) c known core
+shown_out links own out c known core h =
+    others_may_announce (after_out (announcements_of links own) out) (announcements_of (accept_all links own out) own) c known core h (after_grows links own out) (λ d. announced_after links own out d)
 
 -- the same, after the next frame was handed up to it
 pub handed_to_same : (links : Endpoint → Endpoint → Link) (s e : Endpoint) (out : List (Endpoint × Frame)) (d : Endpoint) →
@@ -182,86 +148,22 @@ handed_grow_out links s e out =
           ((grow_both links (handed_on links s e) (accept_all (handed_on links s e) e out) (handed_grows links s e) (out_grows (handed_on links s e) e out)).accepted x e);
     }
 
--- the world after an event at r is joined to the network after what happened there
-pub joined_after : (n r : ℕ) (engines : List EngineState) (datagrams datagrams' : List (ℕ × List ℕ)) (w w' : Network) (new : EngineState) (core : Core) (carried : below.Links)
-    (links : Endpoint → Endpoint → Link) →
-    IsJoined n engines datagrams w → IsMoved w w' (here w r) core links → AreCarried carried links → OnlyFrom (here w r) w.link links →
-    AreTrue n (sessions_in (slice_set engines r new)) datagrams' carried w.current → IsHeld (announcements_of links (here w r)) new core → IsClean new → IsJoined n (slice_set engines r new) datagrams' w'
-joined_after n r engines datagrams datagrams' w w' new core carried links j a alike only truth held clean =
-    record {
-      carried = carried;
-      links = subst (λ (current : ℕ → ℕ). AreTrue n (sessions_in (slice_set engines r new)) datagrams' carried current) (sym a.current_is) truth;
-      alike = subst (λ (ls : Endpoint → Endpoint → Link). AreCarried carried ls) (sym a.links_are) alike;
-      shown = λ x e is. (each x e is).shown;
-      placed = λ x e is. (each x e is).placed;
-      clean = λ x e is. elim (set_cases engines r new x e is) [
-        | inl p ↦ subst IsClean (sym p.1) clean
-        | inr p ↦ j.clean x e p.1
-      ];
-      unborn = λ d later.
-          let before : w.current d.rank < d.incarnation = subst (λ (current : ℕ → ℕ). current d.rank < d.incarnation) a.current_is later in
-          a.others d (later_apart w d r before) ∙ j.unborn d before;
-    }
-  where
-    each : (x : ℕ) (e : EngineState) → slice_get (slice_set engines r new) x ≡ Some e → IsHeld (announcements_of w'.link (here w' x)) e (w'.core (here w' x))
-    each x e is =
-        subst (λ (ls : Endpoint → Endpoint → Link). IsHeld (announcements_of ls (here w' x)) e (w'.core (here w' x))) (sym a.links_are)
-        (subst (λ (current : ℕ → ℕ). IsHeld (announcements_of links (record { rank = x; incarnation = current x })) e (w'.core (record { rank = x; incarnation = current x }))) (sym a.current_is) (elim (set_cases engines r new x e is) [
-          | inl p ↦ subst (λ (y : ℕ). IsHeld (announcements_of links (here w y)) e (w'.core (here w y))) (sym p.0)
-              (subst (λ (k : Core). IsHeld (announcements_of links (here w r)) e k) (sym a.at) (subst (λ (g : EngineState). IsHeld (announcements_of links (here w r)) g core) (sym p.1) held))
-          | inr p ↦ subst (λ (k : Core). IsHeld (announcements_of links (here w x)) e k) (sym (a.others (here w x) (ranks_apart w x r p.0)))
-              (held_more (here w r) (here w x) w.link links e (w.core (here w x)) only (ranks_apart w x r p.0) (held_at n x engines datagrams w e j p.1))
-        ]))
+-- ---- a restart
 
--- an event that is nothing to the network
-pub joined_still : (n r : ℕ) (engines : List EngineState) (datagrams datagrams' : List (ℕ × List ℕ)) (w : Network) (new : EngineState) →
-    (j : IsJoined n engines datagrams w) → AreTrue n (sessions_in (slice_set engines r new)) datagrams' j.carried w.current → IsHeld (announcements_of w.link (here w r)) new (w.core (here w r)) → IsClean new →
-    IsJoined n (slice_set engines r new) datagrams' w
-joined_still n r engines datagrams datagrams' w new j truth held clean =
-    record {
-      carried = j.carried;
-      links = truth;
-      alike = j.alike;
-      shown = λ x e is. (each x e is).shown;
-      placed = λ x e is. (each x e is).placed;
-      clean = λ x e is. elim (set_cases engines r new x e is) [
-        | inl p ↦ subst IsClean (sym p.1) clean
-        | inr p ↦ j.clean x e p.1
-      ];
-      unborn = j.unborn;
-    }
+-- the new endpoint of the rank, and those of others
+pub with_new : (f : ℕ → ℕ) (r i : ℕ) → with_number f r i r ≡ i
+with_new f r i = go (r == r) refl
   where
-    each : (x : ℕ) (e : EngineState) → slice_get (slice_set engines r new) x ≡ Some e → IsHeld (announcements_of w.link (here w x)) e (w.core (here w x))
-    each x e is = elim (set_cases engines r new x e is) [
-      | inl p ↦ subst (λ (y : ℕ). IsHeld (announcements_of w.link (here w y)) e (w.core (here w y))) (sym p.0) (subst (λ (g : EngineState). IsHeld (announcements_of w.link (here w r)) g (w.core (here w r))) (sym p.1) held)
-      | inr p ↦ held_at n x engines datagrams w e j p.1
-    ]
+    go : (t : Bool) → (r == r) ≡ t → (if r == r then i else f r) ≡ i
+    go true h = rw h refl
+    go false h = absurd (eqb-false r r h refl)
 
--- a rank is started anew: its new engine shows the new core, and the other ranks' endpoints stay
-pub joined_anew : (n r : ℕ) (engines : List EngineState) (datagrams : List (ℕ × List ℕ)) (w : Network) (new : EngineState) →
-    (j : IsJoined n engines datagrams w) → AreTrue n (sessions_in (slice_set engines r new)) datagrams j.carried (anew w r).current → IsHeld (announcements_of w.link (at r (suc (w.current r)))) new (new_core (at r (suc (w.current r)))) → IsClean new →
-    IsJoined n (slice_set engines r new) datagrams (anew w r)
-joined_anew n r engines datagrams w new j truth held clean =
-    record {
-      carried = j.carried;
-      links = truth;
-      alike = j.alike;
-      shown = λ x e is. (each x e is).shown;
-      placed = λ x e is. (each x e is).placed;
-      clean = λ x e is. elim (set_cases engines r new x e is) [
-        | inl p ↦ subst IsClean (sym p.1) clean
-        | inr p ↦ j.clean x e p.1
-      ];
-      unborn = λ d later.
-          let more : w.current d.rank ≤ with_number w.current r (suc (w.current r)) d.rank = current_more w.current r d.rank in
-          j.unborn d (omega (arith, later, more));
-    }
-  where
-    each : (x : ℕ) (e : EngineState) → slice_get (slice_set engines r new) x ≡ Some e → IsHeld (announcements_of w.link (here (anew w r) x)) e (w.core (here (anew w r) x))
-    each x e is = elim (set_cases engines r new x e is) [
-      | inl p ↦ subst (λ (y : ℕ). IsHeld (announcements_of w.link (here (anew w r) y)) e (w.core (here (anew w r) y))) (sym p.0)
-          (subst (λ (i : ℕ). IsHeld (announcements_of w.link (at r i)) e (w.core (at r i))) (sym (with_new w.current r (suc (w.current r))))
-          (subst (λ (k : Core). IsHeld (announcements_of w.link (at r (suc (w.current r)))) e k) (sym (j.unborn (at r (suc (w.current r))) (omega arith)))
-          (subst (λ (g : EngineState). IsHeld (announcements_of w.link (at r (suc (w.current r)))) g (new_core (at r (suc (w.current r))))) (sym p.1) held)))
-      | inr p ↦ subst (λ (i : ℕ). IsHeld (announcements_of w.link (at x i)) e (w.core (at x i))) (sym (with_old w.current r (suc (w.current r)) x (ne_eqb x r p.0))) (held_at n x engines datagrams w e j p.1)
-    ]
+pub with_old : (f : ℕ → ℕ) (r i x : ℕ) → (x == r) ≡ false → with_number f r i x ≡ f x
+with_old f r i x apart = rw apart refl
+
+-- ---- a list of happenings
+
+-- one happening more
+pub run_push : (n : ℕ) (hs : List Happening) (h : Happening) (w : GroupNetwork) → run n (hs ++ h ∷ []) w ≡ happens n (run n hs w) h
+run_push n [] h w = refl
+run_push n (g ∷ gs) h w = run_push n gs h (happens n w g)

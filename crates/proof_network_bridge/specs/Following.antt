@@ -1,16 +1,18 @@
 -- A world of engines follows the pure network with communicators, event by event.
-use Rattle.std.specs.Prelude.{◌≡◌, ℕ, suc, ◌<◌, ◌≤◌, List, [], ◌∷◌, ◌++◌, Option, Some, Ok, Err, slice_get, slice_set, slice_index}
+use Rattle.std.specs.Prelude.{◌≡◌, ℕ, suc, ◌<◌, ◌≤◌, List, [], ◌∷◌, ◌++◌, Option, Some, None, Ok, Err, slice_get, slice_set, slice_index}
 use Rattle.incarnation.specs.declared.place.Place.{Place}
-use Rattle.rank_calls.specs.declared.call.Call.{Call}
-use Rattle.rank_calls.specs.declared.call.Reply.{Reply}
-use Rattle.rank_calls.specs.declared.call.Reply.TheVariants as replies
 use Rattle.rank_calls.specs.declared.refused.Refused.{Refused}
-use Rattle.rank_calls.specs.Calls.{IsTaken, IsWithin}
-use Rattle.engine.specs.Calls.{CallGives}
+use Rattle.rank_core.specs.CoreState.{CoreState}
+use Rattle.engine.specs.Calls.{CallGives, IsTaken}
 use Rattle.engine.specs.Datagrams.{DatagramGives}
-use Rattle.engine.specs.EngineState.{EngineState, emptied, opening}
+use Rattle.engine.specs.EngineState.{EngineState, completion_of, emptied, member_of, opening}
 use Rattle.engine.specs.Ticks.{TickGives}
+use Rattle.engine.specs.declared.call.Call.{Call}
+use Rattle.engine.specs.declared.reply.Reply.{Reply}
+use Rattle.engine.specs.declared.reply.Reply.TheVariants as replies
 use Rattle.perfect_groups.specs.Calls as machine_calls
+use Rattle.perfect_groups.specs.Calls.{held_at}
+use Rattle.perfect_groups.specs.Communicators.{Communicator}
 use Rattle.perfect_groups.specs.Events as machine
 use Rattle.perfect_groups.specs.Faults.{fault}
 use Rattle.perfect_groups.specs.Machine.{Machine, machine_opening}
@@ -19,10 +21,10 @@ use Rattle.perfect_groups.specs.Runs.{IsRun, after_run, seen}
 use Rattle.vocabulary.specs.Endpoints.{last_incarnation}
 use Rattle.vocabulary.specs.declared.endpoint.Endpoint.{Endpoint}
 use Rattle.perfect_queues.specs.Quiet.{IsAtRest}
-use Rattle.proof_engine_steps.specs.Refused.{IsFaultless, IsReason}
+use Rattle.proof_engine_steps.specs.Refused.{IsReason}
 use Rattle.proof_link_truth.specs.Quiet.{AreQuiet}
 use Rattle.proof_network_bridge.specs.Joined.{IsFollowed, opening_engines, sessions_in}
-use Rattle.proof_network_bridge.specs.OnWorld.{call_meant, call_seen, told_call, told_completion}
+use Rattle.proof_network_bridge.specs.Seen.{call_meant, call_seen, told_call, told_completion}
 
 -- ---- what an event is to an engine
 
@@ -59,11 +61,11 @@ abbrev pub CallsFollow : Type 0
 CallsFollow =
     (n r : ℕ) (engines : List EngineState) (datagrams : List (ℕ × List ℕ)) (history : List machine.Entry)
     (old mid : EngineState) (call : Call) (reply : Reply) →
-    IsFollowed n engines datagrams history → slice_get engines r ≡ Some old → IsWithin call → IsTaken reply →
+    IsFollowed n engines datagrams history → slice_get engines r ≡ Some old → IsTaken reply →
     CallGives old call reply mid →
     LeavesFollowed n engines datagrams r mid
     (history ++
-    (told_call old.sessions.place.endpoint call (Some reply) ++ told_completion old.sessions.place.endpoint mid.core.completion))
+    (told_call old.sessions.place.endpoint call (Some reply) ++ told_completion old.sessions.place.endpoint (completion_of mid)))
 
 -- A datagram that a rank takes in is followed, and what is seen of it is the answer to a call that was blocked
 abbrev pub DatagramsFollow : Type 0
@@ -72,7 +74,7 @@ DatagramsFollow =
     (history : List machine.Entry) (old mid : EngineState) →
     IsFollowed n engines datagrams history → slice_get engines r ≡ Some old →
     slice_get datagrams number ≡ Some (r, bytes) → TakesDatagram old bytes mid →
-    LeavesFollowed n engines datagrams r mid (history ++ told_completion old.sessions.place.endpoint mid.core.completion)
+    LeavesFollowed n engines datagrams r mid (history ++ told_completion old.sessions.place.endpoint (completion_of mid))
 
 -- nothing is seen of a datagram that is refused, though a reset may go out
 abbrev pub RefusalsFollow : Type 0
@@ -89,7 +91,7 @@ TicksFollow =
     (n r now : ℕ) (engines : List EngineState) (datagrams : List (ℕ × List ℕ)) (history : List machine.Entry)
     (old mid : EngineState) →
     IsFollowed n engines datagrams history → slice_get engines r ≡ Some old → TakesTick old now mid →
-    LeavesFollowed n engines datagrams r mid (history ++ told_completion old.sessions.place.endpoint mid.core.completion)
+    LeavesFollowed n engines datagrams r mid (history ++ told_completion old.sessions.place.endpoint (completion_of mid))
 
 -- the place of the next incarnation of a rank
 abbrev pub next_place : Place → Place
@@ -112,6 +114,11 @@ RestartsFollow =
 -- the fault of a call at an endpoint, in a state of the machine
 abbrev pub fault_in : Machine → Endpoint → machine_calls.Call → Option ℕ
 fault_in s e call = fault e (s.queues.at e) (s.groups.of e) call
+
+-- a call that names no request of another engine, and with which the machine finds no fault
+pub record IsFaultless (found : Option ℕ) (c : CoreState) (call : Call) : Type 0 where
+  pub own : call_meant c call ≡ call_seen call
+  pub none : found ≡ None
 
 -- A history is seen of a run of the machine of queues and groups among n ranks. The run ends with each rank at the
 -- incarnation of its engine, which knows there what its engine knows; a call that its engine refuses has a reason there, and
@@ -140,6 +147,15 @@ pub record IsSeenOfMachine (n : ℕ) (engines : List EngineState) (history : Lis
       (r : ℕ) (e mid : EngineState) (call : Call) (reply : Reply) → slice_get engines r ≡ Some e → IsTaken reply →
       CallGives e call reply mid →
       IsFaultless (fault_in (after_run (machine_opening n) events) e.sessions.place.endpoint (call_seen call)) e.core call
+  -- the endpoint there holds the communicators that its engine holds
+  pub holds :
+      (r : ℕ) (e : EngineState) → slice_get engines r ≡ Some e →
+      ((after_run (machine_opening n) events).groups.of e.sessions.place.endpoint).held ≡ (member_of e.groups).held
+  -- one group for each context: communicators of two engines that have one context are one
+  pub one_group :
+      (r x : ℕ) (e d : EngineState) (first second : Option ℕ) (a b : Communicator) →
+      slice_get engines r ≡ Some e → slice_get engines x ≡ Some d →
+      held_at (member_of e.groups) first ≡ Some a → held_at (member_of d.groups) second ≡ Some b → a.context ≡ b.context → a ≡ b
   -- messages have all been handed up, and what was matched is finished
   pub quiet : AreQuiet (sessions_in engines) → IsAtRest (after_run (machine_opening n) events).queues
   -- a collective whose members are all current, know each other so and have all entered it alike was left by all

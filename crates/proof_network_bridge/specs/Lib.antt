@@ -1,4 +1,4 @@
-pub mod Carried
 pub mod OnWorld
+pub mod Seen
 pub mod Joined
 pub mod Following

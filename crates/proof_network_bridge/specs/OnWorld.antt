@@ -1,11 +1,6 @@
--- What the machine of queues and groups sees of an engine's calls: all of them are on world, which each rank holds first.
-use Rattle.std.specs.Prelude.{◌≡◌, ℕ, List, map, Option, Some, None}
+-- Runs of the machine of queues and groups whose calls are on world alone, which each rank holds first.
+use Rattle.std.specs.Prelude.{◌≡◌, ℕ, List, map, Some, None}
 use Rattle.std.specs.List.{AllByRecursion}
-use Rattle.vocabulary.specs.declared.endpoint.Endpoint.{Endpoint}
-use Rattle.requests.specs.declared.answer.Answer.{Answer}
-use Rattle.rank_calls.specs.declared.call.Call as engine
-use Rattle.rank_calls.specs.declared.call.Reply as replies
-use Rattle.rank_core.specs.CoreState.{CoreState}
 use Rattle.perfect_groups.specs.Calls.{ByRequests, Call, Cancel, Irecv, Isend, OfRequests, Test, Wait}
 use Rattle.perfect_groups.specs.Events.{Called, Completed, Entry, Event, Restarted}
 use Rattle.perfect_groups.specs.Machine.{machine_opening}
@@ -15,7 +10,6 @@ use Rattle.perfect_queues.specs.Events as queue_events
 use Rattle.perfect_queues.specs.Refusals.{world}
 use Rattle.perfect_queues.specs.Runs as queue_runs
 use Rattle.perfect_queues.specs.State.{State, opening}
-use Rattle.proof_engine_view.specs.Seen as in_queues
 
 -- a call of queues and requests, on world
 abbrev pub call_on_world : queues.Call → Call
@@ -34,22 +28,6 @@ entry_on_world (queue_events.Restarted r) = Restarted r
 -- each entry
 abbrev pub entries_on_world : List queue_events.Entry → List Entry
 entries_on_world entries = map entry_on_world entries
-
--- what is seen of a call: each request is named by its own serial
-abbrev pub call_seen : engine.Call → Call
-call_seen call = call_on_world (in_queues.call_seen call)
-
--- what a call means at a rank: what is seen of it, but that a request of another engine is one that it never gave
-abbrev pub call_meant : CoreState → engine.Call → Call
-call_meant c call = call_on_world (in_queues.call_meant c call)
-
--- what is seen of a call at an endpoint that was answered so; of a refused one nothing is
-abbrev pub told_call : Endpoint → engine.Call → Option replies.Reply → List Entry
-told_call e call reply = entries_on_world (in_queues.told_call e call reply)
-
--- what is seen of the answer to a call that was blocked
-abbrev pub told_completion : Endpoint → Option Answer → List Entry
-told_completion e answer = entries_on_world (in_queues.told_completion e answer)
 
 -- whether a call of queues and requests is on world: in its context, and a receive names ranks by themselves
 abbrev pub IsOnWorld : queues.Call → Type 0

@@ -1,8 +1,8 @@
 //! The bridge from worlds of engines and datagrams to the machine of queues and groups.
 //!
-//! A world of engines follows the pure network with communicators: `specs/` says what joins the two (`Joined`), for which frames of
-//! the network the frames of the sessions' links stand (`Carried`), what the machine sees of an engine's calls, which are on world
-//! (`OnWorld`), and what each event does to that (`Following`).
+//! A world of engines follows the pure network with communicators: `specs/` says what joins the two (`Joined`), what the machine
+//! sees of an engine's calls, replies and answers (`Seen`), what each event does to that (`Following`), and which runs are on
+//! world alone (`OnWorld`).
 #![tactic(auto)]
 
 mod law;

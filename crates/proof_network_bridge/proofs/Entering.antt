@@ -1,0 +1,261 @@
+-- A collective that is entered is followed.
+use Rattle.std.proofs.Common.{◌≡◌, ℕ, ◌<◌, ◌≤◌, Bool, true, false, cond, ◌||◌, ◌==◌, List, [], ◌∷◌, ◌++◌, map, Option, Some, None, is_some, not, option_map, slice_index, refl, sym, ap, subst, ◌∙◌, arith, append-nil}
+use Rattle.std.specs.Prelude.{is_none, slice_get}
+use Rattle.std.specs.List.{AllByRecursion, list_any}
+use Rattle.std.proofs.lemmas.Bool.{eqb-true}
+use Rattle.std.proofs.lemmas.Option.{slice_get-map}
+use Rattle.collective_notes.specs.Notes.{member_at}
+use Rattle.collective_notes.specs.declared.entry.Entry.{Entry}
+use Rattle.collective_notes.specs.declared.entry.Entry.TheVariants as entries
+use Rattle.collective_notes.specs.declared.message.Message.{Message}
+use Rattle.collective_notes.specs.declared.refused.Refused as notes
+use Rattle.collectives.specs.Calls.{context_of, entry_fault, inside_of, limit_at, or_limit}
+use Rattle.collectives.specs.State.{State, members_incarnation, ranks_at, ranks_of}
+use Rattle.collectives.specs.declared.step.Ending.{Ending}
+use Rattle.communicators.proofs.Judging.{entries_allowed, entry_judged}
+use Rattle.communicators.specs.Members as communicators
+use Rattle.communicators.specs.Members.{call_of, membership_of}
+use Rattle.communicators.specs.Rules.{Allows, known_by, limit_in, no_requests, or_limited}
+use Rattle.context_agreement.specs.Communicators.{ContextsState}
+use Rattle.context_agreement.specs.declared.communicator.Communicator as held
+use Rattle.datagram.specs.Spelling.{FrameText}
+use Rattle.engine.specs.Calls.{reply_on_entry}
+use Rattle.engine.specs.EngineState.{EngineState, completion_by, completion_of, member_of}
+use Rattle.engine.specs.Faults.{broken, entry_rules, fault_of, is_busy}
+use Rattle.engine.specs.Frames.{sending_of_message, step_sendings}
+use Rattle.engine.specs.declared.call.Call.TheVariants as calls
+use Rattle.engine.specs.declared.reply.Reply.{Reply}
+use Rattle.incarnation.specs.declared.place.Place.{Place}
+use Rattle.perfect_groups.specs.Calls.{Enter, held_at}
+use Rattle.perfect_groups.specs.Collectives as machine
+use Rattle.perfect_groups.specs.Communicators.{Communicator}
+use Rattle.perfect_groups.specs.Events as seen
+use Rattle.perfect_groups.specs.Events.{ready_by, told_of}
+use Rattle.perfect_groups.specs.Faults.{fault_by, has_replaced, is_replaced, is_within}
+use Rattle.proof_collective_steps.specs.Counterparts.{part_of}
+use Rattle.proof_collective_steps.specs.RankLaws.{EntriesOfRanksFollow, Follows}
+use Rattle.proof_collective_steps.specs.Shown.{ending_is}
+use Rattle.proof_engine_view.specs.Shown.{IsShown}
+use Rattle.proof_engine_view.specs.Transfers.{announcements_of}
+use Rattle.proof_group_network.specs.Network.{Ask, GroupNetwork, happens, notify_all}
+use Rattle.proof_link_truth.specs.Events.{EventsAreTrue, LeavesTrue, all_addressed}
+use Rattle.proof_link_truth.specs.Wire.{place_of}
+use Rattle.proof_links.specs.Links.{accept_all}
+use Rattle.proof_pure_network.specs.Network.{here}
+use Rattle.proof_session_carrying.specs.EventLaws.{Bring, EntriesAreCarried}
+use Rattle.rank_calls.specs.declared.refused.Refused.{Refused}
+use Rattle.rank_calls.specs.declared.refused.Refused.TheVariants as refusals
+use Rattle.rank_core.specs.CoreState.{CoreState}
+use Rattle.requests.specs.declared.answer.Answer.{Answer}
+use Rattle.sessions.specs.SessionsState.{SessionsState}
+use Rattle.vocabulary.specs.declared.endpoint.Endpoint.{Endpoint}
+use Rattle.proof_network_bridge.specs.Following.{LeavesFollowed}
+use Rattle.proof_network_bridge.specs.Joined.{IsClean, network_after, sessions_in}
+use Rattle.proof_network_bridge.specs.Seen.{told_call, told_completion}
+use Rattle.proof_network_bridge.proofs.Calls.{EntriesFollow}
+use Rattle.proof_network_bridge.proofs.Followed as followed
+use Rattle.proof_network_bridge.proofs.Followed.{IsHeldAs, followed_after}
+use Rattle.proof_network_bridge.proofs.Reasons.{allowed_faultless}
+use Rattle.proof_network_bridge.proofs.Halves.{Keeps, neither_fault, sends_keep}
+use Rattle.proof_network_bridge.proofs.Sending.{IsKnown, bring, step_is_true}
+use Rattle.proof_network_bridge.proofs.StepTargets.{AreMembers, entry_goes}
+use Rattle.proof_network_bridge.proofs.Worlds.{is_at, only_same, place_is}
+
+-- ---- what entering breaks
+
+-- nothing: the rank isn't blocked, holds the communicator, knows its members as they were, and meets no limit
+record IsAllowed (e : EngineState) (comm : Option ℕ) (x : Entry) : Type 0 where
+  free : is_some e.core.blocked ≡ false
+  outside : is_within (member_of e.groups).present ≡ false
+  there : is_none (held_at (member_of e.groups) comm) ≡ false
+  alike : has_replaced (known_by e.sessions.known) (held_at (member_of e.groups) comm) ≡ false
+  unlimited : limit_in e.groups.collective e.groups.contexts comm x ≡ false
+
+not_broken : (b : Bool) (rule : Refused) → broken b rule ≡ None → b ≡ false
+not_broken false rule h = refl
+not_broken true rule h = absurd cc
+
+neither : (a b : Bool) → (a || b) ≡ false → (a ≡ false) × (b ≡ false)
+neither false b h = (refl, h)
+neither true b h = absurd cc
+
+is_allowed : (e : EngineState) (comm : Option ℕ) (x : Entry) → fault_of e (calls.Enter comm x) ≡ None → IsAllowed e comm x
+is_allowed e comm x none =
+    let whole = neither_fault (broken (is_busy e) refusals.Request) (entry_rules e comm x) none in
+    let busy = neither (is_some e.core.blocked) (is_within (member_of e.groups).present) (not_broken (is_busy e) refusals.Request whole.0) in
+    let first = neither_fault (broken (is_none (held_at (member_of e.groups) comm)) refusals.Communicator) _ whole.1 in
+    let second = neither_fault (broken (has_replaced (known_by e.sessions.known) (held_at (member_of e.groups) comm)) refusals.Replaced) _ first.1 in
+    record {
+      free = busy.0;
+      outside = busy.1;
+      there = not_broken _ refusals.Communicator first.0;
+      alike = not_broken _ refusals.Replaced second.0;
+      unlimited = not_broken _ refusals.Limit second.1;
+    }
+
+-- ---- by the rank's rules
+
+-- the three rules
+no_fault : (b n r : Bool) → b ≡ false → n ≡ false → r ≡ false → cond {A = Option ℕ} b (Some 6) (cond n (Some 4) (cond r (Some 11) None)) ≡ None
+no_fault false false false p q s = refl
+no_fault true n r p q s = absurd cc
+no_fault false true r p q s = absurd cc
+no_fault false false true p q s = absurd cc
+
+no_entry_fault : (old : EngineState) (place : ℕ) (x : Entry) → IsAllowed old (Some place) x → entry_fault old.groups.collective old.groups.contexts place x ≡ None
+no_entry_fault old place x allowed =
+    ap (λ (o : Option notes.Refused). or_limit o (limit_at s h place x)) allows.0 ∙ ap (λ (b : Bool). or_limit None b) allows.1
+  where
+    s : State
+    s = old.groups.collective
+
+    h : ContextsState
+    h = old.groups.contexts
+
+    b : Bool
+    b = is_some old.core.blocked || is_within (membership_of s h).present
+
+    free : b ≡ false
+    free = ap (λ (t : Bool). t || is_within (membership_of s h).present) allowed.free ∙ allowed.outside
+
+    judged : fault_by b no_requests s.own (known_by old.sessions.known) (membership_of s h) (Enter (Some place) (call_of x)) ≡ None
+    judged =
+        entry_judged b s.own (known_by old.sessions.known) (membership_of s h) (Some place) x
+        ∙ no_fault b (is_none (held_at (membership_of s h) (Some place))) (has_replaced (known_by old.sessions.known) (held_at (membership_of s h) (Some place))) free allowed.there allowed.alike
+
+    allows : Allows s h (Some place) x
+    allows =
+        entries_allowed s h (is_some old.core.blocked) (known_by old.sessions.known) (Some place) x
+        (ap (λ (o : Option ℕ). or_limited o (limit_in s h (Some place) x)) judged ∙ ap (λ (t : Bool). or_limited None t) allowed.unlimited)
+
+-- ---- whom it tells
+
+-- members of whom none is known otherwise
+each_known : (known : List ℕ) (incarnation : ℕ) (group : List ℕ) → list_any (is_replaced (known_by known)) (map (member_at incarnation) group) ≡ false → AllByRecursion (λ r. IsKnown known (member_at incarnation r)) group
+each_known known incarnation [] none = tt
+each_known known incarnation (r ∷ rs) none =
+    let parts = neither (is_replaced (known_by known) (member_at incarnation r)) _ none in
+    (go (slice_index known r == incarnation) refl parts.0, each_known known incarnation rs parts.1)
+  where
+    go : (t : Bool) → (slice_index known r == incarnation) ≡ t → not (slice_index known r == incarnation) ≡ false → slice_index known r ≡ incarnation
+    go true is h = eqb-true (slice_index known r) incarnation is
+    go false is h = absurd (let z : not false ≡ false = ap not (sym is) ∙ h in cc)
+
+-- the members of the communicator are known as they were
+members_known : (old : EngineState) (place : ℕ) (x : Entry) → IsAllowed old (Some place) x →
+    AreMembers (IsKnown old.sessions.known) (inside_of old.groups.collective old.groups.contexts place x) (ranks_at old.groups.contexts place)
+members_known old place x allowed =
+    go (slice_get old.groups.contexts.held place)
+    (ap (λ (o : Option Communicator). has_replaced (known_by old.sessions.known) o) (sym (slice_get-map (communicators.communicator_of own) old.groups.contexts.held place)) ∙ allowed.alike)
+  where
+    own : Endpoint
+    own = old.groups.collective.own
+
+    go : (o : Option held.Communicator) → has_replaced (known_by old.sessions.known) (option_map (communicators.communicator_of own) o) ≡ false →
+        AllByRecursion (λ r. IsKnown old.sessions.known (member_at (members_incarnation own (context_of o)) r)) (ranks_of o)
+    go None none = tt
+    go (Some c) none = each_known old.sessions.known (members_incarnation own (context_of (Some c))) c.group none
+
+-- ---- what is seen
+
+-- what is entered is the same to both
+same_part : (x : Entry) → machine.part_of (call_of x) ≡ part_of x
+same_part entries.Barrier = refl
+same_part entries.Dup = refl
+same_part (entries.Split choice) = refl
+
+-- what is told of entering is the call, with how it ended, if it did
+told_entry : (e : Endpoint) (place : ℕ) (x : Entry) (ending : Option Ending) →
+    told_of e (Some (Enter (Some place) (call_of x), None)) (ready_by (option_map ending_is ending) None) ≡ told_call e (calls.Enter (Some place) x) (Some (reply_on_entry ending))
+told_entry e place x None = refl
+told_entry e place x (Some o) = refl
+
+-- nothing is completed
+no_completion : (e : Endpoint) (ended : Option Ending) (answer : Option Answer) → ended ≡ None → answer ≡ None → told_completion e (completion_by ended answer) ≡ []
+no_completion e None None p q = refl
+no_completion e (Some o) answer p q = absurd cc
+no_completion e None (Some a) p q = absurd cc
+
+-- ---- the call
+
+pub entries_follow : EntriesOfRanksFollow → EntriesAreCarried → EventsAreTrue → EntriesFollow
+entries_follow ranks carried truth n r engines datagrams history old mid comm x reply f there entered =
+    subst (λ (es : List seen.Entry). LeavesFollowed n engines datagrams r mid (history ++ es)) told
+    (followed_after n r engines datagrams history _ mid (Ask r (Enter (Some place) (call_of x))) (w.net.core e) w.net.link fo.member (notify_all w.notices e fo.out) _ _ f fo.happened
+    (carried n w (happens n w (Ask r (Enter (Some place) (call_of x)))) f.joined.texts f.joined.sessions e (w.net.core e) mid.groups.collective mid.groups.contexts sent _ gone f.joined.between fo brought)
+    (only_same w.net.link e) leaves held_as)
+  where
+    w : GroupNetwork
+    w = network_after n f.happenings
+
+    e : Endpoint
+    e = here w.net r
+
+    place : ℕ
+    place = entered.place
+
+    s : State
+    s = old.groups.collective
+
+    h : ContextsState
+    h = old.groups.contexts
+
+    sent : List Message
+    sent = entered.step.messages
+
+    shown : IsHeldAs (announcements_of w.net.link e) e old (w.net.core e) (w.member e)
+    shown = followed.held_at n r engines datagrams w old f.joined there
+
+    stands : (r < n) × (old.sessions.place ≡ place_of n e)
+    stands = place_is n r engines datagrams w old f.joined there
+
+    fine : fault_of old (calls.Enter (Some place) x) ≡ None
+    fine = subst (λ (o : Option ℕ). fault_of old (calls.Enter o x) ≡ None) entered.named entered.allowed
+
+    allowed : IsAllowed old (Some place) x
+    allowed = is_allowed old (Some place) x fine
+
+    fo : Follows n w (happens n w (Ask r (Enter (Some place) (call_of x)))) e (w.net.core e) w.net.link w.notices mid.groups.collective mid.groups.contexts sent
+        (told_of e (Some (Enter (Some place) (call_of x), None)) (ready_by (option_map ending_is entered.ending) None))
+    fo =
+        ranks n r f.happenings place (call_of x) x s h (entered.ending, entered.step) mid.groups.collective mid.groups.contexts (few n f.few) stands.0 (same_part x) shown.groups
+        (allowed_faultless n r engines datagrams history old (calls.Enter (Some place) x) f there fine).none (no_entry_fault old place x allowed) entered.enters
+      where
+        few : (n : ℕ) → n ≤ 256 → n ≤ 65536
+        few n le = omega (arith, le)
+
+    gone : List (Endpoint × FrameText)
+    gone = all_addressed old.sessions.known (map sending_of_message sent)
+
+    brought : Bring sent gone
+    brought = bring old.sessions.known sent entered.whole (entry_goes (IsKnown old.sessions.known) s.own (inside_of s h place x) h s.kept entered.step (members_known old place x allowed) entered.enters.0)
+
+    leaves : LeavesTrue n (sessions_in engines) datagrams r mid.sessions (accept_all f.joined.texts e gone) w.net.current
+    leaves =
+        subst (λ (t : SessionsState). LeavesTrue n (sessions_in engines) datagrams r t (accept_all f.joined.texts e gone) w.net.current) (sym entered.sessions)
+        (step_is_true truth n r (sessions_in engines) datagrams f.joined.texts w.net.current old.sessions None sent f.joined.links (is_at n r engines datagrams w old f.joined there) tt stands.1 fo.sendable entered.whole entered.goes)
+
+    keeps : Keeps old.sessions mid.sessions
+    keeps = subst (λ (t : SessionsState). Keeps old.sessions t) (sym entered.sessions) (sends_keep old.sessions (step_sendings old.sessions.place sent))
+
+    held_as : IsHeldAs (announcements_of w.net.link e) e mid (w.net.core e) fo.member
+    held_as = record {
+      queues = subst (λ (known : List ℕ). IsShown (announcements_of w.net.link e) mid.core known (w.net.core e)) (sym keeps.known)
+          (subst (λ (c : CoreState). IsShown (announcements_of w.net.link e) c old.sessions.known (w.net.core e)) (sym entered.core) shown.queues);
+      groups = fo.shown;
+      placed = ap (λ (c : CoreState). c.place) entered.core ∙ (shown.placed ∙ sym keeps.place);
+    }
+
+    told : told_of e (Some (Enter (Some place) (call_of x), None)) (ready_by (option_map ending_is entered.ending) None)
+        ≡ told_call old.sessions.place.endpoint (calls.Enter comm x) (Some reply) ++ told_completion old.sessions.place.endpoint (completion_of mid)
+    told =
+        told_entry e place x entered.ending
+        ∙ (ap (λ (o : Reply). told_call e (calls.Enter (Some place) x) (Some o)) (sym entered.replied)
+        ∙ (ap (λ (o : Option ℕ). told_call e (calls.Enter o x) (Some reply)) (sym entered.named)
+        ∙ (ap (λ (d : Endpoint). told_call d (calls.Enter comm x) (Some reply)) (sym (ap (λ (p : Place). p.endpoint) stands.1))
+        ∙ (sym (append-nil (told_call old.sessions.place.endpoint (calls.Enter comm x) (Some reply)))
+        ∙ ap (λ (es : List seen.Entry). told_call old.sessions.place.endpoint (calls.Enter comm x) (Some reply) ++ es)
+        (sym (no_completion old.sessions.place.endpoint mid.ended mid.core.completion (entered.ended ∙ clean.ended) (ap (λ (c : CoreState). c.completion) entered.core ∙ clean.completion)))))))
+      where
+        clean : IsClean old
+        clean = f.joined.clean r old there

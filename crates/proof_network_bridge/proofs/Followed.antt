@@ -1,0 +1,216 @@
+-- A world that follows the pure network with communicators follows it after an event at one rank.
+use Rattle.std.proofs.Common.{◌≡◌, ℕ, ◌<◌, false, List, [], ◌∷◌, ◌++◌, Option, Some, None, refl, sym, ap, subst, ◌∙◌, inl, inr, append-nil}
+use Rattle.std.specs.Prelude.{slice_get, slice_set}
+use Rattle.datagram.specs.Spelling.{FrameText}
+use Rattle.engine.specs.EngineState.{EngineState, GroupsState, completion_by, completion_of, emptied}
+use Rattle.engine.specs.declared.reply.Completion.{Completion}
+use Rattle.collectives.specs.declared.step.Ending.{Ending}
+use Rattle.perfect_groups.specs.Events.{Entry}
+use Rattle.proof_collective_steps.specs.Shown as groups
+use Rattle.proof_engine_view.specs.Shown.{IsShown}
+use Rattle.proof_engine_view.specs.Transfers.{Announcements, announcements_of}
+use Rattle.proof_group_network.specs.Carried.{Sessions}
+use Rattle.proof_group_network.specs.Happened.{IsAfter}
+use Rattle.proof_group_network.specs.Network.{GroupNetwork, Happening, NoticeLink, happens, new_group_network}
+use Rattle.proof_group_network.specs.Notices.{Member}
+use Rattle.proof_link_truth.specs.Events.{LeavesTrue}
+use Rattle.proof_link_truth.specs.Truth.{AreTrue}
+use Rattle.proof_links.specs.Links.{LinksOf}
+use Rattle.proof_pure_network.specs.Core.{Core}
+use Rattle.proof_pure_network.specs.Links.{Link}
+use Rattle.proof_pure_network.specs.Network.{here}
+use Rattle.proof_session_carrying.specs.EventLaws.{AreJoined}
+use Rattle.rank_core.specs.CoreState.{CoreState}
+use Rattle.vocabulary.specs.Endpoints.{is_same}
+use Rattle.vocabulary.specs.declared.endpoint.Endpoint.{Endpoint}
+use Rattle.proof_network_bridge.specs.Following.{LeavesFollowed}
+use Rattle.proof_network_bridge.specs.Joined.{IsClean, IsFollowed, IsHeldBy, IsJoined, network_after, sessions_in}
+use Rattle.proof_network_bridge.specs.Seen.{told_completion}
+use Rattle.proof_network_bridge.proofs.Halves.{leaves_engines}
+use Rattle.proof_network_bridge.proofs.Worlds.{OnlyFrom, later_apart, ranks_apart, run_push, set_cases, shown_more}
+
+-- ---- what an engine holds
+
+-- an engine holds what this core and this member of an endpoint hold
+pub record IsHeldAs (a : Announcements) (own : Endpoint) (e : EngineState) (core : Core) (m : Member) : Type 0 where
+  pub queues : IsShown a e.core e.sessions.known core
+  pub groups : groups.IsShown own e.groups.collective e.groups.contexts m None
+  pub placed : e.core.place ≡ e.sessions.place
+
+-- the engine at a rank does
+pub held_at : (n r : ℕ) (engines : List EngineState) (datagrams : List (ℕ × List ℕ)) (w : GroupNetwork) (e : EngineState) → IsJoined n engines datagrams w → slice_get engines r ≡ Some e →
+    IsHeldAs (announcements_of w.net.link (here w.net r)) (here w.net r) e (w.net.core (here w.net r)) (w.member (here w.net r))
+held_at n r engines datagrams w e j there = let h : IsHeldBy w r e = j.held r e there in record { queues = h.queues; groups = h.groups; placed = h.placed }
+
+-- what is held is held by the network
+held_by : (w : GroupNetwork) (r : ℕ) (e : EngineState) → IsHeldAs (announcements_of w.net.link (here w.net r)) (here w.net r) e (w.net.core (here w.net r)) (w.member (here w.net r)) → IsHeldBy w r e
+held_by w r e h = record { queues = h.queues; groups = h.groups; placed = h.placed }
+
+-- what is emitted and answered belongs to neither
+held_emptied : (a : Announcements) (own : Endpoint) (e : EngineState) (core : Core) (m : Member) → IsHeldAs a own e core m → IsHeldAs a own (emptied e) core m
+held_emptied a own e core m h =
+    record {
+      queues = record {
+        rows = h.queues.rows;
+        jobs = h.queues.jobs;
+        count = h.queues.count;
+        table = h.queues.table;
+        posted = h.queues.posted;
+        held = h.queues.held;
+        under_way = h.queues.under_way;
+        blocked = h.queues.blocked;
+        pending = h.queues.pending;
+        width = h.queues.width;
+        known_alike = h.queues.known_alike;
+        itself = h.queues.itself;
+      };
+      groups = h.groups;
+      placed = h.placed;
+    }
+
+pub clean_emptied : (e : EngineState) → IsClean (emptied e)
+clean_emptied e = record { out = refl; completion = refl; ended = refl }
+
+-- another engine holds what it held, whatever goes out elsewhere
+held_more : (own x : Endpoint) (old new : Endpoint → Endpoint → Link) (e : EngineState) (core : Core) (m : Member) → OnlyFrom own old new → is_same x own ≡ false → IsHeldAs (announcements_of old x) x e core m →
+    IsHeldAs (announcements_of new x) x e core m
+held_more own x old new e core m o apart h = record { queues = shown_more own x old new e.core e.sessions.known core o apart h.queues; groups = h.groups; placed = h.placed }
+
+-- ---- the world after an event at r
+
+-- it is joined to the network after what happened there
+pub joined_after : (n r : ℕ) (engines : List EngineState) (datagrams datagrams' : List (ℕ × List ℕ)) (w after : GroupNetwork) (new : EngineState) (core : Core)
+    (messages : Endpoint → Endpoint → Link) (m : Member) (notices : Endpoint → Endpoint → NoticeLink) (entries : List Entry) (texts : LinksOf FrameText) (sessions : Sessions) →
+    IsJoined n engines datagrams w → IsAfter w after (here w.net r) core messages m notices entries → AreJoined after texts sessions → OnlyFrom (here w.net r) w.net.link messages →
+    AreTrue n (sessions_in (slice_set engines r new)) datagrams' texts w.net.current → IsHeldAs (announcements_of messages (here w.net r)) (here w.net r) new core m → IsClean new →
+    IsJoined n (slice_set engines r new) datagrams' after
+joined_after n r engines datagrams datagrams' w after new core messages m notices entries texts sessions j a between only truth held clean =
+    record {
+      texts = texts;
+      links = subst (λ (current : ℕ → ℕ). AreTrue n (sessions_in (slice_set engines r new)) datagrams' texts current) (sym a.current_is) truth;
+      sessions = sessions;
+      between = between;
+      held = λ x e is. held_by after x e (each x e is);
+      clean = λ x e is. elim (set_cases engines r new x e is) [
+        | inl p ↦ subst IsClean (sym p.1) clean
+        | inr p ↦ j.clean x e p.1
+      ];
+      unborn = λ d later.
+          let before : w.net.current d.rank < d.incarnation = subst (λ (current : ℕ → ℕ). current d.rank < d.incarnation) a.current_is later in
+          a.cores d (later_apart w.net d r before) ∙ j.unborn d before;
+    }
+  where
+    -- at the endpoint where it was
+    at_own : IsHeldAs (announcements_of messages (here w.net r)) (here w.net r) new (after.net.core (here w.net r)) (after.member (here w.net r))
+    at_own =
+        subst (λ (k : Core). IsHeldAs (announcements_of messages (here w.net r)) (here w.net r) new k (after.member (here w.net r))) (sym a.core_is)
+        (subst (λ (y : Member). IsHeldAs (announcements_of messages (here w.net r)) (here w.net r) new core y) (sym a.member_is) held)
+
+    -- and elsewhere
+    at_other : (x : ℕ) (e : EngineState) → (x ≡ r → ⊥) → slice_get engines x ≡ Some e →
+        IsHeldAs (announcements_of messages (here w.net x)) (here w.net x) e (after.net.core (here w.net x)) (after.member (here w.net x))
+    at_other x e apart there =
+        subst (λ (k : Core). IsHeldAs (announcements_of messages (here w.net x)) (here w.net x) e k (after.member (here w.net x))) (sym (a.cores (here w.net x) (ranks_apart w.net x r apart)))
+        (subst (λ (y : Member). IsHeldAs (announcements_of messages (here w.net x)) (here w.net x) e (w.net.core (here w.net x)) y) (sym (a.members (here w.net x) (ranks_apart w.net x r apart)))
+        (held_more (here w.net r) (here w.net x) w.net.link messages e (w.net.core (here w.net x)) (w.member (here w.net x)) only (ranks_apart w.net x r apart) (held_at n x engines datagrams w e j there)))
+
+    each : (x : ℕ) (e : EngineState) → slice_get (slice_set engines r new) x ≡ Some e →
+        IsHeldAs (announcements_of after.net.link (here after.net x)) (here after.net x) e (after.net.core (here after.net x)) (after.member (here after.net x))
+    each x e is =
+        subst (λ (ls : Endpoint → Endpoint → Link). IsHeldAs (announcements_of ls (here after.net x)) (here after.net x) e (after.net.core (here after.net x)) (after.member (here after.net x))) (sym a.messages_are)
+        (subst (λ (current : ℕ → ℕ). IsHeldAs (announcements_of messages (record { rank = x; incarnation = current x })) (record { rank = x; incarnation = current x }) e (after.net.core (record { rank = x; incarnation = current x })) (after.member (record { rank = x; incarnation = current x }))) (sym a.current_is)
+        (elim (set_cases engines r new x e is) [
+          | inl p ↦ subst (λ (y : ℕ). IsHeldAs (announcements_of messages (here w.net y)) (here w.net y) e (after.net.core (here w.net y)) (after.member (here w.net y))) (sym p.0)
+              (subst (λ (g : EngineState). IsHeldAs (announcements_of messages (here w.net r)) (here w.net r) g (after.net.core (here w.net r)) (after.member (here w.net r))) (sym p.1) at_own)
+          | inr p ↦ at_other x e p.0 p.1
+        ]))
+
+-- an event that is nothing to the network
+joined_still : (n r : ℕ) (engines : List EngineState) (datagrams datagrams' : List (ℕ × List ℕ)) (w : GroupNetwork) (new : EngineState) →
+    (j : IsJoined n engines datagrams w) → AreTrue n (sessions_in (slice_set engines r new)) datagrams' j.texts w.net.current →
+    IsHeldAs (announcements_of w.net.link (here w.net r)) (here w.net r) new (w.net.core (here w.net r)) (w.member (here w.net r)) → IsClean new →
+    IsJoined n (slice_set engines r new) datagrams' w
+joined_still n r engines datagrams datagrams' w new j truth held clean =
+    record {
+      texts = j.texts;
+      links = truth;
+      sessions = j.sessions;
+      between = j.between;
+      held = λ x e is. elim (set_cases engines r new x e is) [
+        | inl p ↦ subst (λ (y : ℕ). IsHeldBy w y e) (sym p.0) (subst (λ (g : EngineState). IsHeldBy w r g) (sym p.1) (held_by w r new held))
+        | inr p ↦ j.held x e p.1
+      ];
+      clean = λ x e is. elim (set_cases engines r new x e is) [
+        | inl p ↦ subst IsClean (sym p.1) clean
+        | inr p ↦ j.clean x e p.1
+      ];
+      unborn = j.unborn;
+    }
+
+-- ---- what follows
+
+-- a happening more
+pub followed_after : (n r : ℕ) (engines : List EngineState) (datagrams : List (ℕ × List ℕ)) (history entries : List Entry) (mid : EngineState) (h : Happening) (core : Core)
+    (messages : Endpoint → Endpoint → Link) (m : Member) (notices : Endpoint → Endpoint → NoticeLink) (texts : LinksOf FrameText) (sessions : Sessions) (f : IsFollowed n engines datagrams history) →
+    IsAfter (network_after n f.happenings) (happens n (network_after n f.happenings) h) (here (network_after n f.happenings).net r) core messages m notices entries →
+    AreJoined (happens n (network_after n f.happenings) h) texts sessions → OnlyFrom (here (network_after n f.happenings).net r) (network_after n f.happenings).net.link messages →
+    LeavesTrue n (sessions_in engines) datagrams r mid.sessions texts (network_after n f.happenings).net.current →
+    IsHeldAs (announcements_of messages (here (network_after n f.happenings).net r)) (here (network_after n f.happenings).net r) mid core m →
+    LeavesFollowed n engines datagrams r mid (history ++ entries)
+followed_after n r engines datagrams history entries mid h core messages m notices texts sessions f a between only truth held =
+    let w : GroupNetwork = network_after n f.happenings in
+    let own : Endpoint = here w.net r in
+    let pushed : network_after n (f.happenings ++ h ∷ []) ≡ happens n w h = run_push n f.happenings h (new_group_network n) in
+    record {
+      happenings = f.happenings ++ h ∷ [];
+      few = f.few;
+      joined = subst (λ (after : GroupNetwork). IsJoined n (slice_set engines r (emptied mid)) (datagrams ++ mid.sessions.out) after) (sym pushed)
+          (joined_after n r engines datagrams (datagrams ++ mid.sessions.out) w (happens n w h) (emptied mid) core messages m notices entries texts sessions f.joined a between only
+          (leaves_engines n r engines datagrams mid texts w.net.current truth) (held_emptied (announcements_of messages own) own mid core m held) (clean_emptied mid));
+      seen = ap (λ (after : GroupNetwork). after.history) pushed ∙ a.seen ∙ ap (λ (es : List Entry). es ++ entries) f.seen;
+    }
+
+-- an event after which the core and the groups are as they were, and the sessions know what they knew and stand where they stood
+pub record IsBeside (old new : EngineState) : Type 0 where
+  pub core : new.core ≡ old.core
+  pub groups : new.groups ≡ old.groups
+  pub ended : new.ended ≡ old.ended
+  pub known : new.sessions.known ≡ old.sessions.known
+  pub place : new.sessions.place ≡ old.sessions.place
+
+-- it leaves what the engine holds
+held_beside : (a : Announcements) (own : Endpoint) (old new : EngineState) (core : Core) (m : Member) → IsBeside old new → IsHeldAs a own old core m → IsHeldAs a own new core m
+held_beside a own old new core m b h = record {
+  queues = subst (λ (known : List ℕ). IsShown a new.core known core) (sym b.known) (subst (λ (c : CoreState). IsShown a c old.sessions.known core) (sym b.core) h.queues);
+  groups = subst (λ (g : GroupsState). groups.IsShown own g.collective g.contexts m None) (sym b.groups) h.groups;
+  placed = ap (λ (c : CoreState). c.place) b.core ∙ h.placed ∙ sym b.place;
+}
+
+-- nothing happens to the network
+pub followed_still : (n r : ℕ) (engines : List EngineState) (datagrams : List (ℕ × List ℕ)) (history : List Entry) (old mid : EngineState) (f : IsFollowed n engines datagrams history) →
+    slice_get engines r ≡ Some old → IsBeside old mid →
+    LeavesTrue n (sessions_in engines) datagrams r mid.sessions f.joined.texts (network_after n f.happenings).net.current → LeavesFollowed n engines datagrams r mid history
+followed_still n r engines datagrams history old mid f there beside truth =
+    let w : GroupNetwork = network_after n f.happenings in
+    let own : Endpoint = here w.net r in
+    let a : Announcements = announcements_of w.net.link own in
+    record {
+      happenings = f.happenings;
+      few = f.few;
+      joined = joined_still n r engines datagrams (datagrams ++ mid.sessions.out) w (emptied mid) f.joined (leaves_engines n r engines datagrams mid f.joined.texts w.net.current truth)
+          (held_emptied a own mid (w.net.core own) (w.member own) (held_beside a own old mid (w.net.core own) (w.member own) beside (held_at n r engines datagrams w old f.joined there))) (clean_emptied mid);
+      seen = f.seen;
+    }
+
+-- nor is a blocked call answered
+pub followed_unanswered : (n r : ℕ) (engines : List EngineState) (datagrams : List (ℕ × List ℕ)) (history : List Entry) (old mid : EngineState) (f : IsFollowed n engines datagrams history) →
+    slice_get engines r ≡ Some old → IsBeside old mid →
+    LeavesTrue n (sessions_in engines) datagrams r mid.sessions f.joined.texts (network_after n f.happenings).net.current →
+    LeavesFollowed n engines datagrams r mid (history ++ told_completion old.sessions.place.endpoint (completion_of mid))
+followed_unanswered n r engines datagrams history old mid f there beside truth =
+    let clean : IsClean old = f.joined.clean r old there in
+    let none : completion_of mid ≡ None =
+    ap (λ (o : Option Ending). completion_by o mid.core.completion) (beside.ended ∙ clean.ended) ∙ ap (completion_by None) (ap (λ (c : CoreState). c.completion) beside.core ∙ clean.completion) in
+    let nothing : history ≡ history ++ told_completion old.sessions.place.endpoint (completion_of mid) =
+    sym (append-nil history) ∙ ap (λ (o : Option Completion). history ++ told_completion old.sessions.place.endpoint o) (sym none) in
+    subst (λ (es : List Entry). LeavesFollowed n engines datagrams r mid es) nothing (followed_still n r engines datagrams history old mid f there beside truth)

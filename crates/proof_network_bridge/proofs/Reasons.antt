@@ -1,0 +1,212 @@
+-- What an engine refuses it refuses for a reason of the network's too, and what it takes has no fault there.
+use Rattle.std.proofs.Common.{◌≡◌, ℕ, Bool, true, false, ◌||◌, List, Option, Some, None, refl, sym, ap, ◌∙◌, subst, is_some, arith}
+use Rattle.std.specs.Prelude.{slice_get}
+use Rattle.collective_notes.specs.declared.entry.Entry as collective
+use Rattle.communicators.specs.declared.question.Question.{Question}
+use Rattle.engine.specs.Calls.{AskingGives, CallGives, CoreGives, EnteringGives, IsAnswered, IsEntered, IsRefused, IsTaken, IsTold, WhyRefused}
+use Rattle.engine.specs.EngineState.{EngineState, member_of}
+use Rattle.engine.specs.Faults.{broken, fault_of, free_fault, is_busy}
+use Rattle.engine.specs.Refusals.{first_fault}
+use Rattle.engine.specs.declared.call.Call.{Call}
+use Rattle.engine.specs.declared.call.Call.TheVariants as calls
+use Rattle.engine.specs.declared.reply.Fact.{Fact}
+use Rattle.engine.specs.declared.reply.Reply.{Reply}
+use Rattle.engine.specs.declared.reply.Reply.TheVariants as replies
+use Rattle.incarnation.specs.declared.place.Place.{Place}
+use Rattle.perfect_groups.specs.Calls as machine
+use Rattle.perfect_groups.specs.Events.{Entry}
+use Rattle.perfect_groups.specs.Faults.{fault, fault_by, is_within}
+use Rattle.perfect_queues.specs.Refusals.{standing}
+use Rattle.proof_engine_steps.specs.Refused.{IsReason}
+use Rattle.proof_engine_view.specs.Transfers.{Announcements, announcements_of}
+use Rattle.proof_group_network.proofs.NoticesStand.{notices_stand}
+use Rattle.proof_group_network.specs.Network.{GroupNetwork}
+use Rattle.proof_group_network.specs.Notices.{Member}
+use Rattle.proof_network_bridge.proofs.Followed.{IsHeldAs, held_at}
+use Rattle.proof_network_bridge.proofs.Members.{are_in_world, busy_same, held_same, within_same}
+use Rattle.proof_network_bridge.proofs.Refusals.{by_rule, free_faultless, free_reason}
+use Rattle.proof_network_bridge.proofs.Routed.{IsFree}
+use Rattle.proof_network_bridge.proofs.Worlds.{place_is}
+use Rattle.proof_network_bridge.specs.Following.{IsFaultless}
+use Rattle.proof_network_bridge.specs.Joined.{IsFollowed, network_after}
+use Rattle.proof_network_bridge.specs.Seen.{call_meant, call_seen}
+use Rattle.proof_pure_network.specs.Core.{Core, view}
+use Rattle.proof_pure_network.specs.Held.{blank}
+use Rattle.proof_pure_network.specs.Network.{here}
+use Rattle.proof_queue_calls.specs.Halves.{AreInWorld}
+use Rattle.rank_calls.specs.declared.refused.Refused.{Refused}
+use Rattle.rank_calls.specs.declared.refused.Refused.TheVariants as refusals
+use Rattle.requests.specs.declared.awaited.Awaited.{Awaited}
+use Rattle.vocabulary.specs.declared.endpoint.Endpoint.{Endpoint}
+
+-- ---- WHAT A CALL GAVE
+
+-- a call of point to point, or on requests, that was taken was answered
+pub answered : (old new : EngineState) (call : Call) (reply : Reply) → IsTaken reply → CoreGives old call reply new → IsAnswered old call reply new
+answered old new call (replies.Refused why back) taken gives = absurd taken
+answered old new call (replies.Started q) taken gives = gives
+answered old new call (replies.Done o) taken gives = gives
+answered old new call replies.Pending taken gives = gives
+answered old new call replies.Accepted taken gives = gives
+answered old new call replies.Blocked taken gives = gives
+answered old new call (replies.Left o) taken gives = gives
+answered old new call (replies.Fact f) taken gives = gives
+
+-- a collective that was taken was entered
+pub entered : (old new : EngineState) (comm : Option ℕ) (x : collective.Entry) (reply : Reply) → IsTaken reply → EnteringGives old comm x reply new → IsEntered old comm x reply new
+entered old new comm x (replies.Refused why back) taken gives = absurd taken
+entered old new comm x (replies.Started q) taken gives = gives
+entered old new comm x (replies.Done o) taken gives = gives
+entered old new comm x replies.Pending taken gives = gives
+entered old new comm x replies.Accepted taken gives = gives
+entered old new comm x replies.Blocked taken gives = gives
+entered old new comm x (replies.Left o) taken gives = gives
+entered old new comm x (replies.Fact f) taken gives = gives
+
+-- a question that was taken was answered with a fact
+pub record IsAnsweredWith (old : EngineState) (comm : Option ℕ) (q : Question) (reply : Reply) (new : EngineState) : Type 0 where
+  pub fact : Fact
+  pub reply_is : reply ≡ replies.Fact fact
+  pub told : IsTold old comm q fact new
+
+pub asked : (old new : EngineState) (comm : Option ℕ) (q : Question) (reply : Reply) → IsTaken reply → AskingGives old comm q reply new → IsAnsweredWith old comm q reply new
+asked old new comm q (replies.Refused why back) taken gives = absurd taken
+asked old new comm q (replies.Started r) taken gives = absurd gives
+asked old new comm q (replies.Done o) taken gives = absurd gives
+asked old new comm q replies.Pending taken gives = absurd gives
+asked old new comm q replies.Accepted taken gives = absurd gives
+asked old new comm q replies.Blocked taken gives = absurd gives
+asked old new comm q (replies.Left o) taken gives = absurd gives
+asked old new comm q (replies.Fact f) taken gives = record { fact = f; reply_is = refl; told = gives }
+
+-- whatever was taken met no rule and no limit
+allowed : (old new : EngineState) (call : Call) (reply : Reply) → IsTaken reply → CallGives old call reply new → fault_of old call ≡ None
+allowed old new (calls.Isend s) reply taken gives = (answered old new (calls.Isend s) reply taken gives).allowed
+allowed old new (calls.Irecv v) reply taken gives = (answered old new (calls.Irecv v) reply taken gives).allowed
+allowed old new (calls.Wait q) reply taken gives = (answered old new (calls.Wait q) reply taken gives).allowed
+allowed old new (calls.Test q) reply taken gives = (answered old new (calls.Test q) reply taken gives).allowed
+allowed old new (calls.Waitany qs) reply taken gives = (answered old new (calls.Waitany qs) reply taken gives).allowed
+allowed old new (calls.Waitall qs) reply taken gives = (answered old new (calls.Waitall qs) reply taken gives).allowed
+allowed old new (calls.Cancel q) reply taken gives = (answered old new (calls.Cancel q) reply taken gives).allowed
+allowed old new (calls.Enter comm x) reply taken gives = (entered old new comm x reply taken gives).allowed
+allowed old new (calls.Ask comm q) reply taken gives = (asked old new comm q reply taken gives).told.allowed
+
+-- what was refused was so for its first rule or limit, or for want of room
+refused : (old new : EngineState) (call : Call) (why : Refused) (back : Call) → CallGives old call (replies.Refused why back) new → IsRefused old call why back new
+refused old new (calls.Isend s) why back gives = gives
+refused old new (calls.Irecv v) why back gives = gives
+refused old new (calls.Wait q) why back gives = gives
+refused old new (calls.Test q) why back gives = gives
+refused old new (calls.Waitany qs) why back gives = gives
+refused old new (calls.Waitall qs) why back gives = gives
+refused old new (calls.Cancel q) why back gives = gives
+refused old new (calls.Enter comm x) why back gives = gives
+refused old new (calls.Ask comm q) why back gives = gives
+
+-- ---- AN ENGINE OF THE WORLD
+
+-- neither of two tests holds
+neither : (a b : Bool) → (a || b) ≡ false → (a ≡ false) × (b ≡ false)
+neither true b h = absurd cc
+neither false b h = (refl, h)
+
+none_there : (o : Option Awaited) → is_some o ≡ false → o ≡ None
+none_there None h = refl
+none_there (Some x) h = absurd cc
+
+-- what it holds, while no earlier call of it is blocked
+free_at : (a : Announcements) (own : Endpoint) (e : EngineState) (core : Core) (m : Member) → IsHeldAs a own e core m → is_busy e ≡ false → AreInWorld e.core.place.size m.membership →
+    IsFree a e core m.membership
+free_at a own e core m h idle inside =
+    let two = neither (is_some e.core.blocked) (is_within (member_of e.groups).present) idle in
+    record {
+      shown = h.queues;
+      idle = none_there e.core.blocked two.0;
+      apart = within_same own e.groups m h.groups ∙ two.1;
+      held = held_same own e.groups m h.groups;
+      known = λ t r. h.queues.known_alike r t;
+      inside = inside;
+    }
+
+-- its communicators are of ranks of world
+inside_world : (n r : ℕ) (engines : List EngineState) (datagrams : List (ℕ × List ℕ)) (history : List Entry) (e : EngineState) (f : IsFollowed n engines datagrams history) → slice_get engines r ≡ Some e →
+    AreInWorld e.core.place.size ((network_after n f.happenings).member (here (network_after n f.happenings).net r)).membership
+inside_world n r engines datagrams history e f there =
+    let w : GroupNetwork = network_after n f.happenings in
+    let place = place_is n r engines datagrams w e f.joined there in
+    let size : e.core.place.size ≡ n = ap (λ (p : Place). p.size) ((f.joined.held r e there).placed ∙ place.1) in
+    subst (λ (k : ℕ). AreInWorld k (w.member (here w.net r)).membership) (sym size)
+    (are_in_world n (w.member (here w.net r)).membership ((notices_stand n f.happenings (omega (arith, f.few))).held r place.0))
+
+-- while an earlier call is blocked, the machine's first fault is 6
+busy_fault : (a : Announcements) (own : Endpoint) (e : EngineState) (core : Core) (m : Member) (c : machine.Call) → IsHeldAs a own e core m → is_busy e ≡ true →
+    fault own (view blank core) m.membership c ≡ Some 6
+busy_fault a own e core m c h busy =
+    ap (λ (b : Bool). fault_by b (λ k. standing (slice_get (view blank core).requests k)) own core.known m.membership c) (busy_same a own e core m h.queues h.groups ∙ busy)
+
+-- ---- BOTH LAWS
+
+-- a call that the engine refuses has the network's first fault, by its number; or the network finds none, and the number is 13 or 14
+pub refused_reason : (n r : ℕ) (engines : List EngineState) (datagrams : List (ℕ × List ℕ)) (history : List Entry) (e mid : EngineState) (call back : Call) (why : Refused) →
+    (f : IsFollowed n engines datagrams history) → slice_get engines r ≡ Some e → CallGives e call (replies.Refused why back) mid →
+    IsReason (fault (here (network_after n f.happenings).net r) (view blank ((network_after n f.happenings).net.core (here (network_after n f.happenings).net r)))
+    ((network_after n f.happenings).member (here (network_after n f.happenings).net r)).membership (call_meant e.core call)) why
+refused_reason n r engines datagrams history e mid call back why f there gives = go (is_busy e) refl (refused e mid call why back gives).reason
+  where
+    w : GroupNetwork
+    w = network_after n f.happenings
+
+    own : Endpoint
+    own = here w.net r
+
+    core : Core
+    core = w.net.core own
+
+    m : Member
+    m = w.member own
+
+    a : Announcements
+    a = announcements_of w.net.link own
+
+    h : IsHeldAs a own e core m
+    h = held_at n r engines datagrams w e f.joined there
+
+    go : (b : Bool) → is_busy e ≡ b → WhyRefused (first_fault (broken b refusals.Request) (free_fault e call)) e call why →
+        IsReason (fault own (view blank core) m.membership (call_meant e.core call)) why
+    go true busy because = by_rule (fault own (view blank core) m.membership (call_meant e.core call)) refusals.Request why because (busy_fault a own e core m (call_meant e.core call) h busy)
+    go false idle because = free_reason a own e core m.membership call why (free_at a own e core m h idle (inside_world n r engines datagrams history e f there)) because
+
+-- a call that meets no rule and no limit has no fault there, and names no request of another engine
+pub allowed_faultless : (n r : ℕ) (engines : List EngineState) (datagrams : List (ℕ × List ℕ)) (history : List Entry) (e : EngineState) (call : Call) → (f : IsFollowed n engines datagrams history) →
+    slice_get engines r ≡ Some e → fault_of e call ≡ None →
+    IsFaultless (fault (here (network_after n f.happenings).net r) (view blank ((network_after n f.happenings).net.core (here (network_after n f.happenings).net r)))
+    ((network_after n f.happenings).member (here (network_after n f.happenings).net r)).membership (call_seen call)) e.core call
+allowed_faultless n r engines datagrams history e call f there fine = go (is_busy e) refl fine
+  where
+    w : GroupNetwork
+    w = network_after n f.happenings
+
+    own : Endpoint
+    own = here w.net r
+
+    core : Core
+    core = w.net.core own
+
+    m : Member
+    m = w.member own
+
+    a : Announcements
+    a = announcements_of w.net.link own
+
+    go : (b : Bool) → is_busy e ≡ b → first_fault (broken b refusals.Request) (free_fault e call) ≡ None → IsFaultless (fault own (view blank core) m.membership (call_seen call)) e.core call
+    go true busy h = absurd cc
+    go false idle h =
+        free_faultless a own e core m.membership call
+        (free_at a own e core m (held_at n r engines datagrams w e f.joined there) idle (inside_world n r engines datagrams history e f there)) h
+
+-- so has one that it takes
+pub taken_faultless : (n r : ℕ) (engines : List EngineState) (datagrams : List (ℕ × List ℕ)) (history : List Entry) (e mid : EngineState) (call : Call) (reply : Reply) →
+    (f : IsFollowed n engines datagrams history) → slice_get engines r ≡ Some e → IsTaken reply → CallGives e call reply mid →
+    IsFaultless (fault (here (network_after n f.happenings).net r) (view blank ((network_after n f.happenings).net.core (here (network_after n f.happenings).net r)))
+    ((network_after n f.happenings).member (here (network_after n f.happenings).net r)).membership (call_seen call)) e.core call
+taken_faultless n r engines datagrams history e mid call reply f there taken gives = allowed_faultless n r engines datagrams history e call f there (allowed e mid call reply taken gives)

@@ -1,0 +1,417 @@
+-- Why calls are refused, and that one that is taken has no fault: each kind of call, while no earlier one is blocked.
+use Rattle.std.proofs.Common.{◌≡◌, ℕ, Bool, true, false, ◌||◌, cond, List, [], ◌∷◌, Option, Some, None, option_map, refl, sym, ap, ◌∙◌, subst, inl, inr}
+use Rattle.std.specs.Prelude.{is_none, slice_get}
+use Rattle.collective_notes.specs.declared.entry.Entry.{Entry}
+use Rattle.communicators.proofs.Judging.{entry_judged, question_judged}
+use Rattle.communicators.specs.Members.{call_of}
+use Rattle.communicators.specs.Questions.{question_of}
+use Rattle.communicators.specs.Routes.{RouteText, route_on}
+use Rattle.communicators.specs.Rules.{known_by, limit_in}
+use Rattle.communicators.specs.declared.question.Question.{Question}
+use Rattle.communicators.specs.declared.question.Question.TheVariants as questions
+use Rattle.engine.specs.Calls.{LacksRoom, WhyRefused}
+use Rattle.engine.specs.EngineState.{EngineState, member_of}
+use Rattle.engine.specs.Faults.{broken, free_fault, group_limit, is_replaced, on_route, receive_rules, routed_limit, send_rules}
+use Rattle.engine.specs.Refusals.{first_fault}
+use Rattle.engine.specs.Routing.{receive_by, send_by}
+use Rattle.engine.specs.declared.call.Call as engine
+use Rattle.engine.specs.declared.call.Call.TheVariants as calls
+use Rattle.engine.specs.declared.call.Receive.{Receive}
+use Rattle.engine.specs.declared.call.Send.{Send}
+use Rattle.perfect_groups.specs.Calls.{Call, Cancel, Enter, Inquire, Irecv, Isend, Test, Wait, held_at, in_world, queue_call, receive_on}
+use Rattle.perfect_groups.specs.Communicators.{Communicator}
+use Rattle.perfect_groups.specs.Faults.{asks_of_none, fault, fault_by, has_replaced, is_blocked, is_no_target, is_source_beyond, is_within, names_replaced, wrong_communicator, wrong_count, wrong_incarnation, wrong_operation, wrong_rank, wrong_request, wrong_root, wrong_tag, wrong_type}
+use Rattle.perfect_groups.specs.Membership.{Membership}
+use Rattle.perfect_queues.specs.Calls as queues
+use Rattle.perfect_queues.specs.Completions as completions
+use Rattle.perfect_queues.specs.Refusals as rules
+use Rattle.perfect_queues.specs.Refusals.{Standing, is_held, standing}
+use Rattle.perfect_queues.specs.State.{Local}
+use Rattle.proof_engine_steps.proofs.RefusedCalls.{allowed_calls_are_faultless, faults_have_reasons, room_is_a_reason}
+use Rattle.proof_engine_steps.proofs.Starting.{core_free}
+use Rattle.proof_engine_steps.specs.Refused.{HasReason, IsOutOfRoom, IsReason, MachinesFault, NoRoom}
+use Rattle.proof_engine_view.specs.Faults.{queue_fault}
+use Rattle.proof_engine_view.specs.Seen as in_queues
+use Rattle.proof_engine_view.specs.Transfers.{Announcements}
+use Rattle.proof_network_bridge.proofs.Members.{named_same}
+use Rattle.proof_network_bridge.proofs.Routed.{IsFree, fault_cut, group_routed_full, or_fault, routed_full, rule_broken, rule_kept}
+use Rattle.proof_network_bridge.specs.Following.{IsFaultless}
+use Rattle.proof_network_bridge.specs.Seen.{call_by, call_meant, call_seen}
+use Rattle.proof_pure_network.specs.Core.{Core, view}
+use Rattle.proof_pure_network.specs.Held.{blank}
+use Rattle.rank_calls.specs.Refusals.{number_of_refusal}
+use Rattle.rank_calls.specs.declared.call.Call as core_calls
+use Rattle.rank_calls.specs.declared.call.Call.TheVariants as cores_calls
+use Rattle.rank_calls.specs.declared.refused.Refused.{Refused}
+use Rattle.rank_calls.specs.declared.refused.Refused.TheVariants as refusals
+use Rattle.rank_core.specs.Calls.{argument_fault, call_fault, fault_at, free_request_fault}
+use Rattle.requests.specs.Regions.{handed_of}
+use Rattle.requests.specs.declared.awaited.Awaited.{Awaited}
+use Rattle.requests.specs.declared.awaited.Awaited.TheVariants as awaiteds
+use Rattle.requests.specs.declared.table.Request.{Request}
+use Rattle.vocabulary.specs.declared.envelope.Source.{Source}
+use Rattle.vocabulary.specs.declared.endpoint.Endpoint.{Endpoint}
+
+-- what the machine finds is the refusal's number
+pub by_rule : (found : Option ℕ) (x why : Refused) → why ≡ x → found ≡ Some (number_of_refusal x) → IsReason found why
+by_rule found x why is h = MachinesFault (h ∙ ap (λ (y : Refused). Some (number_of_refusal y)) (sym is))
+
+-- ---- CALLS ON REQUESTS
+
+none_more : (a b : Bool) → b ≡ false → (a || b) ≡ a
+none_more true b is = refl
+none_more false b is = is
+
+held_alone : (l : Local) (m : Membership) → is_within m.present ≡ false → is_blocked l m ≡ is_held l.blocked
+held_alone l m apart = none_more (is_held l.blocked) (is_within m.present) apart
+
+-- the machine finds what its queues find
+wait_found : (n : ℕ) (own : Endpoint) (l : Local) (m : Membership) (a : completions.Awaited) → is_within m.present ≡ false → fault own l m (Wait a) ≡ queue_fault n l (queues.Wait a)
+wait_found n own l m a apart = ap (λ (b : Bool). fault_by b (λ k. standing (slice_get l.requests k)) own l.known m (Wait a)) (held_alone l m apart)
+
+test_found : (n : ℕ) (own : Endpoint) (l : Local) (m : Membership) (r : Option ℕ) → is_within m.present ≡ false → fault own l m (Test r) ≡ queue_fault n l (queues.Test r)
+test_found n own l m r apart = ap (λ (b : Bool). fault_by b (λ k. standing (slice_get l.requests k)) own l.known m (Test r)) (held_alone l m apart)
+
+cancel_found : (n : ℕ) (own : Endpoint) (l : Local) (m : Membership) (r : Option ℕ) → is_within m.present ≡ false → fault own l m (Cancel r) ≡ queue_fault n l (queues.Cancel r)
+cancel_found n own l m r apart = ap (λ (b : Bool). fault_by b (λ k. standing (slice_get l.requests k)) own l.known m (Cancel r)) (held_alone l m apart)
+
+-- so the refusal has a reason
+requests_reason : (a : Announcements) (e : EngineState) (core : Core) (m : Membership) (call : engine.Call) (q : core_calls.Call) (found : Option ℕ) (why : Refused) → IsFree a e core m →
+    call_fault e.core q ≡ free_fault e call → found ≡ queue_fault e.core.place.size (view blank core) (in_queues.call_meant e.core q) → (LacksRoom e call why → why ≡ refusals.OutOfMemory) →
+    WhyRefused (free_fault e call) e call why → IsReason found why
+requests_reason a e core m call q found why free is same lacks reason = subst (λ (o : Option ℕ). IsReason o why) (sym same) (go (free_fault e call) is reason)
+  where
+    go : (o : Option Refused) → call_fault e.core q ≡ o → WhyRefused o e call why → HasReason e.core core q why
+    go (Some x) at because = faults_have_reasons a e.core e.sessions.known core q why free.shown (at ∙ ap Some (sym because))
+    go None at because = room_is_a_reason allowed_calls_are_faultless a e.core e.sessions.known core q why free.shown at (inr (lacks because))
+
+-- a call of the queues, as the machine's
+abbrev as_call : queues.Call → Call
+as_call (queues.Isend context to tag from) = Isend None to tag from
+as_call (queues.Irecv p) = Irecv None p.source p.tag p.into
+as_call (queues.Wait a) = Wait a
+as_call (queues.Test r) = Test r
+as_call (queues.Cancel r) = Cancel r
+
+-- and a call that is taken has no fault
+requests_faultless : (a : Announcements) (e : EngineState) (core : Core) (m : Membership) (call : engine.Call) (q : core_calls.Call) (found : Option ℕ) → IsFree a e core m →
+    call_fault e.core q ≡ free_fault e call → found ≡ queue_fault e.core.place.size (view blank core) (in_queues.call_seen q) →
+    ((f : Request → ℕ) → as_call (in_queues.call_by f q) ≡ call_by f call) → free_fault e call ≡ None → IsFaultless found e.core call
+requests_faultless a e core m call q found free is same as_is allowed =
+    let fine = allowed_calls_are_faultless a e.core e.sessions.known core q free.shown (is ∙ allowed) in
+    record {
+      own = sym (as_is (in_queues.serial_meant e.core)) ∙ ap as_call fine.own ∙ as_is in_queues.own_serial;
+      none = same ∙ fine.none;
+    }
+
+-- ---- POINT TO POINT
+
+-- a call with a route that is refused
+routed_reason : (a : Announcements) (own : Endpoint) (e : EngineState) (core : Core) (m : Membership) (call : engine.Call) (q : core_calls.Call) (c : Call) (five eleven : Bool) (limit : Option Refused)
+    (why : Refused) → IsFree a e core m → queue_call m c ≡ Some (in_queues.call_meant e.core q) → in_queues.call_meant e.core q ≡ in_queues.call_seen q → free_request_fault e.core q ≡ None →
+    wrong_rank m c ≡ five → wrong_incarnation core.known m c ≡ eleven → ((x : Refused) → limit ≡ Some x → x ≡ refusals.Limit) → (LacksRoom e call why → IsOutOfRoom why) →
+    WhyRefused (first_fault (argument_fault e.core.place q) (first_fault (broken five refusals.Rank) (first_fault (broken eleven refusals.Replaced) limit))) e call why →
+    IsReason (fault own (view blank core) m c) why
+routed_reason a own e core m call q c five eleven limit why free routed same requests is_five is_eleven full lacks reason = by_argument (argument_fault e.core.place q) refl reason
+  where
+    found : Option ℕ
+    found = fault own (view blank core) m c
+
+    found_is : (o : Option ℕ) → queue_fault e.core.place.size (view blank core) (in_queues.call_meant e.core q) ≡ o → found ≡ or_fault o (rules.first_fault ((five, 5) ∷ (eleven, 11) ∷ []))
+    found_is o is =
+        fault_cut a own e core m c (in_queues.call_meant e.core q) free routed
+        ∙ ap (λ (p : Option ℕ). or_fault p (rules.first_fault ((wrong_rank m c, 5) ∷ (wrong_incarnation core.known m c, 11) ∷ []))) is
+        ∙ ap (λ (b : Bool). or_fault o (rules.first_fault ((b, 5) ∷ (wrong_incarnation core.known m c, 11) ∷ []))) is_five
+        ∙ ap (λ (b : Bool). or_fault o (rules.first_fault ((five, 5) ∷ (b, 11) ∷ []))) is_eleven
+
+    by_limit : (o : Option Refused) → ((x : Refused) → o ≡ Some x → x ≡ refusals.Limit) → found ≡ None → WhyRefused o e call why → IsReason found why
+    by_limit (Some x) is none because = NoRoom (inl (because ∙ is x refl)) none
+    by_limit None is none because = NoRoom (lacks because) none
+
+    by_rank : (b d : Bool) → found ≡ rules.first_fault ((b, 5) ∷ (d, 11) ∷ []) →
+        WhyRefused (first_fault (broken b refusals.Rank) (first_fault (broken d refusals.Replaced) limit)) e call why → IsReason found why
+    by_rank true d is because = by_rule found refusals.Rank why because is
+    by_rank false true is because = by_rule found refusals.Replaced why because is
+    by_rank false false is because = by_limit limit full is because
+
+    by_argument : (o : Option Refused) → argument_fault e.core.place q ≡ o →
+        WhyRefused (first_fault o (first_fault (broken five refusals.Rank) (first_fault (broken eleven refusals.Replaced) limit))) e call why → IsReason found why
+    by_argument (Some x) is because = by_rule found x why because (found_is (Some (number_of_refusal x)) (rule_broken a e core m q x free requests is))
+    by_argument None is because = by_rank five eleven (found_is None (rule_kept a e core m q free requests same is)) because
+
+-- one that is taken
+routed_faultless : (a : Announcements) (own : Endpoint) (e : EngineState) (core : Core) (m : Membership) (q : core_calls.Call) (c : Call) (five eleven : Bool) (limit : Option Refused) →
+    IsFree a e core m → queue_call m c ≡ Some (in_queues.call_meant e.core q) → in_queues.call_meant e.core q ≡ in_queues.call_seen q → free_request_fault e.core q ≡ None →
+    wrong_rank m c ≡ five → wrong_incarnation core.known m c ≡ eleven →
+    first_fault (argument_fault e.core.place q) (first_fault (broken five refusals.Rank) (first_fault (broken eleven refusals.Replaced) limit)) ≡ None →
+    fault own (view blank core) m c ≡ None
+routed_faultless a own e core m q c five eleven limit free routed same requests is_five is_eleven allowed = by_argument (argument_fault e.core.place q) refl allowed
+  where
+    found : Option ℕ
+    found = fault own (view blank core) m c
+
+    by_rank : (b d : Bool) → found ≡ rules.first_fault ((b, 5) ∷ (d, 11) ∷ []) → first_fault (broken b refusals.Rank) (first_fault (broken d refusals.Replaced) limit) ≡ None → found ≡ None
+    by_rank true d is h = absurd cc
+    by_rank false true is h = absurd cc
+    by_rank false false is h = is
+
+    by_argument : (o : Option Refused) → argument_fault e.core.place q ≡ o →
+        first_fault o (first_fault (broken five refusals.Rank) (first_fault (broken eleven refusals.Replaced) limit)) ≡ None → found ≡ None
+    by_argument (Some x) is h = absurd cc
+    by_argument None is h = by_rank five eleven
+        (fault_cut a own e core m c (in_queues.call_meant e.core q) free routed
+        ∙ ap (λ (p : Option ℕ). or_fault p (rules.first_fault ((wrong_rank m c, 5) ∷ (wrong_incarnation core.known m c, 11) ∷ []))) (rule_kept a e core m q free requests same is)
+        ∙ ap (λ (b : Bool). rules.first_fault ((b, 5) ∷ (wrong_incarnation core.known m c, 11) ∷ [])) is_five
+        ∙ ap (λ (b : Bool). rules.first_fault ((five, 5) ∷ (b, 11) ∷ [])) is_eleven) h
+
+-- ---- where the machine and the engine look
+
+-- at the same communicator
+at_same : (a : Announcements) (e : EngineState) (core : Core) (m : Membership) (comm : Option ℕ) → IsFree a e core m → held_at m comm ≡ held_at (member_of e.groups) comm
+at_same a e core m comm free = named_same m (member_of e.groups) comm free.held
+
+-- and at the same member of it
+named_alike : (a : Announcements) (e : EngineState) (core : Core) (m : Membership) (comm : Option ℕ) (named : Source) → IsFree a e core m →
+    names_replaced core.known (held_at m comm) named ≡ is_replaced e comm named
+named_alike a e core m comm named free =
+    ap (λ (o : Option Communicator). names_replaced core.known o named) (at_same a e core m comm free)
+    ∙ ap (λ (known : ℕ → ℕ). names_replaced known (held_at (member_of e.groups) comm) named) free.known
+
+-- no earlier call is blocked there
+not_blocked : (a : Announcements) (e : EngineState) (core : Core) (m : Membership) → IsFree a e core m → is_blocked (view blank core) m ≡ false
+not_blocked a e core m free =
+    held_alone (view blank core) m free.apart ∙ ap is_held (core_free a e.core e.sessions.known core free.shown free.idle)
+
+lacking : (six four : Bool) (rest : List (Bool × ℕ)) → six ≡ false → four ≡ true → rules.first_fault ((six, 6) ∷ (four, 4) ∷ rest) ≡ Some 4
+lacking six four rest no_six is_four = rw (no_six, is_four)
+
+-- a call whose communicator the caller doesn't hold
+lacks_reason : (a : Announcements) (own : Endpoint) (e : EngineState) (core : Core) (m : Membership) (c : Call) (why : Refused) → IsFree a e core m →
+    wrong_request (λ k. standing (slice_get (view blank core).requests k)) c ≡ false → wrong_communicator m c ≡ true → why ≡ refusals.Communicator → IsReason (fault own (view blank core) m c) why
+lacks_reason a own e core m c why free requests lacks because =
+    by_rule (fault own l m c) refusals.Communicator why because
+    (lacking (is_blocked l m || wrong) (wrong_communicator m c) ((wrong_type own m c, 2) ∷ (wrong_count own m c, 1) ∷ (wrong_tag c, 3) ∷ (wrong_rank m c, 5) ∷ (wrong_root m c, 7) ∷ (wrong_operation c, 9) ∷ (wrong_incarnation l.known m c, 11) ∷ [])
+    (ap (λ (b : Bool). b || wrong) (not_blocked a e core m free) ∙ requests) lacks)
+  where
+    l : Local
+    l = view blank core
+
+    wrong : Bool
+    wrong = wrong_request (λ k. standing (slice_get l.requests k)) c
+
+none_is : (o : Option Communicator) → o ≡ None → is_none o ≡ true
+none_is o h = ap is_none h
+
+-- ---- sends
+
+-- the call of the queues that a send with a route is
+send_routed : (a : Announcements) (e : EngineState) (core : Core) (m : Membership) (s : Send) (c : Communicator) → IsFree a e core m → held_at (member_of e.groups) s.comm ≡ Some c →
+    queue_call m (Isend s.comm s.target s.tag (handed_of s.from)) ≡ Some (queues.Isend c.context (in_world c s.target) s.tag (handed_of s.from))
+send_routed a e core m s c free at =
+    ap (λ (o : Option Communicator). option_map (λ c. queues.Isend c.context (in_world c s.target) s.tag (handed_of s.from)) o) (at_same a e core m s.comm free ∙ at)
+
+send_reason : (a : Announcements) (own : Endpoint) (e : EngineState) (core : Core) (m : Membership) (s : Send) (why : Refused) → IsFree a e core m →
+    WhyRefused (free_fault e (calls.Isend s)) e (calls.Isend s) why → IsReason (fault own (view blank core) m (Isend s.comm s.target s.tag (handed_of s.from))) why
+send_reason a own e core m s why free reason = go (held_at (member_of e.groups) s.comm) refl reason
+  where
+    c : Call
+    c = Isend s.comm s.target s.tag (handed_of s.from)
+
+    go : (o : Option Communicator) → held_at (member_of e.groups) s.comm ≡ o → WhyRefused (on_route (option_map (route_on s.target) o) (send_rules e s)) e (calls.Isend s) why →
+        IsReason (fault own (view blank core) m c) why
+    go None at because =
+        lacks_reason a own e core m c why free refl (none_is (held_at m s.comm) (at_same a e core m s.comm free ∙ at)) because
+    go (Some k) at because =
+        routed_reason a own e core m (calls.Isend s) (cores_calls.Isend (send_by s (route_on s.target k))) c (is_no_target (held_at (member_of e.groups) s.comm) s.target) (is_replaced e s.comm s.target)
+        (routed_limit e (cores_calls.Isend (send_by s (route_on s.target k)))) why free (send_routed a e core m s k free at) refl refl
+        (ap (λ (o : Option Communicator). is_no_target o s.target) (at_same a e core m s.comm free)) (named_alike a e core m s.comm s.target free)
+        (λ x h. routed_full e (cores_calls.Isend (send_by s (route_on s.target k))) x h) (λ lacks. inr lacks.0) because
+
+send_faultless : (a : Announcements) (own : Endpoint) (e : EngineState) (core : Core) (m : Membership) (s : Send) → IsFree a e core m → free_fault e (calls.Isend s) ≡ None →
+    fault own (view blank core) m (Isend s.comm s.target s.tag (handed_of s.from)) ≡ None
+send_faultless a own e core m s free allowed = go (held_at (member_of e.groups) s.comm) refl allowed
+  where
+    c : Call
+    c = Isend s.comm s.target s.tag (handed_of s.from)
+
+    go : (o : Option Communicator) → held_at (member_of e.groups) s.comm ≡ o → on_route (option_map (route_on s.target) o) (send_rules e s) ≡ None → fault own (view blank core) m c ≡ None
+    go None at h = absurd cc
+    go (Some k) at h =
+        routed_faultless a own e core m (cores_calls.Isend (send_by s (route_on s.target k))) c (is_no_target (held_at (member_of e.groups) s.comm) s.target) (is_replaced e s.comm s.target)
+        (routed_limit e (cores_calls.Isend (send_by s (route_on s.target k)))) free (send_routed a e core m s k free at) refl refl
+        (ap (λ (o : Option Communicator). is_no_target o s.target) (at_same a e core m s.comm free)) (named_alike a e core m s.comm s.target free) h
+
+-- ---- receives
+
+-- the call of the queues that a receive with a route is
+receive_routed : (a : Announcements) (e : EngineState) (core : Core) (m : Membership) (v : Receive) (c : Communicator) → IsFree a e core m → held_at (member_of e.groups) v.comm ≡ Some c →
+    queue_call m (Irecv v.comm v.source v.tag (handed_of v.into)) ≡ Some (queues.Irecv (receive_on c v.source v.tag (handed_of v.into)))
+receive_routed a e core m v c free at =
+    ap (λ (o : Option Communicator). option_map (λ c. queues.Irecv (receive_on c v.source v.tag (handed_of v.into))) o) (at_same a e core m v.comm free ∙ at)
+
+receive_reason : (a : Announcements) (own : Endpoint) (e : EngineState) (core : Core) (m : Membership) (v : Receive) (why : Refused) → IsFree a e core m →
+    WhyRefused (free_fault e (calls.Irecv v)) e (calls.Irecv v) why → IsReason (fault own (view blank core) m (Irecv v.comm v.source v.tag (handed_of v.into))) why
+receive_reason a own e core m v why free reason = go (held_at (member_of e.groups) v.comm) refl reason
+  where
+    c : Call
+    c = Irecv v.comm v.source v.tag (handed_of v.into)
+
+    go : (o : Option Communicator) → held_at (member_of e.groups) v.comm ≡ o → WhyRefused (on_route (option_map (route_on v.source) o) (receive_rules e v)) e (calls.Irecv v) why →
+        IsReason (fault own (view blank core) m c) why
+    go None at because =
+        lacks_reason a own e core m c why free refl (none_is (held_at m v.comm) (at_same a e core m v.comm free ∙ at)) because
+    go (Some k) at because =
+        let r : RouteText = route_on v.source k in
+        routed_reason a own e core m (calls.Irecv v) (cores_calls.Irecv (receive_by v r)) c (is_source_beyond (held_at (member_of e.groups) v.comm) v.source) (is_replaced e v.comm v.source)
+        (first_fault (group_limit r.group) (routed_limit e (cores_calls.Irecv (receive_by v r)))) why free (receive_routed a e core m v k free at) refl refl
+        (ap (λ (o : Option Communicator). is_source_beyond o v.source) (at_same a e core m v.comm free)) (named_alike a e core m v.comm v.source free)
+        (λ x h. group_routed_full e r.group (cores_calls.Irecv (receive_by v r)) x h) (λ lacks. inr lacks.0) because
+
+receive_faultless : (a : Announcements) (own : Endpoint) (e : EngineState) (core : Core) (m : Membership) (v : Receive) → IsFree a e core m → free_fault e (calls.Irecv v) ≡ None →
+    fault own (view blank core) m (Irecv v.comm v.source v.tag (handed_of v.into)) ≡ None
+receive_faultless a own e core m v free allowed = go (held_at (member_of e.groups) v.comm) refl allowed
+  where
+    c : Call
+    c = Irecv v.comm v.source v.tag (handed_of v.into)
+
+    go : (o : Option Communicator) → held_at (member_of e.groups) v.comm ≡ o → on_route (option_map (route_on v.source) o) (receive_rules e v) ≡ None → fault own (view blank core) m c ≡ None
+    go None at h = absurd cc
+    go (Some k) at h =
+        let r : RouteText = route_on v.source k in
+        routed_faultless a own e core m (cores_calls.Irecv (receive_by v r)) c (is_source_beyond (held_at (member_of e.groups) v.comm) v.source) (is_replaced e v.comm v.source)
+        (first_fault (group_limit r.group) (routed_limit e (cores_calls.Irecv (receive_by v r)))) free (receive_routed a e core m v k free at) refl refl
+        (ap (λ (o : Option Communicator). is_source_beyond o v.source) (at_same a e core m v.comm free)) (named_alike a e core m v.comm v.source free) h
+
+-- ---- COLLECTIVES AND QUESTIONS
+
+-- what the machine finds with an entry, as the engine looks
+entry_seen : (a : Announcements) (own : Endpoint) (e : EngineState) (core : Core) (m : Membership) (comm : Option ℕ) (x : Entry) → IsFree a e core m →
+    fault own (view blank core) m (Enter comm (call_of x))
+    ≡ cond (is_none (held_at (member_of e.groups) comm)) (Some 4) (cond (has_replaced (known_by e.sessions.known) (held_at (member_of e.groups) comm)) (Some 11) None)
+entry_seen a own e core m comm x free =
+    ap (λ (b : Bool). fault_by b f own core.known m (Enter comm (call_of x))) (not_blocked a e core m free)
+    ∙ entry_judged false own core.known m comm x
+    ∙ ap (λ (o : Option Communicator). cond (is_none o) (Some 4) (cond (has_replaced core.known o) (Some 11) None)) (at_same a e core m comm free)
+    ∙ ap (λ (known : ℕ → ℕ). cond (is_none (held_at (member_of e.groups) comm)) (Some 4) (cond (has_replaced known (held_at (member_of e.groups) comm)) (Some 11) None)) free.known
+  where
+    f : ℕ → Standing
+    f k = standing (slice_get (view blank core).requests k)
+
+asks_same : (a b : Membership) (q : Question) → a.held ≡ b.held → asks_of_none a (question_of q) ≡ asks_of_none b (question_of q)
+asks_same a b questions.Rank h = refl
+asks_same a b questions.Size h = refl
+asks_same a b questions.Group h = refl
+asks_same a b (questions.Compare other) h = ap is_none (named_same a b other h)
+
+-- and with a question
+question_seen : (a : Announcements) (own : Endpoint) (e : EngineState) (core : Core) (m : Membership) (comm : Option ℕ) (q : Question) → IsFree a e core m →
+    fault own (view blank core) m (Inquire comm (question_of q))
+    ≡ cond (is_none (held_at (member_of e.groups) comm) || asks_of_none (member_of e.groups) (question_of q)) (Some 4) None
+question_seen a own e core m comm q free =
+    ap (λ (b : Bool). fault_by b (λ k. standing (slice_get (view blank core).requests k)) own core.known m (Inquire comm (question_of q))) (not_blocked a e core m free)
+    ∙ question_judged false own core.known m comm q
+    ∙ ap (λ (o : Option Communicator). cond (is_none o || asks_of_none m (question_of q)) (Some 4) None) (at_same a e core m comm free)
+    ∙ ap (λ (b : Bool). cond (is_none (held_at (member_of e.groups) comm) || b) (Some 4) None) (asks_same m (member_of e.groups) q free.held)
+
+-- the reason why an entry is refused
+entry_room : (e : EngineState) (comm : Option ℕ) (x : Entry) (why : Refused) → LacksRoom e (calls.Enter comm x) why → IsOutOfRoom why
+entry_room e comm x why (inl is) = inr is
+entry_room e comm x why (inr limited) = inl limited.0
+
+entry_reason : (a : Announcements) (own : Endpoint) (e : EngineState) (core : Core) (m : Membership) (comm : Option ℕ) (x : Entry) (why : Refused) → IsFree a e core m →
+    WhyRefused (free_fault e (calls.Enter comm x)) e (calls.Enter comm x) why → IsReason (fault own (view blank core) m (Enter comm (call_of x))) why
+entry_reason a own e core m comm x why free reason =
+    subst (λ (o : Option ℕ). IsReason o why) (sym (entry_seen a own e core m comm x free))
+    (go (is_none (held_at (member_of e.groups) comm)) (has_replaced (known_by e.sessions.known) (held_at (member_of e.groups) comm)) (limit_in e.groups.collective e.groups.contexts comm x) reason)
+  where
+    go : (four eleven limited : Bool) →
+        WhyRefused (first_fault (broken four refusals.Communicator) (first_fault (broken eleven refusals.Replaced) (broken limited refusals.Limit))) e (calls.Enter comm x) why →
+        IsReason (cond {A = Option ℕ} four (Some 4) (cond eleven (Some 11) None)) why
+    go true eleven limited because = by_rule (Some 4) refusals.Communicator why because refl
+    go false true limited because = by_rule (Some 11) refusals.Replaced why because refl
+    go false false true because = NoRoom (inl because) refl
+    go false false false because = NoRoom (entry_room e comm x why because) refl
+
+entry_faultless : (a : Announcements) (own : Endpoint) (e : EngineState) (core : Core) (m : Membership) (comm : Option ℕ) (x : Entry) → IsFree a e core m →
+    free_fault e (calls.Enter comm x) ≡ None → fault own (view blank core) m (Enter comm (call_of x)) ≡ None
+entry_faultless a own e core m comm x free allowed =
+    entry_seen a own e core m comm x free
+    ∙ go (is_none (held_at (member_of e.groups) comm)) (has_replaced (known_by e.sessions.known) (held_at (member_of e.groups) comm)) (limit_in e.groups.collective e.groups.contexts comm x) allowed
+  where
+    go : (four eleven limited : Bool) → first_fault (broken four refusals.Communicator) (first_fault (broken eleven refusals.Replaced) (broken limited refusals.Limit)) ≡ None →
+        cond {A = Option ℕ} four (Some 4) (cond eleven (Some 11) None) ≡ None
+    go true eleven limited h = absurd cc
+    go false true limited h = absurd cc
+    go false false limited h = refl
+
+-- the reason why a question is
+question_reason : (a : Announcements) (own : Endpoint) (e : EngineState) (core : Core) (m : Membership) (comm : Option ℕ) (q : Question) (why : Refused) → IsFree a e core m →
+    WhyRefused (free_fault e (calls.Ask comm q)) e (calls.Ask comm q) why → IsReason (fault own (view blank core) m (Inquire comm (question_of q))) why
+question_reason a own e core m comm q why free reason =
+    subst (λ (o : Option ℕ). IsReason o why) (sym (question_seen a own e core m comm q free))
+    (go (is_none (held_at (member_of e.groups) comm) || asks_of_none (member_of e.groups) (question_of q)) reason)
+  where
+    go : (four : Bool) → WhyRefused (broken four refusals.Communicator) e (calls.Ask comm q) why → IsReason (cond {A = Option ℕ} four (Some 4) None) why
+    go true because = by_rule (Some 4) refusals.Communicator why because refl
+    go false because = NoRoom (inr because.0) refl
+
+question_faultless : (a : Announcements) (own : Endpoint) (e : EngineState) (core : Core) (m : Membership) (comm : Option ℕ) (q : Question) → IsFree a e core m →
+    free_fault e (calls.Ask comm q) ≡ None → fault own (view blank core) m (Inquire comm (question_of q)) ≡ None
+question_faultless a own e core m comm q free allowed =
+    question_seen a own e core m comm q free ∙ go (is_none (held_at (member_of e.groups) comm) || asks_of_none (member_of e.groups) (question_of q)) allowed
+  where
+    go : (four : Bool) → broken four refusals.Communicator ≡ None → cond {A = Option ℕ} four (Some 4) None ≡ None
+    go true h = absurd cc
+    go false h = refl
+
+-- ---- ALL CALLS
+
+-- the core's fault of a call on requests is the engine's
+free_is : (a : Announcements) (e : EngineState) (core : Core) (m : Membership) (q : core_calls.Call) → IsFree a e core m → call_fault e.core q ≡ fault_at None e.core q
+free_is a e core m q free = ap (λ (b : Option Awaited). fault_at b e.core q) free.idle
+
+-- a call that is refused has a reason
+pub free_reason : (a : Announcements) (own : Endpoint) (e : EngineState) (core : Core) (m : Membership) (call : engine.Call) (why : Refused) → IsFree a e core m →
+    WhyRefused (free_fault e call) e call why → IsReason (fault own (view blank core) m (call_meant e.core call)) why
+free_reason a own e core m (calls.Isend s) why free reason = send_reason a own e core m s why free reason
+free_reason a own e core m (calls.Irecv v) why free reason = receive_reason a own e core m v why free reason
+free_reason a own e core m (calls.Wait q) why free reason =
+    requests_reason a e core m (calls.Wait q) (cores_calls.Wait q) _ why free (free_is a e core m (cores_calls.Wait q) free)
+    (wait_found e.core.place.size own (view blank core) m (in_queues.awaited_by (in_queues.serial_meant e.core) (awaiteds.One q)) free.apart) (λ lacks. absurd lacks) reason
+free_reason a own e core m (calls.Test q) why free reason =
+    requests_reason a e core m (calls.Test q) (cores_calls.Test q) _ why free (free_is a e core m (cores_calls.Test q) free)
+    (test_found e.core.place.size own (view blank core) m (in_queues.request_by (in_queues.serial_meant e.core) q) free.apart) (λ lacks. absurd lacks) reason
+free_reason a own e core m (calls.Waitany qs) why free reason =
+    requests_reason a e core m (calls.Waitany qs) (cores_calls.Waitany qs) _ why free (free_is a e core m (cores_calls.Waitany qs) free)
+    (wait_found e.core.place.size own (view blank core) m (in_queues.awaited_by (in_queues.serial_meant e.core) (awaiteds.AnyOf qs)) free.apart) (λ lacks. absurd lacks) reason
+free_reason a own e core m (calls.Waitall qs) why free reason =
+    requests_reason a e core m (calls.Waitall qs) (cores_calls.Waitall qs) _ why free (free_is a e core m (cores_calls.Waitall qs) free)
+    (wait_found e.core.place.size own (view blank core) m (in_queues.awaited_by (in_queues.serial_meant e.core) (awaiteds.AllOf qs)) free.apart) (λ lacks. lacks) reason
+free_reason a own e core m (calls.Cancel q) why free reason =
+    requests_reason a e core m (calls.Cancel q) (cores_calls.Cancel q) _ why free (free_is a e core m (cores_calls.Cancel q) free)
+    (cancel_found e.core.place.size own (view blank core) m (in_queues.request_by (in_queues.serial_meant e.core) q) free.apart) (λ lacks. absurd lacks) reason
+free_reason a own e core m (calls.Enter comm x) why free reason = entry_reason a own e core m comm x why free reason
+free_reason a own e core m (calls.Ask comm q) why free reason = question_reason a own e core m comm q why free reason
+
+-- one that is taken has no fault
+pub free_faultless : (a : Announcements) (own : Endpoint) (e : EngineState) (core : Core) (m : Membership) (call : engine.Call) → IsFree a e core m → free_fault e call ≡ None →
+    IsFaultless (fault own (view blank core) m (call_seen call)) e.core call
+free_faultless a own e core m (calls.Isend s) free allowed = record { own = refl; none = send_faultless a own e core m s free allowed }
+free_faultless a own e core m (calls.Irecv v) free allowed = record { own = refl; none = receive_faultless a own e core m v free allowed }
+free_faultless a own e core m (calls.Wait q) free allowed =
+    requests_faultless a e core m (calls.Wait q) (cores_calls.Wait q) _ free (free_is a e core m (cores_calls.Wait q) free)
+    (wait_found e.core.place.size own (view blank core) m (in_queues.awaited_by in_queues.own_serial (awaiteds.One q)) free.apart) (λ f. refl) allowed
+free_faultless a own e core m (calls.Test q) free allowed =
+    requests_faultless a e core m (calls.Test q) (cores_calls.Test q) _ free (free_is a e core m (cores_calls.Test q) free)
+    (test_found e.core.place.size own (view blank core) m (in_queues.request_by in_queues.own_serial q) free.apart) (λ f. refl) allowed
+free_faultless a own e core m (calls.Waitany qs) free allowed =
+    requests_faultless a e core m (calls.Waitany qs) (cores_calls.Waitany qs) _ free (free_is a e core m (cores_calls.Waitany qs) free)
+    (wait_found e.core.place.size own (view blank core) m (in_queues.awaited_by in_queues.own_serial (awaiteds.AnyOf qs)) free.apart) (λ f. refl) allowed
+free_faultless a own e core m (calls.Waitall qs) free allowed =
+    requests_faultless a e core m (calls.Waitall qs) (cores_calls.Waitall qs) _ free (free_is a e core m (cores_calls.Waitall qs) free)
+    (wait_found e.core.place.size own (view blank core) m (in_queues.awaited_by in_queues.own_serial (awaiteds.AllOf qs)) free.apart) (λ f. refl) allowed
+free_faultless a own e core m (calls.Cancel q) free allowed =
+    requests_faultless a e core m (calls.Cancel q) (cores_calls.Cancel q) _ free (free_is a e core m (cores_calls.Cancel q) free)
+    (cancel_found e.core.place.size own (view blank core) m (in_queues.request_by in_queues.own_serial q) free.apart) (λ f. refl) allowed
+free_faultless a own e core m (calls.Enter comm x) free allowed = record { own = refl; none = entry_faultless a own e core m comm x free allowed }
+free_faultless a own e core m (calls.Ask comm q) free allowed = record { own = refl; none = question_faultless a own e core m comm q free allowed }

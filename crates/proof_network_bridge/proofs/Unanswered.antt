@@ -1,0 +1,54 @@
+-- A world follows the pure network through what is nothing to the network: ticks, and datagrams that are refused.
+use Rattle.std.proofs.Common.{◌≡◌, ◌++◌, Option, Some, None, refl, sym, ap, subst}
+use Rattle.std.specs.Prelude.{Result, Ok, Err}
+use Rattle.datagram.specs.Spelling.{EagerText}
+use Rattle.engine.specs.Datagrams.{HeardGivesBy, HearingGives, notice_in}
+use Rattle.engine.specs.EngineState.{EngineState, completion_of}
+use Rattle.engine.specs.Ticks.{after_tick}
+use Rattle.proof_group_network.specs.Network.{GroupNetwork}
+use Rattle.proof_link_truth.specs.Events.{IsAt, RefusalsAreTrue, RestIsTrue, TicksAreTrue}
+use Rattle.rank_calls.specs.declared.refused.Refused.{Refused}
+use Rattle.sessions.specs.Heard.{HeardText, heard_of}
+use Rattle.sessions.specs.declared.heard.Unheard.{Unheard}
+use Rattle.proof_network_bridge.specs.Following.{LeavesFollowed, RefusalsFollow, TicksFollow}
+use Rattle.proof_network_bridge.specs.Joined.{network_after, sessions_in}
+use Rattle.proof_network_bridge.specs.Seen.{told_completion}
+use Rattle.proof_network_bridge.proofs.Followed.{IsBeside, followed_still, followed_unanswered}
+use Rattle.proof_network_bridge.proofs.Halves.{Keeps, away_keeps}
+use Rattle.proof_network_bridge.proofs.Worlds.{is_at}
+
+-- ---- a tick
+
+pub ticks_follow : TicksAreTrue → TicksFollow
+ticks_follow truth n r now engines datagrams history old mid f there gives =
+    let w : GroupNetwork = network_after n f.happenings in
+    subst (λ (e : EngineState). LeavesFollowed n engines datagrams r e (history ++ told_completion old.sessions.place.endpoint (completion_of e))) (sym gives.1)
+    (followed_unanswered n r engines datagrams history old (after_tick old now) f there (record { core = refl; groups = refl; ended = refl; known = refl; place = refl })
+    (truth n r now (sessions_in engines) datagrams f.joined.texts w.net.current old.sessions f.joined.links (is_at n r engines datagrams w old f.joined there)))
+
+-- ---- a datagram that is refused
+
+-- what was heard and is refused changes nothing, be it a message of a collective or anything else
+refused_leaves : (o : Option EagerText) (old mid : EngineState) (h : HeardText) (why : Refused) → HeardGivesBy o old h (Err why) mid → mid ≡ old
+refused_leaves None old mid h why gives = gives.2
+refused_leaves (Some t) old mid h why gives = gives.1
+
+pub refusals_follow : RestIsTrue → RefusalsAreTrue → RefusalsFollow
+refusals_follow rest refusals n r number bytes engines datagrams history old mid why f there emitted gives = go (heard_of old.sessions bytes) refl gives
+  where
+    w : GroupNetwork
+    w = network_after n f.happenings
+
+    here_is : IsAt (sessions_in engines) r old.sessions
+    here_is = is_at n r engines datagrams w old f.joined there
+
+    go : (o : Result HeardText Unheard) → heard_of old.sessions bytes ≡ o → HearingGives o old (Err why) mid → LeavesFollowed n engines datagrams r mid history
+    go (Ok h) is g =
+        subst (λ (e : EngineState). LeavesFollowed n engines datagrams r e history) (sym (refused_leaves (notice_in h.word) old mid h why g))
+        (followed_still n r engines datagrams history old old f there (record { core = refl; groups = refl; ended = refl; known = refl; place = refl })
+        (rest n r (sessions_in engines) datagrams f.joined.texts w.net.current old.sessions f.joined.links here_is))
+    go (Err u) is g =
+        let keeps : Keeps old.sessions mid.sessions = away_keeps old.sessions mid.sessions u.reset u.refused g.0 g.3 in
+        let beside : IsBeside old mid = record { core = ap (λ (e : EngineState). e.core) g.2; groups = ap (λ (e : EngineState). e.groups) g.2; ended = ap (λ (e : EngineState). e.ended) g.2; known = keeps.known; place = keeps.place } in
+        followed_still n r engines datagrams history old mid f there beside
+        (refusals n r number bytes (sessions_in engines) datagrams f.joined.texts w.net.current old.sessions mid.sessions u g.0 f.joined.links here_is emitted is g.3)
