@@ -1,14 +1,18 @@
 -- What a world asks of an engine before it makes room: the rule or limit by which it refuses a call or a restart.
-use Rattle.std.proofs.Common.{◌≡◌, ℕ, List, [], Option, Some, None, refl, sym, ap, subst, ◌∙◌}
+use Rattle.std.proofs.Common.{◌≡◌, ℕ, ◌⊎◌, inl, inr, List, [], Option, Some, None, refl, sym, ap, subst, ◌∙◌}
 use Rattle.std.specs.Prelude.{Err, slice_get}
-use Rattle.engine.specs.Calls.{WhyRefused, fault_of}
+use Rattle.std.proofs.lemmas.Option.{same_Some}
+use Rattle.engine.specs.Calls.{CallGives, IsRefused, LacksRoom, WhyRefused}
 use Rattle.engine.specs.EngineState.{EngineState}
+use Rattle.engine.specs.Faults.{fault_of}
+use Rattle.engine.specs.declared.call.Call.{Call}
+use Rattle.engine.specs.declared.call.Call.TheVariants as calls
+use Rattle.engine.specs.declared.reply.Reply.TheVariants as replies
 use Rattle.rank_calls.specs.Refusals.{IsRefusal}
-use Rattle.rank_calls.specs.declared.call.Call.{Call}
 use Rattle.rank_calls.specs.declared.refused.Refused as lower
 use Rattle.rank_calls.specs.declared.refused.Refused.TheVariants as lowers
 use Rattle.world.specs.Faults.{first_fault, target_of}
-use Rattle.world.specs.Steps.{ByTheEngine, ByTheWorld, CallRuns, EventRuns, ForRoom, IsFaultOrMemory, IsFirstFault, IsWhy, RanAt, Refusal, asked_fault, engine_fault, fault_among, fault_by, fault_in, of_engine}
+use Rattle.world.specs.Steps.{ByTheEngine, ByTheWorld, CallRuns, EventRuns, ForRoom, IsCallRefusedBy, IsEntryLimited, IsFaultOrMemory, IsFirstFault, IsWhy, RanAt, Refusal, asked_fault, engine_fault, fault_among, fault_by, fault_in, of_engine}
 use Rattle.world.specs.WorldState.{WorldState}
 use Rattle.world.specs.declared.event.Event.{Event}
 use Rattle.world.specs.declared.event.Event.TheVariants as events
@@ -23,11 +27,42 @@ none_asked engines es datagrams ds event rank found engines_are datagrams_are ta
     ap (λ (d : List (ℕ × List ℕ)). fault_among engines (target_of d event) event) (sym datagrams_are) ∙ ap (λ (t : Option ℕ). fault_among engines t event) target
     ∙ ap (λ (e : List EngineState). fault_by (slice_get e rank) event) (sym engines_are) ∙ sym is ∙ none
 
+-- a refused call is what the engine gives, whatever the call
+refusal_given : (e new : EngineState) (call back : Call) (why : lower.Refused) → IsRefused e call why back new → CallGives e call (replies.Refused why back) new
+refusal_given e new (calls.Isend s) back why is = is
+refusal_given e new (calls.Irecv v) back why is = is
+refusal_given e new (calls.Wait q) back why is = is
+refusal_given e new (calls.Test q) back why is = is
+refusal_given e new (calls.Waitany qs) back why is = is
+refusal_given e new (calls.Waitall qs) back why is = is
+refusal_given e new (calls.Cancel q) back why is = is
+refusal_given e new (calls.Enter comm x) back why is = is
+refusal_given e new (calls.Ask comm q) back why is = is
+
+-- and the other way
+given_refusal : (e new : EngineState) (call back : Call) (why : lower.Refused) → CallGives e call (replies.Refused why back) new → IsRefused e call why back new
+given_refusal e new (calls.Isend s) back why is = is
+given_refusal e new (calls.Irecv v) back why is = is
+given_refusal e new (calls.Wait q) back why is = is
+given_refusal e new (calls.Test q) back why is = is
+given_refusal e new (calls.Waitany qs) back why is = is
+given_refusal e new (calls.Waitall qs) back why is = is
+given_refusal e new (calls.Cancel q) back why is = is
+given_refusal e new (calls.Enter comm x) back why is = is
+given_refusal e new (calls.Ask comm q) back why is = is
+
 -- an engine refuses an event by the fault that it was asked for, and stays as it was
 refuses_so : (datagrams : List (ℕ × List ℕ)) (event : Event) (e : EngineState) (why : lower.Refused) → asked_fault e event ≡ Some why →
     EventRuns datagrams event e (Err (record { refused = why; out = [] })) e
-refuses_so datagrams (events.Call rank call) e why is =
-    (refl, refl, (call, record { handed = refl; unchanged = refl; reason = subst (λ (o : Option lower.Refused). WhyRefused o call why) (sym is) refl }))
+refuses_so datagrams (events.Call rank call) e why is = (
+  refl,
+  refl,
+  (
+    call,
+    refusal_given e e call call why
+        (record { handed = refl; unchanged = refl; reason = subst (λ (o : Option lower.Refused). WhyRefused o e call why) (sym is) refl }),
+  ),
+)
 refuses_so datagrams (events.Deliver number) e why is = absurd cc
 refuses_so datagrams (events.Stray rank bytes) e why is = absurd cc
 refuses_so datagrams (events.Tick rank now) e why is = absurd cc
@@ -91,14 +126,55 @@ fault_there : (old : WorldState) (event : Event) (rank : ℕ) (e : EngineState) 
 fault_there old event rank e target there =
     ap (λ (t : Option ℕ). fault_among old.engines t event) target ∙ ap (λ (o : Option EngineState). fault_by o event) there
 
--- why a call is refused, without what it needs
-call_refusal : (found : Option lower.Refused) (call : Call) (why : lower.Refused) → WhyRefused found call why → IsRefusal found why
-call_refusal None call why is = is.0
-call_refusal (Some fault) call why is = is
+-- why an engine refused a call
+call_refused : (e new : EngineState) (call : Call) (refusal : Refusal) → CallRuns e call (Err refusal) new → WhyRefused (fault_of e call) e call refusal.refused
+call_refused e new call refusal (unchanged, silent, (back, gives)) = (given_refusal e e call back refusal.refused gives).reason
 
--- so it is of an engine that refused one
-call_refused : (e new : EngineState) (call : Call) (refusal : Refusal) → CallRuns e call (Err refusal) new → IsRefusal (fault_of e call) refusal.refused
-call_refused e new call refusal (unchanged, silent, (back, gives)) = call_refusal (fault_of e call) call refusal.refused gives.reason
+-- what a call lacks room for: memory, or a collective what its rank then does of itself
+lacking : (e : EngineState) (call : Call) (why : lower.Refused) → LacksRoom e call why → (why ≡ lowers.OutOfMemory) ⊎ ((why ≡ lowers.Limit) × IsEntryLimited e call)
+lacking e (calls.Isend s) why is = inl is.0
+lacking e (calls.Irecv v) why is = inl is.0
+lacking e (calls.Wait q) why is = absurd is
+lacking e (calls.Test q) why is = absurd is
+lacking e (calls.Waitany qs) why is = absurd is
+lacking e (calls.Waitall qs) why is = inl is
+lacking e (calls.Cancel q) why is = absurd is
+lacking e (calls.Enter comm x) why is = is
+lacking e (calls.Ask comm q) why is = inl is.0
+
+-- so it is as the world's refusal
+lacking_at : (engines : List EngineState) (rank : ℕ) (e : EngineState) (call : Call) (why : lower.Refused) (refused : Refused) → slice_get engines rank ≡ Some e → refused ≡ Engine why →
+    (why ≡ lowers.OutOfMemory) ⊎ ((why ≡ lowers.Limit) × IsEntryLimited e call) → IsCallRefusedBy None engines rank call refused
+lacking_at engines rank e call why refused there is (inl memory) = inl (is ∙ ap Engine memory)
+lacking_at engines rank e call why refused there is (inr (limit, limited)) =
+    inr (is ∙ ap Engine limit, record { engine = e; there = there; limited = limited })
+
+-- by the first of two faults, or else for want of room
+call_by_first : (engines : List EngineState) (rank : ℕ) (e : EngineState) (call : Call) (a : Option Refused) (found : Option lower.Refused) (why : lower.Refused) (refused : Refused) →
+    a ≡ None → refused ≡ Engine why → slice_get engines rank ≡ Some e → WhyRefused found e call why → IsCallRefusedBy (first_fault a (of_engine found)) engines rank call refused
+call_by_first engines rank e call None None why refused none is there lacks = lacking_at engines rank e call why refused there is (lacking e call why lacks)
+call_by_first engines rank e call None (Some fault) why refused none is there why_is = is ∙ ap Engine why_is
+call_by_first engines rank e call (Some fault) found why refused none is there why_is = absurd cc
+
+-- by a rule of the world
+call_by_world : (engines : List EngineState) (rank : ℕ) (call : Call) (a b : Option Refused) (refused : Refused) → a ≡ Some refused → IsCallRefusedBy (first_fault a b) engines rank call refused
+call_by_world engines rank call a b refused is = subst (λ (o : Option Refused). IsCallRefusedBy (first_fault o b) engines rank call refused) (sym is) refl
+
+-- for want of memory
+call_for_memory : (engines : List EngineState) (rank : ℕ) (call : Call) (a : Option Refused) (found : Option lower.Refused) (refused : Refused) → a ≡ None → found ≡ None →
+    refused ≡ Engine lowers.OutOfMemory → IsCallRefusedBy (first_fault a (of_engine found)) engines rank call refused
+call_for_memory engines rank call None None refused none free is = inl is
+call_for_memory engines rank call None (Some fault) refused none free is = absurd cc
+call_for_memory engines rank call (Some fault) found refused none free is = absurd cc
+
+-- a call that the engine of its rank refused
+call_by_engine : (old : WorldState) (rank : ℕ) (call : Call) (refusal : Refusal) (refused : Refused) → fault_in old (events.Call rank call) ≡ None → refused ≡ Engine refusal.refused →
+    RanAt old.datagrams (events.Call rank call) old.engines (Err refusal) old.engines → IsFirstFault old (events.Call rank call) refused
+call_by_engine old rank call refusal refused none is ran =
+    let there : slice_get old.engines rank ≡ Some ran.engine = subst (λ (r : ℕ). slice_get old.engines r ≡ Some ran.engine) (sym (same_Some rank ran.rank ran.target)) ran.there in
+    call_by_first old.engines rank ran.engine call (fault_in old (events.Call rank call)) (engine_fault old (events.Call rank call)) refusal.refused refused none is there
+    (subst (λ (o : Option lower.Refused). WhyRefused o ran.engine call refusal.refused) (sym (fault_there old (events.Call rank call) ran.rank ran.engine ran.target ran.there))
+    (call_refused ran.engine ran.next call refusal ran.ran))
 
 -- whatever refuses a call or a restart is the first fault
 pub first_fault_refuses : (old : WorldState) (event : Event) (refused : Refused) (out : List (ℕ × List ℕ)) → IsWhy old event refused out → IsFirstFault old event refused
@@ -106,13 +182,10 @@ first_fault_refuses old (events.Deliver number) refused out is = tt
 first_fault_refuses old (events.Stray rank bytes) refused out is = tt
 first_fault_refuses old (events.Tick rank now) refused out is = tt
 first_fault_refuses old (events.Call rank call) refused out (ByTheWorld fault silent) =
-    first_is (fault_in old (events.Call rank call)) (of_engine (engine_fault old (events.Call rank call))) refused fault
+    call_by_world old.engines rank call (fault_in old (events.Call rank call)) (of_engine (engine_fault old (events.Call rank call))) refused fault
 first_fault_refuses old (events.Call rank call) refused out (ForRoom none free needs is silent) =
-    none_is (fault_in old (events.Call rank call)) (engine_fault old (events.Call rank call)) refused none free is
-first_fault_refuses old (events.Call rank call) refused out (ByTheEngine e none is gives ran) =
-    first_of_two (fault_in old (events.Call rank call)) (engine_fault old (events.Call rank call)) e.refused refused none is
-    (subst (λ (o : Option lower.Refused). IsRefusal o e.refused) (sym (fault_there old (events.Call rank call) ran.rank ran.engine ran.target ran.there))
-    (call_refused ran.engine ran.next call e ran.ran))
+    call_for_memory old.engines rank call (fault_in old (events.Call rank call)) (engine_fault old (events.Call rank call)) refused none free is
+first_fault_refuses old (events.Call rank call) refused out (ByTheEngine e none is gives ran) = call_by_engine old rank call e refused none is ran
 first_fault_refuses old (events.Restart rank) refused out (ByTheWorld fault silent) =
     first_is (fault_in old (events.Restart rank)) (of_engine (engine_fault old (events.Restart rank))) refused fault
 first_fault_refuses old (events.Restart rank) refused out (ForRoom none free needs is silent) =

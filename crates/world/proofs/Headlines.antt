@@ -13,7 +13,7 @@ use Rattle.proof_link_truth.specs.Links.{Link, Links}
 use Rattle.proof_link_truth.specs.Sessions.{SenderTells}
 use Rattle.proof_link_truth.specs.Wire.{at}
 use Rattle.proof_network_bridge.proofs.Closed.{following_is_run}
-use Rattle.proof_network_bridge.specs.Joined.{messages_after}
+use Rattle.proof_network_bridge.specs.Joined.{network_after}
 use Rattle.proof_network_bridge.proofs.Halves.{sessions_there}
 use Rattle.world.specs.Headline.{IsRunOfMachine, IsSound, SessionsAreInOrder, SessionsAreTrue, history_seen}
 use Rattle.world.specs.WorldState.{WorldState}
@@ -22,14 +22,14 @@ use Rattle.world.specs.declared.event.Entry.{Entry}
 pub is_run_of_machine : (w : WorldState) → IsSound w.engines w.datagrams w.history → IsRunOfMachine w
 is_run_of_machine w s =
     let m = following_is_run (length w.engines) w.engines w.datagrams (history_seen w.history) s.followed in
-    record { run_events = m.events; run = m.run; tells = m.tells; now = m.now; knows = m.knows; refuses = m.refuses; takes = m.takes; quiet = m.quiet; leaves = m.leaves }
+    record { run_events = m.events; run = m.run; tells = m.tells; now = m.now; knows = m.knows; refuses = m.refuses; takes = m.takes; holds = m.holds; one_group = m.one_group; quiet = m.quiet; leaves = m.leaves }
 
 -- the law of a session, of all sessions
 pub sessions_are_true : (w : WorldState) → IsSound w.engines w.datagrams w.history → SessionsAreTrue w
 sessions_are_true w s =
     record {
-      links = s.followed.joined.carried;
-      current = (messages_after (length w.engines) s.followed.happenings).current;
+      links = s.followed.joined.texts;
+      current = (network_after (length w.engines) s.followed.happenings).net.current;
       truth = s.followed.joined.links;
     }
 
@@ -37,11 +37,11 @@ sessions_are_true w s =
 pub sessions_are_in_order : (engines : List EngineState) (datagrams : List (ℕ × List ℕ)) (history : List Entry) → IsSound engines datagrams history → SessionsAreInOrder engines
 sessions_are_in_order engines datagrams history s r x e d there other apart knows known =
     let n : ℕ = length engines in
-    let w : Network = messages_after n s.followed.happenings in
+    let w : Network = (network_after n s.followed.happenings).net in
     let j = s.followed.joined in
     let here : Endpoint = at r (w.current r) in
     let away : Endpoint = at x (w.current x) in
-    let links : Links = j.carried in
+    let links : Links = j.texts in
     let link : Link = links here away in
     let sends = (j.links.tells r e.sessions (sessions_there engines r e there)).peers x (slice_get_within engines x d other) apart in
     let gets = (j.links.tells x d.sessions (sessions_there engines x d other)).peers r (slice_get_within engines r e there) (false_sym x r apart) in

@@ -5,9 +5,10 @@ use Rattle.std.proofs.lemmas.Bool.{both_ways}
 use Rattle.std.proofs.lemmas.Option.{same_Some}
 use Rattle.perfect_groups.specs.Events as machine
 use Rattle.vocabulary.specs.declared.endpoint.Endpoint.{Endpoint}
-use Rattle.engine.specs.Datagrams.{HearingGives}
+use Rattle.datagram.specs.Spelling.{EagerText}
+use Rattle.engine.specs.Datagrams.{HeardGivesBy, HearingGives, notice_in}
 use Rattle.engine.specs.EngineState.{EngineState, emptied, without_completion, without_out}
-use Rattle.rank_core.specs.CoreState.{CoreState}
+use Rattle.collectives.specs.declared.step.Ending.{Ending}
 use Rattle.sessions.specs.declared.heard.Unheard.{Unheard}
 use Rattle.sessions.specs.declared.refused.Refused as lower
 use Rattle.sessions.specs.Events.{TurnedAway}
@@ -41,17 +42,25 @@ same_out : (old new : EngineState) → new ≡ old → OnlyOut old new
 same_out old new is = subst (λ (e : EngineState). OnlyOut old e) (sym is) refl
 
 -- so it is where only the sessions changed, in what they emit
-out_alone : (old new : EngineState) (out : List (ℕ × List ℕ)) → new.core ≡ old.core → new.sessions ≡ record old.sessions { out = out } → OnlyOut old new
-out_alone old new out core sessions =
-    subst (λ (e : EngineState). OnlyOut old e) (sym (ap₂ (λ (c : CoreState) (s : SessionsState). record { core = c; sessions = s }) core sessions)) refl
+out_alone : (old new : EngineState) (out : List (ℕ × List ℕ)) → new ≡ record old { sessions = new.sessions } → new.sessions ≡ record old.sessions { out = out } → OnlyOut old new
+out_alone old new out alone sessions =
+    alone
+    ∙ ap (λ (s : SessionsState). record old { sessions = s })
+    (sessions ∙ ap (λ (o : List (ℕ × List ℕ)). record old.sessions { out = o }) (sym (ap (λ (s : SessionsState). s.out) sessions)))
 
-turned_keeps : (old new : EngineState) (reset : Option Endpoint) (refused e : lower.Refused) → new.core ≡ old.core → TurnedAway reset refused old.sessions e new.sessions → OnlyOut old new
-turned_keeps old new None refused e core away = out_alone old new old.sessions.out core away.1
-turned_keeps old new (Some source) refused e core (inl away) = out_alone old new _ core away.1
-turned_keeps old new (Some source) refused e core (inr away) = out_alone old new old.sessions.out core away.1
+turned_keeps : (old new : EngineState) (reset : Option Endpoint) (refused e : lower.Refused) → new ≡ record old { sessions = new.sessions } → TurnedAway reset refused old.sessions e new.sessions →
+    OnlyOut old new
+turned_keeps old new None refused e alone away = out_alone old new old.sessions.out alone away.1
+turned_keeps old new (Some source) refused e alone (inl away) = out_alone old new _ alone away.1
+turned_keeps old new (Some source) refused e alone (inr away) = out_alone old new old.sessions.out alone away.1
+
+-- what is heard and refused changes nothing, whether it is a message of a collective or anything else
+heard_keeps : (notice : Option EagerText) (h : HeardText) (old new : EngineState) (why : Refused) → HeardGivesBy notice old h (Err why) new → OnlyOut old new
+heard_keeps None h old new why g = same_out old new g.2
+heard_keeps (Some t) h old new why g = same_out old new g.1
 
 hearing_keeps : (heard : Result HeardText Unheard) (old new : EngineState) (why : Refused) → HearingGives heard old (Err why) new → OnlyOut old new
-hearing_keeps (Ok h) old new why g = same_out old new g.2
+hearing_keeps (Ok h) old new why g = heard_keeps (notice_in h.word) h old new why g
 hearing_keeps (Err u) old new why g = turned_keeps old new u.reset u.refused g.0 g.2 g.3
 
 datagram_keeps : (old new : EngineState) (bytes : List ℕ) (why : Refused) → RefusesDatagram old bytes why new → OnlyOut old new
@@ -78,7 +87,7 @@ refused_is_old old mid bytes why none g =
 emptied_is_old : (old mid : EngineState) (bytes : List ℕ) (why : Refused) → IsClean old → RefusesDatagram old bytes why mid → emptied mid ≡ old
 emptied_is_old old mid bytes why clean g =
     ap without_completion (refused_is_old old mid bytes why clean.out g)
-    ∙ ap (λ (c : Option Answer). record old { core = record old.core { completion = c } }) (sym clean.completion)
+    ∙ ap₂ (λ (c : Option Answer) (o : Option Ending). record old { core = record old.core { completion = c }; ended = o }) (sym clean.completion) (sym clean.ended)
 
 -- ---- what it leaves of a world
 

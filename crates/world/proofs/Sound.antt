@@ -5,12 +5,12 @@ use Rattle.std.proofs.lemmas.Grind.{flat_map-append}
 use Rattle.std.proofs.lemmas.List.{length-set}
 use Rattle.std.proofs.lemmas.Option.{same_Some}
 use Rattle.vocabulary.specs.declared.endpoint.Endpoint.{Endpoint}
-use Rattle.engine.specs.EngineState.{EngineState, emptied, opening}
-use Rattle.rank_calls.specs.declared.call.Call.{Call}
-use Rattle.rank_calls.specs.declared.call.Reply.{Reply}
-use Rattle.requests.specs.declared.answer.Answer.{Answer}
+use Rattle.engine.specs.EngineState.{EngineState, completion_of, emptied, opening}
+use Rattle.engine.specs.declared.call.Call.{Call}
+use Rattle.engine.specs.declared.reply.Completion.{Completion}
+use Rattle.engine.specs.declared.reply.Reply.{Reply}
 use Rattle.perfect_groups.specs.Events as machine
-use Rattle.proof_network_bridge.specs.OnWorld.{told_call, told_completion}
+use Rattle.proof_network_bridge.specs.Seen.{told_call, told_completion}
 use Rattle.proof_network_bridge.specs.Following.{LeavesFollowed, next_place}
 use Rattle.proof_network_bridge.specs.Joined.{IsFollowed, opening_engines}
 use Rattle.proof_network_bridge.proofs.Closed.{calls_follow, datagrams_follow, opening_follows, restarts_follow, ticks_follow}
@@ -36,7 +36,7 @@ length_opening n a (suc k) = ap suc (length_opening n (suc a) k)
 -- each engine of an opening world is at its start
 opening_stands : (m n a k i : ℕ) (d : EngineState) → i < k → n ≡ m → StandsIn m (slice_index_or (opening_engines n a k) i d)
 opening_stands m n a zero i d lt is = absurd (omega arith)
-opening_stands m n a (suc k) zero d lt is = record { size = is; clean = record { out = refl; completion = refl } }
+opening_stands m n a (suc k) zero d lt is = record { size = is; clean = record { out = refl; completion = refl; ended = refl } }
 opening_stands m n a (suc k) (suc i) d lt is = opening_stands m n (suc a) k i d (omega arith) is
 
 opening_is_world : (n : ℕ) → n ≤ 256 → IsWorld (opening_engines n 0 n)
@@ -80,10 +80,10 @@ record IsEngineOf (old new : List EngineState) (d : List (ℕ × List ℕ)) (h :
   pub others : new ≡ slice_set old rank next
 
 -- what is seen of an answer, at the endpoint that the engine was
-completion_at : (e : EngineState) (mid : EngineState) (gave : Gave) → gave.endpoint ≡ e.sessions.place.endpoint → gave.completion ≡ mid.core.completion →
-    told_completion e.sessions.place.endpoint mid.core.completion ≡ told_completion gave.endpoint gave.completion
+completion_at : (e : EngineState) (mid : EngineState) (gave : Gave) → gave.endpoint ≡ e.sessions.place.endpoint → gave.completion ≡ completion_of mid →
+    told_completion e.sessions.place.endpoint (completion_of mid) ≡ told_completion gave.endpoint gave.completion
 completion_at e mid gave endpoint completion =
-    ap (λ (o : Option Answer). told_completion e.sessions.place.endpoint o) (sym completion) ∙ ap (λ (x : Endpoint). told_completion x gave.completion) (sym endpoint)
+    ap (λ (o : Option Completion). told_completion e.sessions.place.endpoint o) (sym completion) ∙ ap (λ (x : Endpoint). told_completion x gave.completion) (sym endpoint)
 
 -- ---- a call
 
@@ -96,10 +96,10 @@ call_followed old new d h rank r call e next gave at ran = go gave.reply refl
     go (Some reply) is =
         let a = subst (λ (o : Option Reply). TakesCall e call o ran.mid) is ran.event in
         followed old new d h rank (events.Call r call) gave ran.mid next
-        (told_call e.sessions.place.endpoint call (Some reply) ++ told_completion e.sessions.place.endpoint ran.mid.core.completion)
-        (calls_follow (length old) rank old d (history_seen h) e ran.mid call reply at.before at.there a.1 a.0 a.2)
+        (told_call e.sessions.place.endpoint call (Some reply) ++ told_completion e.sessions.place.endpoint (completion_of ran.mid))
+        (calls_follow (length old) rank old d (history_seen h) e ran.mid call reply at.before at.there a.0 a.1)
         ran.state at.others ran.out
-        (ap (λ (o : Option Reply). told_call e.sessions.place.endpoint call o ++ told_completion e.sessions.place.endpoint ran.mid.core.completion) (sym is)
+        (ap (λ (o : Option Reply). told_call e.sessions.place.endpoint call o ++ told_completion e.sessions.place.endpoint (completion_of ran.mid)) (sym is)
         ∙ ap (λ (es : List machine.Entry). told_call e.sessions.place.endpoint call gave.reply ++ es) (completion_at e ran.mid gave ran.endpoint ran.completion)
         ∙ ap (λ (x : Endpoint). told_call x call gave.reply ++ told_completion gave.endpoint gave.completion) (sym ran.endpoint))
 
@@ -114,7 +114,7 @@ datagram_followed old new d h number rank bytes e next gave at emitted ran = go 
     go (Some reply) is = absurd (subst (λ (o : Option Reply). TakesBytes e bytes o ran.mid) is ran.event)
     go None is =
         followed old new d h rank (events.Deliver number) gave ran.mid next
-        (told_completion e.sessions.place.endpoint ran.mid.core.completion)
+        (told_completion e.sessions.place.endpoint (completion_of ran.mid))
         (datagrams_follow (length old) rank number bytes old d (history_seen h) e ran.mid at.before at.there emitted
         (subst (λ (o : Option Reply). TakesBytes e bytes o ran.mid) is ran.event))
         ran.state at.others ran.out (completion_at e ran.mid gave ran.endpoint ran.completion)
@@ -142,7 +142,7 @@ tick_followed old new d h rank r now e next gave at ran = go gave.reply refl
     go (Some reply) is = absurd (subst (λ (o : Option Reply). TakesTime e now o ran.mid) is ran.event)
     go None is =
         followed old new d h rank (events.Tick r now) gave ran.mid next
-        (told_completion e.sessions.place.endpoint ran.mid.core.completion)
+        (told_completion e.sessions.place.endpoint (completion_of ran.mid))
         (ticks_follow (length old) rank now old d (history_seen h) e ran.mid at.before at.there
         (subst (λ (o : Option Reply). TakesTime e now o ran.mid) is ran.event))
         ran.state at.others ran.out (completion_at e ran.mid gave ran.endpoint ran.completion)

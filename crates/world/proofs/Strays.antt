@@ -1,5 +1,5 @@
 -- Why an engine of a world would refuse the bytes that the world refuses as stray ones.
-use Rattle.std.proofs.Common.{◌≡◌, ℕ, ◌<◌, Bool, true, false, List, length, Some, None, Result, refl, sym, ap, ap₂, subst, ◌∙◌, arith}
+use Rattle.std.proofs.Common.{◌≡◌, ℕ, ◌<◌, Bool, true, false, List, length, Some, None, Result, refl, sym, ap, subst, ◌∙◌, arith}
 use Rattle.std.specs.Prelude.{Ok, Err, ◌==◌, ◌&&◌, nat_le, slice_get, if◌then◌else◌}
 use Rattle.std.proofs.lemmas.Option.{same_Some, slice_get_within}
 use Rattle.std.proofs.lemmas.Bool.{le-leb, leb-true, lt-leb}
@@ -20,7 +20,6 @@ use Rattle.sessions.specs.Refusals as sessions_refusals
 use Rattle.sessions.specs.SessionsState.{SessionsState, knowledge}
 use Rattle.sessions.specs.declared.refused.Refused as sessions
 use Rattle.sessions.specs.declared.refused.Refused.TheVariants as sessions_refused
-use Rattle.rank_core.specs.CoreState.{CoreState}
 use Rattle.engine.specs.Refusals.{of_sessions}
 use Rattle.engine.specs.Datagrams.{HearingGives}
 use Rattle.engine.specs.EngineState.{EngineState}
@@ -61,7 +60,7 @@ second_fails false b fails holds = absurd cc
 refused_plainly : (e new : EngineState) (why : sessions.Refused) (is : Refused) (result : Result (Unit {0}) lower.Refused) → is ≡ Engine (of_sessions why) →
     HearingGives (plainly why) e result new → (new ≡ e) × ((x : lower.Refused) × (result ≡ Err x) × (is ≡ Engine x))
 refused_plainly e new why is result same gives = (
-  ap₂ (λ (c : CoreState) (s : SessionsState). record { core = c; sessions = s }) gives.2 gives.3.1,
+  gives.2 ∙ ap (λ (s : SessionsState). record e { sessions = s }) gives.3.1,
   (of_sessions gives.0, gives.1, same ∙ ap (λ (x : sessions.Refused). Engine (of_sessions x)) (sym gives.3.0)),
 )
 

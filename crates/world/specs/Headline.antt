@@ -2,34 +2,36 @@
 --
 -- Its words, and where they stand: the machine's `IsRun`, `after_run`, `seen` (perfect_groups, Runs), `fault` (Faults), `IsAtRest`
 -- (perfect_queues, Quiet) and `CollectivesAreLeft` (perfect_groups, Quiet); what is seen of a call, its reply and a completion,
--- `call_seen`, `call_meant`, `told_call` and `told_completion` (proof_network_bridge, OnWorld); a call's fault in a state,
--- `fault_in` (proof_network_bridge, Following); why a call is refused or has no fault, `IsReason` and `IsFaultless`
--- (proof_engine_steps, Refused); the sessions of all engines, `sessions_in` (proof_network_bridge, Joined), and when they are
+-- `call_seen`, `call_meant`, `told_call` and `told_completion` (proof_network_bridge, Seen); a call's fault in a state, and that
+-- a call has none, `fault_in` and `IsFaultless` (proof_network_bridge, Following); why a call is refused, `IsReason`
+-- (proof_engine_steps, Refused); what a rank holds of communicators, `member_of` (engine, EngineState) and `held_at`
+-- (perfect_groups, Calls); the sessions of all engines, `sessions_in` (proof_network_bridge, Joined), and when they are
 -- quiet, `AreQuiet` (proof_link_truth, Quiet); the links and what sessions and datagrams tell of them, `Links` (Links) and
 -- `AreTrue` (Truth, with Told and Witness). That a world is sound, `IsSound` below, is what its proofs carry from event to event
 use Rattle.std.specs.Prelude.{◌≡◌, ℕ, ◌≤◌, false, List, [], ◌∷◌, ◌++◌, length, Option, Some, flat_map, ◌==◌, slice_get, slice_index}
 use Rattle.vocabulary.specs.declared.endpoint.Endpoint.{Endpoint}
-use Rattle.engine.specs.EngineState.{EngineState}
+use Rattle.engine.specs.Calls.{CallGives, IsTaken}
+use Rattle.engine.specs.EngineState.{EngineState, member_of}
+use Rattle.engine.specs.declared.call.Call.{Call}
+use Rattle.engine.specs.declared.reply.Reply.{Reply}
+use Rattle.engine.specs.declared.reply.Reply.TheVariants as replies
 use Rattle.sessions.specs.Peers.{peer_at}
 use Rattle.reliable_link.specs.SenderState.{SenderState, next_number}
-use Rattle.engine.specs.Calls.{CallGives}
-use Rattle.rank_calls.specs.Calls.{IsTaken}
-use Rattle.rank_calls.specs.declared.call.Call.{Call}
-use Rattle.rank_calls.specs.declared.call.Reply.{Reply}
-use Rattle.rank_calls.specs.declared.call.Reply.TheVariants as replies
 use Rattle.rank_calls.specs.declared.refused.Refused.{Refused}
+use Rattle.perfect_groups.specs.Calls.{held_at}
+use Rattle.perfect_groups.specs.Communicators.{Communicator}
 use Rattle.perfect_groups.specs.Events as machine
 use Rattle.perfect_groups.specs.Machine.{machine_opening}
 use Rattle.perfect_groups.specs.Quiet.{CollectivesAreLeft}
 use Rattle.perfect_groups.specs.Runs.{IsRun, after_run, seen}
 use Rattle.perfect_queues.specs.Quiet.{IsAtRest}
-use Rattle.proof_engine_steps.specs.Refused.{IsFaultless, IsReason}
+use Rattle.proof_engine_steps.specs.Refused.{IsReason}
 use Rattle.proof_link_truth.specs.Links.{Links}
 use Rattle.proof_link_truth.specs.Quiet.{AreQuiet}
 use Rattle.proof_link_truth.specs.Truth.{AreTrue}
-use Rattle.proof_network_bridge.specs.Following.{fault_in}
+use Rattle.proof_network_bridge.specs.Following.{IsFaultless, fault_in}
 use Rattle.proof_network_bridge.specs.Joined.{IsFollowed, sessions_in}
-use Rattle.proof_network_bridge.specs.OnWorld.{call_meant, call_seen, told_call, told_completion}
+use Rattle.proof_network_bridge.specs.Seen.{call_meant, call_seen, told_call, told_completion}
 use Rattle.world.specs.WorldState.{WorldState, IsWorld}
 use Rattle.world.specs.declared.event.Entry.{Entry}
 use Rattle.world.specs.declared.event.Event.{Event}
@@ -52,13 +54,14 @@ abbrev pub history_seen : List Entry → List machine.Entry
 history_seen entries = flat_map entry_seen entries
 
 -- THE HEADLINE. There is a run of the machine of queues and groups, among as many ranks, whose visible history is the world's.
--- The machine knows no frames: a message is one message there, whether it went whole, or was announced and went in pieces. Calls
--- of point to point are on world there, each rank's first communicator. The run ends with each rank at the incarnation of its
--- engine, which knows there what its engine knows; a call that its engine refuses has a reason there, and one that it takes has
--- no fault; and where the world is quiet, the run has come to a state that meets the machine's quiet clauses: between ranks that
--- know each other as they are, no receive that waits accepts a pending message, and what was matched is finished on both sides,
--- however it went; and a collective whose members are all current, know each other so and have all entered it alike was left by
--- all (engines enter none yet)
+-- The machine knows no frames: a message is one message there, whether it went whole, or was announced and went in pieces; and of
+-- a collective it knows who entered it, and who left it with what. Calls are on any communicator that their rank holds: point to
+-- point, collective, or questions about it. The run ends with each rank at the incarnation of its engine, which knows there what
+-- its engine knows, and holds the communicators that its engine holds, one group for each context; a call that its engine refuses
+-- has a reason there, and one that it takes has no fault; and where the world is quiet, the run has come to a state that meets the
+-- machine's quiet clauses: between ranks that know each other as they are, no receive that waits accepts a pending message, and
+-- what was matched is finished on both sides, however it went; and a collective whose members are all current, know each other so
+-- and have all entered it alike was left by all
 pub record IsRunOfMachine (w : WorldState) : Type 0 where
   pub run_events : List machine.Event
   pub run : IsRun (length w.engines) (machine_opening (length w.engines)) run_events
@@ -80,6 +83,14 @@ pub record IsRunOfMachine (w : WorldState) : Type 0 where
       (r : ℕ) (e mid : EngineState) (call : Call) (reply : Reply) → slice_get w.engines r ≡ Some e → IsTaken reply →
       CallGives e call reply mid →
       IsFaultless (fault_in (after_run (machine_opening (length w.engines)) run_events) e.sessions.place.endpoint (call_seen call)) e.core call
+  pub holds :
+      (r : ℕ) (e : EngineState) → slice_get w.engines r ≡ Some e →
+      ((after_run (machine_opening (length w.engines)) run_events).groups.of e.sessions.place.endpoint).held ≡ (member_of e.groups).held
+  -- communicators of two engines, or of one, that have one context are one
+  pub one_group :
+      (r x : ℕ) (e d : EngineState) (first second : Option ℕ) (a b : Communicator) →
+      slice_get w.engines r ≡ Some e → slice_get w.engines x ≡ Some d →
+      held_at (member_of e.groups) first ≡ Some a → held_at (member_of d.groups) second ≡ Some b → a.context ≡ b.context → a ≡ b
   pub quiet : AreQuiet (sessions_in w.engines) → IsAtRest (after_run (machine_opening (length w.engines)) run_events).queues
   pub leaves : AreQuiet (sessions_in w.engines) → CollectivesAreLeft (length w.engines) (after_run (machine_opening (length w.engines)) run_events)
 

@@ -3,16 +3,17 @@ use Rattle.std.specs.Prelude.{◌≡◌, ℕ, ◌⊎◌, false, List, [], ◌∷
 use Rattle.vocabulary.specs.declared.endpoint.Endpoint.{Endpoint}
 use Rattle.vocabulary.specs.Endpoints.{last_incarnation}
 use Rattle.incarnation.specs.declared.place.Place.{Place}
-use Rattle.engine.specs.EngineState.{EngineState, emptied, opening}
-use Rattle.engine.specs.Calls.{CallGives, fault_of}
-use Rattle.rank_calls.specs.Calls.{IsTaken, IsWithin}
+use Rattle.engine.specs.Calls.{CallGives, IsStepLimited, IsTaken}
+use Rattle.engine.specs.EngineState.{EngineState, completion_of, emptied, opening}
+use Rattle.engine.specs.Faults.{fault_of}
+use Rattle.engine.specs.declared.call.Call.{Call}
+use Rattle.engine.specs.declared.call.Call.TheVariants as calls
+use Rattle.engine.specs.declared.reply.Completion.{Completion}
+use Rattle.engine.specs.declared.reply.Reply.{Reply}
+use Rattle.engine.specs.declared.reply.Reply.TheVariants as replies
 use Rattle.rank_calls.specs.Refusals.{IsRefusal}
 use Rattle.rank_calls.specs.declared.refused.Refused as lower
 use Rattle.rank_calls.specs.declared.refused.Refused.TheVariants as lowers
-use Rattle.rank_calls.specs.declared.call.Call.{Call}
-use Rattle.rank_calls.specs.declared.call.Reply.{Reply}
-use Rattle.rank_calls.specs.declared.call.Reply.TheVariants as replies
-use Rattle.requests.specs.declared.answer.Answer.{Answer}
 use Rattle.world.specs.declared.event.Event.{Event}
 use Rattle.world.specs.declared.event.Event.TheVariants as events
 use Rattle.world.specs.declared.event.Entry.{Entry}
@@ -34,7 +35,7 @@ pub record Gave : Type 0 where
   pub endpoint : Endpoint
   pub out : List (ℕ × List ℕ)
   pub reply : Option Reply
-  pub completion : Option Answer
+  pub completion : Option Completion
 
 -- why an engine refused an event, and what it gave all the same: nothing, or a reset
 pub record Refusal : Type 0 where
@@ -53,12 +54,12 @@ pub record Ran (old : EngineState) (Takes : Option Reply → EngineState → Typ
   pub state : new ≡ emptied mid
   pub endpoint : gave.endpoint ≡ old.sessions.place.endpoint
   pub out : gave.out ≡ mid.sessions.out
-  pub completion : gave.completion ≡ mid.core.completion
+  pub completion : gave.completion ≡ completion_of mid
 
 -- a call that is taken has a reply
 abbrev pub TakesCall : EngineState → Call → Option Reply → EngineState → Type 0
 TakesCall old call None new = ⊥
-TakesCall old call (Some reply) new = IsTaken reply × IsWithin call × CallGives old call reply new
+TakesCall old call (Some reply) new = IsTaken reply × CallGives old call reply new
 
 -- a datagram that is taken has none
 abbrev pub TakesBytes : EngineState → List ℕ → Option Reply → EngineState → Type 0
@@ -216,11 +217,36 @@ abbrev pub IsFaultOrMemory : Option Refused → Refused → Type 0
 IsFaultOrMemory (Some fault) refused = refused ≡ fault
 IsFaultOrMemory None refused = refused ≡ refusals.Engine lowers.OutOfMemory
 
--- A call and a restart are refused by the first rule of the world that they break, else by the engine's rule or limit, and only
--- where there is none for want of memory
+-- what a rank does of itself once it entered the collective that it is called to meets a limit; no other call does anything so
+abbrev pub IsEntryLimited : EngineState → Call → Type 0
+IsEntryLimited e (calls.Enter comm entry) = IsStepLimited e comm entry
+IsEntryLimited e (calls.Isend s) = ⊥
+IsEntryLimited e (calls.Irecv v) = ⊥
+IsEntryLimited e (calls.Wait q) = ⊥
+IsEntryLimited e (calls.Test q) = ⊥
+IsEntryLimited e (calls.Waitany qs) = ⊥
+IsEntryLimited e (calls.Waitall qs) = ⊥
+IsEntryLimited e (calls.Cancel q) = ⊥
+IsEntryLimited e (calls.Ask comm question) = ⊥
+
+-- so it is at the engine of this rank
+pub record IsLimitedAt (engines : List EngineState) (rank : ℕ) (call : Call) : Type 0 where
+  pub engine : EngineState
+  pub there : slice_get engines rank ≡ Some engine
+  pub limited : IsEntryLimited engine call
+
+-- a call at a rank is refused by the fault, where there is one, else for want of memory; a collective also by a limit that what
+-- the rank then does of itself meets
+abbrev pub IsCallRefusedBy : Option Refused → List EngineState → (rank : ℕ) → Call → Refused → Type 0
+IsCallRefusedBy (Some fault) engines rank call refused = refused ≡ fault
+IsCallRefusedBy None engines rank call refused =
+    (refused ≡ refusals.Engine lowers.OutOfMemory) ⊎ ((refused ≡ refusals.Engine lowers.Limit) × IsLimitedAt engines rank call)
+
+-- A call and a restart are refused by the first rule of the world that they break, else by the engine's rule or limit; and only
+-- where there is none for want of memory, or a collective by the limit of what its rank then does of itself
 abbrev pub IsFirstFault : WorldState → Event → Refused → Type 0
 IsFirstFault w (events.Call rank call) refused =
-    IsFaultOrMemory (first_fault (fault_in w (events.Call rank call)) (of_engine (engine_fault w (events.Call rank call)))) refused
+    IsCallRefusedBy (first_fault (fault_in w (events.Call rank call)) (of_engine (engine_fault w (events.Call rank call)))) w.engines rank call refused
 IsFirstFault w (events.Restart rank) refused =
     IsFaultOrMemory (first_fault (fault_in w (events.Restart rank)) (of_engine (engine_fault w (events.Restart rank)))) refused
 IsFirstFault w (events.Deliver number) refused = Unit {0}

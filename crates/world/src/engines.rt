@@ -12,7 +12,7 @@ ghost use Rattle.world.specs.Strays.{stray_fault};
 ghost use Rattle.world.specs.Views.{gave_of};
 
 use crate::event::Event;
-use crate::one_engine::{Given, Rejected, fault_of, happen};
+use crate::one_engine::{Asked, Given, Rejected, ask, happen};
 use crate::refused::{OUT_OF_MEMORY, Refused};
 use byteorder::{BigEndian, ByteOrder};
 use datagram::Bytes;
@@ -93,13 +93,14 @@ pub fn judge(size: usize, datagrams: &[(u16, Bytes)], event: &Event) -> Result<u
 }
 
 /// The rule or limit by which the engine of a rank refuses a call or a restart, whatever memory there is; of other events it
-/// isn't asked. It takes no memory.
-pub fn fault_at(engines: &[Engine], rank: u16, event: &Event) -> Option<engine::Refused>
-    ensures { result ≡ fault_by (slice_get engines.now rank) event.now }
+/// isn't asked. The event comes back as it was. It takes no memory.
+pub fn ask_at(engines: &[Engine], rank: u16, event: Event) -> Asked
+    ensures fault { result.fault ≡ fault_by (slice_get engines.now rank) event }
+    ensures event { result.event ≡ event }
 {
     match engines.get(rank as usize) {
-        Some(engine) => fault_of(engine, event),
-        None => None,
+        Some(engine) => ask(engine, event),
+        None => Asked { fault: None, event },
     }
 }
 
@@ -156,7 +157,9 @@ pub fn new_engines(alloc: Global, size: u16) -> Result<Vec<Engine>, Refused>
     let mut engines = Vec::new(alloc);
     for rank in 0..size {
         let engine = new_engine(alloc, rank, size)?;
-        engines.push(engine).map_err(|_| OUT_OF_MEMORY)?;
+        if engines.push(engine).is_err() {
+            return Err(OUT_OF_MEMORY);
+        }
     }
     Ok(engines)
 }

@@ -5,7 +5,7 @@ ghost use Rattle.world.specs.Steps.{HasOwnBytes};
 
 use crate::refused::Refused;
 use datagram::Bytes;
-use engine::{Call, Reply};
+use engine::{Call, Completion, Reply};
 use std::alloc::{AllocError, Global};
 use vocabulary::Endpoint;
 
@@ -36,7 +36,7 @@ pub struct Entry {
     /// What the call answered, if it was one.
     pub reply: Option<Reply>,
     /// The answer of a blocked call that was ready now, if one was.
-    pub completion: Option<requests::Answer>,
+    pub completion: Option<Completion>,
 }
 
 /// What a step added to the world.

@@ -1,7 +1,8 @@
 //! What one event does to one engine.
 
 ghost use Rattle.std.specs.Prelude.{◌≡◌, ◌≤◌, ◌+◌, ◌*◌, [], length, is_some, IfOk, IfErr, IsTrue};
-ghost use Rattle.engine.specs.EngineState.{emptied};
+ghost use Rattle.engine.specs.EngineState.{completion_of, emptied};
+ghost use Rattle.engine.specs.Faults.{fault_of};
 ghost use Rattle.world.specs.Faults.{target_of};
 ghost use Rattle.world.specs.WorldState.{IsReady};
 ghost use Rattle.world.specs.Steps.{CallRuns, DatagramRuns, TickRuns, RestartRuns, EventRuns, asked_fault, emitted, restart_fault};
@@ -9,9 +10,8 @@ ghost use Rattle.world.specs.Views.{gave_of};
 
 use crate::event::Event;
 use datagram::Bytes;
-use engine::{Call, Engine, Place, Reply};
+use engine::{Call, Completion, Engine, Place, Reply};
 use incarnation::next_incarnation;
-use requests::Answer;
 use std::alloc::Global;
 use vocabulary::Endpoint;
 
@@ -25,7 +25,16 @@ pub struct Given {
     /// What the call answered, if the event was one.
     pub reply: Option<Reply>,
     /// The answer of a blocked call that was ready now, if one was.
-    pub completion: Option<Answer>,
+    pub completion: Option<Completion>,
+}
+
+/// An event that an engine was asked for.
+#[derive(Drop)]
+pub struct Asked {
+    /// The rule or limit by which the engine refuses it, if there is one.
+    pub fault: Option<engine::Refused>,
+    /// The event, as it was handed in.
+    pub event: Event,
 }
 
 /// Why an engine refused an event, and what it gave all the same.
@@ -47,17 +56,31 @@ fn fault_of_restart(place: Place) -> Option<engine::Refused>
     }
 }
 
+/// A call that its engine was asked for.
+fn ask_call(engine: &Engine, rank: u16, call: Call) -> Asked
+    ensures fault { result.fault ≡ fault_of engine.now call }
+    ensures event { result.event ≡ Event.Call rank call }
+{
+    let judged = engine.judge(call);
+    Asked {
+        fault: judged.fault,
+        event: Event::Call(rank, judged.call),
+    }
+}
+
 /// The rule or limit by which an engine refuses a call or a restart, whatever memory there is; of other events it isn't asked.
-/// It takes no memory.
-pub fn fault_of(engine: &Engine, event: &Event) -> Option<engine::Refused>
-    ensures { result ≡ asked_fault engine.now event.now }
+/// The event comes back as it was. It takes no memory.
+pub fn ask(engine: &Engine, event: Event) -> Asked
+    ensures fault { result.fault ≡ asked_fault engine.now event }
+    ensures event { result.event ≡ event }
 {
     match event {
-        Event::Call(_, call) => engine.fault_of(call),
-        Event::Restart(_) => fault_of_restart(engine.place()),
-        Event::Deliver(_) => None,
-        Event::Stray(_, _) => None,
-        Event::Tick(_, _) => None,
+        Event::Call(rank, call) => ask_call(engine, rank, call),
+        Event::Restart(rank) => Asked {
+            fault: fault_of_restart(engine.place()),
+            event: Event::Restart(rank),
+        },
+        event => Asked { fault: None, event },
     }
 }
 
@@ -77,7 +100,7 @@ fn take_given(engine: &mut Engine, reply: Option<Reply>) -> Given
     ensures endpoint { result.endpoint ≡ engine.old.sessions.place.endpoint }
     ensures out { result.out.items ≡ engine.old.sessions.out }
     ensures reply { result.reply ≡ reply }
-    ensures completion { result.completion ≡ engine.old.core.completion }
+    ensures completion { result.completion ≡ completion_of engine.old }
     ensures state { engine.new ≡ emptied engine.old }
 {
     let endpoint = engine.place().endpoint;
@@ -106,6 +129,8 @@ fn call(alloc: Global, engine: &mut Engine, call: Call) -> Result<Given, Rejecte
         Reply::Pending => Ok(take_given(engine, Some(Reply::Pending))),
         Reply::Accepted => Ok(take_given(engine, Some(Reply::Accepted))),
         Reply::Blocked => Ok(take_given(engine, Some(Reply::Blocked))),
+        Reply::Left(ending) => Ok(take_given(engine, Some(Reply::Left(ending)))),
+        Reply::Fact(fact) => Ok(take_given(engine, Some(Reply::Fact(fact)))),
     }
 }
 

@@ -9,9 +9,9 @@ ghost use Rattle.world.specs.Headline.{IsRunOfMachine, IsSound, SessionsAreInOrd
 ghost use Rattle.world.specs.Steps.{StepGives, RunGives, IsNotRun, entry_of, first_of};
 ghost use Rattle.world.specs.Views.{gave_in};
 
-use crate::engines::{datagram_at, fault_at, judge, new_engines, run_event};
+use crate::engines::{ask_at, datagram_at, judge, new_engines, run_event};
 use crate::event::{Answer, Entry, Event, Failed, FailedRun, Stepped};
-use crate::one_engine::{Given, Rejected};
+use crate::one_engine::{Asked, Given, Rejected};
 use crate::quiet::are_quiet;
 use crate::refused::{OUT_OF_MEMORY, Refused};
 use datagram::Bytes;
@@ -144,7 +144,8 @@ fn advance(
         Ok(rank) => rank,
         Err(refused) => return Err(plain(refused, event)),
     };
-    if let Some(refused) = fault_at(engines, rank, &event) {
+    let Asked { fault, event } = ask_at(engines, rank, event);
+    if let Some(refused) = fault {
         return Err(plain(Refused::Engine(refused), event));
     }
     if !make_room(datagrams, history, engines.len()) {
@@ -198,13 +199,16 @@ impl World {
     /// The events that were not refused, with what they answered, in order. It takes no memory.
     ///
     /// What is seen in it, calls with their replies, completions and restarts, is a run of the machine of queues and groups,
-    /// which has come to rest where the world is quiet (MPI 3.1, 3.5, 3.7, 3.8.4 and 3.11; restarts are this project's own).
-    /// Calls are on world there, the first communicator of each rank (6.2.4). A message is one message there, however it went:
-    /// whole, or announced and in pieces. With a call that a rank would take
-    /// now the machine finds no fault. With one that it would refuse the machine finds the same fault first; or it finds none,
-    /// and the number is 13 or 14. In each session that ever was, what was handed up is a beginning of what was accepted, and
-    /// every frame below the lowest unacknowledged number was handed up (`law`, which the datagrams pin for former incarnations
-    /// too; `sessions` says it in numbers of ranks that know each other).
+    /// which has come to rest where the world is quiet (MPI 3.1, 3.5, 3.7, 3.8.4, 3.11, 5.3 and 6.4; restarts are this
+    /// project's own). Calls are on any communicator of their rank, point to point, collective or questions, and each rank
+    /// holds there the communicators that it holds here, one group for each context. A message is one message there, however
+    /// it went: whole, or announced and in pieces; of a collective the machine knows who entered it and who left it, and no
+    /// message. With a call that a rank would take now the machine finds no fault. With one that it would refuse the machine
+    /// finds the same fault first; or it finds none, and the number is 13 or 14. Where the world is quiet, a collective whose
+    /// members are all there as they were, know each other so and have all entered it alike was left by all. In each session
+    /// that ever was, what was handed up is a beginning of what was accepted, and every frame below the lowest unacknowledged
+    /// number was handed up (`law`, which the datagrams pin for former incarnations too; `sessions` says it in numbers of
+    /// ranks that know each other).
     pub fn history(&self) -> &[Entry]
         ensures entries { result.now ≡ self.now.history }
         ensures headline { IsRunOfMachine self.now }
@@ -233,9 +237,10 @@ impl World {
     ///
     /// Refused is the first that holds of: 62 (no such datagram), 61 (no such rank), 63 (stray bytes that carry job 1) or the
     /// number of what else is wrong with stray bytes, the rule or limit by which the rank's engine refuses a call
-    /// (`Engine::fault_of`), 13 (a restart of a rank at incarnation 65,535, the last one), 14 (want of memory for what the event
+    /// (`Engine::judge`), 13 (a restart of a rank at incarnation 65,535, the last one), 14 (want of memory for what the event
     /// may add to the world, where it has no room for that, or for a copy of a call), what the rank's engine refuses with: a
-    /// datagram or a tick by its rules, and any event for want of memory (14). So a call or a restart is refused with 14 only
+    /// datagram or a tick by its rules, a collective that is entered where what the rank then does of itself meets a limit
+    /// (13), and any event for want of memory (14). So a call or a restart is refused with 14 only
     /// where no rule and no limit refuses it. A refusal hands the event back, and changes nothing but this: with 29, the
     /// refusal of a datagram for a former incarnation of its target, a reset goes out to the datagram's source, unless the
     /// datagram was a reset; it is numbered, and the refusal tells its number.

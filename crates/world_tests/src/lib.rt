@@ -2,4 +2,10 @@
 #![tactic(auto)]
 
 #[cfg(test)]
+mod communicator_tests;
+#[cfg(test)]
+mod row_tests;
+#[cfg(test)]
+mod steps;
+#[cfg(test)]
 mod tests;

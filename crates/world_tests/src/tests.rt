@@ -40,6 +40,7 @@ fn send_to(alloc: Global, target: u16) -> Option<Event> {
     Some(Event::Call(
         0,
         Call::Isend(Send {
+            comm: Some(0),
             target: Source::Rank(target),
             tag: Some(7),
             from: Region::whole(elements),
