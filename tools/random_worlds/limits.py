@@ -1,5 +1,6 @@
 """Makes the few long files that reach a limit: they come seldom, since each takes as long as a hundred others."""
 
+import communicators
 import making
 from reading import ANY, TYPES
 
@@ -22,6 +23,15 @@ def many_restarts(random):
     lines += ["deliver 0", f"restart {rank}", f"{rank} buf a int32 2", f"{rank} isend q world {1 - rank} 0 a", "deliver 1",
               "deliver 0", "deliver 2", "deliver 3", f"tick {rank} 20", f"restart {1 - rank}", "deliver 1"]
     return lines
+
+
+def many_communicators(random):
+    """As many communicators of a rank as there may be, and one more; then they are used."""
+    lines = ["world 2", "0 buf a int32 1"]
+    lines += [random.choice(["0 dup d self", "0 dup d d", "0 split d self 1 0"]) if place > 1 else "0 dup d self" for place in range(4095)]
+    return lines + ["0 split d self undefined 0", "0 dup d world", "0 who d", "0 isend q d 0 1 a", "0 buf b int32 0",
+                    "0 irecv r d any any b", "0 wait r", "1 dup d world", "0 compare d self", "restart 0", "0 dup d self", "0 dup d world",
+                    "0 who d", "1 dup e world"]
 
 
 def many_frames(random):
@@ -73,5 +83,6 @@ def largest_messages(random):
 
 
 def a_long_file(random):
-    lines = random.choice([many_requests, many_restarts, many_frames, whole_crowd, largest_messages])(random)
+    kinds = [many_communicators] if communicators.ARE_THERE else []
+    lines = random.choice(kinds + [many_requests, many_restarts, many_frames, whole_crowd, largest_messages])(random)
     return ("\n".join(lines) + "\n").encode()

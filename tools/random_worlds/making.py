@@ -5,9 +5,11 @@ that lines can be chosen that mean something: a datagram that is on its way, a r
 What is compared later is the model on the whole text, from its first byte on.
 """
 
+import communicators
 import reading
 import rules
 import strays
+from communicators import Notice
 from reading import ANY, NULL, TYPES
 from rules import NotSet
 
@@ -16,8 +18,9 @@ MIXED = {
     "send": 22, "receive": 18, "wait": 12, "deliver_new": 26, "deliver_any": 8, "deliver_late": 3, "lose": 3,
     "tick": 5, "restart": 1, "stray": 1, "refused_call": 3, "refused_event": 2, "set_buffer": 2, "rename": 0.3, "unblock": 6,
     "test": 5, "cancel": 2, "wait_for_several": 5, "set_layout": 2, "bring_some": 2,
-    "restart_in_the_middle": 0.5, "cancel_in_the_middle": 0.5,
+    "restart_in_the_middle": 0.5, "cancel_in_the_middle": 0.5, "make_communicator": 1, "enter_alone": 0.5, "ask": 2,
 }
+ON_COMMUNICATORS = ["make_communicator", "enter_alone", "ask", "restart_in_a_collective"]
 THEMES = {
     "mixed": (30, {}),
     "wildcards": (12, {"receive": 30, "send": 30, "wait": 20, "restart": 0}),
@@ -32,12 +35,18 @@ THEMES = {
     "layouts": (10, {"set_layout": 14, "receive": 26, "send": 26}),
     "large": (24, {"send": 14, "receive": 16, "deliver_new": 30, "bring_some": 14, "deliver_any": 10, "lose": 4, "tick": 8, "cancel": 4, "test": 8,
                    "restart_in_the_middle": 3, "cancel_in_the_middle": 4}),
+    "communicators": (24, {"make_communicator": 16, "enter_alone": 3, "ask": 12, "send": 24, "receive": 24, "deliver_new": 34, "refused_call": 4}),
+    "replaced": (14, {"make_communicator": 14, "enter_alone": 3, "ask": 6, "deliver_new": 30, "restart": 5, "restart_in_a_collective": 8,
+                      "refused_call": 5}),
     "large_restarts": (8, {"send": 14, "receive": 16, "deliver_new": 30, "bring_some": 8, "deliver_any": 12, "restart": 5, "deliver_late": 6,
                            "restart_in_the_middle": 12}),
 }
 SHARE_OF_LARGE = {"large": 0.65, "large_restarts": 0.65, "restarts": 0.2, "losses": 0.15, "several": 0.1, "wildcards": 0.1, "window": 0.1}
 LARGE_BYTES = [1025, 1025, 1026, 1032, 2048, 2049, 3072, 5000, 5000]
+SHARE_OFF_WORLD = {"communicators": 0.8, "replaced": 0.7, "mixed": 0.3, "large": 0.2, "large_restarts": 0.2, "restarts": 0.2, "wildcards": 0.2}
 TAGS = [0, 1, 2, 7]
+COLOURS = ["undefined", 0, 1, 7, 2**32 - 1]
+KEYS = [0, 0, 1, -1, 5, 2**31 - 1, -2**31]
 
 
 class Maker:
@@ -77,13 +86,19 @@ class Maker:
     def a_line(self):
         """A line of a kind that the theme likes."""
         weights = {**MIXED, **THEMES[self.theme][1]}
+        if not communicators.ARE_THERE:
+            weights |= dict.fromkeys(ON_COMMUNICATORS, 0)
         kind = self.random.choices(list(weights), list(weights.values()))[0]
-        if kind in ("send", "receive", "wait", "test", "cancel", "wait_for_several") and self.random.random() < 0.5 * len(self.blocked_ranks()) / self.size:
+        if kind in ("send", "receive", "wait", "test", "cancel", "wait_for_several", "ask") and self.random.random() < 0.5 * len(self.blocked_ranks()) / self.size:
             kind = "unblock"
         getattr(self, kind)()
 
     def blocked_ranks(self):
+        """The ranks that wait for requests."""
         return [rank.number for rank in self.world.ranks if rank.blocked is not None]
+
+    def is_free(self, rank):
+        return not self.world.ranks[rank].is_blocked()
 
     def text(self):
         return ("\n".join(self.lines) + "\n").encode()
@@ -93,7 +108,7 @@ class Maker:
     def a_rank(self):
         """A rank that is there; one that isn't blocked, mostly."""
         ranks = [self.random.randrange(self.size) for _ in range(3)]
-        free = [rank for rank in ranks if self.world.ranks[rank].blocked is None]
+        free = [rank for rank in ranks if self.is_free(rank)]
         return free[0] if free and self.random.random() < 0.95 else ranks[0]
 
     def a_name(self, first):
@@ -219,7 +234,35 @@ class Maker:
             target = NULL
         if not self.is_over:
             ending = self.through(rank, buffer)
-            self.add(f"{rank} isend {self.a_name('q')} world {target} {self.a_tag()} {buffer}{ending}")
+            self.add(f"{rank} isend {self.a_name('q')} {self.in_communicator(rank, target)} {self.a_tag()} {buffer}{ending}")
+
+    def in_communicator(self, rank, other, context=None):
+        """A communicator and a rank in it, by which one rank names another one: world, or one of its own that has this member; of the
+        context that is asked for, where there is one."""
+        names = self.on(rank, context) if context is not None else self.off_world(rank)
+        names = [name for name in names if other in (ANY, NULL) or other in self.ranks_of(rank, name)]
+        if not names or (context is None and self.random.random() > SHARE_OFF_WORLD.get(self.theme, 0.05)):
+            return f"world {other}"
+        name = self.random.choice(names)
+        return f"{name} {other if other in (ANY, NULL) else self.ranks_of(rank, name).index(other)}"
+
+    def held_as(self, rank, name):
+        """The communicator of a name, or None for MPI_COMM_NULL."""
+        place = self.world.place_of(rank, name)
+        return None if place is None else self.world.ranks[rank].communicators.at(place)
+
+    def ranks_of(self, rank, name):
+        return self.held_as(rank, name).ranks()
+
+    def off_world(self, rank):
+        """Self, and the names of a rank's communicators that are set and aren't null."""
+        if not communicators.ARE_THERE:
+            return []
+        return [name for name in ["self", *self.world.names_of(rank).communicators] if self.held_as(rank, name) is not None]
+
+    def on(self, rank, context):
+        """The names of a rank's communicator of this context."""
+        return [name for name in ["world", *self.off_world(rank)] if self.held_as(rank, name).context == context]
 
     def another(self, rank):
         if self.theme in ("window", "queues") and self.random.random() < 0.9:
@@ -229,13 +272,14 @@ class Maker:
 
     def receive(self):
         """A receive: of a message that is there or on its way, mostly, and then sometimes of another type or too short."""
-        rank = self.a_rank()
+        rank, context = self.a_rank(), None
         message = self.a_message_for(rank)
         if message is None or self.random.random() < 0.3:
             source = ANY if self.random.random() < 0.4 else self.random.randrange(self.size)
             tag = ANY if self.random.random() < 0.4 else self.a_tag()
             buffer = self.a_set_buffer(rank)
         else:
+            context = None if self.random.random() < 0.1 else message.context
             source = ANY if self.random.random() < 0.4 else message.source
             tag = ANY if self.random.random() < 0.4 else message.tag
             kind = self.a_type() if self.random.random() < 0.1 else message.type
@@ -245,11 +289,12 @@ class Maker:
             source = NULL
         if not self.is_over:
             ending = self.through(rank, buffer)
-            self.add(f"{rank} irecv {self.a_name('r')} world {source} {tag} {buffer}{ending}")
+            self.add(f"{rank} irecv {self.a_name('r')} {self.in_communicator(rank, source, context)} {tag} {buffer}{ending}")
 
     def a_message_for(self, rank):
         messages = [self.world.datagrams[number].frame.message for number in self.new[-30:]
                     if self.world.datagrams[number].target == rank and self.world.datagrams[number].kind in ("EAGER", "RTS")]
+        messages = [message for message in messages if not isinstance(message, Notice)]
         messages += self.world.ranks[rank].unexpected[:5]
         return self.random.choice(messages) if messages else None
 
@@ -291,7 +336,7 @@ class Maker:
         if not self.half_received():
             rank = self.a_rank()
             source = self.another(rank)
-            if source == rank or self.size == 1 or self.world.ranks[source].blocked is not None:
+            if source == rank or self.size == 1 or not self.is_free(source):
                 return None
             kind = self.random.choice(list(TYPES))
             length = self.a_large_length(kind)
@@ -358,7 +403,10 @@ class Maker:
             self.receive_from(rank, receive)
             return
         source = self.another(rank) if receive.source == ANY and self.size > 1 else receive.source
-        if source in (rank, ANY) or self.world.ranks[source].blocked is not None:
+        members = [member for member in receive.group or [] if member != rank]
+        if receive.source == ANY and members:
+            source = self.random.choice(members)
+        if source in (rank, ANY) or not self.is_free(source):
             self.restart_one_of(blocked)
             return
         tag = self.a_tag() if receive.tag == ANY or self.random.random() < 0.1 else receive.tag
@@ -366,8 +414,15 @@ class Maker:
         shorter = self.random.choices([-1, 0, 1], [1, 6, 2])[0]
         buffer = self.a_buffer(source, kind, min(6000 // TYPES[kind][0], max(0, len(receive.places) - shorter)))
         if not self.is_over:
-            self.add(f"{source} isend {self.a_name('q')} world {rank} {tag} {buffer}")
-            self.bring(source, rank)
+            named = self.in_context(source, rank, receive.context)
+            if named is not None:
+                self.add(f"{source} isend {self.a_name('q')} {named} {tag} {buffer}")
+                self.bring(source, rank)
+
+    def in_context(self, rank, other, context):
+        """How one rank names another one on the communicator of a context, where it can."""
+        names = [name for name in self.on(rank, context) if other in self.ranks_of(rank, name)]
+        return f"{names[0]} {self.ranks_of(rank, names[0]).index(other)}" if names else None
 
     def awaited(self, rank):
         """An operation that a blocked rank waits for, one of several."""
@@ -376,7 +431,7 @@ class Maker:
 
     def receive_from(self, rank, send):
         """The rank that a blocked send goes to takes its message, and the network brings all of it."""
-        if self.world.ranks[send.target].blocked is not None:
+        if not self.is_free(send.target):
             self.restart_one_of([send.target])
             return
         unanswered = self.world.ranks[rank].session(send.target).unanswered.values()
@@ -385,8 +440,95 @@ class Maker:
         buffer = self.a_buffer(send.target, message.type, len(message.values) + shorter)
         if not self.is_over:
             tag = self.random.choice([ANY, message.tag])
-            self.add(f"{send.target} irecv {self.a_name('r')} world {self.random.choice([ANY, rank])} {tag} {buffer}")
-            self.bring(rank, send.target)
+            named = self.in_context(send.target, rank, message.context)
+            if named is not None:
+                word = named.split()[0] if self.random.random() < 0.5 else None
+                self.add(f"{send.target} irecv {self.a_name('r')} {named if word is None else word + ' any'} {tag} {buffer}")
+                self.bring(rank, send.target)
+
+    # Communicators.
+
+    def a_communicator(self, rank):
+        """The name of a communicator of a rank: one that isn't null, mostly."""
+        names = self.world.names_of(rank).communicators
+        null = [name for name, place in names.items() if place is None]
+        if null and self.random.random() < 0.25:
+            return self.random.choice(null)
+        own = self.off_world(rank)[1:]
+        return self.random.choice(own) if own and self.random.random() < 0.6 else self.random.choice(["world", "world", "world", "self"])
+
+    def a_rank_with_names(self):
+        """A free rank that named communicators, where there is one; mostly one that has MPI_COMM_NULL among them."""
+        free = [rank for rank in range(self.size) if self.is_free(rank) and self.world.names_of(rank).communicators]
+        null = [rank for rank in free if None in self.world.names_of(rank).communicators.values()]
+        if null and self.random.random() < 0.6:
+            return self.random.choice(null)
+        return self.random.choice(free) if free else self.a_rank()
+
+    def ask(self):
+        rank = self.a_rank_with_names()
+        kind = self.random.choice(["who", "members", "compare"])
+        words = [self.a_communicator(rank) for _ in range(2 if kind == "compare" else 1)]
+        several = [name for name in ["world", *self.off_world(rank)] if len(self.ranks_of(rank, name)) > 1]
+        if kind == "compare" and several and self.random.random() < 0.7:
+            words = [self.random.choice(several) for _ in range(2)]
+        self.add(" ".join([str(rank), kind] + words))
+
+    def entering(self, rank, name, kind, colours):
+        """One rank enters a collective that makes a communicator."""
+        made = self.a_name("c")
+        if kind == "dup":
+            self.add(f"{rank} dup {made} {name}")
+        else:
+            self.add(f"{rank} split {made} {name} {self.random.choice(colours)} {self.random.choice(KEYS)}")
+
+    def enter_alone(self):
+        """One rank enters a collective, whatever the others do; of self, now and then."""
+        rank = self.a_rank()
+        self.entering(rank, self.a_communicator(rank), self.random.choice(["dup", "split"]), COLOURS)
+
+    def members_that_enter(self):
+        """The free members of a rank's communicator, each with its name for it, in any order; seldom one of them is left out."""
+        first = self.a_rank()
+        communicator = self.held_as(first, self.a_communicator(first))
+        if communicator is None:
+            return []
+        found = [(rank, self.on(rank, communicator.context)) for rank in communicator.ranks() if self.is_free(rank)]
+        found = [(rank, names[0]) for rank, names in found if names]
+        self.random.shuffle(found)
+        return found[1:] if self.random.random() < 0.06 else found
+
+    def make_communicator(self, until=None):
+        """All members of a communicator enter a dup or a split, while the network goes on; seldom one enters the other kind."""
+        entering = self.members_that_enter()
+        kind = self.random.choice(["dup", "split"])
+        colours = self.random.choice([COLOURS, ["undefined", 0], [0, 1], [3], [3]])
+        if len(entering) > 40:
+            return
+        for number, (rank, name) in enumerate(entering):
+            if self.is_over or number == until:
+                return
+            other = {"dup": "split", "split": "dup"}[kind]
+            if self.is_free(rank):
+                self.entering(rank, name, other if self.random.random() < 0.04 else kind, colours)
+            for _ in range(self.random.choice([0, 0, 1, 3])):
+                self.deliver_new()
+        for _ in range(self.random.choice([0, 4 * len(entering), 6 * len(entering)])):
+            self.deliver_new()
+
+    def restart_in_a_collective(self):
+        """A member of a communicator is started anew while others are in a collective of it, and they learn of it, mostly."""
+        self.make_communicator(until=self.random.choice([1, 1, 2, 3]))
+        inside = [rank for rank in self.world.ranks if rank.communicators.is_busy()]
+        if not inside or self.is_over:
+            return
+        ranks = self.random.choice(inside).communicators.present.communicator.ranks()
+        rank = self.random.choice(ranks)
+        self.add(f"restart {rank}")
+        if self.random.random() < 0.8 and len(ranks) > 1:
+            other = self.random.choice([member for member in ranks if member != rank])
+            self.add(f"{rank} isend {self.a_name('q')} world {other} {self.a_tag()} {self.a_buffer(rank)}")
+            self.bring(rank, other)
 
     def bring_some(self):
         """The network brings what is on its way between two ranks, of which one sent the oldest datagram."""
@@ -420,15 +562,18 @@ class Maker:
         if open_names:
             buffer = self.a_set_buffer(rank)
             what = self.random.choice(["irecv", "isend"])
-            self.add(f"{rank} {what} {self.random.choice(open_names)} world {self.random.randrange(self.size)} 1 {buffer}")
+            self.add(f"{rank} {what} {self.random.choice(open_names)} {self.in_communicator(rank, self.random.randrange(self.size))} 1 {buffer}")
 
     def refused_call(self):
         """A call with a fault, or with several."""
         rank = self.a_rank()
-        blocked = self.blocked_ranks()
+        blocked = [other for other in range(self.size) if not self.is_free(other)]
         if blocked and self.random.random() < 0.4:
             rank = self.random.choice(blocked)
         kind = self.random.choice(["long", "tag", "tag", "rank", "rank", "several", "absent", "plain"])
+        if communicators.ARE_THERE and self.random.random() < 0.2:
+            self.refused_on_communicators(rank if self.random.random() < 0.4 else self.a_rank_with_names())
+            return
         target, tag = self.random.randrange(self.size), self.a_tag()
         length = None
         if kind in ("tag", "several"):
@@ -441,14 +586,25 @@ class Maker:
         if sends and (kind == "long" or (kind == "several" and self.random.random() < 0.3)):
             length = self.random.choices([128, 129, 2**17, 2**17 + 1], [1, 1, 0.3, 12])[0]
         buffer = self.a_buffer(rank, "uint64" if length else None, length)
+        word = "world" if kind == "absent" or not communicators.ARE_THERE or self.random.random() < 0.7 else self.a_communicator(rank)
         if sends:
             if kind == "tag" and self.random.random() < 0.4:
                 tag = ANY
-            self.add(f"{rank} isend {self.a_name('q')} world {target} {tag} {buffer}")
+            self.add(f"{rank} isend {self.a_name('q')} {word} {target} {tag} {buffer}")
         elif kind == "absent" and self.random.random() < 0.3:
             self.add(f"{rank} wait {NULL}")
         else:
-            self.add(f"{rank} irecv {self.a_name('r')} world {target} {tag} {buffer}")
+            self.add(f"{rank} irecv {self.a_name('r')} {word} {target} {tag} {buffer}")
+
+    def refused_on_communicators(self, rank):
+        """A collective or a question at a rank that isn't there, is blocked, or names MPI_COMM_NULL."""
+        names = self.world.names_of(rank).communicators
+        null = [name for name, place in names.items() if place is None]
+        words = null if null and self.random.random() < 0.6 else ["world", "self", *names]
+        if self.random.random() < 0.3:
+            rank, words = self.random.choice([self.size, 256, 2**32]), ["world", "self"]
+        one, other = self.random.choice(words), self.random.choice(words)
+        self.add(f"{rank} " + self.random.choice([f"dup d {one}", f"split d {one} 0 0", f"who {one}", f"members {one}", f"compare {one} {other}"]))
 
     # Events.
 
@@ -542,7 +698,7 @@ def finish(maker):
         maker.deliver_new()
     for rank in range(min(maker.size, 8)):
         for _ in range(4):
-            if maker.world.ranks[rank].blocked is None and maker.is_owed(rank):
+            if maker.is_free(rank) and maker.is_owed(rank):
                 maker.wait(rank)
     for _ in range(2):
         maker.unblock()

@@ -119,6 +119,43 @@ class Waitall:
 
 
 @dataclass
+class Dup:
+    rank: int
+    name: str
+    communicator: str
+
+
+@dataclass
+class Split:
+    """`colour` is None where it is `undefined`."""
+
+    rank: int
+    name: str
+    communicator: str
+    colour: object
+    key: int
+
+
+@dataclass
+class Who:
+    rank: int
+    communicator: str
+
+
+@dataclass
+class Members:
+    rank: int
+    communicator: str
+
+
+@dataclass
+class Compare:
+    rank: int
+    one: str
+    other: str
+
+
+@dataclass
 class Deliver:
     number: int
 
@@ -165,7 +202,7 @@ def number_or(word, *others):
 
 
 def name(word):
-    """A name of a buffer, of a layout or of a request."""
+    """A name of a buffer, of a layout, of a request or of a communicator."""
     if NAME.fullmatch(word) is None or word in RESERVED:
         raise Faulty
     return word
@@ -252,7 +289,29 @@ def statement(rank, words):
         return {"wait": Wait, "test": Test, "cancel": Cancel}[kind](rank, request(rest[0]))
     if kind in ("waitany", "waitall"):
         return {"waitany": Waitany, "waitall": Waitall}[kind](rank, [request(word) for word in rest])
+    if kind in COMMUNICATORS and len(rest) == COMMUNICATORS[kind]:
+        return of_communicators(rank, kind, rest)
     raise Faulty
+
+
+# The statements on communicators, and how many words each has behind its first.
+COMMUNICATORS = {"dup": 2, "split": 4, "who": 1, "members": 1, "compare": 2}
+
+
+def of_communicators(rank, kind, words):
+    """A new communicator, or a question about one or two."""
+    if kind == "dup":
+        return Dup(rank, name(words[0]), a_communicator(words[1]))
+    if kind == "split":
+        return Split(rank, name(words[0]), a_communicator(words[1]), a_colour(words[2]), value("int32", words[3]))
+    if kind == "compare":
+        return Compare(rank, a_communicator(words[0]), a_communicator(words[1]))
+    return {"who": Who, "members": Members}[kind](rank, a_communicator(words[0]))
+
+
+def a_colour(word):
+    """A colour of 32 bits, or None for `undefined`."""
+    return None if word == "undefined" else value("uint32", word)
 
 
 def a_communicator(word):

@@ -9,17 +9,13 @@ they are found when a rule grows.
 
 from dataclasses import dataclass, field
 
+import communicators
 import reading
+from bytes_of_strays import HIGHEST_TAG, MOST_BYTES, MOST_EAGER_BYTES, fault_of_bytes
+from communicators import Notice, WORLD
 from reading import ANY, NULL, TYPES
 
-JOB = 1
-MAGIC = bytes.fromhex("4d505544")
-HEADER = 32
-LONGEST_BODY = 1200
-MOST_EAGER_BYTES = 1024
 PIECE_BYTES = 1024
-MOST_BYTES = 2**20
-HIGHEST_TAG = 2**31 - 1
 WINDOW = 64
 RESEND_AFTER = 20
 MOST_REQUESTS = 65536
@@ -30,10 +26,12 @@ LAST_INCARNATION = 65535
 
 @dataclass
 class Message:
-    """What a send puts on its way: its envelope and its elements, and the number of its transfer where it is only announced."""
+    """What a send puts on its way: its envelope and its elements, and the number of its transfer where it is only announced. The source
+    is a rank of world, whatever the context."""
 
     source: int
     incarnation: int
+    context: int
     tag: int
     type: str
     values: list
@@ -42,8 +40,8 @@ class Message:
 
 @dataclass
 class Frame:
-    """What goes under one number of a session: a message (EAGER), the announcement of one (RTS), the answer to one (CTS), or some of
-    the elements of one (DATA), of which the first stands at `start` in the message."""
+    """What goes under one number of a session: a message or a notice of a collective (EAGER), the announcement of a message (RTS), the
+    answer to one (CTS), or some of the elements of one (DATA), of which the first stands at `start` in the message."""
 
     kind: str
     message: object = None
@@ -117,9 +115,11 @@ class Request:
     type: object = None
     values: object = None
     places: object = None  # where in the buffer a receive puts its data, in order
-    source: object = None
+    source: object = None  # a rank of world
     tag: object = None
-    target: object = None  # where a send goes
+    context: int = WORLD
+    group: object = None  # the ranks by which a status names the source; None: those of world
+    target: object = None  # where a send goes, a rank of world
 
     def is_receive(self):
         return self.values is not None
@@ -162,7 +162,8 @@ class Rank:
     """One endpoint: what its engine holds."""
 
     number: int
-    incarnation: int = 0
+    incarnation: int
+    communicators: object
     clock: int = 0
     known: dict = field(default_factory=dict)  # the incarnation of each rank that isn't known at 0
     sessions: dict = field(default_factory=dict)
@@ -178,14 +179,24 @@ class Rank:
     def session(self, rank):
         return self.sessions.setdefault(rank, Session())
 
+    def is_blocked(self):
+        """Whether an earlier call is blocked: on requests, or in a collective."""
+        return self.blocked is not None or self.communicators.is_busy()
+
+    def has_replaced(self, member):
+        """Whether a member of a communicator, a rank with its incarnation, is known at another incarnation (own)."""
+        return self.incarnation_of(member[0]) != member[1]
+
 
 @dataclass
 class Names:
-    """What one rank's statements named. A request that was answered is None, which is the null request."""
+    """What one rank's statements named. A request that was answered is None, which is the null request; a communicator is its place, or
+    None, which is MPI_COMM_NULL."""
 
     buffers: dict = field(default_factory=dict)
     layouts: dict = field(default_factory=dict)
     requests: dict = field(default_factory=dict)
+    communicators: dict = field(default_factory=dict)
     lent: set = field(default_factory=set)
 
 
@@ -203,7 +214,7 @@ class RefusedEvent(Exception):
 
 
 def accepts(receive, message):
-    return receive.source in (ANY, message.source) and receive.tag in (ANY, message.tag)
+    return receive.context == message.context and receive.source in (ANY, message.source) and receive.tag in (ANY, message.tag)
 
 
 def fault_of_match(receive, message):
@@ -213,13 +224,15 @@ def fault_of_match(receive, message):
     return 10 if len(message.values) > len(receive.places) else None
 
 
-def status_of(message):
-    return f"source {message.source} tag {message.tag} count {len(message.values)}"
+def status_of(receive, message):
+    """The status of a receive, which names the source by its rank in the communicator (MPI 3.1, 3.2.5)."""
+    source = message.source if receive.group is None else receive.group.index(message.source)
+    return f"source {source} tag {message.tag} count {len(message.values)}"
 
 
 def fill(receive, message, values):
     """A receive ends with these elements of its message in its first places."""
-    receive.outcome = status_of(message)
+    receive.outcome = status_of(receive, message)
     receive.values = list(receive.values)
     for place, value in zip(receive.places, values):
         receive.values[place] = value
@@ -270,74 +283,17 @@ def layout_made(event, old):
     return made
 
 
-def length_of_message(body):
-    """How many bytes of data a message has by bytes 1 to 19 of an EAGER frame or an RTS; None where they say no message."""
-    if len(body) < 20 or body[1] > 1 or body[3] != 0:
-        return None
-    sizes = [size for size, _, code in TYPES.values() if code == body[2]]
-    if not sizes or (body[1] == 1 and body[2] != TYPES["byte"][2]):
-        return None
-    if int.from_bytes(body[4:8], "big") > HIGHEST_TAG:
-        return None
-    return int.from_bytes(body[16:20], "big") * sizes[0]
-
-
-def is_eager(body):
-    length = length_of_message(body)
-    return length is not None and length <= MOST_EAGER_BYTES and len(body) == 20 + length
-
-
-def is_request(body):
-    length = length_of_message(body)
-    return length is not None and MOST_EAGER_BYTES < length <= MOST_BYTES and len(body) == 24
-
-
-def is_clear(body):
-    return len(body) == 8 and body[1] <= 1 and not any(body[2:4])
-
-
-def is_data(body):
-    if not 12 < len(body) <= 12 + MOST_EAGER_BYTES or any(body[1:4]):
-        return False
-    offset = int.from_bytes(body[8:12], "big")
-    return offset % MOST_EAGER_BYTES == 0 and offset < MOST_BYTES
-
-
-def is_frame(body):
-    """Whether these bytes are a frame: a message that comes whole, or one of those of a large message."""
-    forms = {1: is_eager, 2: is_request, 3: is_clear, 4: is_data}
-    return bool(body) and body[0] in forms and forms[body[0]](body)
-
-
-def fault_of_bytes(data):
-    """Why stray bytes are refused: they carry the world's job number, are no datagram, or are of another job."""
-    if data[16:24] == JOB.to_bytes(8, "big"):
-        return 63
-    if len(data) < HEADER:
-        return 21
-    if data[:4] != MAGIC:
-        return 22
-    if data[4] != 1:
-        return 23
-    if data[5] not in (1, 2, 3):
-        return 24
-    length = int.from_bytes(data[14:16], "big")
-    if length != len(data) - HEADER or length > LONGEST_BODY or (data[5] != 1 and length != 0):
-        return 25
-    if data[5] == 1 and not is_frame(data[HEADER:]):
-        return 30
-    if data[5] == 3 and any(data[24:32]):
-        return 30
-    return 26
-
-
 class World:
     """A world of ranks, and the names of its statements."""
 
     def __init__(self, size):
-        self.ranks = [Rank(number) for number in range(size)]
+        self.ranks = [self.new_rank(number, 0, size) for number in range(size)]
         self.names = {}
         self.datagrams = []
+
+    @staticmethod
+    def new_rank(number, incarnation, size):
+        return Rank(number, incarnation, communicators.new_communicators(number, incarnation, size))
 
     # Lines.
 
@@ -374,9 +330,32 @@ class World:
     def caller(self, number):
         """The rank of a call: it is there, and no earlier call of it is blocked."""
         rank = self.rank(number)
-        if rank.blocked is not None:
+        if rank.is_blocked():
             raise RefusedEvent(6)
         return rank
+
+    def place_of(self, rank, word):
+        """The place of the communicator that a statement names, among those of its rank; None is MPI_COMM_NULL."""
+        self.check_communicators(word)
+        if word in ("world", "self"):
+            return 0 if word == "world" else 1
+        names = self.names_of(rank).communicators
+        if word not in names:
+            raise NotSet
+        return names[word]
+
+    @staticmethod
+    def check_communicators(word=None):
+        """Whether the engine has what a statement needs: this communicator, or the calls on communicators."""
+        if word != "world" and not communicators.ARE_THERE:
+            raise NotSet
+
+    @staticmethod
+    def communicator(rank, place):
+        """The communicator at a place; nothing can be called on MPI_COMM_NULL."""
+        if place is None:
+            raise RefusedEvent(4)
+        return rank.communicators.at(place)
 
     # Calls.
 
@@ -411,22 +390,24 @@ class World:
     def on_isend(self, event):
         kind, values = self.buffer(event)
         layout, copies = self.region(event, kind, values)
-        if event.communicator != "world":
-            raise NotSet
+        place = self.place_of(event.rank, event.communicator)
         rank = self.caller(event.rank)
-        self.check(self.fault_of_send(event, kind, values, layout, copies))
+        communicator = self.communicator(rank, place)
+        self.check(self.fault_of_send(event, rank, communicator, kind, values, layout, copies))
         request = self.start(rank)
         request.outcome = "sent"
         self.names_of(event.rank).requests[event.request] = request
         if event.target == NULL:
             return f"request {request.serial}", [], None
-        message = Message(rank.number, rank.incarnation, event.tag, kind, [values[place] for place in layout.places(copies)])
-        if event.target == rank.number:
+        target = communicator.ranks()[event.target]
+        elements = [values[place] for place in layout.places(copies)]
+        message = Message(rank.number, rank.incarnation, communicator.context, event.tag, kind, elements)
+        if target == rank.number:
             self.arrive(rank, message)
             return f"request {request.serial}", [], None
-        session = rank.session(event.target)
-        session.frames.append(self.first_frame(session, request, event.target, message))
-        return f"request {request.serial}", self.in_window(rank, event.target), None
+        session = rank.session(target)
+        session.frames.append(self.first_frame(session, request, target, message))
+        return f"request {request.serial}", self.in_window(rank, target), None
 
     @staticmethod
     def first_frame(session, request, target, message):
@@ -442,14 +423,15 @@ class World:
     def on_irecv(self, event):
         kind, values = self.buffer(event)
         layout, copies = self.region(event, kind, values)
-        if event.communicator != "world":
-            raise NotSet
+        place = self.place_of(event.rank, event.communicator)
         rank = self.caller(event.rank)
-        self.check(self.fault_of_receive(event, kind, values, layout, copies))
+        communicator = self.communicator(rank, place)
+        self.check(self.fault_of_receive(event, rank, communicator, kind, values, layout, copies))
         request = self.start(rank)
         request.buffer_name, request.type, request.values = event.buffer, kind, values
         request.places = layout.places(copies)
-        request.source, request.tag = event.source, event.tag
+        request.source = event.source if event.source in (ANY, NULL) else communicator.ranks()[event.source]
+        request.tag, request.context, request.group = event.tag, communicator.context, communicator.group()
         names = self.names_of(event.rank)
         names.requests[event.request] = request
         names.lent.add(event.buffer)
@@ -522,30 +504,94 @@ class World:
             rank.posted = [receive for receive in rank.posted if receive is not request]
         return "done", [], None
 
-    def fault_of_send(self, event, kind, values, layout, copies):
+    @staticmethod
+    def fault_of_rank(rank, communicator, named):
+        """What is wrong with a rank that a call names: there is no such one in the communicator; or it was started anew, which counts
+        on all communicators but world (own)."""
+        if named in (ANY, NULL):
+            return None
+        if named >= len(communicator.members):
+            return 5
+        return 11 if communicator.context != WORLD and rank.has_replaced(communicator.members[named]) else None
+
+    def fault_of_send(self, event, rank, communicator, kind, values, layout, copies):
         if layout.type != kind:
             return 2
         if layout.count(copies) * TYPES[kind][0] > MOST_BYTES or layout.room(copies) > len(values):
             return 1
         if event.tag == ANY or event.tag > HIGHEST_TAG:
             return 3
-        if event.target != NULL and event.target >= len(self.ranks):
-            return 5
-        return 13 if self.is_full(event.rank) else None
+        return self.fault_of_rank(rank, communicator, event.target) or (13 if self.is_full(event.rank) else None)
 
-    def fault_of_receive(self, event, kind, values, layout, copies):
+    def fault_of_receive(self, event, rank, communicator, kind, values, layout, copies):
         if layout.type != kind or layout.repeats():
             return 2
         if layout.room(copies) > len(values):
             return 1
         if event.tag != ANY and event.tag > HIGHEST_TAG:
             return 3
-        if event.source not in (ANY, NULL) and event.source >= len(self.ranks):
-            return 5
-        return 13 if self.is_full(event.rank) else None
+        return self.fault_of_rank(rank, communicator, event.source) or (13 if self.is_full(event.rank) else None)
 
     def is_full(self, rank):
         return len(self.ranks[rank].requests) == MOST_REQUESTS
+
+    # Communicators.
+
+    def on_dup(self, event):
+        return self.enter(event, "dup", None)
+
+    def on_split(self, event):
+        return self.enter(event, "split", (event.colour, event.key))
+
+    def enter(self, event, kind, choice):
+        """A collective on a communicator: refused with 11 where a member of it was started anew, the caller included (own)."""
+        self.check_communicators()
+        place = self.place_of(event.rank, event.communicator)
+        rank = self.caller(event.rank)
+        communicator = self.communicator(rank, place)
+        if any(rank.has_replaced(member) for member in communicator.members):
+            raise RefusedEvent(11)
+        if rank.communicators.is_left_without(communicator):
+            raise RefusedEvent(13)
+        self.tell(rank, rank.communicators.enter(communicator, kind, choice, event.name))
+        answer = self.answer_of_collective(rank)
+        return "blocked" if answer is None else answer, self.all_in_windows(rank), None
+
+    @staticmethod
+    def tell(rank, notices):
+        """Puts notices on their way."""
+        for other, notice in notices:
+            rank.session(other).frames.append(Frame("EAGER", notice))
+
+    def answer_of_collective(self, rank):
+        """The answer of the present collective, where it has ended; a new communicator has its name then."""
+        present = rank.communicators.present
+        if present is None or present.answer is None:
+            return None
+        rank.communicators.present = None
+        kind, _, place = present.answer.partition(" ")
+        if kind == "comm":
+            self.names_of(rank.number).communicators[present.name] = None if place == NULL else int(place)
+        return present.answer
+
+    def asked(self, event, *words):
+        """The communicators that a question names."""
+        self.check_communicators()
+        places = [self.place_of(event.rank, word) for word in words]
+        rank = self.caller(event.rank)
+        return rank, [self.communicator(rank, place) for place in places]
+
+    def on_who(self, event):
+        rank, (communicator,) = self.asked(event, event.communicator)
+        return f"rank {communicator.ranks().index(rank.number)} of {len(communicator.members)}", [], None
+
+    def on_members(self, event):
+        _, (communicator,) = self.asked(event, event.communicator)
+        return " ".join(str(member) for member in communicator.ranks()), [], None
+
+    def on_compare(self, event):
+        _, (one, other) = self.asked(event, event.one, event.other)
+        return communicators.comparison(one, other), [], None
 
     @staticmethod
     def check(fault):
@@ -594,7 +640,7 @@ class World:
         """A receive takes a message: a whole one at once, while an announced one is answered, and its data come later."""
         fault = fault_of_match(receive, message)
         if fault is not None:
-            receive.outcome = f"error {fault} {status_of(message)}"
+            receive.outcome = f"error {fault} {status_of(receive, message)}"
         if message.transfer is None:
             if fault is None:
                 fill(receive, message, message.values)
@@ -625,7 +671,7 @@ class World:
         rank = self.rank(event.rank)
         if rank.incarnation == LAST_INCARNATION:
             raise RefusedEvent(13)
-        self.ranks[event.rank] = Rank(event.rank, rank.incarnation + 1)
+        self.ranks[event.rank] = self.new_rank(event.rank, rank.incarnation + 1, len(self.ranks))
         self.names.pop(event.rank, None)
         return "ok", [], None
 
@@ -687,6 +733,7 @@ class World:
     def learn(rank, other, incarnation):
         """The other rank was started anew: what was under way between the two is over."""
         rank.known[other] = incarnation
+        rank.communicators.learn(other, incarnation)
         former = rank.session(other)
         for request in [send for send, _ in former.unanswered.values()] + [half.receive for half in former.collections.values()]:
             request.outcome = "error 11"
@@ -705,15 +752,17 @@ class World:
             if datagram.sequence == session.next:
                 session.next += 1
                 self.take(rank, session, datagram.frame)
-            return [self.to(rank, datagram.source, "ACK", session.next)] + self.in_window(rank, datagram.source)
+            return [self.to(rank, datagram.source, "ACK", session.next)] + self.all_in_windows(rank)
         if datagram.kind == "ACK":
             session.lowest = max(session.lowest, datagram.sequence)
             return self.in_window(rank, datagram.source)
         return []
 
     def take(self, rank, session, frame):
-        """The next frame of a session is taken: a message arrives, an announcement is answered, or data come."""
-        if frame.kind == "EAGER":
+        """The next frame of a session is taken: a notice or a message arrives, an announcement is answered, or data come."""
+        if isinstance(frame.message, Notice):
+            self.tell(rank, rank.communicators.hear(frame.message))
+        elif frame.kind == "EAGER":
             self.arrive(rank, frame.message)
         elif frame.kind == "RTS":
             session.announced += 1
@@ -731,6 +780,9 @@ class World:
 
     def wake(self, rank):
         """Answers the blocked call of a rank once its answer is ready."""
+        answer = self.answer_of_collective(rank)
+        if answer is not None:
+            return f"{rank.number} {answer}"
         if rank.blocked is None:
             return None
         answer = self.answer_to(rank, rank.blocked)
@@ -750,6 +802,10 @@ class World:
     def in_window(self, rank, other):
         """What has room in the window to another rank by now, and goes out."""
         return self.frames(rank, other, rank.session(other).fill_window(rank.clock))
+
+    def all_in_windows(self, rank):
+        """The same to all others, by rising rank."""
+        return [datagram for other in sorted(rank.sessions) for datagram in self.in_window(rank, other)]
 
 
 def answer(text):

@@ -8,6 +8,7 @@ use Rattle.vocabulary.specs.declared.envelope.Source.TheVariants as sources
 use Rattle.vocabulary.specs.declared.envelope.Status.{Status}
 use Rattle.datatypes.specs.Contents.{Contents}
 use Rattle.datatypes.specs.Elements.{element_text}
+use Rattle.answer_texts.specs.Communicators.{communicator_text, comparison_text, members_text, position_text}
 use Rattle.answer_texts.specs.declared.outcomes.OutcomeText.{OutcomeText}
 use Rattle.answer_texts.specs.declared.outcomes.OutcomeText.TheVariants as outcomes
 use Rattle.answer_texts.specs.declared.answers.Answer.{Answer}
@@ -70,6 +71,10 @@ answer_text (answers.One outcome) = outcome_text outcome
 answer_text (answers.Index place outcome) = codes "index " ++ decimal place ++ codes " " ++ outcome_text outcome
 answer_text answers.IndexUndefined = codes "index undefined"
 answer_text (answers.All ended) = outcomes_text ended.now
+answer_text (answers.Communicator communicator) = communicator_text communicator.place
+answer_text (answers.Position position) = position_text position.rank position.size
+answer_text (answers.Members members) = members_text members.ranks.now
+answer_text (answers.Comparison comparison) = comparison_text comparison
 answer_text answers.Pending = codes "pending"
 answer_text answers.Done = codes "done"
 answer_text answers.Taken = codes "ok"

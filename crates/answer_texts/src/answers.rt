@@ -1,5 +1,6 @@
 //! The texts of answers.
 
+use crate::communicators::{CommunicatorText, ComparisonText, MembersText, PositionText};
 use crate::outcomes::{OutcomeText, OutcomesText};
 use std::fmt;
 
@@ -20,6 +21,14 @@ pub enum Answer<'a> {
     IndexUndefined,
     /// All operations ended: how, in the order of the requests (MPI 3.1, 3.7.5).
     All(&'a [OutcomeText<'a>]),
+    /// A communicator was made, or none for this rank (MPI 3.1, 6.4.2).
+    Communicator(CommunicatorText),
+    /// The caller's rank in a communicator, and the communicator's size (MPI 3.1, 6.4.1).
+    Position(PositionText),
+    /// The members of a communicator's group (MPI 3.1, 6.4.2).
+    Members(MembersText<'a>),
+    /// How two communicators compare (MPI 3.1, 6.4.1).
+    Comparison(ComparisonText),
     /// The operation isn't over yet.
     Pending,
     /// The call is over, and tells nothing else.
@@ -46,6 +55,10 @@ impl<'a> fmt::Display for Answer<'a> {
                 let outcomes = OutcomesText { outcomes };
                 write!(f, "{outcomes}")
             }
+            Answer::Communicator(communicator) => write!(f, "{communicator}"),
+            Answer::Position(position) => write!(f, "{position}"),
+            Answer::Members(members) => write!(f, "{members}"),
+            Answer::Comparison(comparison) => write!(f, "{comparison}"),
             Answer::Pending => write!(f, "pending"),
             Answer::Done => write!(f, "done"),
             Answer::Taken => write!(f, "ok"),

@@ -4,11 +4,13 @@
 #![tactic(auto)]
 
 mod answers;
+mod communicators;
 mod emissions;
 mod outcomes;
 mod statuses;
 
 pub use answers::Answer;
+pub use communicators::{CommunicatorText, ComparisonText, MembersText, PositionText};
 pub use emissions::{Emission, EndpointText, FrameKind, Load, Route};
 pub use outcomes::{Elements, OutcomeText, OutcomesText};
 pub use statuses::{CountText, SourceText, StatusText, TagText};

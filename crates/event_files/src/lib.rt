@@ -14,5 +14,5 @@ pub use line_words::{Name, ParseError};
 pub use parsing::parse;
 pub use statements::{
     Action, Blocks, BufferLine, Communicator, LayoutForm, LayoutLine, OldLayout, Receiving,
-    Requested, RequestedList, Sending, Stripes, Through,
+    Requested, RequestedList, Sending, Splitting, Stripes, Through,
 };

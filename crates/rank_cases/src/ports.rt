@@ -17,10 +17,19 @@ fn first_port<R: Clock>(rt: &R) -> io::Result<u16> {
     Ok(20_000 + 2 * pair)
 }
 
-/// The first of two ports side by side that nobody has now.
+/// Whether nobody has this port now.
+fn is_free<R: Net>(rt: &R, port: u16) -> bool {
+    socket_at(rt, port).is_ok()
+}
+
+/// The first of four ports side by side that nobody has now.
 pub fn free_ports<R: Net + Clock>(rt: &R) -> io::Result<u16> {
     for port in first_port(rt)?..60_000 {
-        if socket_at(rt, port).is_ok() && socket_at(rt, port + 1).is_ok() {
+        if is_free(rt, port)
+            && is_free(rt, port + 1)
+            && is_free(rt, port + 2)
+            && is_free(rt, port + 3)
+        {
             return Ok(port);
         }
     }

@@ -173,11 +173,26 @@ fn run_launches<R: Net + Clock + Print + AllocGlobal + Processes>(
     )
 }
 
+/// Ranks in communicators of their own, under the launcher.
+fn run_groups<R: Net + Clock + Print + AllocGlobal + Processes>(
+    rt: &R,
+    itself: &str,
+) -> io::Result<()> {
+    run_launch(rt, itself, "two groups", &["-n", "4", itself, "groups.txt"])?;
+    run_launch(
+        rt,
+        itself,
+        "a member of a communicator is started anew",
+        &["-restart", "1", "-n", "2", itself, "anew_group.txt"],
+    )
+}
+
 /// Runs all rows.
 pub fn run_rows<R: Net + Clock + Env + Files + Print + AllocGlobal + Processes>(
     rt: &R,
 ) -> io::Result<()> {
     let itself = env::current_exe(rt)?;
     run_ranks(rt, itself.as_str())?;
-    run_launches(rt, itself.as_str())
+    run_launches(rt, itself.as_str())?;
+    run_groups(rt, itself.as_str())
 }

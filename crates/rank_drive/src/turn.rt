@@ -11,16 +11,16 @@ use crate::sending::send_all;
 use crate::speaking::speak;
 use crate::standing::{Stage, Turned};
 use crate::transport::{Transport, TransportFault};
-use engine::{Engine, Reply};
-use requests::Answer;
+use engine::{Completion, Engine, Reply};
 use std::sync::Wait;
 
 /// What the runner waits for, once this answer of a blocked call, or none, has come.
-fn stage_with(stage: Stage, completion: Option<Answer>) -> Stage
+fn stage_with(stage: Stage, completion: Option<Completion>) -> Stage
     ensures { result ≡ stage_with stage completion }
 {
     match completion {
-        Some(answer) => Stage::Ready(Some(Reply::Done(answer))),
+        Some(Completion::Requests(answer)) => Stage::Ready(Some(Reply::Done(answer))),
+        Some(Completion::Collective(ending)) => Stage::Ready(Some(Reply::Left(ending))),
         None => stage,
     }
 }

@@ -8,17 +8,22 @@ use Rattle.datatypes.specs.Transfers.{whole_copies}
 use Rattle.requests.specs.declared.region.Places.{Places}
 use Rattle.requests.specs.declared.region.Places.TheVariants as places
 use Rattle.requests.specs.declared.table.Request.{Request}
-use Rattle.rank_calls.specs.declared.call.Call.{Call}
-use Rattle.rank_calls.specs.declared.call.Call.TheVariants as calls
+use Rattle.collective_notes.specs.declared.entry.Entry.{Entry}
+use Rattle.collective_notes.specs.declared.entry.Entry.TheVariants as entries
+use Rattle.communicators.specs.declared.question.Question.{Question}
+use Rattle.communicators.specs.declared.question.Question.TheVariants as questions
+use Rattle.engine.specs.declared.call.Call.{Call}
+use Rattle.engine.specs.declared.call.Call.TheVariants as calls
 use Rattle.answer_texts.specs.Answers.{count_text, status_text}
 use Rattle.statements.specs.declared.action.Action.{Action}
 use Rattle.statements.specs.declared.action.Action.TheVariants as actions
 use Rattle.statements.specs.declared.action.BufferLine.{BufferLine}
-use Rattle.statements.specs.Meanings.{is_world, offsets_made}
+use Rattle.statements.specs.Meanings.{offsets_made}
 use Rattle.statements.specs.declared.action.Requested.{Requested}
 use Rattle.statements.specs.declared.action.Requested.TheVariants as requested
 use Rattle.statements.specs.declared.action.Receiving.{Receiving}
 use Rattle.statements.specs.declared.action.Sending.{Sending}
+use Rattle.statements.specs.declared.action.Splitting.{Splitting}
 use Rattle.statements.specs.declared.action.Through.{Through}
 use Rattle.statements.specs.declared.layout_line.LayoutLine.{LayoutLine}
 use Rattle.statements.specs.declared.layout_line.OldLayout.{OldLayout}
@@ -31,9 +36,9 @@ use Rattle.rank_drive.specs.declared.runner.Step.TheVariants as steps
 use Rattle.rank_script.specs.declared.names.Doing.{Doing}
 use Rattle.rank_script.specs.declared.names.Stage.{Stage}
 use Rattle.rank_script.specs.declared.names.Stage.TheVariants as stages
-use Rattle.rank_script.specs.NamesState.{NamesState, free, here, is_lent, request_at, with_buffer, with_layout}
+use Rattle.rank_script.specs.NamesState.{NamesState, free, here, is_lent, place_named, request_at, with_buffer, with_layout}
 use Rattle.rank_script.specs.Tables.{value_at}
-use Rattle.rank_script.specs.Texts.{elements_line, error_line, words_line}
+use Rattle.script_lines.specs.Lines.{elements_line, error_line, words_line}
 
 -- what a rank does next, if that is more than a change of names, and what its names then stand for
 abbrev pub Acts : Type 0
@@ -85,41 +90,40 @@ places_named s (Some through) = option_map (λ layout. places.Copies layout thro
 
 -- ---- sends and receives
 
--- a send from these places of a buffer
-abbrev pub sends_from : ℕ → Doing → Sending → Option Places → Option Contents → NamesState → Acts
-sends_from number doing x None buffer s = stops number s
-sends_from number doing x (Some named) None s = stops number s
-sends_from number doing x (Some named) (Some buffer) s =
-    makes_call (calls.Isend (record { target = x.target; tag = x.tag; from = record { buffer = buffer; places = named } })) doing s
+-- a send in this communicator from these places of a buffer
+abbrev pub sends_from : ℕ → Doing → Sending → (comm : Option (Option ℕ)) → Option Places → Option Contents → NamesState → Acts
+sends_from number doing x None named buffer s = stops number s
+sends_from number doing x (Some comm) None buffer s = stops number s
+sends_from number doing x (Some comm) (Some named) None s = stops number s
+sends_from number doing x (Some comm) (Some named) (Some buffer) s =
+    makes_call (calls.Isend (record { comm = comm; target = x.target; tag = x.tag; from = record { buffer = buffer; places = named } })) doing s
 
 -- what the answer to the start of an operation is for
 abbrev pub starting : Stage → Option (List ℕ) → Option (List ℕ) → Doing
-starting stage request buffer = record { stage = stage; request = request; buffer = buffer; several = None }
+starting stage request buffer = record { stage = stage; request = request; buffer = buffer; several = None; communicator = None }
 
 abbrev pub sends : ℕ → Stage → Option (List ℕ) → Sending → NamesState → Acts
 sends number stage request x s =
-    if is_world x.communicator
-    then sends_from number (starting stage request None) x (places_named s x.through) (here s x.buffer) s
-    else stops number s
+    sends_from number (starting stage request None) x (place_named s x.communicator) (places_named s x.through) (here s x.buffer) s
 
 -- a buffer that is here is lent; else nothing changes
 abbrev pub LendGives : NamesState → List ℕ → Option Contents → NamesState → Type 0
 LendGives old name None new = (here old name ≡ None) × (new ≡ old)
 LendGives old name (Some buffer) new = (here old name ≡ Some buffer) × (new ≡ with_buffer old name None)
 
--- a receive into these places of a buffer, which is lent to it
-abbrev pub receives_into : ℕ → Doing → Receiving → Option Places → Option Contents → NamesState → Acts
-receives_into number doing x None buffer s = stops number s
-receives_into number doing x (Some named) None s = stops number s
-receives_into number doing x (Some named) (Some buffer) s =
-    makes_call (calls.Irecv (record { source = x.source; tag = x.tag; into = record { buffer = buffer; places = named } })) doing
+-- a receive in this communicator into these places of a buffer, which is lent to it
+abbrev pub receives_into : ℕ → Doing → Receiving → (comm : Option (Option ℕ)) → Option Places → Option Contents → NamesState → Acts
+receives_into number doing x None named buffer s = stops number s
+receives_into number doing x (Some comm) None buffer s = stops number s
+receives_into number doing x (Some comm) (Some named) None s = stops number s
+receives_into number doing x (Some comm) (Some named) (Some buffer) s =
+    makes_call (calls.Irecv (record { comm = comm; source = x.source; tag = x.tag; into = record { buffer = buffer; places = named } })) doing
     (with_buffer s x.buffer None)
 
 abbrev pub receives : ℕ → Stage → Option (List ℕ) → Receiving → NamesState → Acts
 receives number stage request x s =
-    if is_world x.communicator
-    then receives_into number (starting stage request (Some x.buffer)) x (places_named s x.through) (here s x.buffer) s
-    else stops number s
+    receives_into number (starting stage request (Some x.buffer)) x (place_named s x.communicator) (places_named s x.through)
+    (here s x.buffer) s
 
 -- ---- requests
 
@@ -135,7 +139,7 @@ name_of (requested.Named name) = Some name
 
 -- what the answer to a wait or a test of this request is for
 abbrev pub waiting : Requested → Doing
-waiting r = record { stage = stages.Waiting; request = name_of r; buffer = None; several = None }
+waiting r = record { stage = stages.Waiting; request = name_of r; buffer = None; several = None; communicator = None }
 
 -- a wait for a request
 abbrev pub waits_for : ℕ → Requested → Option (Option Request) → NamesState → Acts
@@ -160,7 +164,7 @@ requests_named s (r ∷ rs) =
 
 -- what the answer to a wait for several is for
 abbrev pub waiting_for_several : List Requested → Doing
-waiting_for_several rs = record { stage = stages.WaitingForSeveral; request = None; buffer = None; several = Some rs }
+waiting_for_several rs = record { stage = stages.WaitingForSeveral; request = None; buffer = None; several = Some rs; communicator = None }
 
 -- a vector of them, if each is set
 abbrev pub AreListed : Option (List (Option Request)) → Option (Vec (Option Request)) → Type 0
@@ -177,6 +181,39 @@ Begins rs old (Some requests) list new = (list ≡ Some requests) × (new ≡ re
 abbrev pub waits_for_several : ℕ → (List (Option Request) → Call) → List Requested → Option (List (Option Request)) → NamesState → Acts
 waits_for_several number call rs None s = stops number s
 waits_for_several number call rs (Some requests) s = makes_call (call requests) (waiting_for_several rs) s
+
+-- ---- communicators
+
+-- what the answer to a collective is for: this name is that of the communicator which it makes
+abbrev pub making : List ℕ → Doing
+making name = record { stage = stages.Making; request = None; buffer = None; several = None; communicator = Some name }
+
+-- a collective on a communicator that is set makes another one, which has this name then (MPI 3.1, 6.4.2)
+abbrev pub makes : ℕ → (name : List ℕ) → (comm : Option (Option ℕ)) → Entry → NamesState → Acts
+makes number name None entry s = stops number s
+makes number name (Some comm) entry s = makes_call (calls.Enter comm entry) (making name) s
+
+-- what is entered by a split
+abbrev pub split_by : Splitting → Entry
+split_by x = entries.Split (record { colour = x.colour; key = x.key })
+
+-- what the answer to a question is for
+abbrev pub asking : Stage → Doing
+asking stage = record free { stage = stage }
+
+-- a question about a communicator that is set (MPI 3.1, 6.4.1); for its rank in it and its size a rank asks one after the other
+abbrev pub asks_rank : ℕ → (comm : Option (Option ℕ)) → NamesState → Acts
+asks_rank number None s = stops number s
+asks_rank number (Some comm) s = makes_call (calls.Ask comm questions.Rank) (asking (stages.AskingRank comm)) s
+
+abbrev pub asks_group : ℕ → (comm : Option (Option ℕ)) → NamesState → Acts
+asks_group number None s = stops number s
+asks_group number (Some comm) s = makes_call (calls.Ask comm questions.Group) (asking stages.Asking) s
+
+abbrev pub compares : ℕ → (comm other : Option (Option ℕ)) → NamesState → Acts
+compares number None other s = stops number s
+compares number (Some comm) None s = stops number s
+compares number (Some comm) (Some other) s = makes_call (calls.Ask comm (questions.Compare other)) (asking stages.Asking) s
 
 -- ---- what is printed
 
@@ -203,6 +240,11 @@ acts_on number (actions.Test r) s = tests_for number r (request_named s r) s
 acts_on number (actions.Cancel r) s = cancels_for number (request_named s r) s
 acts_on number (actions.Waitany rs) s = waits_for_several number calls.Waitany rs (requests_named s rs) s
 acts_on number (actions.Waitall rs) s = waits_for_several number calls.Waitall rs (requests_named s rs) s
+acts_on number (actions.Dup name c) s = makes number name (place_named s c) entries.Dup s
+acts_on number (actions.Split name x) s = makes number name (place_named s x.communicator) (split_by x) s
+acts_on number (actions.Who c) s = asks_rank number (place_named s c) s
+acts_on number (actions.Members c) s = asks_group number (place_named s c) s
+acts_on number (actions.Compare c d) s = compares number (place_named s c) (place_named s d) s
 
 -- what the statement of this line asks for
 abbrev pub states : ℕ → Statement → NamesState → Acts

@@ -9,20 +9,30 @@ use Rattle.requests.specs.declared.outcome.Outcome.TheVariants as outcomes
 use Rattle.requests.specs.declared.table.Request.{Request}
 use Rattle.rank_calls.specs.Refusals.{number_of_refusal}
 use Rattle.rank_calls.specs.declared.refused.Refused.{Refused}
-use Rattle.rank_calls.specs.declared.call.Call.{Call}
-use Rattle.rank_calls.specs.declared.call.Call.TheVariants as calls
-use Rattle.rank_calls.specs.declared.call.Reply.{Reply}
-use Rattle.rank_calls.specs.declared.call.Reply.TheVariants as replies
+use Rattle.answer_texts.specs.Communicators.{comparison_text, members_text, position_text}
+use Rattle.answer_texts.specs.declared.communicators.ComparisonText.{ComparisonText}
+use Rattle.answer_texts.specs.declared.communicators.ComparisonText.TheVariants as texts
+use Rattle.collectives.specs.declared.step.Ending.{Ending}
+use Rattle.collectives.specs.declared.step.Ending.TheVariants as endings
+use Rattle.communicators.specs.declared.question.Comparison.{Comparison}
+use Rattle.communicators.specs.declared.question.Comparison.TheVariants as comparisons
+use Rattle.communicators.specs.declared.question.Question.TheVariants as questions
+use Rattle.engine.specs.declared.call.Call.{Call}
+use Rattle.engine.specs.declared.call.Call.TheVariants as calls
+use Rattle.engine.specs.declared.reply.Fact.{Fact}
+use Rattle.engine.specs.declared.reply.Fact.TheVariants as facts
+use Rattle.engine.specs.declared.reply.Reply.{Reply}
+use Rattle.engine.specs.declared.reply.Reply.TheVariants as replies
 use Rattle.statements.specs.declared.action.Requested.{Requested}
 use Rattle.statements.specs.declared.action.Requested.TheVariants as requested
 use Rattle.rank_script.specs.declared.names.Doing.{Doing}
 use Rattle.rank_script.specs.declared.names.Held.{Held}
 use Rattle.rank_script.specs.declared.names.Stage.{Stage}
 use Rattle.rank_script.specs.declared.names.Stage.TheVariants as stages
-use Rattle.rank_script.specs.Acting.{Acts, makes_call, prints}
-use Rattle.rank_script.specs.NamesState.{NamesState, empty_status, free, given_back, with_request}
+use Rattle.rank_script.specs.Acting.{Acts, asking, makes_call, prints}
+use Rattle.rank_script.specs.NamesState.{NamesState, empty_status, free, given_back, with_communicator, with_request}
 use Rattle.rank_script.specs.Tables.{value_at}
-use Rattle.rank_script.specs.Texts.{error_line, error_lines, pending_line}
+use Rattle.script_lines.specs.Lines.{error_line, error_lines, pending_line}
 
 -- nothing but a change of names
 abbrev pub goes_on : NamesState → Acts
@@ -42,9 +52,13 @@ abbrev pub starts_at : Stage → Doing → Request → NamesState → Acts
 starts_at stages.Free doing request s = goes_on s
 starts_at stages.Starting doing request s = goes_on (named_as doing.request (record { request = Some request; buffer = doing.buffer }) s)
 starts_at stages.StartingToWait doing request s =
-    makes_call (calls.Wait (Some request)) (record { stage = stages.Waiting; request = None; buffer = doing.buffer; several = None }) s
+    makes_call (calls.Wait (Some request)) (record { stage = stages.Waiting; request = None; buffer = doing.buffer; several = None; communicator = None }) s
 starts_at stages.Waiting doing request s = goes_on s
 starts_at stages.WaitingForSeveral doing request s = goes_on s
+starts_at stages.Making doing request s = goes_on s
+starts_at (stages.AskingRank comm) doing request s = goes_on s
+starts_at (stages.AskingSize rank) doing request s = goes_on s
+starts_at stages.Asking doing request s = goes_on s
 
 -- a refused call comes back, and with a receive its buffer
 abbrev pub handed_back : Option (List ℕ) → Call → NamesState → NamesState
@@ -55,6 +69,8 @@ handed_back name (calls.Test request) s = s
 handed_back name (calls.Waitany requests) s = s
 handed_back name (calls.Waitall requests) s = s
 handed_back name (calls.Cancel request) s = s
+handed_back name (calls.Enter comm entry) s = s
+handed_back name (calls.Ask comm question) s = s
 
 -- `error N`, and nothing is set
 abbrev pub refuses : Doing → Refused → Call → NamesState → Acts
@@ -170,9 +186,54 @@ ends_by stages.Free doing (answers.One outcome) s = goes_on s
 ends_by stages.Starting doing (answers.One outcome) s = goes_on s
 ends_by stages.StartingToWait doing (answers.One outcome) s = goes_on s
 ends_by stages.WaitingForSeveral doing (answers.One outcome) s = goes_on s
+ends_by stages.Making doing (answers.One outcome) s = goes_on s
+ends_by (stages.AskingRank comm) doing (answers.One outcome) s = goes_on s
+ends_by (stages.AskingSize rank) doing (answers.One outcome) s = goes_on s
+ends_by stages.Asking doing (answers.One outcome) s = goes_on s
 ends_by stage doing (answers.Index index outcome) s = ends_one (slice_get (several_of doing) index) outcome s
 ends_by stage doing answers.IndexUndefined s = goes_on s
 ends_by stage doing (answers.All outcomes) s = ends_all (several_of doing) outcomes s
+
+-- ---- communicators
+
+-- the communicator that a collective made has its name
+abbrev pub named_communicator : Option (List ℕ) → (place : Option ℕ) → NamesState → NamesState
+named_communicator None place s = s
+named_communicator (Some name) place s = with_communicator s name place
+
+-- a collective is over: the communicator that it made has its name, or an error is printed and nothing is named
+abbrev pub leaves : Doing → Ending → NamesState → Acts
+leaves doing endings.Left s = goes_on s
+leaves doing (endings.Comm place) s = goes_on (named_communicator doing.communicator place s)
+leaves doing endings.Replaced s = prints (error_line 11) s
+leaves doing endings.Mismatch s = prints (error_line 12) s
+
+-- how two communicators compare, as it is written
+abbrev pub as_text : Comparison → ComparisonText
+as_text comparisons.Ident = texts.Ident
+as_text comparisons.Congruent = texts.Congruent
+as_text comparisons.Similar = texts.Similar
+as_text comparisons.Unequal = texts.Unequal
+
+-- a number was asked for: behind the rank the size is asked for, and with the size both are printed
+abbrev pub counts : Stage → ℕ → NamesState → Acts
+counts (stages.AskingRank comm) n s = makes_call (calls.Ask comm questions.Size) (asking (stages.AskingSize n)) s
+counts (stages.AskingSize rank) n s = prints (position_text rank n) s
+counts stages.Free n s = goes_on s
+counts stages.Starting n s = goes_on s
+counts stages.StartingToWait n s = goes_on s
+counts stages.Waiting n s = goes_on s
+counts stages.WaitingForSeveral n s = goes_on s
+counts stages.Making n s = goes_on s
+counts stages.Asking n s = goes_on s
+
+-- the answer to a question
+abbrev pub learns : Doing → Fact → NamesState → Acts
+learns doing (facts.Number n) s = counts doing.stage n s
+learns doing (facts.Ranks ranks) s = prints (members_text ranks.items) s
+learns doing (facts.Compares comparison) s = prints (comparison_text (as_text comparison)) s
+
+-- ---- all answers
 
 -- by what the answer is for
 abbrev pub heeds_by : Doing → Reply → NamesState → Acts
@@ -182,6 +243,8 @@ heeds_by doing (replies.Done answer) s = ends_by doing.stage doing answer s
 heeds_by doing replies.Pending s = prints pending_line s
 heeds_by doing replies.Accepted s = goes_on s
 heeds_by doing replies.Blocked s = goes_on s
+heeds_by doing (replies.Left ending) s = leaves doing ending s
+heeds_by doing (replies.Fact fact) s = learns doing fact s
 heeds_by doing (replies.Refused refused call) s = refuses doing refused call s
 
 -- what is made of the answer to the last call

@@ -1,5 +1,4 @@
 pub mod Tables
-pub mod Texts
 pub mod NamesState
 pub mod Acting
 pub mod Heeding

@@ -5,18 +5,22 @@ use Rattle.vocabulary.specs.declared.envelope.Status.{Status}
 use Rattle.layouts.specs.Layouts.{Shape}
 use Rattle.datatypes.specs.Contents.{Contents}
 use Rattle.requests.specs.declared.table.Request.{Request}
+use Rattle.statements.specs.declared.action.Communicator.{Communicator}
+use Rattle.statements.specs.declared.action.Communicator.TheVariants as communicators
 use Rattle.rank_script.specs.declared.table.Entry.{Entry}
 use Rattle.rank_script.specs.declared.names.Held.{Held}
 use Rattle.rank_script.specs.declared.names.Doing.{Doing}
 use Rattle.rank_script.specs.declared.names.Stage.TheVariants.{Free}
 use Rattle.rank_script.specs.Tables.{value_at, with_value}
 
--- The buffers that were set, where none is one that is lent; the layouts; the requests that were started; the status of the
--- last receive; and what the answer to the last call is for.
+-- The buffers that were set, where none is one that is lent; the layouts; the requests that were started; the communicators that
+-- were made, each by its place among those of the rank, where none is MPI_COMM_NULL; the status of the last receive; and what the
+-- answer to the last call is for.
 pub record NamesState : Type 0 where
   pub buffers : List (Entry (Option Contents))
   pub layouts : List (Entry Shape)
   pub requests : List (Entry Held)
+  pub communicators : List (Entry (Option ℕ))
   pub last : Status
   pub doing : Doing
 
@@ -26,11 +30,11 @@ empty_status = record { source = sources.Any; tag = None; count = 0 }
 
 -- no answer is awaited
 abbrev pub free : Doing
-free = record { stage = Free; request = None; buffer = None; several = None }
+free = record { stage = Free; request = None; buffer = None; several = None; communicator = None }
 
 -- the names at the start
 abbrev pub no_names : NamesState
-no_names = record { buffers = []; layouts = []; requests = []; last = empty_status; doing = free }
+no_names = record { buffers = []; layouts = []; requests = []; communicators = []; last = empty_status; doing = free }
 
 -- the buffer of a name, unless it is lent or isn't set
 abbrev pub here : NamesState → List ℕ → Option Contents
@@ -50,6 +54,13 @@ is_lent s name = is_lent_slot (value_at s.buffers name)
 abbrev pub request_at : NamesState → List ℕ → Option (Option Request)
 request_at s name = option_map (λ h. h.request) (value_at s.requests name)
 
+-- the place among the rank's communicators of the one that a line names, if it is set: world has place 0, self place 1, and none is
+-- MPI_COMM_NULL
+abbrev pub place_named : NamesState → Communicator → Option (Option ℕ)
+place_named s communicators.World = Some (Some 0)
+place_named s communicators.Own = Some (Some 1)
+place_named s (communicators.Named name) = value_at s.communicators name
+
 -- a buffer's name stands for these elements, or is lent
 abbrev pub with_buffer : NamesState → List ℕ → Option Contents → NamesState
 with_buffer s name slot = record s { buffers = with_value s.buffers name slot }
@@ -61,6 +72,10 @@ with_layout s name layout = record s { layouts = with_value s.layouts name layou
 -- a request's name stands for this
 abbrev pub with_request : NamesState → List ℕ → Held → NamesState
 with_request s name held = record s { requests = with_value s.requests name held }
+
+-- a communicator's name stands for this
+abbrev pub with_communicator : NamesState → List ℕ → Option ℕ → NamesState
+with_communicator s name place = record s { communicators = with_value s.communicators name place }
 
 -- a buffer comes back to the name that lent it, if one did
 abbrev pub given_back : NamesState → Option (List ℕ) → Contents → NamesState

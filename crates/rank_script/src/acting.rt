@@ -1,20 +1,20 @@
 //! What a line of a script asks of its rank.
 
 ghost use Rattle.std.specs.Prelude.{◌≡◌, IfOk, Some};
-ghost use Rattle.rank_script.specs.NamesState.{here};
+ghost use Rattle.rank_script.specs.NamesState.{here, place_named};
 ghost use Rattle.rank_script.specs.Tables.{value_at};
-ghost use Rattle.rank_script.specs.Acting.{acts, acts_on, AreListed, Begins, cancels_for, old_layout, places_named, prints_count, prints_elements, LendGives, receives, request_named, requests_named, sends, sets, sets_layout, starting, states, tests_for, waiting, waits_for, waits_for_several};
+ghost use Rattle.rank_script.specs.Acting.{acts, acts_on, AreListed, asking, asks_group, asks_rank, Begins, cancels_for, compares, makes, old_layout, places_named, prints_count, prints_elements, LendGives, receives, request_named, requests_named, sends, sets, sets_layout, split_by, starting, states, tests_for, waiting, waits_for, waits_for_several};
 
 use crate::names::{Doing, Names, Stage, free};
 use crate::table::place_of;
-use crate::texts::{count_line, elements_line, error_line, status_line, words_line};
 use datatypes::{Buffer, Layout, Refusal};
-use engine::{Call, Places, Receive, Region, Request, RequestList, Send};
+use engine::{Call, Choice, Entry, Places, Question, Receive, Region, Request, RequestList, Send};
 use rank_drive::Step;
 use script_files::{RankLine, Statement};
+use script_lines::{count_line, elements_line, error_line, status_line, words_line};
 use statements::{
-    Action, BufferLine, LayoutLine, Name, OldLayout, Receiving, Requested, RequestedList, Sending,
-    Through,
+    Action, BufferLine, Communicator, LayoutLine, Name, OldLayout, Receiving, Requested,
+    RequestedList, Sending, Splitting, Through,
 };
 use std::alloc::{AllocError, Global};
 
@@ -34,6 +34,7 @@ fn starting(stage: Stage, request: Option<Name>, buffer: Option<Name>) -> Doing
         request,
         buffer,
         several: None,
+        communicator: None,
     }
 }
 
@@ -50,7 +51,25 @@ fn waiting(requested: Requested) -> Doing
         request,
         buffer: None,
         several: None,
+        communicator: None,
     }
+}
+
+/// What is entered by a split.
+fn split_by(splitting: &Splitting) -> Entry
+    ensures { result ≡ split_by splitting.now }
+{
+    Entry::Split(Choice {
+        colour: splitting.colour,
+        key: splitting.key,
+    })
+}
+
+/// What the answer to a question about a communicator is for.
+pub(crate) fn asking(stage: Stage) -> Doing
+    ensures { result ≡ asking stage }
+{
+    Doing { stage, ..free() }
 }
 
 impl Names {
@@ -135,9 +154,9 @@ impl Names {
     ) -> Result<Option<Step>, AllocError>
         ensures { IfOk result (λ step. sends number stage request sending self.old ≡ (step, self.new)) }
     {
-        if !sending.communicator.is_world() {
+        let Some(comm) = self.place_named(&sending.communicator) else {
             return Ok(Some(stop(number)));
-        }
+        };
         let Some(places) = self.places_named(&sending.through)? else {
             return Ok(Some(stop(number)));
         };
@@ -146,6 +165,7 @@ impl Names {
         };
         self.doing = starting(stage, request, None);
         Ok(Some(Step::Call(Call::Isend(Send {
+            comm,
             target: sending.target,
             tag: sending.tag,
             from: Region { buffer, places },
@@ -161,9 +181,9 @@ impl Names {
     ) -> Result<Option<Step>, AllocError>
         ensures { IfOk result (λ step. receives number stage request receiving self.old ≡ (step, self.new)) }
     {
-        if !receiving.communicator.is_world() {
+        let Some(comm) = self.place_named(&receiving.communicator) else {
             return Ok(Some(stop(number)));
-        }
+        };
         let Some(places) = self.places_named(&receiving.through)? else {
             return Ok(Some(stop(number)));
         };
@@ -172,6 +192,7 @@ impl Names {
         };
         self.doing = starting(stage, request, Some(receiving.buffer));
         Ok(Some(Step::Call(Call::Irecv(Receive {
+            comm,
             source: receiving.source,
             tag: receiving.tag,
             into: Region { buffer, places },
@@ -248,6 +269,7 @@ impl Names {
             request: None,
             buffer: None,
             several: Some(several),
+            communicator: None,
         };
         Ok(Some(list))
     }
@@ -278,6 +300,51 @@ impl Names {
             Some(list) => Ok(Some(Step::Call(Call::Waitall(list)))),
             None => Ok(Some(stop(number))),
         }
+    }
+
+    /// Enters a collective on the communicator, which makes another one of this name.
+    fn make(&mut self, number: usize, name: Name, communicator: &Communicator, entry: Entry) -> Step
+        ensures { makes number name (place_named self.old communicator.now) entry self.old ≡ (Some result, self.new) }
+    {
+        let Some(comm) = self.place_named(communicator) else {
+            return stop(number);
+        };
+        self.doing = Doing {
+            stage: Stage::Making,
+            communicator: Some(name),
+            ..free()
+        };
+        Step::Call(Call::Enter(comm, entry))
+    }
+
+    fn ask_rank(&mut self, number: usize, communicator: &Communicator) -> Step
+        ensures { asks_rank number (place_named self.old communicator.now) self.old ≡ (Some result, self.new) }
+    {
+        let Some(comm) = self.place_named(communicator) else {
+            return stop(number);
+        };
+        self.doing = asking(Stage::AskingRank(comm));
+        Step::Call(Call::Ask(comm, Question::Rank))
+    }
+
+    fn ask_group(&mut self, number: usize, communicator: &Communicator) -> Step
+        ensures { asks_group number (place_named self.old communicator.now) self.old ≡ (Some result, self.new) }
+    {
+        let Some(comm) = self.place_named(communicator) else {
+            return stop(number);
+        };
+        self.doing = asking(Stage::Asking);
+        Step::Call(Call::Ask(comm, Question::Group))
+    }
+
+    fn compare(&mut self, number: usize, one: &Communicator, other: &Communicator) -> Step
+        ensures { compares number (place_named self.old one.now) (place_named self.old other.now) self.old ≡ (Some result, self.new) }
+    {
+        let (Some(comm), Some(other)) = (self.place_named(one), self.place_named(other)) else {
+            return stop(number);
+        };
+        self.doing = asking(Stage::Asking);
+        Step::Call(Call::Ask(comm, Question::Compare(other)))
     }
 
     fn print(&self, number: usize, name: &Name) -> Result<Step, AllocError>
@@ -320,6 +387,21 @@ impl Names {
             Action::Cancel(requested) => Ok(self.cancel(number, requested)),
             Action::Waitany(several) => self.wait_any(number, several),
             Action::Waitall(several) => self.wait_all(number, several),
+            Action::Dup(name, communicator) => Ok(Some(self.make(
+                number,
+                name,
+                &communicator,
+                Entry::Dup,
+            ))),
+            Action::Split(name, splitting) => Ok(Some(self.make(
+                number,
+                name,
+                &splitting.communicator,
+                split_by(&splitting),
+            ))),
+            Action::Who(communicator) => Ok(Some(self.ask_rank(number, &communicator))),
+            Action::Members(communicator) => Ok(Some(self.ask_group(number, &communicator))),
+            Action::Compare(one, other) => Ok(Some(self.compare(number, &one, &other))),
         }
     }
 

@@ -2,13 +2,19 @@
 
 ghost use Rattle.std.specs.Prelude.{◌≡◌, IfOk, OnOk, slice_get};
 ghost use Rattle.rank_script.specs.NamesState.{with_request};
-ghost use Rattle.rank_script.specs.Heeding.{buffer_of, ended_each, ended_named, ends_all, ends_by, ends_one, ends_with, error_of, handed_back, heeds, held_buffer, EndsNext, named_as, null, nulled, refuses, returned, several_of, starts_at, status_after, tells_error, tells_errors};
+ghost use Rattle.rank_script.specs.Heeding.{as_text, buffer_of, counts, ended_each, ended_named, ends_all, ends_by, ends_one, ends_with, error_of, handed_back, heeds, held_buffer, EndsNext, learns, leaves, named_as, named_communicator, null, nulled, refuses, returned, several_of, starts_at, status_after, tells_error, tells_errors};
 
+use crate::acting::asking;
 use crate::names::{Doing, Held, Names, Stage, empty_status};
 use crate::table::place_of;
-use crate::texts::{error_line, error_lines, pending_line};
-use engine::{Answer, Call, Outcome, Outcomes, Refused, Reply, Request};
+use answer_texts::ComparisonText;
+use engine::{
+    Answer, Call, Comparison, Ending, Fact, Outcome, Outcomes, Question, Refused, Reply, Request,
+};
 use rank_drive::Step;
+use script_lines::{
+    comparison_line, error_line, error_lines, members_line, pending_line, position_line,
+};
 use statements::{Name, Requested};
 use std::alloc::{AllocError, Global};
 use std::mem;
@@ -49,6 +55,18 @@ fn status_after(last: Status, outcome: &Outcome) -> Status
         Outcome::Ended(_, _, _) => last,
         Outcome::Replaced(_) => last,
         Outcome::Cancelled(_) => last,
+    }
+}
+
+/// How two communicators compare, as it is written.
+fn as_text(comparison: Comparison) -> ComparisonText
+    ensures { result ≡ as_text comparison }
+{
+    match comparison {
+        Comparison::Ident => ComparisonText::Ident,
+        Comparison::Congruent => ComparisonText::Congruent,
+        Comparison::Similar => ComparisonText::Similar,
+        Comparison::Unequal => ComparisonText::Unequal,
     }
 }
 
@@ -95,6 +113,7 @@ impl Names {
             request: name,
             buffer,
             several: _,
+            communicator: _,
         } = doing;
         match stage {
             Stage::Starting => {
@@ -107,12 +126,17 @@ impl Names {
                     request: None,
                     buffer,
                     several: None,
+                    communicator: None,
                 };
                 Ok(Some(Step::Call(Call::Wait(Some(request)))))
             }
-            Stage::Free => Ok(None),
-            Stage::Waiting => Ok(None),
-            Stage::WaitingForSeveral => Ok(None),
+            Stage::Free
+            | Stage::Waiting
+            | Stage::WaitingForSeveral
+            | Stage::Making
+            | Stage::AskingRank(_)
+            | Stage::AskingSize(_)
+            | Stage::Asking => Ok(None),
         }
     }
 
@@ -127,6 +151,8 @@ impl Names {
             Call::Waitany(_) => Ok(()),
             Call::Waitall(_) => Ok(()),
             Call::Cancel(_) => Ok(()),
+            Call::Enter(_, _) => Ok(()),
+            Call::Ask(_, _) => Ok(()),
         }
     }
 
@@ -167,6 +193,7 @@ impl Names {
             request,
             buffer,
             several: _,
+            communicator: _,
         } = doing;
         match request {
             Some(name) => self.null_request(name),
@@ -290,6 +317,7 @@ impl Names {
             request: _,
             buffer: _,
             several,
+            communicator: _,
         } = doing;
         match several {
             Some(several) => {
@@ -309,14 +337,83 @@ impl Names {
                     let name = self.end_request(doing)?;
                     self.end_with(name, outcome)
                 }
-                Stage::Free => Ok(None),
-                Stage::Starting => Ok(None),
-                Stage::StartingToWait => Ok(None),
-                Stage::WaitingForSeveral => Ok(None),
+                Stage::Free
+                | Stage::Starting
+                | Stage::StartingToWait
+                | Stage::WaitingForSeveral
+                | Stage::Making
+                | Stage::AskingRank(_)
+                | Stage::AskingSize(_)
+                | Stage::Asking => Ok(None),
             },
             Answer::Index(index, outcome) => self.end_one(doing, index, outcome),
             Answer::IndexUndefined => Ok(None),
             Answer::All(outcomes) => self.end_all(doing, outcomes),
+        }
+    }
+
+    /// The communicator that a collective made has this name.
+    fn name_communicator(
+        &mut self,
+        name: Option<Name>,
+        place: Option<usize>,
+    ) -> Result<(), AllocError>
+        ensures { OnOk result (self.new ≡ named_communicator name place self.old) }
+    {
+        match name {
+            Some(name) => self.set_communicator(name, place),
+            None => Ok(()),
+        }
+    }
+
+    /// A collective is over.
+    fn leave(&mut self, doing: Doing, ending: Ending) -> Result<Option<Step>, AllocError>
+        ensures { IfOk result (λ step. leaves doing ending self.old ≡ (step, self.new)) }
+    {
+        match ending {
+            Ending::Left => Ok(None),
+            Ending::Comm(place) => {
+                self.name_communicator(doing.communicator, place)?;
+                Ok(None)
+            }
+            Ending::Replaced => Ok(Some(Step::Print(error_line(self.alloc, 11)?))),
+            Ending::Mismatch => Ok(Some(Step::Print(error_line(self.alloc, 12)?))),
+        }
+    }
+
+    /// A number that was asked for: behind the rank the size is asked for, and with the size both are printed.
+    fn count_members(&mut self, stage: Stage, number: usize) -> Result<Option<Step>, AllocError>
+        ensures { IfOk result (λ step. counts stage number self.old ≡ (step, self.new)) }
+    {
+        match stage {
+            Stage::AskingRank(comm) => {
+                self.doing = asking(Stage::AskingSize(number));
+                Ok(Some(Step::Call(Call::Ask(comm, Question::Size))))
+            }
+            Stage::AskingSize(rank) => {
+                Ok(Some(Step::Print(position_line(self.alloc, rank, number)?)))
+            }
+            Stage::Free
+            | Stage::Starting
+            | Stage::StartingToWait
+            | Stage::Waiting
+            | Stage::WaitingForSeveral
+            | Stage::Making
+            | Stage::Asking => Ok(None),
+        }
+    }
+
+    /// The answer to a question about a communicator.
+    fn learn(&mut self, doing: Doing, fact: Fact) -> Result<Option<Step>, AllocError>
+        ensures { IfOk result (λ step. learns doing fact self.old ≡ (step, self.new)) }
+    {
+        match fact {
+            Fact::Number(number) => self.count_members(doing.stage, number),
+            Fact::Ranks(ranks) => Ok(Some(Step::Print(members_line(self.alloc, &ranks)?))),
+            Fact::Compares(comparison) => {
+                let line = comparison_line(self.alloc, as_text(comparison))?;
+                Ok(Some(Step::Print(line)))
+            }
         }
     }
 
@@ -331,6 +428,8 @@ impl Names {
             Reply::Pending => Ok(Some(Step::Print(pending_line(self.alloc)?))),
             Reply::Accepted => Ok(None),
             Reply::Blocked => Ok(None),
+            Reply::Left(ending) => self.leave(doing, ending),
+            Reply::Fact(fact) => self.learn(doing, fact),
             Reply::Refused(refused, call) => self.refuse(doing, refused, call),
         }
     }

@@ -6,6 +6,5 @@ mod heeding;
 mod names;
 mod runner;
 mod table;
-mod texts;
 
 pub use runner::ScriptRunner;

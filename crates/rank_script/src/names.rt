@@ -2,12 +2,12 @@
 
 ghost use Rattle.std.specs.Prelude.{◌≡◌, IfOk, OnOk, Option, Some, None};
 ghost use Rattle.rank_script.specs.Tables.{value_at, value_there, with_value};
-ghost use Rattle.rank_script.specs.NamesState.{empty_status, free, no_names, here, is_lent, request_at, with_buffer, with_layout, with_request, given_back};
+ghost use Rattle.rank_script.specs.NamesState.{empty_status, free, no_names, here, is_lent, place_named, request_at, with_buffer, with_communicator, with_layout, with_request, given_back};
 
 use crate::table::{Entry, place_of, set};
 use datatypes::{Buffer, Layout};
 use requests::Request;
-use statements::{Name, RequestedList};
+use statements::{Communicator, Name, RequestedList};
 use std::alloc::{AllocError, Global};
 use std::marker::Model;
 use std::mem;
@@ -35,6 +35,14 @@ pub(crate) enum Stage {
     Waiting,
     /// Any or all of several operations are waited for.
     WaitingForSeveral,
+    /// A communicator is made.
+    Making,
+    /// The rank in the communicator at this place is asked for; its size is to be asked for next.
+    AskingRank(Option<usize>),
+    /// The size of a communicator is asked for, in which the rank is this.
+    AskingSize(usize),
+    /// Anything else is asked of a communicator.
+    Asking,
 }
 
 /// What the answer to the last call is for, and what it changes.
@@ -48,6 +56,8 @@ pub(crate) struct Doing {
     pub buffer: Option<Name>,
     /// The requests that are waited for, where there are several.
     pub several: Option<RequestedList>,
+    /// The name of the communicator that is made.
+    pub communicator: Option<Name>,
 }
 
 /// What the names of a rank stand for, and what it waits for.
@@ -57,6 +67,7 @@ pub(crate) struct Names {
     pub buffers: Vec<Entry<Option<Buffer>>>,
     pub layouts: Vec<Entry<Layout>>,
     pub requests: Vec<Entry<Held>>,
+    pub communicators: Vec<Entry<Option<usize>>>,
     pub last: Status,
     pub doing: Doing,
 }
@@ -66,7 +77,14 @@ impl Model for Names {
 
     ghost Value = { NamesState };
 
-    ghost view = { λ n. record { buffers = n.buffers.items; layouts = n.layouts.items; requests = n.requests.items; last = n.last; doing = n.doing } };
+    ghost view = { λ n. record {
+      buffers = n.buffers.items;
+      layouts = n.layouts.items;
+      requests = n.requests.items;
+      communicators = n.communicators.items;
+      last = n.last;
+      doing = n.doing;
+    } };
 }
 
 /// No answer is awaited.
@@ -78,6 +96,7 @@ pub(crate) fn free() -> Doing
         request: None,
         buffer: None,
         several: None,
+        communicator: None,
     }
 }
 
@@ -102,6 +121,7 @@ impl Names {
             buffers: Vec::new(alloc),
             layouts: Vec::new(alloc),
             requests: Vec::new(alloc),
+            communicators: Vec::new(alloc),
             last: empty_status(),
             doing: free(),
         }
@@ -136,6 +156,31 @@ impl Names {
         ensures { OnOk result (self.new ≡ with_request self.old name held) }
     {
         set(&mut self.requests, name, held)
+    }
+
+    /// Lets a communicator's name stand for the one at this place; none is MPI_COMM_NULL.
+    pub(crate) fn set_communicator(
+        &mut self,
+        name: Name,
+        place: Option<usize>,
+    ) -> Result<(), AllocError>
+        ensures { OnOk result (self.new ≡ with_communicator self.old name place) }
+    {
+        set(&mut self.communicators, name, place)
+    }
+
+    /// The place of the communicator that a line names, if it is set; none is MPI_COMM_NULL.
+    pub(crate) fn place_named(&self, communicator: &Communicator) -> Option<Option<usize>>
+        ensures { result ≡ place_named self.now communicator.now }
+    {
+        match communicator {
+            Communicator::World => Some(Some(0)),
+            Communicator::Own => Some(Some(1)),
+            Communicator::Named(name) => match place_of(&self.communicators, name) {
+                Some(place) => Some(self.communicators[place].value),
+                None => None,
+            },
+        }
     }
 
     /// A buffer comes back to the name that lent it, if one did.

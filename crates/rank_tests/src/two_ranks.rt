@@ -3,7 +3,7 @@
 ghost use Rattle.std.specs.Prelude.{◌≡◌, ◌+◌, ◌<◌, ◌≤◌, ◌^◌, length, IfSome};
 
 use datagram::Bytes;
-use engine::{Engine, Place, Reply};
+use engine::{Completion, Engine, Place, Reply};
 use rank_drive::{Runner, Step, Transport, TransportFault};
 use rank_script::ScriptRunner;
 use script_files::parse;
@@ -122,8 +122,10 @@ impl Pair {
     fn go_on(&mut self)
         ensures { self.new.failures ≡ self.old.failures }
     {
-        if let Some(outcome) = self.engine.take_completion() {
-            self.told = Some(Some(Reply::Done(outcome)));
+        match self.engine.take_completion() {
+            Some(Completion::Requests(answer)) => self.told = Some(Some(Reply::Done(answer))),
+            Some(Completion::Collective(ending)) => self.told = Some(Some(Reply::Left(ending))),
+            None => {}
         }
         if let Some(reply) = self.told.take() {
             let step = self.runner.next(reply);

@@ -17,5 +17,5 @@ pub use parsing::parse;
 pub use script::{Item, Line, RankLine, RankLines, Script, Statement};
 pub use statements::{
     Action, Blocks, BufferLine, Communicator, LayoutForm, LayoutLine, OldLayout, Receiving,
-    Requested, RequestedList, Sending, Stripes, Through,
+    Requested, RequestedList, Sending, Splitting, Stripes, Through,
 };

@@ -1,6 +1,7 @@
 //! Running a file of events, and what it prints.
 #![tactic(auto)]
 
+mod communicating;
 mod error;
 mod names;
 mod printing;

@@ -1,8 +1,9 @@
-//! The buffers, layouts and requests that a rank's lines name.
+//! The buffers, layouts, requests and communicators that a rank's lines name.
 
 use datatypes::{Buffer, Layout};
+use engine::Ending;
 use requests::{Answer, Outcome, Request};
-use statements::Name;
+use statements::{Communicator, Name};
 use std::alloc::{AllocError, Global};
 use std::collections::BTreeMap;
 use std::mem;
@@ -36,6 +37,10 @@ pub struct Names {
     pub requests: BTreeMap<Vec<u8>, Held>,
     /// The names of the requests that the last completing call is about, in order; the null request has none.
     pub waiting: Vec<Option<Name>>,
+    /// The communicators that were made, by name: the place of each among the rank's; none is MPI_COMM_NULL.
+    pub communicators: BTreeMap<Vec<u8>, Option<usize>>,
+    /// The name of the communicator that the last collective makes.
+    pub making: Option<Name>,
 }
 
 impl Names {
@@ -45,6 +50,8 @@ impl Names {
             layouts: BTreeMap::new(alloc),
             requests: BTreeMap::new(alloc),
             waiting: Vec::new(alloc),
+            communicators: BTreeMap::new(alloc),
+            making: None,
         }
     }
 
@@ -145,6 +152,31 @@ impl Names {
             Some(Some(name)) => self.end(name, alloc, outcome),
             _ => Ok(()),
         }
+    }
+
+    /// The place of the communicator that a line names, if its name is set; none is MPI_COMM_NULL.
+    pub fn place_of(&self, communicator: &Communicator) -> Option<Option<usize>> {
+        match communicator {
+            Communicator::World => Some(Some(0)),
+            Communicator::Own => Some(Some(1)),
+            Communicator::Named(name) => match self.communicators.get(name.as_bytes()) {
+                Some(place) => Some(*place),
+                None => None,
+            },
+        }
+    }
+
+    /// The last collective has ended so: where it made a communicator, that has its name.
+    pub fn note_ending(&mut self, alloc: Global, ending: Ending) -> Result<(), AllocError> {
+        let making = mem::replace(&mut self.making, None);
+        let (Some(name), Ending::Comm(place)) = (making, ending) else {
+            return Ok(());
+        };
+        let key = Vec::from_slice(alloc, name.as_bytes())?;
+        self.communicators
+            .insert(key, place)
+            .map_err(AllocError::from)?;
+        Ok(())
     }
 
     /// The last completing call was answered so.

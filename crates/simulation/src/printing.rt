@@ -1,9 +1,12 @@
 //! What a file of events prints.
 
 use crate::error::SimulateError;
-use answer_texts::{Emission, FrameKind, Load, OutcomeText, Route};
+use answer_texts::{
+    CommunicatorText, ComparisonText, Emission, FrameKind, Load, MembersText, OutcomeText,
+    PositionText, Route,
+};
 use datagram::{Content, Datagram, Frame};
-use engine::Reply;
+use engine::{Comparison, Completion, Ending, Fact, Reply};
 use requests::{Answer, Outcome};
 use std::alloc::{AllocError, Global};
 use std::io;
@@ -55,6 +58,55 @@ fn print_answer<W: Write>(
     Ok(())
 }
 
+/// With what a collective ended.
+fn ending_text(ending: Ending) -> answer_texts::Answer<'static> {
+    match ending {
+        Ending::Left => answer_texts::Answer::Done,
+        Ending::Comm(place) => answer_texts::Answer::Communicator(CommunicatorText { place }),
+        Ending::Replaced => answer_texts::Answer::One(OutcomeText::Failed(11)),
+        Ending::Mismatch => answer_texts::Answer::One(OutcomeText::Failed(12)),
+    }
+}
+
+/// The text of how two communicators compare.
+fn comparison_text(comparison: Comparison) -> ComparisonText {
+    match comparison {
+        Comparison::Ident => ComparisonText::Ident,
+        Comparison::Congruent => ComparisonText::Congruent,
+        Comparison::Similar => ComparisonText::Similar,
+        Comparison::Unequal => ComparisonText::Unequal,
+    }
+}
+
+/// What is told of a communicator. A rank or a size is told with the other one alone: see `print_position`.
+fn fact_text(fact: &Fact) -> answer_texts::Answer<'_> {
+    match fact {
+        Fact::Number(_) => answer_texts::Answer::Done,
+        Fact::Ranks(ranks) => answer_texts::Answer::Members(MembersText { ranks }),
+        Fact::Compares(comparison) => {
+            answer_texts::Answer::Comparison(comparison_text(*comparison))
+        }
+    }
+}
+
+/// A rank in a communicator, and the communicator's size.
+pub fn print_position<W: Write>(rank: usize, size: usize, out: &mut W) -> io::Result<()> {
+    let position = PositionText { rank, size };
+    print_text(&answer_texts::Answer::Position(position), out)
+}
+
+/// The answer of a call that was blocked.
+fn print_completion<W: Write>(
+    alloc: Global,
+    completion: &Completion,
+    out: &mut W,
+) -> Result<(), SimulateError> {
+    match completion {
+        Completion::Requests(answer) => print_answer(alloc, answer, out),
+        Completion::Collective(ending) => Ok(print_text(&ending_text(*ending), out)?),
+    }
+}
+
 /// What a call answers.
 fn print_reply<W: Write>(alloc: Global, reply: &Reply, out: &mut W) -> Result<(), SimulateError> {
     let text = match reply {
@@ -63,6 +115,8 @@ fn print_reply<W: Write>(alloc: Global, reply: &Reply, out: &mut W) -> Result<()
         Reply::Pending => answer_texts::Answer::Pending,
         Reply::Accepted => answer_texts::Answer::Done,
         Reply::Blocked => answer_texts::Answer::Blocked,
+        Reply::Left(ending) => ending_text(*ending),
+        Reply::Fact(fact) => fact_text(fact),
         Reply::Refused(refused, _) => answer_texts::Answer::Refused(refused.number()),
     };
     print_text(&text, out)?;
@@ -136,10 +190,10 @@ pub fn print_event<W: Write>(
         None => print_text(&answer_texts::Answer::Taken, out)?,
     }
     print_emitted(world, first, count, out)?;
-    if let Some(answer) = &entry.completion {
+    if let Some(completion) = &entry.completion {
         let rank = entry.endpoint.rank;
         write!(out, "{rank} ")?;
-        print_answer(alloc, answer, out)?;
+        print_completion(alloc, completion, out)?;
     }
     Ok(())
 }

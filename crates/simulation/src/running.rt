@@ -4,7 +4,7 @@ use crate::error::SimulateError;
 use crate::names::{Held, Names, Slot};
 use crate::printing::{print_emitted, print_event, print_refusal};
 use datatypes::{Buffer, Layout, Refusal};
-use engine::{Call, Receive, Reply, Send};
+use engine::{Call, Completion, Ending, Receive, Reply, Send};
 use event_files::{Line, Statement, parse};
 use requests::{Answer, Places, Region, Request, RequestList};
 use statements::{
@@ -18,18 +18,31 @@ use world::{Entry, Event, World};
 
 /// A world, and the names of its ranks' lines.
 #[derive(Drop)]
-struct Simulation {
-    alloc: Global,
-    world: World,
-    ranks: BTreeMap<u16, Names>,
+pub(crate) struct Simulation {
+    pub alloc: Global,
+    pub world: World,
+    pub ranks: BTreeMap<u16, Names>,
 }
 
 /// What the last event at a rank answered to a completing call, at once or to one that was blocked before.
 fn answer_of(entry: &Entry) -> Option<&Answer> {
     match &entry.completion {
-        Some(answer) => Some(answer),
+        Some(Completion::Requests(answer)) => Some(answer),
+        Some(Completion::Collective(_)) => None,
         None => match &entry.reply {
             Some(Reply::Done(answer)) => Some(answer),
+            _ => None,
+        },
+    }
+}
+
+/// With what the last event at a rank ended a collective, one that was entered in it or before.
+fn ending_of(entry: &Entry) -> Option<Ending> {
+    match &entry.completion {
+        Some(Completion::Collective(ending)) => Some(*ending),
+        Some(Completion::Requests(_)) => None,
+        None => match &entry.reply {
+            Some(Reply::Left(ending)) => Some(*ending),
             _ => None,
         },
     }
@@ -41,11 +54,14 @@ fn note_answer(
     ranks: &mut BTreeMap<u16, Names>,
     entry: &Entry,
 ) -> Result<(), SimulateError> {
-    let Some(answer) = answer_of(entry) else {
+    let Some(names) = ranks.get_mut(&entry.endpoint.rank) else {
         return Ok(());
     };
-    if let Some(names) = ranks.get_mut(&entry.endpoint.rank) {
+    if let Some(answer) = answer_of(entry) {
         names.note(alloc, answer)?;
+    }
+    if let Some(ending) = ending_of(entry) {
+        names.note_ending(alloc, ending)?;
     }
     Ok(())
 }
@@ -62,7 +78,7 @@ impl Simulation {
     }
 
     /// One event, with what it prints. Answers the event that was refused, if it was.
-    fn happen<W: Write>(
+    pub(crate) fn happen<W: Write>(
         &mut self,
         event: Event,
         out: &mut W,
@@ -195,10 +211,8 @@ impl Simulation {
         send: &Sending,
         out: &mut W,
     ) -> Result<(), SimulateError> {
-        if !send.communicator.is_world() {
-            return Err(SimulateError::Script(line));
-        }
         let call = Call::Isend(Send {
+            comm: self.place_of(rank, line, &send.communicator)?,
             target: send.target,
             tag: send.tag,
             from: Region {
@@ -220,10 +234,8 @@ impl Simulation {
         receive: &Receiving,
         out: &mut W,
     ) -> Result<(), SimulateError> {
-        if !receive.communicator.is_world() {
-            return Err(SimulateError::Script(line));
-        }
         let call = Call::Irecv(Receive {
+            comm: self.place_of(rank, line, &receive.communicator)?,
             source: receive.source,
             tag: receive.tag,
             into: Region {
@@ -435,6 +447,11 @@ impl Simulation {
             Action::Cancel(requested) => self.cancel(rank, line, requested, out),
             Action::Waitany(several) => self.wait_any(rank, line, several.as_slice(), out),
             Action::Waitall(several) => self.wait_all(rank, line, several.as_slice(), out),
+            Action::Dup(name, communicator) => self.dup(rank, line, name, communicator, out),
+            Action::Split(name, splitting) => self.split(rank, line, name, splitting, out),
+            Action::Who(communicator) => self.who(rank, line, communicator, out),
+            Action::Members(communicator) => self.members(rank, line, communicator, out),
+            Action::Compare(one, other) => self.compare(rank, line, one, other, out),
         }
     }
 

@@ -82,6 +82,29 @@ fn answers_are_written(rt: HostRuntime) {
         (Answer::IndexUndefined, "index undefined"),
         (Answer::All(&[OutcomeText::Sent]), "sent"),
         (Answer::All(&[]), "done"),
+        (
+            Answer::Communicator(CommunicatorText { place: None }),
+            "comm null",
+        ),
+        (
+            Answer::Communicator(CommunicatorText { place: Some(4095) }),
+            "comm 4095",
+        ),
+        (
+            Answer::Position(PositionText { rank: 2, size: 256 }),
+            "rank 2 of 256",
+        ),
+        (
+            Answer::Members(MembersText {
+                ranks: &[3, 0, 255],
+            }),
+            "3 0 255",
+        ),
+        (Answer::Members(MembersText { ranks: &[7] }), "7"),
+        (Answer::Comparison(ComparisonText::Ident), "ident"),
+        (Answer::Comparison(ComparisonText::Congruent), "congruent"),
+        (Answer::Comparison(ComparisonText::Similar), "similar"),
+        (Answer::Comparison(ComparisonText::Unequal), "unequal"),
         (Answer::Pending, "pending"),
         (Answer::Done, "done"),
         (Answer::Taken, "ok"),

@@ -199,6 +199,62 @@ fn layouts_and_requests_are_read(rt: HostRuntime) {
     assert_eq!(rt; layouts_and_requests(rt.alloc()), Some(10));
 }
 
+/// Lines that make communicators and ask about them.
+const COMMUNICATORS: &str =
+    "world 1\n0 dup d world\n0 dup e self\n0 split f d undefined -2147483648\n0 split g world 4294967295 2147483647\n0 split h e 0 -0\n0 who d\n0 members self\n0 compare d world\n0 compare self e";
+
+/// Whether the communicator has this name.
+fn is_named(communicator: &Communicator, name: &[u8]) -> bool {
+    match communicator {
+        Communicator::Named(named) => named.as_bytes() == name,
+        _ => false,
+    }
+}
+
+/// Whether a split is by this colour and key.
+fn is_split_by(split: &Splitting, colour: Option<u32>, key: i32) -> bool {
+    split.colour == colour && split.key == key
+}
+
+/// Whether what the rank does at this place of the row is as the row says.
+fn is_of_communicators(place: usize, action: &Action) -> bool {
+    match (place, action) {
+        (0, Action::Dup(name, Communicator::World)) => name.as_bytes() == b"d".as_slice(),
+        (1, Action::Dup(name, Communicator::Own)) => name.as_bytes() == b"e".as_slice(),
+        (2, Action::Split(_, split)) => {
+            is_named(&split.communicator, b"d") && is_split_by(split, None, i32::MIN)
+        }
+        (3, Action::Split(_, split)) => is_split_by(split, Some(u32::MAX), i32::MAX),
+        (4, Action::Split(_, split)) => {
+            is_named(&split.communicator, b"e") && is_split_by(split, Some(0), 0)
+        }
+        (5, Action::Who(communicator)) => is_named(communicator, b"d"),
+        (6, Action::Members(Communicator::Own)) => true,
+        (7, Action::Compare(one, Communicator::World)) => is_named(one, b"d"),
+        (8, Action::Compare(Communicator::Own, other)) => is_named(other, b"e"),
+        _ => false,
+    }
+}
+
+/// How many of the lines are as the row says.
+fn communicators(alloc: Global) -> Option<usize> {
+    let file = parse(alloc, COMMUNICATORS.as_bytes()).ok()?;
+    let mut good = 0;
+    for (place, line) in file.lines.as_slice().iter().enumerate() {
+        if let Statement::Rank(0, action) = &line.statement {
+            if is_of_communicators(place, action) {
+                good = 1_usize.saturating_add(good);
+            }
+        }
+    }
+    Some(good)
+}
+
+#[test]
+fn lines_on_communicators_are_read(rt: HostRuntime) {
+    assert_eq!(rt; communicators(rt.alloc()), Some(9));
+}
+
 /// The line that the text is faulty at.
 fn faulty_line(alloc: Global, text: &str) -> Option<usize> {
     match parse(alloc, text.as_bytes()) {
@@ -231,6 +287,19 @@ fn faulty_lines_answer_their_number(rt: HostRuntime) {
         ("world 2\n0 buf a uint8 256\n", 2),
         ("world 2\n0 isend q world 1 7 a as int32 1\n", 2),
         ("world 2\n0 barrier world\n", 2),
+        ("world 2\n0 dup d world self\n", 2),
+        ("world 2\n0 dup world self\n", 2),
+        ("world 2\n0 dup d null\n", 2),
+        ("world 2\n0 split d world 0\n", 2),
+        ("world 2\n0 split d world 4294967296 0\n", 2),
+        ("world 2\n0 split d world -1 0\n", 2),
+        ("world 2\n0 split d world any 0\n", 2),
+        ("world 2\n0 split d world 0 2147483648\n", 2),
+        ("world 2\n0 split d world 0 -2147483649\n", 2),
+        ("world 2\n0 split d world 0 undefined\n", 2),
+        ("world 2\n0 who\n", 2),
+        ("world 2\n0 members world world\n", 2),
+        ("world 2\n0 compare world\n", 2),
         ("world 2\n0 count l\n", 2),
         ("world 2\n0 irecv q world 1 x a\nrestart\n", 2),
     ] {

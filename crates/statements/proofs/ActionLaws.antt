@@ -18,13 +18,14 @@ use Rattle.line_words.specs.Grammar.{Word, type_word}
 use Rattle.statements.specs.Words.{verb_of}
 use Rattle.line_words.specs.Words.{basic_type_of}
 use Rattle.line_words.specs.Results.{◌>>=◌}
-use Rattle.statements.specs.Reading.{communicator_of, target_of, source_of, tag_of, requested_of, through_of, one_request, elements_of, buffer_with, buffer_of, sending_of, receiving_of, isend_of, irecv_of, one_of, layout_of, action_by, action_of}
+use Rattle.statements.specs.Reading.{communicator_of, target_of, source_of, tag_of, requested_of, through_of, one_request, elements_of, buffer_with, buffer_of, sending_of, receiving_of, isend_of, irecv_of, one_of, layout_of, communicator_alone, two_communicators, dup_of, split_of, action_by, action_of}
 use Rattle.line_words.specs.Fields.{first, ended, name_of, each}
 use Rattle.statements.proofs.VerbLaws.{verb_word, verb_takes, verb_again}
 use Rattle.line_words.proofs.WordLaws.{bind_ok, made, type_takes, type_again}
 use Rattle.statements.proofs.FieldLaws.{communicator_takes, communicator_again, target_takes, target_again, source_takes, source_again, tag_takes, tag_again, requested_takes, requested_again, requests_take, requests_again, through_takes, through_again}
 use Rattle.line_words.proofs.FieldLaws.{named_takes, named_again}
 use Rattle.statements.proofs.LayoutLaws.{layout_takes, layout_again}
+use Rattle.statements.proofs.CommunicatorLaws.{asks_takes, asks_again, compare_takes, compare_again, dup_takes, dup_again, split_takes, split_again}
 use Rattle.statements.proofs.ElementLaws.{elements_take, elements_again}
 
 -- ---- fields that don't depend on one another
@@ -177,6 +178,16 @@ by_takes verbs.Waitany words s e =
     let b = bind_ok (each one_request words) (λ x. Some (actions.Waitany x)) s e in made (Spells (codes "waitany" ∷ words)) (actions.Waitany b.0) s (words, refl, requests_take words b.0 b.1) b.2
 by_takes verbs.Waitall words s e =
     let b = bind_ok (each one_request words) (λ x. Some (actions.Waitall x)) s e in made (Spells (codes "waitall" ∷ words)) (actions.Waitall b.0) s (words, refl, requests_take words b.0 b.1) b.2
+by_takes verbs.Dup words s e = let b = bind_ok (dup_of words) (λ x. Some (actions.Dup x.0 x.1)) s e in made (Spells (codes "dup" ∷ words)) (actions.Dup b.0.0 b.0.1) s (dup_takes words b.0 b.1) b.2
+by_takes verbs.Split words s e = let b = bind_ok (split_of words) (λ x. Some (actions.Split x.0 x.1)) s e in made (Spells (codes "split" ∷ words)) (actions.Split b.0.0 b.0.1) s (split_takes words b.0 b.1) b.2
+by_takes verbs.Who words s e =
+    let b = bind_ok (communicator_alone words) (λ x. Some (actions.Who x)) s e in
+    made (Spells (codes "who" ∷ words)) (actions.Who b.0) s (asks_takes (λ (ws : List Word). Spells (codes "who" ∷ ws) (actions.Who b.0)) words b.0 (λ a h. (a, refl, h)) b.1) b.2
+by_takes verbs.Members words s e =
+    let b = bind_ok (communicator_alone words) (λ x. Some (actions.Members x)) s e in
+    made (Spells (codes "members" ∷ words)) (actions.Members b.0) s (asks_takes (λ (ws : List Word). Spells (codes "members" ∷ ws) (actions.Members b.0)) words b.0 (λ a h. (a, refl, h)) b.1) b.2
+by_takes verbs.Compare words s e =
+    let b = bind_ok (two_communicators words) (λ x. Some (actions.Compare x.0 x.1)) s e in made (Spells (codes "compare" ∷ words)) (actions.Compare b.0.0 b.0.1) s (compare_takes words b.0 b.1) b.2
 
 pub action_takes : (words : List Word) (s : Action) → action_of words ≡ Some s → Spells words s
 unfolding action_of first
@@ -204,17 +215,31 @@ action_again words (actions.Test x) h = ap action_of h.1 ∙ from_verb verbs.Tes
 action_again words (actions.Cancel x) h = ap action_of h.1 ∙ from_verb verbs.Cancel (h.0 ∷ []) (actions.Cancel x) (then_some (one_of (h.0 ∷ [])) (λ y. actions.Cancel y) x (one_from h.0 x (requested_again h.0 x h.2)))
 action_again words (actions.Waitany x) h = ap action_of h.1 ∙ from_verb verbs.Waitany h.0 (actions.Waitany x) (then_some (each one_request h.0) (λ y. actions.Waitany y) x (requests_again h.0 x h.2))
 action_again words (actions.Waitall x) h = ap action_of h.1 ∙ from_verb verbs.Waitall h.0 (actions.Waitall x) (then_some (each one_request h.0) (λ y. actions.Waitall y) x (requests_again h.0 x h.2))
+action_again words (actions.Dup new c) h =
+    ap action_of h.2 ∙ from_verb verbs.Dup (h.0 ∷ h.1 ∷ []) (actions.Dup new c) (then_some (dup_of (h.0 ∷ h.1 ∷ [])) (λ y. actions.Dup y.0 y.1) (new, c) (dup_again h.0 h.1 new c h.3 h.4))
+action_again words (actions.Split new x) h =
+    ap action_of h.2 ∙ from_verb verbs.Split (h.0 ∷ h.1) (actions.Split new x) (then_some (split_of (h.0 ∷ h.1)) (λ y. actions.Split y.0 y.1) (new, x) (split_again h.0 h.1 new x h.3 h.4))
+action_again words (actions.Who c) h = ap action_of h.1 ∙ from_verb verbs.Who (h.0 ∷ []) (actions.Who c) (then_some (communicator_alone (h.0 ∷ [])) (λ y. actions.Who y) c (asks_again h.0 c h.2))
+action_again words (actions.Members c) h = ap action_of h.1 ∙ from_verb verbs.Members (h.0 ∷ []) (actions.Members c) (then_some (communicator_alone (h.0 ∷ [])) (λ y. actions.Members y) c (asks_again h.0 c h.2))
+action_again words (actions.Compare one other) h =
+    ap action_of h.2 ∙ from_verb verbs.Compare (h.0 ∷ h.1 ∷ []) (actions.Compare one other) (then_some (two_communicators (h.0 ∷ h.1 ∷ [])) (λ y. actions.Compare y.0 y.1) (one, other) (compare_again h.0 h.1 one other h.3 h.4))
 
 -- what spells something begins with one of these words
 pub begins : (words : List Word) (s : Action) → Spells words s → (P : Word → Type 0)
     → P (codes "buf") → P (codes "type") → P (codes "isend") → P (codes "irecv") → P (codes "wait") → P (codes "test") → P (codes "cancel") → P (codes "waitany") → P (codes "waitall")
+    → P (codes "dup") → P (codes "split") → P (codes "who") → P (codes "members") → P (codes "compare")
     → (word : Word) × (rest : List Word) × (words ≡ word ∷ rest) × P word
-begins words (actions.Buffer x) h P b l i r w t c o a = (codes "buf", h.0, h.1, b)
-begins words (actions.Layout x) h P b l i r w t c o a = (codes "type", h.0, h.1, l)
-begins words (actions.Isend q x) h P b l i r w t c o a = (codes "isend", h.0 ∷ h.1, h.2, i)
-begins words (actions.Irecv q x) h P b l i r w t c o a = (codes "irecv", h.0 ∷ h.1, h.2, r)
-begins words (actions.Wait x) h P b l i r w t c o a = (codes "wait", h.0 ∷ [], h.1, w)
-begins words (actions.Test x) h P b l i r w t c o a = (codes "test", h.0 ∷ [], h.1, t)
-begins words (actions.Cancel x) h P b l i r w t c o a = (codes "cancel", h.0 ∷ [], h.1, c)
-begins words (actions.Waitany x) h P b l i r w t c o a = (codes "waitany", h.0, h.1, o)
-begins words (actions.Waitall x) h P b l i r w t c o a = (codes "waitall", h.0, h.1, a)
+begins words (actions.Buffer x) h P b0 l0 i0 r0 w0 t0 c0 o0 a0 d0 s0 u0 m0 e0 = (codes "buf", h.0, h.1, b0)
+begins words (actions.Layout x) h P b0 l0 i0 r0 w0 t0 c0 o0 a0 d0 s0 u0 m0 e0 = (codes "type", h.0, h.1, l0)
+begins words (actions.Isend q x) h P b0 l0 i0 r0 w0 t0 c0 o0 a0 d0 s0 u0 m0 e0 = (codes "isend", h.0 ∷ h.1, h.2, i0)
+begins words (actions.Irecv q x) h P b0 l0 i0 r0 w0 t0 c0 o0 a0 d0 s0 u0 m0 e0 = (codes "irecv", h.0 ∷ h.1, h.2, r0)
+begins words (actions.Wait x) h P b0 l0 i0 r0 w0 t0 c0 o0 a0 d0 s0 u0 m0 e0 = (codes "wait", h.0 ∷ [], h.1, w0)
+begins words (actions.Test x) h P b0 l0 i0 r0 w0 t0 c0 o0 a0 d0 s0 u0 m0 e0 = (codes "test", h.0 ∷ [], h.1, t0)
+begins words (actions.Cancel x) h P b0 l0 i0 r0 w0 t0 c0 o0 a0 d0 s0 u0 m0 e0 = (codes "cancel", h.0 ∷ [], h.1, c0)
+begins words (actions.Waitany x) h P b0 l0 i0 r0 w0 t0 c0 o0 a0 d0 s0 u0 m0 e0 = (codes "waitany", h.0, h.1, o0)
+begins words (actions.Waitall x) h P b0 l0 i0 r0 w0 t0 c0 o0 a0 d0 s0 u0 m0 e0 = (codes "waitall", h.0, h.1, a0)
+begins words (actions.Dup q x) h P b0 l0 i0 r0 w0 t0 c0 o0 a0 d0 s0 u0 m0 e0 = (codes "dup", h.0 ∷ h.1 ∷ [], h.2, d0)
+begins words (actions.Split q x) h P b0 l0 i0 r0 w0 t0 c0 o0 a0 d0 s0 u0 m0 e0 = (codes "split", h.0 ∷ h.1, h.2, s0)
+begins words (actions.Who x) h P b0 l0 i0 r0 w0 t0 c0 o0 a0 d0 s0 u0 m0 e0 = (codes "who", h.0 ∷ [], h.1, u0)
+begins words (actions.Members x) h P b0 l0 i0 r0 w0 t0 c0 o0 a0 d0 s0 u0 m0 e0 = (codes "members", h.0 ∷ [], h.1, m0)
+begins words (actions.Compare x y) h P b0 l0 i0 r0 w0 t0 c0 o0 a0 d0 s0 u0 m0 e0 = (codes "compare", h.0 ∷ h.1 ∷ [], h.2, e0)

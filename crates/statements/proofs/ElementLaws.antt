@@ -40,7 +40,7 @@ above_takes bound m n e =
     let P : ℕ → Type 0 = λ n. (m ≡ n) × (m < bound) in
     pick P (ltb m bound) (Some m) None n (λ l f. made P m n (refl, ltb-true m bound l) f) (λ _ f. absurd cc) e
 
-dash_front : (word : Word) → get_or word 0 0 ≡ 45 → word ≡ 45 ∷ drop 1 word
+pub dash_front : (word : Word) → get_or word 0 0 ≡ 45 → word ≡ 45 ∷ drop 1 word
 dash_front [] e = absurd cc
 dash_front (b ∷ bs) e = ap (λ (x : ℕ). x ∷ bs) e
 
@@ -104,7 +104,7 @@ both : (a b : Bool) → (a && b) ≡ true → (a ≡ true) × (b ≡ true)
 both true b e = (refl, e)
 both false b e = absurd cc
 
-digit_front : (word : Word) (n : ℕ) → IsNumeral word n → eqb (get_or word 0 0) 45 ≡ false
+pub digit_front : (word : Word) (n : ℕ) → IsNumeral word n → eqb (get_or word 0 0) 45 ≡ false
 digit_front [] n h = absurd (h.some refl)
 digit_front (b ∷ bs) n h = no_test (eqb b 45) (λ e. let d : is_ascii_digit b ≡ true = (both (is_ascii_digit b) (all_ascii_digits bs) h.digits).0 in false≢true (ap is_ascii_digit (sym (eqb-true b 45 e)) ∙ d))
 

@@ -3,4 +3,5 @@ pub mod FieldLaws
 pub mod ElementLaws
 pub mod ElementSteps
 pub mod LayoutLaws
+pub mod CommunicatorLaws
 pub mod ActionLaws

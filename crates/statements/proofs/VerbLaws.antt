@@ -18,6 +18,11 @@ verb_word verbs.Test = codes "test"
 verb_word verbs.Cancel = codes "cancel"
 verb_word verbs.Waitany = codes "waitany"
 verb_word verbs.Waitall = codes "waitall"
+verb_word verbs.Dup = codes "dup"
+verb_word verbs.Split = codes "split"
+verb_word verbs.Who = codes "who"
+verb_word verbs.Members = codes "members"
+verb_word verbs.Compare = codes "compare"
 
 verbs_are : (word : Word) → Yields (verb_of word) (λ verb. word ≡ verb_word verb)
 unfolding verb_of
@@ -31,7 +36,12 @@ verbs_are word =
     (step P (bytes_eq word (codes "test")) _ _ (same_word word (codes "test"))
     (step P (bytes_eq word (codes "cancel")) _ _ (same_word word (codes "cancel"))
     (step P (bytes_eq word (codes "waitany")) _ _ (same_word word (codes "waitany"))
-    (step P (bytes_eq word (codes "waitall")) _ _ (same_word word (codes "waitall")) tt))))))))
+    (step P (bytes_eq word (codes "waitall")) _ _ (same_word word (codes "waitall"))
+    (step P (bytes_eq word (codes "dup")) _ _ (same_word word (codes "dup"))
+    (step P (bytes_eq word (codes "split")) _ _ (same_word word (codes "split"))
+    (step P (bytes_eq word (codes "who")) _ _ (same_word word (codes "who"))
+    (step P (bytes_eq word (codes "members")) _ _ (same_word word (codes "members"))
+    (step P (bytes_eq word (codes "compare")) _ _ (same_word word (codes "compare")) tt)))))))))))))
 
 pub verb_takes : (word : Word) (verb : Verb) → verb_of word ≡ Some verb → word ≡ verb_word verb
 verb_takes word verb e = yielded (λ verb. word ≡ verb_word verb) (verb_of word) verb (verbs_are word) e
@@ -47,3 +57,8 @@ verb_again verbs.Test = refl
 verb_again verbs.Cancel = refl
 verb_again verbs.Waitany = refl
 verb_again verbs.Waitall = refl
+verb_again verbs.Dup = refl
+verb_again verbs.Split = refl
+verb_again verbs.Who = refl
+verb_again verbs.Members = refl
+verb_again verbs.Compare = refl

@@ -1,5 +1,5 @@
 -- The grammar of what ranks do: which words spell what.
-use Rattle.std.specs.Prelude.{◌≡◌, ◌⊎◌, ℕ, ◌+◌, ◌/◌, ◌<◌, ◌≤◌, true, List, [], ◌∷◌, ◌++◌, replicate, codes, Option, Some, None, if◌then◌else◌}
+use Rattle.std.specs.Prelude.{◌≡◌, ◌⊎◌, ℤ, pos, neg_ℤ, ℕ, ◌+◌, ◌/◌, ◌<◌, ◌≤◌, true, List, [], ◌∷◌, ◌++◌, replicate, codes, Option, Some, None, if◌then◌else◌}
 use Rattle.vocabulary.specs.declared.basic_type.BasicType.{BasicType}
 use Rattle.vocabulary.specs.declared.envelope.Source.{Source}
 use Rattle.vocabulary.specs.declared.envelope.Source.TheVariants as sources
@@ -14,6 +14,7 @@ use Rattle.statements.specs.declared.action.BufferLine.{BufferLine}
 use Rattle.statements.specs.declared.action.Through.{Through}
 use Rattle.statements.specs.declared.action.Sending.{Sending}
 use Rattle.statements.specs.declared.action.Receiving.{Receiving}
+use Rattle.statements.specs.declared.action.Splitting.{Splitting}
 use Rattle.statements.specs.declared.action.Action.{Action}
 use Rattle.statements.specs.declared.action.Action.TheVariants as actions
 use Rattle.statements.specs.declared.layout_line.OldLayout.{OldLayout}
@@ -144,6 +145,37 @@ IsFormed words (forms.Indexed blocks) old =
 abbrev pub IsLayout : List Word → LayoutLine → Type 0
 IsLayout words line = (name : Word) × (rest : List Word) × (words ≡ name ∷ rest) × NamesIt name line.name × IsFormed rest line.form line.made_of
 
+-- ---- communicators
+
+-- a colour of 32 bits; none is `undefined`
+abbrev pub IsColour : Word → Option ℕ → Type 0
+IsColour word None = word ≡ codes "undefined"
+IsColour word (Some colour) = IsNumeral word colour × (colour ≤ 4294967295)
+
+-- a key of 32 bits with its sign; one below zero has `-` in front
+pub record IsKeyBelow (word : Word) (key : ℤ) : Type 0 where
+  pub digits : Word
+  pub magnitude : ℕ
+  pub spelled : word ≡ 45 ∷ digits
+  pub numeral : IsNumeral digits magnitude
+  pub range : magnitude ≤ 2147483648
+  pub key_is : key ≡ neg_ℤ (pos magnitude)
+
+pub record IsKeyAbove (word : Word) (key : ℤ) : Type 0 where
+  pub magnitude : ℕ
+  pub numeral : IsNumeral word magnitude
+  pub range : magnitude ≤ 2147483647
+  pub key_is : key ≡ pos magnitude
+
+abbrev pub IsKey : Word → ℤ → Type 0
+IsKey word key = IsKeyBelow word key ⊎ IsKeyAbove word key
+
+-- `COMM COLOUR KEY`
+abbrev pub IsSplitting : List Word → Splitting → Type 0
+IsSplitting words split =
+    (communicator colour key : Word) × (words ≡ communicator ∷ colour ∷ key ∷ [])
+    × IsCommunicator communicator split.communicator × IsColour colour split.colour × IsKey key split.key
+
 -- ---- all that ranks do
 
 -- the first word of what a rank does, and what the words behind it say
@@ -159,3 +191,11 @@ Spells words (actions.Test request) = (word : Word) × (words ≡ codes "test" �
 Spells words (actions.Cancel request) = (word : Word) × (words ≡ codes "cancel" ∷ word ∷ []) × IsRequested word request
 Spells words (actions.Waitany requests) = (rest : List Word) × (words ≡ codes "waitany" ∷ rest) × StandFor IsRequested rest requests
 Spells words (actions.Waitall requests) = (rest : List Word) × (words ≡ codes "waitall" ∷ rest) × StandFor IsRequested rest requests
+Spells words (actions.Dup new communicator) =
+    (name old : Word) × (words ≡ codes "dup" ∷ name ∷ old ∷ []) × NamesIt name new × IsCommunicator old communicator
+Spells words (actions.Split new split) =
+    (name : Word) × (rest : List Word) × (words ≡ codes "split" ∷ name ∷ rest) × NamesIt name new × IsSplitting rest split
+Spells words (actions.Who communicator) = (word : Word) × (words ≡ codes "who" ∷ word ∷ []) × IsCommunicator word communicator
+Spells words (actions.Members communicator) = (word : Word) × (words ≡ codes "members" ∷ word ∷ []) × IsCommunicator word communicator
+Spells words (actions.Compare one other) =
+    (first second : Word) × (words ≡ codes "compare" ∷ first ∷ second ∷ []) × IsCommunicator first one × IsCommunicator second other

@@ -1,16 +1,8 @@
 -- What is meant by what a statement names.
-use Rattle.std.specs.Prelude.{ℕ, Bool, true, false, List}
+use Rattle.std.specs.Prelude.{ℕ, List}
 use Rattle.derived_types.specs.Layouts.{contiguous_offsets, vector_offsets, indexed_offsets}
-use Rattle.statements.specs.declared.action.Communicator.{Communicator}
-use Rattle.statements.specs.declared.action.Communicator.TheVariants as communicators
 use Rattle.statements.specs.declared.layout_line.LayoutForm.{LayoutForm}
 use Rattle.statements.specs.declared.layout_line.LayoutForm.TheVariants as forms
-
--- the communicator of all ranks
-abbrev pub is_world : Communicator → Bool
-is_world communicators.World = true
-is_world communicators.Own = false
-is_world (communicators.Named name) = false
 
 -- the offsets of the layout that this form makes of one with these offsets (MPI 3.1, 4.1.2)
 abbrev pub offsets_made : LayoutForm → List ℕ → List ℕ

@@ -1,5 +1,5 @@
 -- Reading the words of a line from left to right.
-use Rattle.std.specs.Prelude.{ℕ, ◌==◌, Bool, true, false, List, [], ◌∷◌, take, drop, slice_index, replicate, codes, Option, Some, None, if◌then◌else◌}
+use Rattle.std.specs.Prelude.{ℕ, ◌-◌, ℤ, pos, negsuc, ◌==◌, Bool, true, false, List, [], ◌∷◌, take, drop, slice_index, replicate, codes, Option, Some, None, if◌then◌else◌}
 use Rattle.std.specs.List.{position}
 use Rattle.std.specs.Str.{bytes_eq}
 use Rattle.vocabulary.specs.declared.basic_type.BasicType.{BasicType}
@@ -18,6 +18,7 @@ use Rattle.statements.specs.declared.action.BufferLine.{BufferLine}
 use Rattle.statements.specs.declared.action.Through.{Through}
 use Rattle.statements.specs.declared.action.Sending.{Sending}
 use Rattle.statements.specs.declared.action.Receiving.{Receiving}
+use Rattle.statements.specs.declared.action.Splitting.{Splitting}
 use Rattle.statements.specs.declared.action.Action.{Action}
 use Rattle.statements.specs.declared.action.Action.TheVariants as actions
 use Rattle.statements.specs.declared.layout_line.OldLayout.{OldLayout}
@@ -241,6 +242,63 @@ layout_of words = do
   made ← formed_by f form.1
   Some (record { name = n; form = made.0; made_of = made.1 })
 
+-- ---- communicators
+
+-- none is `undefined`
+unfoldable pub colour_of : Word → Option (Option ℕ)
+colour_of word =
+    if bytes_eq word (codes "undefined") then Some None
+    else (number_up_to 4294967295 word >>= λ colour. Some (Some colour))
+
+-- the key of this magnitude that isn't above zero
+abbrev pub key_below : ℕ → ℤ
+key_below magnitude = if magnitude == 0 then pos 0 else negsuc (magnitude - 1)
+
+-- a number of 32 bits with its sign
+unfoldable pub key_of : Word → Option ℤ
+key_of word =
+    if slice_index word 0 == 45
+    then (number_up_to 2147483648 (drop 1 word) >>= λ magnitude. Some (key_below magnitude))
+    else (number_up_to 2147483647 word >>= λ magnitude. Some (pos magnitude))
+
+-- one communicator, and nothing behind it
+unfoldable pub communicator_alone : List Word → Option Communicator
+communicator_alone words = first words >>= λ communicator. ended communicator.1 >>= λ end. communicator_of communicator.0
+
+-- `COMM COMM`
+unfoldable pub two_communicators : List Word → Option (Communicator × Communicator)
+two_communicators words = do
+  one ← first words
+  other ← first one.1
+  end ← ended other.1
+  c ← communicator_of one.0
+  d ← communicator_of other.0
+  Some (c, d)
+
+-- `NEW COMM`
+unfoldable pub dup_of : List Word → Option (Word × Communicator)
+dup_of words = do
+  name ← first words
+  communicator ← first name.1
+  end ← ended communicator.1
+  n ← name_of name.0
+  c ← communicator_of communicator.0
+  Some (n, c)
+
+-- `NEW COMM COLOUR KEY`
+unfoldable pub split_of : List Word → Option (Word × Splitting)
+split_of words = do
+  name ← first words
+  communicator ← first name.1
+  colour ← first communicator.1
+  key ← first colour.1
+  end ← ended key.1
+  n ← name_of name.0
+  c ← communicator_of communicator.0
+  o ← colour_of colour.0
+  k ← key_of key.0
+  Some (n, record { communicator = c; colour = o; key = k })
+
 -- ---- all that ranks do, by the first word
 
 abbrev pub action_by : Verb → List Word → Option Action
@@ -253,6 +311,11 @@ action_by verbs.Test words = one_of words >>= λ request. Some (actions.Test req
 action_by verbs.Cancel words = one_of words >>= λ request. Some (actions.Cancel request)
 action_by verbs.Waitany words = each one_request words >>= λ requests. Some (actions.Waitany requests)
 action_by verbs.Waitall words = each one_request words >>= λ requests. Some (actions.Waitall requests)
+action_by verbs.Dup words = dup_of words >>= λ made. Some (actions.Dup made.0 made.1)
+action_by verbs.Split words = split_of words >>= λ made. Some (actions.Split made.0 made.1)
+action_by verbs.Who words = communicator_alone words >>= λ communicator. Some (actions.Who communicator)
+action_by verbs.Members words = communicator_alone words >>= λ communicator. Some (actions.Members communicator)
+action_by verbs.Compare words = two_communicators words >>= λ named. Some (actions.Compare named.0 named.1)
 
 -- what a rank does, which the words spell
 unfoldable pub action_of : List Word → Option Action

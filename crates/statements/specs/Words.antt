@@ -17,4 +17,9 @@ verb_of word =
     else (if bytes_eq word (codes "cancel") then Some verbs.Cancel
     else (if bytes_eq word (codes "waitany") then Some verbs.Waitany
     else (if bytes_eq word (codes "waitall") then Some verbs.Waitall
-    else None))))))))
+    else (if bytes_eq word (codes "dup") then Some verbs.Dup
+    else (if bytes_eq word (codes "split") then Some verbs.Split
+    else (if bytes_eq word (codes "who") then Some verbs.Who
+    else (if bytes_eq word (codes "members") then Some verbs.Members
+    else (if bytes_eq word (codes "compare") then Some verbs.Compare
+    else None)))))))))))))

@@ -1,7 +1,6 @@
 //! What a line asks a rank to do.
 
 ghost use Rattle.std.specs.Prelude.{◌≡◌, ◌++◌, [], ◌∷◌, OnOk};
-ghost use Rattle.statements.specs.Meanings.{is_world};
 
 use crate::layout_line::LayoutLine;
 use datatypes::Buffer;
@@ -19,15 +18,6 @@ pub enum Communicator {
     Own,
     /// A name.
     Named(Name),
-}
-
-impl Communicator {
-    /// Whether this is `world`, the communicator of all ranks.
-    pub fn is_world(&self) -> bool
-        ensures { result ≡ is_world self.now }
-    {
-        matches!(self, Communicator::World)
-    }
 }
 
 /// The request that a line names.
@@ -137,6 +127,17 @@ pub struct Receiving {
     pub through: Option<Through>,
 }
 
+/// `COMM COLOUR KEY`: the arguments of a split (MPI 3.1, 6.4.2).
+#[derive(Debug, Drop)]
+pub struct Splitting {
+    /// The communicator that is split.
+    pub communicator: Communicator,
+    /// Which of the new communicators the rank is to be in; none: `undefined`, in none of them.
+    pub colour: Option<u32>,
+    /// Where the rank is to stand among those of its colour: the lower, the further in front.
+    pub key: i32,
+}
+
 /// What a line asks a rank to do, in a file of events as in a script.
 #[derive(Debug, Drop)]
 pub enum Action {
@@ -158,4 +159,14 @@ pub enum Action {
     Waitany(RequestedList),
     /// `waitall Q ..` waits for all the requests, of which there may be none (MPI 3.1, 3.7.5).
     Waitall(RequestedList),
+    /// `dup NEW COMM` makes a communicator with the same group, and names it (MPI 3.1, 6.4.2).
+    Dup(Name, Communicator),
+    /// `split NEW COMM COLOUR KEY` makes a communicator of those who give the same colour, and names it (MPI 3.1, 6.4.2).
+    Split(Name, Splitting),
+    /// `who COMM` asks for the rank in the communicator and for its size (MPI 3.1, 6.4.1).
+    Who(Communicator),
+    /// `members COMM` asks for the communicator's group (MPI 3.1, 6.4.2).
+    Members(Communicator),
+    /// `compare COMM COMM` asks how two communicators compare (MPI 3.1, 6.4.1).
+    Compare(Communicator, Communicator),
 }

@@ -5,6 +5,7 @@
 #![tactic(auto)]
 
 mod action;
+mod communicator_reading;
 mod fields;
 mod layout_line;
 mod layout_reading;
@@ -13,7 +14,8 @@ mod values;
 mod verb;
 
 pub use action::{
-    Action, BufferLine, Communicator, Receiving, Requested, RequestedList, Sending, Through,
+    Action, BufferLine, Communicator, Receiving, Requested, RequestedList, Sending, Splitting,
+    Through,
 };
 pub use layout_line::{Blocks, LayoutForm, LayoutLine, OldLayout, Stripes};
 pub use line_words::{LineError, Name, ParseError, Word, Words};

@@ -5,6 +5,7 @@ ghost use Rattle.statements.specs.Reading.{buffer_of, sending_of, receiving_of, 
 ghost use Rattle.line_words.specs.Results.{Gives};
 
 use crate::action::{Action, BufferLine, Receiving, Requested, Sending};
+use crate::communicator_reading::{communicator_alone, dup_of, split_of, two_communicators};
 use crate::fields::{
     communicator_of, requested_of, requests_of, source_of, tag_of, target_of, through_of,
 };
@@ -111,5 +112,19 @@ pub fn action_of(alloc: Global, words: &[Word]) -> Result<Action, LineError>
         Verb::Cancel => Ok(Action::Cancel(one_of(alloc, rest)?)),
         Verb::Waitany => Ok(Action::Waitany(requests_of(alloc, rest)?)),
         Verb::Waitall => Ok(Action::Waitall(requests_of(alloc, rest)?)),
+        Verb::Dup => {
+            let (name, communicator) = dup_of(alloc, rest)?;
+            Ok(Action::Dup(name, communicator))
+        }
+        Verb::Split => {
+            let (name, splitting) = split_of(alloc, rest)?;
+            Ok(Action::Split(name, splitting))
+        }
+        Verb::Who => Ok(Action::Who(communicator_alone(alloc, rest)?)),
+        Verb::Members => Ok(Action::Members(communicator_alone(alloc, rest)?)),
+        Verb::Compare => {
+            let (one, other) = two_communicators(alloc, rest)?;
+            Ok(Action::Compare(one, other))
+        }
     }
 }

@@ -26,6 +26,16 @@ pub(crate) enum Verb {
     Waitany,
     /// `waitall`
     Waitall,
+    /// `dup`
+    Dup,
+    /// `split`
+    Split,
+    /// `who`
+    Who,
+    /// `members`
+    Members,
+    /// `compare`
+    Compare,
 }
 
 /// What the first word says.
@@ -51,6 +61,16 @@ pub(crate) fn verb_of(word: &[u8]) -> Option<Verb>
         Some(Verb::Waitany)
     } else if is(word, b"waitall") {
         Some(Verb::Waitall)
+    } else if is(word, b"dup") {
+        Some(Verb::Dup)
+    } else if is(word, b"split") {
+        Some(Verb::Split)
+    } else if is(word, b"who") {
+        Some(Verb::Who)
+    } else if is(word, b"members") {
+        Some(Verb::Members)
+    } else if is(word, b"compare") {
+        Some(Verb::Compare)
     } else {
         None
     }

@@ -1,10 +1,11 @@
-//! The lines that a script prints.
+//! The lines that the script of a rank prints.
 
 ghost use Rattle.std.specs.Prelude.{◌≡◌, drop, IfOk};
 ghost use Rattle.answer_texts.specs.Answers.{count_text, status_text};
-ghost use Rattle.rank_script.specs.Texts.{error_line, error_lines, further_errors, pending_line, elements_line, words_line, spaced};
+ghost use Rattle.answer_texts.specs.Communicators.{comparison_text, members_text, position_text};
+ghost use Rattle.script_lines.specs.Lines.{error_line, error_lines, further_errors, pending_line, elements_line, words_line, spaced};
 
-use answer_texts::{CountText, Elements, StatusText};
+use answer_texts::{ComparisonText, CountText, Elements, MembersText, PositionText, StatusText};
 use datagram::Bytes;
 use datatypes::Buffer;
 use statements::Words;
@@ -12,7 +13,7 @@ use std::alloc::{AllocError, Global};
 use vocabulary::Status;
 
 /// `error N`
-pub(crate) fn error_line(alloc: Global, number: u8) -> Result<Bytes, AllocError>
+pub fn error_line(alloc: Global, number: u8) -> Result<Bytes, AllocError>
     ensures { IfOk result (λ line. line ≡ error_line number) }
 {
     let text = format!(in alloc; "error {number}")?;
@@ -20,7 +21,7 @@ pub(crate) fn error_line(alloc: Global, number: u8) -> Result<Bytes, AllocError>
 }
 
 /// `source S tag T count C`
-pub(crate) fn status_line(alloc: Global, status: Status) -> Result<Bytes, AllocError>
+pub fn status_line(alloc: Global, status: Status) -> Result<Bytes, AllocError>
     ensures { IfOk result (λ line. line ≡ status_text status) }
 {
     let status = StatusText { status };
@@ -29,7 +30,7 @@ pub(crate) fn status_line(alloc: Global, status: Status) -> Result<Bytes, AllocE
 }
 
 /// `pending`
-pub(crate) fn pending_line(alloc: Global) -> Result<Bytes, AllocError>
+pub fn pending_line(alloc: Global) -> Result<Bytes, AllocError>
     ensures { IfOk result (λ line. line ≡ pending_line) }
 {
     Bytes::from_slice(alloc, "pending".as_bytes())
@@ -49,7 +50,7 @@ fn further_errors(alloc: Global, numbers: &[u8]) -> Result<Vec<u8>, AllocError>
 }
 
 /// `error N` for each of these numbers, a line each.
-pub(crate) fn error_lines(alloc: Global, number: u8, numbers: &[u8]) -> Result<Bytes, AllocError>
+pub fn error_lines(alloc: Global, number: u8, numbers: &[u8]) -> Result<Bytes, AllocError>
     ensures { IfOk result (λ line. line ≡ error_lines number numbers.now) }
 {
     let first = error_line(alloc, number)?;
@@ -60,7 +61,7 @@ pub(crate) fn error_lines(alloc: Global, number: u8, numbers: &[u8]) -> Result<B
 }
 
 /// The number of copies, or `undefined`
-pub(crate) fn count_line(alloc: Global, copies: Option<u64>) -> Result<Bytes, AllocError>
+pub fn count_line(alloc: Global, copies: Option<u64>) -> Result<Bytes, AllocError>
     ensures { IfOk result (λ line. line ≡ count_text copies) }
 {
     let count = CountText { copies };
@@ -79,7 +80,7 @@ fn without_first(alloc: Global, text: &[u8]) -> Result<Bytes, AllocError>
 }
 
 /// The elements of a buffer, a space between two.
-pub(crate) fn elements_line(alloc: Global, buffer: &Buffer) -> Result<Bytes, AllocError>
+pub fn elements_line(alloc: Global, buffer: &Buffer) -> Result<Bytes, AllocError>
     ensures { IfOk result (λ line. line ≡ elements_line buffer.now) }
 {
     let elements = Elements { buffer };
@@ -100,9 +101,35 @@ fn spaced(alloc: Global, words: &Words) -> Result<Vec<u8>, AllocError>
 }
 
 /// The words, a space between two.
-pub(crate) fn words_line(alloc: Global, words: &Words) -> Result<Bytes, AllocError>
+pub fn words_line(alloc: Global, words: &Words) -> Result<Bytes, AllocError>
     ensures { IfOk result (λ line. line ≡ words_line words.now) }
 {
     let text = spaced(alloc, words)?;
     without_first(alloc, &text)
+}
+
+/// `rank R of N`: a rank in a communicator, and the communicator's size.
+pub fn position_line(alloc: Global, rank: usize, size: usize) -> Result<Bytes, AllocError>
+    ensures { IfOk result (λ line. line ≡ position_text rank size) }
+{
+    let position = PositionText { rank, size };
+    let text = format!(in alloc; "{position}")?;
+    Bytes::from_vec(text.into_bytes())
+}
+
+/// The ranks of world of a communicator's members, in order, a space between two.
+pub fn members_line(alloc: Global, ranks: &[u16]) -> Result<Bytes, AllocError>
+    ensures { IfOk result (λ line. line ≡ members_text ranks.now) }
+{
+    let members = MembersText { ranks };
+    let text = format!(in alloc; "{members}")?;
+    Bytes::from_vec(text.into_bytes())
+}
+
+/// How two communicators compare.
+pub fn comparison_line(alloc: Global, comparison: ComparisonText) -> Result<Bytes, AllocError>
+    ensures { IfOk result (λ line. line ≡ comparison_text comparison) }
+{
+    let text = format!(in alloc; "{comparison}")?;
+    Bytes::from_vec(text.into_bytes())
 }

@@ -1,4 +1,4 @@
--- What a script prints.
+-- The lines that the script of a rank prints.
 use Rattle.std.specs.Prelude.{ℕ, List, ◌++◌, ◌∷◌, codes, drop}
 use Rattle.std.specs.List.{flat_map}
 use Rattle.std.specs.Fmt.{decimal}
