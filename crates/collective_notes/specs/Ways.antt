@@ -1,10 +1,10 @@
 -- Which way the messages of a collective go in the form of a star, whose middle is the root, or member 0 where there is no root
--- (MPI 3.1, 5.3 to 5.9 and 6.4.2). All eight kinds are told here; barrier, dup and split are those that a rank enters so far.
-use Rattle.std.specs.Prelude.{ℕ, Bool, ◌==◌, ◌&&◌}
+-- (MPI 3.1, 5.3 to 5.9 and 6.4.2).
+use Rattle.std.specs.Prelude.{ℕ}
 use Rattle.collective_notes.specs.declared.ways.Ways.{Ways}
 use Rattle.collective_notes.specs.declared.ways.Ways.TheVariants.{Inwards, Outwards, Both}
-use Rattle.payload.specs.Codes.{kind_code}
-use Rattle.payload.specs.Spelling.{count_field, elements_of, kind_of, operation_field, root_field, type_code}
+pub use Rattle.payload.specs.Agreement.{is_same_record}
+use Rattle.payload.specs.Spelling.{root_field}
 use Rattle.payload.specs.declared.record.Record.{Record}
 use Rattle.payload.specs.declared.record.Record.TheVariants as records
 
@@ -22,11 +22,3 @@ ways_of records.Split = Both
 -- the rank in the communicator of the member in the middle: the root, and 0 where there is none
 abbrev pub root_of : Record → ℕ
 root_of r = root_field r
-
--- two records agree: kind, root, operation, type and count are the same, by their codes in the format
-abbrev pub is_same_record : Record → Record → Bool
-is_same_record a b =
-    (kind_code (kind_of a) == kind_code (kind_of b)) &&
-    ((root_field a == root_field b) &&
-    ((operation_field a == operation_field b) &&
-    ((type_code (elements_of a) == type_code (elements_of b)) && (count_field (elements_of a) == count_field (elements_of b)))))

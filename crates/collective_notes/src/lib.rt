@@ -7,6 +7,7 @@
 
 mod address;
 mod arriving;
+mod block;
 mod entry;
 mod message;
 mod note;
@@ -17,6 +18,7 @@ mod ways;
 
 pub use address::Address;
 pub use arriving::note_of;
+pub use block::Block;
 pub use entry::{Entry, Inside};
 pub use message::{Given, Message};
 pub use note::{Note, Said};

@@ -97,15 +97,15 @@ impl Note {
     }
 
     /// Whether it speaks of a difference: outright, or by another record.
-    pub fn is_differing(&self, entry: Entry) -> bool
-        ensures { result ≡ is_differing entry self.now }
+    pub fn is_differing(&self, entry: &Entry) -> bool
+        ensures { result ≡ is_differing entry.now self.now }
     {
         self.said.is_difference() || !entry.agrees(self.entered)
     }
 
     /// Whether a difference is found in its record, and not only told.
-    pub fn is_found(&self, entry: Entry) -> bool
-        ensures { result ≡ is_found entry self.now }
+    pub fn is_found(&self, entry: &Entry) -> bool
+        ensures { result ≡ is_found entry.now self.now }
     {
         !self.said.is_difference() && !entry.agrees(self.entered)
     }

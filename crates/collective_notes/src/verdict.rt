@@ -33,15 +33,15 @@ pub fn is_same(first: Endpoint, second: Endpoint) -> bool
 }
 
 /// Whether what is kept of a collective speaks of a difference.
-pub fn differs_in(notes: &[Note], context: u64, number: u32, entry: Entry) -> bool
-    ensures { result ≡ differs_in context number entry notes.now }
+pub fn differs_in(notes: &[Note], context: u64, number: u32, entry: &Entry) -> bool
+    ensures { result ≡ differs_in context number entry.now notes.now }
 {
     notes.iter().any(|note| note.is_of(context, number) && note.is_differing(entry))
 }
 
 /// Whether a difference is found in what is kept of a collective, and not only told.
-pub fn found_in(notes: &[Note], context: u64, number: u32, entry: Entry) -> bool
-    ensures { result ≡ found_in context number entry notes.now }
+pub fn found_in(notes: &[Note], context: u64, number: u32, entry: &Entry) -> bool
+    ensures { result ≡ found_in context number entry.now notes.now }
 {
     notes
         .iter()
@@ -65,8 +65,8 @@ fn is_known(own: Endpoint, notes: &[Note], context: u64, number: u32, member: En
 }
 
 /// Whether all members have entered, as the rank at `own` knows it.
-fn have_entered(own: Endpoint, inside: Inside, notes: &[Note], ranks: &[u16]) -> bool
-    ensures { result ≡ have_entered own inside.incarnation inside.context inside.number notes.now ranks.now }
+fn have_entered(own: Endpoint, inside: &Inside, notes: &[Note], ranks: &[u16]) -> bool
+    ensures { result ≡ have_entered own inside.now.incarnation inside.now.context inside.now.number notes.now ranks.now }
 {
     ranks.iter().all(|rank| {
         let member = Endpoint {
@@ -97,8 +97,14 @@ pub fn is_at(own: Endpoint, incarnation: u16, ranks: &[u16], place: u32) -> bool
 }
 
 /// What the rank in the middle does: where it waits for others it stays until all have entered.
-fn judge_inside(own: Endpoint, inside: Inside, ways: Ways, ranks: &[u16], notes: &[Note]) -> Verdict
-    ensures { result ≡ verdict_inside ways (have_entered own inside.incarnation inside.context inside.number notes.now ranks.now) }
+fn judge_inside(
+    own: Endpoint,
+    inside: &Inside,
+    ways: Ways,
+    ranks: &[u16],
+    notes: &[Note],
+) -> Verdict
+    ensures { result ≡ verdict_inside ways (have_entered own inside.now.incarnation inside.now.context inside.now.number notes.now ranks.now) }
 {
     match ways {
         Ways::Outwards => Verdict::Decides,
@@ -125,10 +131,10 @@ fn judge_outside(ways: Ways, told: Option<usize>) -> Verdict
 /// What the rank at `own` does that is in a collective among these ranks: it leaves with 12 where a note of it speaks of a
 /// difference; in the middle of the star it leaves once all have entered, and elsewhere once it was told with what. Nobody
 /// waits for messages that go the other way alone.
-pub fn judge(own: Endpoint, inside: Inside, ranks: &[u16], notes: &[Note]) -> Verdict
-    ensures { result ≡ verdict own inside ranks.now notes.now }
+pub fn judge(own: Endpoint, inside: &Inside, ranks: &[u16], notes: &[Note]) -> Verdict
+    ensures { result ≡ verdict own inside.now ranks.now notes.now }
 {
-    if differs_in(notes, inside.context, inside.number, inside.entry) {
+    if differs_in(notes, inside.context, inside.number, &inside.entry) {
         return Verdict::Breaks;
     }
     let entered = inside.entry.record();
@@ -149,8 +155,8 @@ fn entry_place(notes: &[Note], context: u64, number: u32, member: Endpoint) -> O
 }
 
 /// What a member asks for in a split, as the rank at `own` knows it.
-pub fn choice_known(own: Endpoint, inside: Inside, notes: &[Note], member: Endpoint) -> Choice
-    ensures { result ≡ choice_known own (own_choice inside.entry) inside.context inside.number notes.now member }
+pub fn choice_known(own: Endpoint, inside: &Inside, notes: &[Note], member: Endpoint) -> Choice
+    ensures { result ≡ choice_known own (own_choice inside.now.entry) inside.now.context inside.now.number notes.now member }
 {
     if is_same(member, own) {
         return inside.entry.choice();

@@ -2,6 +2,8 @@
 #![tactic(auto)]
 
 #[cfg(test)]
+mod data_tests;
+#[cfg(test)]
 mod ranks;
 #[cfg(test)]
 mod refusal_tests;

@@ -7,6 +7,32 @@ use payload::{read_payload, write_payload};
 use std::alloc::Global;
 use vocabulary::Endpoint;
 
+/// With what a collective ends, as a plain value.
+#[derive(Clone, Copy, Debug, PartialEq, Eq)]
+pub(crate) enum End {
+    /// Left, with nothing.
+    Left,
+    /// Left with so many elements, of which these are the first two.
+    Data(usize, [Option<u64>; 2]),
+    /// Left with the communicator at this place, or MPI_COMM_NULL.
+    Comm(Option<usize>),
+    /// Error 11.
+    Replaced,
+    /// Error 12.
+    Mismatch,
+}
+
+/// The plain value of an ending.
+pub(crate) fn end_of(ending: Option<Ending>) -> Option<End> {
+    match ending? {
+        Ending::Left(None) => Some(End::Left),
+        Ending::Left(Some(block)) => Some(End::Data(block.len(), [block.get(0), block.get(1)])),
+        Ending::Comm(place) => Some(End::Comm(place)),
+        Ending::Replaced => Some(End::Replaced),
+        Ending::Mismatch => Some(End::Mismatch),
+    }
+}
+
 /// A rank.
 #[derive(Drop)]
 pub(crate) struct Rank {
@@ -112,9 +138,9 @@ fn enter(
     on_way: &mut Vec<Sent>,
     place: usize,
     entry: Entry,
-) -> Option<Option<Ending>> {
+) -> Option<Option<End>> {
     if rank.collective.fault_of(&rank.contexts, place).is_some()
-        || rank.collective.meets_limit(&rank.contexts, place, entry)
+        || rank.collective.meets_limit(&rank.contexts, place, &entry)
     {
         return None;
     }
@@ -126,14 +152,14 @@ fn enter(
             if !send(rank.alloc, rank.endpoint, ready.messages(), on_way) {
                 return None;
             }
-            Some(rank.collective.enter(&mut rank.contexts, ready))
+            Some(end_of(rank.collective.enter(&mut rank.contexts, ready)))
         }
         Err(_) => None,
     }
 }
 
 /// A message comes to a rank; with what its collective ends by it is answered, where it does.
-fn arrive(rank: &mut Rank, on_way: &mut Vec<Sent>, sent: &Sent) -> Option<Option<Ending>> {
+fn arrive(rank: &mut Rank, on_way: &mut Vec<Sent>, sent: &Sent) -> Option<Option<End>> {
     let Ok(payload) = read_payload(sent.bytes.as_slice()) else {
         return None;
     };
@@ -145,18 +171,14 @@ fn arrive(rank: &mut Rank, on_way: &mut Vec<Sent>, sent: &Sent) -> Option<Option
             if !send(rank.alloc, rank.endpoint, ready.messages(), on_way) {
                 return None;
             }
-            Some(rank.collective.on_message(&mut rank.contexts, ready))
+            Some(end_of(rank.collective.on_message(&mut rank.contexts, ready)))
         }
         Err(_) => None,
     }
 }
 
 /// The message at a place among those on their way comes to its target.
-fn deliver(
-    ranks: &mut [Rank],
-    on_way: &mut Vec<Sent>,
-    place: usize,
-) -> Option<(u16, Option<Ending>)> {
+fn deliver(ranks: &mut [Rank], on_way: &mut Vec<Sent>, place: usize) -> Option<(u16, Option<End>)> {
     if place >= on_way.len() {
         return None;
     }
@@ -182,12 +204,7 @@ fn held_by(rank: &Rank, place: usize, members: &[u16]) -> Option<(u64, bool)> {
 
 impl Job {
     /// A rank enters a collective on the communicator at a place; the ending where it ends at once.
-    pub(crate) fn enter(
-        &mut self,
-        rank: usize,
-        place: usize,
-        entry: Entry,
-    ) -> Option<Option<Ending>> {
+    pub(crate) fn enter(&mut self, rank: usize, place: usize, entry: Entry) -> Option<Option<End>> {
         match self.ranks.get_mut(rank) {
             Some(rank) => enter(rank, &mut self.on_way, place, entry),
             None => None,
@@ -196,7 +213,7 @@ impl Job {
 
     /// The message at a place among those on their way comes to its target: the target, and the ending where its
     /// collective ends by it.
-    pub(crate) fn deliver(&mut self, place: usize) -> Option<(u16, Option<Ending>)> {
+    pub(crate) fn deliver(&mut self, place: usize) -> Option<(u16, Option<End>)> {
         deliver(self.ranks.as_mut_slice(), &mut self.on_way, place)
     }
 

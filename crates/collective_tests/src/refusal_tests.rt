@@ -1,8 +1,7 @@
 //! What refuses an entry or a message, and what ends a collective from outside.
 
-use crate::ranks::{Rank, rank_of};
+use crate::ranks::{End, Rank, end_of, rank_of};
 use collective_notes::{Address, Entry};
-use collectives::Ending;
 use context_agreement::Context;
 use groups::Group;
 use payload::{Choice, Direction, NewGroup, Part, Payload, Record};
@@ -10,24 +9,28 @@ use std::alloc::Global;
 use vocabulary::Endpoint;
 
 /// A split in which all have one colour and one key.
-const SPLIT: Entry = Entry::Split(Choice {
-    colour: Some(0),
-    key: 0,
-});
+fn split() -> Entry {
+    Entry::Split(Choice {
+        colour: Some(0),
+        key: 0,
+    })
+}
 
-/// The number of the rule or limit that entering would meet first, where it would meet one.
+/// The number of the rule that entering would break, or of the limit that it would meet, where there is one.
 fn fault(rank: &Rank, place: usize, entry: Entry) -> Option<u8> {
-    match rank.collective.fault_of(&rank.contexts, place) {
-        Some(refused) => Some(refused.number()),
-        None if rank.collective.meets_limit(&rank.contexts, place, entry) => Some(13),
-        None => None,
+    if let Some(refused) = rank.collective.fault_of(&rank.contexts, place) {
+        return Some(refused.number());
     }
+    if rank.collective.meets_limit(&rank.contexts, place, &entry) {
+        return Some(13);
+    }
+    None
 }
 
 /// The rank enters a collective on world; whether it is in one then.
 fn enter(rank: &mut Rank, entry: Entry) -> bool {
     if rank.collective.fault_of(&rank.contexts, 0).is_some()
-        || rank.collective.meets_limit(&rank.contexts, 0, entry)
+        || rank.collective.meets_limit(&rank.contexts, 0, &entry)
     {
         return false;
     }
@@ -79,7 +82,7 @@ fn fill(rank: &mut Rank) -> (u32, [Option<u8>; 3]) {
     }
     let faults = [
         fault(rank, 0, Entry::Dup),
-        fault(rank, 0, SPLIT),
+        fault(rank, 0, split()),
         fault(rank, 0, Entry::Barrier),
     ];
     (installed, faults)
@@ -92,10 +95,10 @@ fn a_copy_beyond_4096_communicators_is_refused(rt: HostRuntime) {
 }
 
 /// What lessons of a rank at incarnations 0 and 1 end, and whether the rank is in a collective after each.
-fn learn_twice(rank: &mut Rank) -> [(Option<Ending>, bool); 2] {
-    let same = rank.collective.learn(&rank.contexts, 2, 0);
+fn learn_twice(rank: &mut Rank) -> [(Option<End>, bool); 2] {
+    let same = end_of(rank.collective.learn(&rank.contexts, 2, 0));
     let inside = rank.collective.present().is_some();
-    let higher = rank.collective.learn(&rank.contexts, 2, 1);
+    let higher = end_of(rank.collective.learn(&rank.contexts, 2, 1));
     [
         (same, inside),
         (higher, rank.collective.present().is_some()),
@@ -103,14 +106,14 @@ fn learn_twice(rank: &mut Rank) -> [(Option<Ending>, bool); 2] {
 }
 
 /// Whether the rank entered a barrier, and what lessons end then.
-fn learn_inside(rank: &mut Rank) -> (bool, [(Option<Ending>, bool); 2]) {
+fn learn_inside(rank: &mut Rank) -> (bool, [(Option<End>, bool); 2]) {
     (enter(rank, Entry::Barrier), learn_twice(rank))
 }
 
 #[test]
 fn a_lesson_ends_the_collective_of_a_former_member(rt: HostRuntime) {
     let mut rank = rank_of(rt.alloc(), 1, 3).expect(&rt, "a rank");
-    let lessons = [(None, true), (Some(Ending::Replaced), false)];
+    let lessons = [(None, true), (Some(End::Replaced), false)];
     assert_eq!(rt; learn_inside(&mut rank), (true, lessons));
 }
 
@@ -128,12 +131,12 @@ fn address_of(incarnation: u16) -> Address {
 
 /// A message of rank 0 of the first collective on world comes to the rank: the ending of its collective, or the number of the
 /// refusal.
-fn arrive(rank: &mut Rank, payload: Payload<'_>) -> Result<Option<Ending>, u8> {
+fn arrive(rank: &mut Rank, payload: Payload<'_>) -> Result<Option<End>, u8> {
     match rank
         .collective
         .prepare_message(&mut rank.contexts, None, address_of(0), payload)
     {
-        Ok(ready) => Ok(rank.collective.on_message(&mut rank.contexts, ready)),
+        Ok(ready) => Ok(end_of(rank.collective.on_message(&mut rank.contexts, ready))),
         Err(refused) => Err(refused.number()),
     }
 }
@@ -147,8 +150,8 @@ fn group_of(ranks: &[u8]) -> Payload<'_> {
 }
 
 /// What the rank answers, in a split, to a group that names it twice, and to one that does not.
-fn told_of_groups(rank: &mut Rank) -> (bool, [Result<Option<Ending>, u8>; 2]) {
-    let inside = enter(rank, SPLIT);
+fn told_of_groups(rank: &mut Rank) -> (bool, [Result<Option<End>, u8>; 2]) {
+    let inside = enter(rank, split());
     let twice = arrive(rank, group_of(&[0, 1, 0, 1]));
     (inside, [twice, arrive(rank, group_of(&[0, 1, 0, 0]))])
 }
@@ -156,7 +159,7 @@ fn told_of_groups(rank: &mut Rank) -> (bool, [Result<Option<Ending>, u8>; 2]) {
 #[test]
 fn a_group_with_a_rank_twice_is_dropped(rt: HostRuntime) {
     let mut rank = rank_of(rt.alloc(), 1, 3).expect(&rt, "a rank");
-    let answers = [Ok(None), Ok(Some(Ending::Comm(Some(2))))];
+    let answers = [Ok(None), Ok(Some(End::Comm(Some(2))))];
     assert_eq!(rt; told_of_groups(&mut rank), (true, answers));
 }
 
@@ -169,7 +172,7 @@ fn all_have_entered() -> Payload<'static> {
 }
 
 /// What the rank answers, in a barrier, to a message whose part is of another collective, and to the one that ends it.
-fn told_of_parts(rank: &mut Rank) -> (bool, [Result<Option<Ending>, u8>; 2]) {
+fn told_of_parts(rank: &mut Rank) -> (bool, [Result<Option<End>, u8>; 2]) {
     let inside = enter(rank, Entry::Barrier);
     let context = Payload {
         entered: Record::Barrier,
@@ -184,13 +187,13 @@ fn told_of_parts(rank: &mut Rank) -> (bool, [Result<Option<Ending>, u8>; 2]) {
 #[test]
 fn a_part_of_another_record_is_refused(rt: HostRuntime) {
     let mut rank = rank_of(rt.alloc(), 1, 3).expect(&rt, "a rank");
-    let answers = [Err(30), Ok(Some(Ending::Left))];
+    let answers = [Err(30), Ok(Some(End::Left))];
     assert_eq!(rt; told_of_parts(&mut rank), (true, answers));
 }
 
 /// What ends the rank's barrier, where the message that would end it comes from rank 0 started anew: the lesson, and then the
 /// message.
-fn told_by_replaced(rank: &mut Rank) -> Option<[Option<Ending>; 2]> {
+fn told_by_replaced(rank: &mut Rank) -> Option<[Option<End>; 2]> {
     if !enter(rank, Entry::Barrier) {
         return None;
     }
@@ -202,10 +205,10 @@ fn told_by_replaced(rank: &mut Rank) -> Option<[Option<Ending>; 2]> {
         all_have_entered(),
     ) {
         Ok(ready) => {
-            let lesson = rank.collective.learn(&rank.contexts, 0, 1);
+            let lesson = end_of(rank.collective.learn(&rank.contexts, 0, 1));
             Some([
                 lesson,
-                rank.collective.on_message(&mut rank.contexts, ready),
+                end_of(rank.collective.on_message(&mut rank.contexts, ready)),
             ])
         }
         Err(_) => None,
@@ -217,6 +220,6 @@ fn a_message_is_judged_after_its_lesson(rt: HostRuntime) {
     let mut rank = rank_of(rt.alloc(), 1, 3).expect(&rt, "a rank");
     assert_eq!(rt;
         told_by_replaced(&mut rank),
-        Some([Some(Ending::Replaced), None])
+        Some([Some(End::Replaced), None])
     );
 }

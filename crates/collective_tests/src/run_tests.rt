@@ -1,22 +1,23 @@
 //! Collectives that end for all of their members.
 
-use crate::ranks::{Job, job_of};
+use crate::ranks::{End, Job, job_of};
 use collective_notes::Entry;
-use collectives::Ending;
 use payload::Choice;
 
 /// What a message answers: its target, and the ending of the target's collective.
-type Delivered = (u16, Option<Ending>);
+type Delivered = (u16, Option<End>);
 
 /// Ranks 1, 2 and 0 enter in this order, with the messages delivered before the last one enters.
 fn enter_in_turn(
     job: &mut Job,
-    entry: Entry,
-) -> Option<([Option<Ending>; 3], [Delivered; 2], [Delivered; 2])> {
-    let first = job.enter(1, 0, entry)?;
-    let second = job.enter(2, 0, entry)?;
+    of_1: Entry,
+    of_2: Entry,
+    of_0: Entry,
+) -> Option<([Option<End>; 3], [Delivered; 2], [Delivered; 2])> {
+    let first = job.enter(1, 0, of_1)?;
+    let second = job.enter(2, 0, of_2)?;
     let towards = [job.deliver(0)?, job.deliver(0)?];
-    let third = job.enter(0, 0, entry)?;
+    let third = job.enter(0, 0, of_0)?;
     Some((
         [first, second, third],
         towards,
@@ -27,9 +28,9 @@ fn enter_in_turn(
 #[test]
 fn three_ranks_leave_a_barrier(rt: HostRuntime) {
     let mut job = job_of(rt.alloc(), 3).expect(&rt, "a job");
-    let left = Some(Ending::Left);
+    let left = Some(End::Left);
     assert_eq!(rt;
-        enter_in_turn(&mut job, Entry::Barrier),
+        enter_in_turn(&mut job, Entry::Barrier, Entry::Barrier, Entry::Barrier),
         Some((
             [None, None, left],
             [(0, None), (0, None)],
@@ -39,8 +40,8 @@ fn three_ranks_leave_a_barrier(rt: HostRuntime) {
 }
 
 /// Three ranks copy world: how that ends, and what each holds then.
-fn copied(job: &mut Job) -> Option<(Option<Ending>, [Delivered; 2], [Option<(u64, bool)>; 3])> {
-    let (entered, _, told) = enter_in_turn(job, Entry::Dup)?;
+fn copied(job: &mut Job) -> Option<(Option<End>, [Delivered; 2], [Option<(u64, bool)>; 3])> {
+    let (entered, _, told) = enter_in_turn(job, Entry::Dup, Entry::Dup, Entry::Dup)?;
     let world = [0, 1, 2];
     let held = [
         job.held(0, 2, &world),
@@ -53,7 +54,7 @@ fn copied(job: &mut Job) -> Option<(Option<Ending>, [Delivered; 2], [Option<(u64
 #[test]
 fn a_copy_has_one_context_and_the_same_members(rt: HostRuntime) {
     let mut job = job_of(rt.alloc(), 3).expect(&rt, "a job");
-    let made = Some(Ending::Comm(Some(2)));
+    let made = Some(End::Comm(Some(2)));
     assert_eq!(rt;
         copied(&mut job),
         Some((made, [(1, made), (2, made)], [Some((2, true)); 3]))
@@ -68,7 +69,7 @@ fn split(colour: Option<u32>, key: i32) -> Entry {
 /// Four ranks split world, one of them without a colour: how that ends for each, and what each holds then.
 fn split_by_colour(
     job: &mut Job,
-) -> Option<(Option<Ending>, [Delivered; 3], [Option<(u64, bool)>; 4])> {
+) -> Option<(Option<End>, [Delivered; 3], [Option<(u64, bool)>; 4])> {
     job.enter(1, 0, split(Some(0), 0))?;
     job.enter(2, 0, split(None, 0))?;
     job.enter(3, 0, split(Some(1), -1))?;
@@ -89,8 +90,8 @@ fn split_by_colour(
 #[test]
 fn a_split_makes_one_communicator_a_colour(rt: HostRuntime) {
     let mut job = job_of(rt.alloc(), 4).expect(&rt, "a job");
-    let made = Some(Ending::Comm(Some(2)));
-    let told = [(1, made), (2, Some(Ending::Comm(None))), (3, made)];
+    let made = Some(End::Comm(Some(2)));
+    let told = [(1, made), (2, Some(End::Comm(None))), (3, made)];
     let held = [Some((3, true)), Some((2, true)), None, Some((3, true))];
     assert_eq!(rt; split_by_colour(&mut job), Some((made, told, held)));
 }
@@ -112,7 +113,7 @@ fn difference(job: &mut Job) -> Option<([Delivered; 4], usize)> {
 #[test]
 fn a_difference_ends_the_collective_of_all(rt: HostRuntime) {
     let mut job = job_of(rt.alloc(), 3).expect(&rt, "a job");
-    let differs = Some(Ending::Mismatch);
+    let differs = Some(End::Mismatch);
     assert_eq!(rt;
         difference(&mut job),
         Some(([(0, differs), (0, None), (1, differs), (2, differs)], 0))
@@ -121,7 +122,7 @@ fn a_difference_ends_the_collective_of_all(rt: HostRuntime) {
 
 /// Member 0 of a new communicator is told of an entry there before it is told of the communicator: what it answers then, how
 /// the split and its own entry end, and how the entry ends that came early.
-fn early_context(job: &mut Job) -> Option<([Delivered; 2], Option<Ending>, Delivered)> {
+fn early_context(job: &mut Job) -> Option<([Delivered; 2], Option<End>, Delivered)> {
     job.enter(1, 0, split(Some(0), 0))?;
     job.deliver(0)?;
     job.enter(0, 0, split(Some(0), 1))?;
@@ -134,14 +135,14 @@ fn early_context(job: &mut Job) -> Option<([Delivered; 2], Option<Ending>, Deliv
 #[test]
 fn a_message_before_its_context_is_kept(rt: HostRuntime) {
     let mut job = job_of(rt.alloc(), 2).expect(&rt, "a job");
-    let left = Some(Ending::Left);
-    let told = [(1, None), (1, Some(Ending::Comm(Some(2))))];
+    let left = Some(End::Left);
+    let told = [(1, None), (1, Some(End::Comm(Some(2))))];
     assert_eq!(rt; early_context(&mut job), Some((told, left, (0, left))));
 }
 
 /// Rank 2 is told of a difference in the second collective before it has left the first: what it answers to that, and to the
 /// message that ends the first one, and how its entry of the second one ends.
-fn early_number(job: &mut Job) -> Option<([Delivered; 2], Option<Ending>)> {
+fn early_number(job: &mut Job) -> Option<([Delivered; 2], Option<End>)> {
     job.enter(1, 0, Entry::Barrier)?;
     job.enter(2, 0, Entry::Barrier)?;
     job.deliver(0)?;
@@ -158,9 +159,6 @@ fn early_number(job: &mut Job) -> Option<([Delivered; 2], Option<Ending>)> {
 #[test]
 fn a_message_of_the_next_collective_is_kept(rt: HostRuntime) {
     let mut job = job_of(rt.alloc(), 3).expect(&rt, "a job");
-    let told = [(2, None), (2, Some(Ending::Left))];
-    assert_eq!(rt;
-        early_number(&mut job),
-        Some((told, Some(Ending::Mismatch)))
-    );
+    let told = [(2, None), (2, Some(End::Left))];
+    assert_eq!(rt; early_number(&mut job), Some((told, Some(End::Mismatch))));
 }

@@ -1,15 +1,16 @@
 -- Lemmas on what was made ready, told of the state before room was made.
 use Rattle.std.proofs.Common.{◌≡◌, Bool, true, false, List, refl, sym, subst, Option, Some, None, Result, Ok, Err, IfOk, if◌then◌else◌}
 use Rattle.collective_notes.specs.Arrivals.{ArrivalGives}
-use Rattle.collectives.specs.Calls.{IsReady, MessageRefused, is_ended, kept_with, met, note_kept}
+use Rattle.collectives.specs.Calls.{IsReady, MessageRefused, is_ended, kept_with, learned, met, note_kept}
 use Rattle.collectives.specs.State.{State}
-use Rattle.collectives.specs.Steps.{IsPrepared, IsRefusal}
+use Rattle.collective_steps.specs.Steps.{IsPrepared, IsRefusal}
 use Rattle.collective_notes.specs.declared.address.Address.{Address}
 use Rattle.collectives.specs.declared.collective.ReadyMessage.{ReadyMessage}
 use Rattle.collective_notes.specs.declared.entry.Inside.{Inside}
 use Rattle.collective_notes.specs.declared.note.Note.{Note}
 use Rattle.collective_notes.specs.declared.refused.Refused.{Refused}
 use Rattle.collective_notes.specs.declared.refused.Refused.TheVariants.{NoCommunicator, Blocked, Limit, OutOfMemory, BadFrame}
+use Rattle.collective_notes.specs.declared.tally.Tally.{Tally}
 use Rattle.context_agreement.specs.Communicators.{ContextsState}
 use Rattle.payload.specs.Spelling.{PartFits, PayloadText}
 use Rattle.vocabulary.specs.declared.endpoint.Endpoint.{Endpoint}
@@ -25,19 +26,22 @@ pub entry_at : (P : Endpoint → Inside → ContextsState → List Note → Type
 entry_at P o p i j k h ns ms a b c d is =
     subst (λ x. P x j h ms) a (subst (λ x. P o x h ms) b (subst (λ (x : ContextsState). P o i x ms) c (subst (λ (x : List Note). P o i k x) d is)))
 
--- and of one message
-pub message_at : (P : Endpoint → Option Inside → ContextsState → List Note → Option Note → Type 0) (o p : Endpoint) (i j : Option Inside) (k h : ContextsState)
-    (ns ms : List Note) (n m : Option Note) → o ≡ p → i ≡ j → k ≡ h → ns ≡ ms → n ≡ m → P o i k ns n → P p j h ms m
-message_at P o p i j k h ns ms n m a b c d e is =
-    subst (λ x. P x j h ms m) a (subst (λ (x : Option Inside). P o x h ms m) b (subst (λ (x : ContextsState). P o i x ms m) c
-    (subst (λ (x : List Note). P o i k x m) d (subst (λ (x : Option Note). P o i k ns x) e is))))
+-- what is so of the fields that a message is judged by is so of the state
+pub fields_at : (P : Endpoint → List Tally → Option Inside → ContextsState → List Note → Type 0) (o p : Endpoint) (ts us : List Tally) (i j : Option Inside)
+    (k h : ContextsState) (ns ms : List Note) → o ≡ p → ts ≡ us → i ≡ j → k ≡ h → ns ≡ ms → P o ts i k ns → P p us j h ms
+fields_at P o p ts us i j k h ns ms a b c d e is =
+    subst (λ x. P x us j h ms) a (subst (λ (x : List Tally). P o x j h ms) b (subst (λ (x : Option Inside). P o ts x h ms) c
+    (subst (λ (x : ContextsState). P o ts i x ms) d (subst (λ (x : List Note). P o ts i k x) e is))))
 
 -- a lesson changes the present collective alone
 pub with_present : (s : State) (h : ContextsState) (lesson : Option Endpoint) → record s { present = (met s h lesson).present } ≡ met s h lesson
-with_present s h None = refl
-with_present s h (Some source) = by (is_ended source.rank source.incarnation h s.present)
+with_present s h lesson = refl
+
+-- what a message is judged by is what the rank keeps once the lesson is learnt
+pub met_is_learned : (s : State) (h : ContextsState) (source : Endpoint) → met s h (Some source) ≡ learned s h source.rank source.incarnation
+met_is_learned s h source = by (is_ended source.rank source.incarnation h s.present)
   where
-    by : (t : Bool) → record s { present = (if t then record s { present = None } else s).present } ≡ (if t then record s { present = None } else s)
+    by : (t : Bool) → record s { present = (if t then None else s.present) } ≡ (if t then record s { present = None } else s)
     by true = refl
     by false = refl
 

@@ -4,8 +4,8 @@ use Rattle.std.specs.List.{list_any}
 use Rattle.collective_notes.specs.Arrivals.{ArrivalGives}
 use Rattle.collective_notes.specs.Entering.{is_making}
 use Rattle.collective_notes.specs.Notes.{member_at}
-use Rattle.collectives.specs.State.{State, is_left, members_incarnation, noted, ranks_at}
-use Rattle.collectives.specs.Steps.{IsPrepared, IsPreparedEntry, IsRefusal, MeetsLimit, Prepared, after_step, contexts_after, ending_of}
+use Rattle.collectives.specs.State.{State, after_step, members_incarnation, noted, was_left}
+use Rattle.collective_steps.specs.Steps.{IsPrepared, IsPreparedEntry, IsRefusal, MeetsLimit, Prepared, contexts_after, ending_of, ranks_at}
 use Rattle.collective_notes.specs.Tallies.{count_in, raised}
 use Rattle.collective_notes.specs.Verdicts.{is_first}
 use Rattle.collective_notes.specs.declared.address.Address.{Address}
@@ -16,8 +16,8 @@ use Rattle.collective_notes.specs.declared.note.Note.{Note}
 use Rattle.collective_notes.specs.declared.refused.Refused.{Refused}
 use Rattle.collective_notes.specs.declared.refused.Refused.TheVariants as refusals
 use Rattle.collective_notes.specs.declared.tally.Tally.{Tally}
-use Rattle.collectives.specs.declared.step.Ending.{Ending}
-use Rattle.collectives.specs.declared.step.Ending.TheVariants.{Replaced}
+use Rattle.collective_steps.specs.declared.step.Ending.{Ending}
+use Rattle.collective_steps.specs.declared.step.Ending.TheVariants.{Replaced}
 use Rattle.context_agreement.specs.Communicators.{ContextsState}
 use Rattle.context_agreement.specs.Numbers.{number_of}
 use Rattle.context_agreement.specs.declared.communicator.Communicator.{Communicator}
@@ -124,10 +124,14 @@ lesson_ending s h r incarnation = if is_ended r incarnation h s.present then Som
 
 -- ---- messages
 
+-- the collective that a message is judged by
+abbrev pub present_met : Option Inside → ContextsState → (lesson : Option Endpoint) → Option Inside
+present_met present h None = present
+present_met present h (Some source) = if is_ended source.rank source.incarnation h present then None else present
+
 -- what a message is judged by: what the rank keeps once the lesson is learnt that the message teaches, if any
 abbrev pub met : State → ContextsState → (lesson : Option Endpoint) → State
-met s h None = s
-met s h (Some source) = learned s h source.rank source.incarnation
+met s h lesson = record s { present = present_met s.present h lesson }
 
 -- what a message that came answers and leaves
 abbrev pub MessageGives : State → ContextsState → Note → Result (Option Ending × Prepared) Refused → State → ContextsState → Type 0
@@ -141,10 +145,14 @@ MessageGives s h n (Err refusals.Limit) t k =
     (step : Prepared) × IsPrepared s.own (noted s n).present h (noted s n).kept step × MeetsLimit h step × (t ≡ s) × (k ≡ h)
 MessageGives s h n (Err _) t k = ⊥
 
--- what is kept of what came: nothing where its collective was left
+-- what is kept of what came, by how many were entered and the one that the rank is in: nothing where its collective was left
+abbrev pub kept_note : List Tally → Option Inside → Option Note → Option Note
+kept_note tallies present None = None
+kept_note tallies present (Some n) = if was_left tallies present n then None else Some n
+
+-- the same by what the rank keeps
 abbrev pub note_kept : State → Option Note → Option Note
-note_kept s None = None
-note_kept s (Some n) = if is_left s n then None else Some n
+note_kept s note = kept_note s.tallies s.present note
 
 -- one more note behind the others, or none
 abbrev pub kept_with : List Note → Option Note → List Note

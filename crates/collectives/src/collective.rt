@@ -3,15 +3,16 @@
 //! Each event goes in two steps, so that what carries messages may refuse it in between: what it needs is made ready, which
 //! changes nothing but room, and then it is carried out, which can't fail.
 
-ghost use Rattle.std.specs.Prelude.{◌≡◌, ◌<◌, ◌≤◌, ◌+◌, ◌^◌, [], if◌then◌else◌, is_some, vec_len, vec_capacity};
-ghost use Rattle.collectives.specs.Calls.{entered, entry_rule, inside_of, is_ended, kept_with, learned, lesson_ending, limit_at, met, most_collectives, with_note};
+ghost use Rattle.std.specs.Prelude.{◌≡◌, ◌<◌, ◌≤◌, ◌+◌, ◌^◌, [], if◌then◌else◌, vec_len, vec_capacity};
+ghost use Rattle.std.specs.Option.{option_copied};
+ghost use Rattle.collectives.specs.Calls.{entered, entry_rule, inside_of, is_ended, kept_with, learned, lesson_ending, limit_at, most_collectives, present_met, with_note};
 ghost use Rattle.collective_notes.specs.Tallies.{count_in};
-ghost use Rattle.collectives.specs.State.{is_left, opening};
-ghost use Rattle.collectives.specs.Steps.{MeetsLimit, after_step, contexts_after, ending_of, left};
+ghost use Rattle.collectives.specs.State.{after_step, left, opening, was_left};
+ghost use Rattle.collective_steps.specs.Steps.{MeetsLimit, contexts_after, ending_of};
 
 use crate::limits::{has_former, is_limited, members_incarnation};
-use crate::step::{Ending, Outcome, Step};
 use collective_notes::{Entry, Inside, Note, Refused, Tally, count_in, drop_notes, raise};
+use collective_steps::{Ending, Outcome, Step};
 use context_agreement::Contexts;
 use std::alloc::Global;
 use std::marker::Model;
@@ -38,6 +39,15 @@ impl Model for Collective {
       more_tallies = vec_capacity c.tallies - vec_len c.tallies;
       more_notes = vec_capacity c.kept - vec_len c.kept;
     } };
+}
+
+/// An entry that was refused: what was handed in, and why.
+#[derive(Debug, Drop)]
+pub struct RefusedEntry {
+    /// What the rank would have entered with.
+    pub entry: Entry,
+    /// Why it was refused.
+    pub refused: Refused,
 }
 
 /// An entry that was made ready.
@@ -76,10 +86,10 @@ impl Collective {
     }
 
     /// The collective that the rank is in.
-    pub fn present(&self) -> Option<Inside>
-        ensures { result ≡ self.now.state.present }
+    pub fn present(&self) -> Option<&Inside>
+        ensures { option_copied result ≡ self.now.state.present }
     {
-        self.present
+        self.present.as_ref()
     }
 
     /// The first rule that entering would break now, of 6 (the rank is in a collective) and 4 (no communicator is held at the
@@ -102,8 +112,8 @@ impl Collective {
     /// Whether entering a collective of the communicator at a place meets a limit (13): 2,147,483,647 collectives were entered
     /// on it; for a copy or a split 4,096 communicators are held, or at member 0 fewer contexts are left to give than there
     /// are members. Where no communicator is held at the place it meets none. It takes no memory.
-    pub fn meets_limit(&self, contexts: &Contexts, place: usize, entry: Entry) -> bool
-        ensures { result ≡ limit_at self.now.state contexts.now.state place entry }
+    pub fn meets_limit(&self, contexts: &Contexts, place: usize, entry: &Entry) -> bool
+        ensures { result ≡ limit_at self.now.state contexts.now.state place entry.now }
     {
         match contexts.communicator(place) {
             Some(communicator) => is_limited(
@@ -149,44 +159,6 @@ impl Collective {
         self.take(contexts, ready.step)
     }
 
-    /// The collective that the rank is in once a lesson is learnt: a message is judged by it, since the lesson that it teaches
-    /// comes first.
-    pub(crate) fn met(&self, contexts: &Contexts, lesson: Option<Endpoint>) -> Option<Inside>
-        ensures { result ≡ (met self.now.state contexts.now.state lesson).present }
-    {
-        let Some(source) = lesson else {
-            return self.present;
-        };
-        if self.is_ended(contexts, source.rank, source.incarnation) {
-            return None;
-        }
-        self.present
-    }
-
-    /// Whether a lesson ends the collective that the rank is in: it has a former one of the rank among its members.
-    fn is_ended(&self, contexts: &Contexts, rank: u16, incarnation: u16) -> bool
-        ensures { result ≡ is_ended rank incarnation contexts.now.state self.now.state.present }
-    {
-        let Some(inside) = self.present else {
-            return false;
-        };
-        let Some(communicator) = contexts.communicator(inside.place) else {
-            return false;
-        };
-        has_former(rank, incarnation, inside, communicator.group.ranks())
-    }
-
-    /// Whether a note is of a collective that was left, where the rank is in this one.
-    pub(crate) fn is_left(&self, present: Option<Inside>, note: &Note) -> bool
-        ensures { result ≡ is_left (record self.now.state { present = present }) note.now }
-    {
-        let is_present = match present {
-            Some(inside) => note.is_of(inside.context, inside.number),
-            None => false,
-        };
-        note.number < count_in(&self.tallies, note.context) && !is_present
-    }
-
     /// Takes the message in: nothing can fail. The ending is answered where the present collective is left by it.
     pub fn on_message(&mut self, contexts: &mut Contexts, ready: ReadyMessage) -> Option<Ending>
         requires room { 0 < self.old.more_notes }
@@ -209,18 +181,18 @@ impl Collective {
         ensures ending { result ≡ ending_of contexts.old.state step.outcome }
     {
         let ending = take_contexts(contexts, step.outcome, step.drawn);
-        self.leave_by(ending);
+        self.leave_if(ending.is_some());
         ending
     }
 
     /// The rank leaves the collective that it is in where that ends: what it was told of it is dropped.
-    fn leave_by(&mut self, ending: Option<Ending>)
-        ensures { self.new.state ≡ (if is_some ending then left self.old.state else self.old.state) }
+    fn leave_if(&mut self, ends: bool)
+        ensures { self.new.state ≡ (if ends then left self.old.state else self.old.state) }
     {
-        if ending.is_none() {
+        if !ends {
             return;
         }
-        if let Some(inside) = self.present {
+        if let Some(inside) = &self.present {
             drop_notes(&mut self.kept, inside.context, inside.number);
         }
         self.present = None;
@@ -233,12 +205,54 @@ impl Collective {
         ensures room { (self.new.more_tallies ≡ self.old.more_tallies) × (self.new.more_notes ≡ self.old.more_notes) }
         ensures ending { result ≡ lesson_ending self.old.state contexts.now.state rank incarnation }
     {
-        if !self.is_ended(contexts, rank, incarnation) {
+        if !is_ended(&self.present, contexts, rank, incarnation) {
             return None;
         }
         self.present = None;
         Some(Ending::Replaced)
     }
+}
+
+/// The collective that the rank is in once a lesson is learnt: a message is judged by it, since the lesson that it teaches comes
+/// first.
+pub(crate) fn met<'a>(
+    present: &'a Option<Inside>,
+    contexts: &Contexts,
+    lesson: Option<Endpoint>,
+) -> Option<&'a Inside>
+    ensures { option_copied result ≡ present_met present.now contexts.now.state lesson }
+{
+    let Some(source) = lesson else {
+        return present.as_ref();
+    };
+    if is_ended(present, contexts, source.rank, source.incarnation) {
+        return None;
+    }
+    present.as_ref()
+}
+
+/// Whether a lesson ends the collective that the rank is in: it has a former one of the rank among its members.
+fn is_ended(present: &Option<Inside>, contexts: &Contexts, rank: u16, incarnation: u16) -> bool
+    ensures { result ≡ is_ended rank incarnation contexts.now.state present.now }
+{
+    let Some(inside) = present else {
+        return false;
+    };
+    let Some(communicator) = contexts.communicator(inside.place) else {
+        return false;
+    };
+    has_former(rank, incarnation, inside, communicator.group.ranks())
+}
+
+/// Whether a note is of a collective that was left, where the rank is in this one, or in none.
+pub(crate) fn is_left(tallies: &[Tally], present: Option<&Inside>, note: &Note) -> bool
+    ensures { result ≡ was_left tallies.now (option_copied present.entry) note.now }
+{
+    let is_present = match present {
+        Some(inside) => note.is_of(inside.context, inside.number),
+        None => false,
+    };
+    note.number < count_in(tallies, note.context) && !is_present
 }
 
 /// One more note is kept, or none; there is room for it.
@@ -262,9 +276,9 @@ fn take_contexts(contexts: &mut Contexts, outcome: Outcome, drawn: u64) -> Optio
     match outcome {
         Outcome::Stays => None,
         Outcome::Breaks => Some(Ending::Mismatch),
-        Outcome::Leaves => {
+        Outcome::Leaves(block) => {
             contexts.draw(drawn);
-            Some(Ending::Left)
+            Some(Ending::Left(block))
         }
         Outcome::GetsNull => {
             contexts.draw(drawn);

@@ -1,139 +1,21 @@
 //! Entries and messages made ready: all growths are made, and nothing else changes.
 
-ghost use Rattle.std.specs.Prelude.{◌≡◌, ◌<◌, ◌≤◌, ◌+◌, ◌++◌, false, All, None, ◌↔◌, Err, IfErr, IfOk, IsOkUnless, IsTrue, List, Ok, OnOk, Option, Some, length, vec_len, vec_capacity};
-ghost use Rattle.std.specs.Option.{option_to_list};
-ghost use Rattle.collectives.specs.Calls.{IsReady, MessageRefused, entry_rule, inside_of, kept_with, limit_at, met, most_collectives, note_kept};
-ghost use Rattle.collectives.specs.State.{ranks_at};
+ghost use Rattle.std.specs.Prelude.{◌≡◌, ◌<◌, ◌≤◌, ◌+◌, false, All, Err, IfErr, IfOk, IsOkUnless, List, None, Ok, OnOk, Option, length, vec_len, vec_capacity};
+ghost use Rattle.std.specs.Option.{option_copied};
+ghost use Rattle.collectives.specs.Calls.{IsReady, MessageRefused, entry_rule, inside_of, kept_note, kept_with, limit_at, met, most_collectives, present_met};
 ghost use Rattle.collective_notes.specs.Messages.{IsFitting};
 ghost use Rattle.collective_notes.specs.Tallies.{count_in};
 ghost use Rattle.payload.specs.Spelling.{payload_text};
-ghost use Rattle.collectives.specs.Steps.{IsPrepared, IsPreparedEntry, IsRefusal, LacksFor, MeetsLimit, entry_messages};
+ghost use Rattle.collective_steps.specs.Steps.{IsPrepared, IsPreparedEntry, IsRefusal, MeetsLimit};
 ghost use Rattle.collective_notes.specs.declared.note.Note as notes;
 
-use crate::collective::{Collective, ReadyEntry, ReadyMessage, keep};
-use crate::prepare::{carried_out, untouched};
-use crate::step::{Outcome, Step};
-use crate::telling::entry_message;
-use collective_notes::{Address, Entry, Inside, Message, Note, Refused, note_of};
+use crate::collective::{Collective, ReadyEntry, ReadyMessage, RefusedEntry, is_left, keep, met};
+use collective_notes::{Address, Entry, Inside, Message, Note, Refused, Tally, note_of};
+use collective_steps::{Step, entry_step, prepared};
 use context_agreement::Contexts;
 use payload::Payload;
 use std::alloc::Global;
 use vocabulary::Endpoint;
-
-/// What the rank at `own` does of itself now, where enough contexts are left.
-fn unlimited(
-    alloc: Global,
-    own: Endpoint,
-    present: Option<Inside>,
-    contexts: &Contexts,
-    kept: &[Note],
-) -> Result<Step, Refused>
-    ensures step { IfOk result (IsPrepared own present contexts.now.state kept.now) }
-    ensures err { IfErr result (LacksFor contexts.now.state (IsPrepared own present contexts.now.state kept.now)) }
-{
-    let Some(inside) = present else {
-        return Ok(untouched(alloc, Outcome::Stays));
-    };
-    match contexts.communicator(inside.place) {
-        Some(communicator) => carried_out(alloc, own, inside, contexts, &communicator.group, kept),
-        None => Ok(untouched(alloc, Outcome::Stays)),
-    }
-}
-
-/// Whether a step meets a limit: its communicator can't be held, or fewer contexts are left than it gives.
-fn meets_limit(contexts: &Contexts, step: &Step) -> bool
-    ensures { IsTrue result ↔ MeetsLimit contexts.now.state step.now }
-{
-    if contexts.serials_left() < step.drawn {
-        return true;
-    }
-    match step.outcome {
-        Outcome::Gets(_) => contexts.is_full(),
-        Outcome::Stays | Outcome::Breaks | Outcome::Leaves | Outcome::GetsNull => false,
-    }
-}
-
-/// A step that meets no limit.
-fn within_limits(contexts: &Contexts, step: Step) -> Result<Step, Refused>
-    ensures ok { IfOk result (λ same. same ≡ step) }
-    ensures within { OnOk result (MeetsLimit contexts.now.state step → ⊥) }
-    ensures err { IfErr result (λ refused. (refused ≡ Refused.Limit) × MeetsLimit contexts.now.state step) }
-{
-    if meets_limit(contexts, &step) {
-        return Err(Refused::Limit);
-    }
-    Ok(step)
-}
-
-/// What the rank at `own` does of itself now, where that meets no limit.
-pub(crate) fn prepared(
-    alloc: Global,
-    own: Endpoint,
-    present: Option<Inside>,
-    contexts: &Contexts,
-    kept: &[Note],
-) -> Result<Step, Refused>
-    ensures step { IfOk result (IsPrepared own present contexts.now.state kept.now) }
-    ensures within { IfOk result (λ step. MeetsLimit contexts.now.state step → ⊥) }
-    ensures err { IfErr result (IsRefusal contexts.now.state (IsPrepared own present contexts.now.state kept.now)) }
-{
-    match unlimited(alloc, own, present, contexts, kept) {
-        Ok(step) => within_limits(contexts, step),
-        Err(refused) => Err(refused),
-    }
-}
-
-/// A step that tells this message before all others.
-fn with_first(step: Step, first: Option<Message>) -> Result<Step, Refused>
-    ensures ok { IfOk result (λ told. told ≡ record step { messages = option_to_list first ++ step.messages }) }
-    ensures err { IsOkUnless result Refused.OutOfMemory }
-{
-    let Some(first) = first else {
-        return Ok(step);
-    };
-    let Step {
-        outcome,
-        drawn,
-        mut messages,
-    } = step;
-    if messages.insert(0, first).is_err() {
-        return Err(Refused::OutOfMemory);
-    }
-    Ok(Step {
-        outcome,
-        drawn,
-        messages,
-    })
-}
-
-/// What is told to member 0 on entering.
-fn told_first(own: Endpoint, inside: Inside, contexts: &Contexts, kept: &[Note]) -> Option<Message>
-    ensures { option_to_list result ≡ entry_messages own inside (ranks_at contexts.now.state inside.place) kept.now }
-{
-    match contexts.communicator(inside.place) {
-        Some(communicator) => entry_message(own, inside, communicator.group.ranks(), kept),
-        None => None,
-    }
-}
-
-/// What the rank does on entering: what it does of itself, and before it member 0 is told.
-pub(crate) fn entry_step(
-    alloc: Global,
-    own: Endpoint,
-    inside: Inside,
-    contexts: &Contexts,
-    kept: &[Note],
-) -> Result<Step, Refused>
-    ensures step { IfOk result (IsPreparedEntry own inside contexts.now.state kept.now) }
-    ensures within { IfOk result (λ step. MeetsLimit contexts.now.state step → ⊥) }
-    ensures err { IfErr result (IsRefusal contexts.now.state (IsPreparedEntry own inside contexts.now.state kept.now)) }
-{
-    let first = told_first(own, inside, contexts, kept);
-    match prepared(alloc, own, Some(inside), contexts, kept) {
-        Ok(step) => with_first(step, first),
-        Err(refused) => Err(refused),
-    }
-}
 
 /// Takes the note back that stands behind so many others, where there is one.
 fn take_back(kept: &mut Vec<Note>, count: usize) -> Option<Note>
@@ -164,16 +46,16 @@ fn ready_message(
 pub(crate) fn prepared_with(
     alloc: Global,
     own: Endpoint,
-    present: Option<Inside>,
+    present: Option<&Inside>,
     contexts: &Contexts,
     kept: &mut Vec<Note>,
     note: Option<Note>,
 ) -> Result<ReadyMessage, Refused>
     requires { vec_len kept.old + 1 ≤ vec_capacity kept.old }
     ensures note { IfOk result (λ ready. ready.note ≡ note) }
-    ensures step { IfOk result (λ ready. IsPrepared own present contexts.now.state (kept_with kept.old.items note) ready.step) }
+    ensures step { IfOk result (λ ready. IsPrepared own (option_copied present.entry) contexts.now.state (kept_with kept.old.items note) ready.step) }
     ensures within { IfOk result (λ ready. MeetsLimit contexts.now.state ready.step → ⊥) }
-    ensures err { IfErr result (IsRefusal contexts.now.state (IsPrepared own present contexts.now.state (kept_with kept.old.items note))) }
+    ensures err { IfErr result (IsRefusal contexts.now.state (IsPrepared own (option_copied present.entry) contexts.now.state (kept_with kept.old.items note))) }
     ensures kept { kept.new.items ≡ kept.old.items }
     ensures capacity { vec_capacity kept.old ≤ vec_capacity kept.new }
 {
@@ -209,6 +91,13 @@ fn hold_one_more(contexts: &mut Contexts) -> Result<(), Refused>
 }
 
 impl ReadyEntry {
+    /// What would have been entered with, where it isn't entered after all.
+    pub fn into_entry(self) -> Entry
+        ensures { result ≡ self.inside.entry }
+    {
+        self.inside.entry
+    }
+
     /// What goes out, in order: each to another member.
     pub fn messages(&self) -> &[Message]
         ensures { result.now ≡ self.now.step.messages }
@@ -229,14 +118,14 @@ impl ReadyMessage {
 impl Collective {
     /// Makes ready the entry of a collective that breaks no rule. Nothing changes but room.
     ///
-    /// Refused is want of memory (14), and 13 where what the rank then gets can't be held or given. That no member is known at
-    /// another incarnation (11) is the caller's to see to.
+    /// Refused is want of memory (14), and 13 where what the rank then gets can't be held or given; what was handed in comes
+    /// back. That no member is known at another incarnation (11) is the caller's to see to.
     pub fn prepare_entry(
         &mut self,
         contexts: &mut Contexts,
         place: usize,
         entry: Entry,
-    ) -> Result<ReadyEntry, Refused>
+    ) -> Result<ReadyEntry, RefusedEntry>
         requires rule { entry_rule self.old.state contexts.old.state place ≡ None }
         requires limit { limit_at self.old.state contexts.old.state place entry ≡ false }
         ensures inside { IfOk result (λ ready. ready.inside ≡ inside_of self.old.state contexts.old.state place entry) }
@@ -244,34 +133,24 @@ impl Collective {
         ensures fits { IfOk result (λ ready. All IsFitting ready.step.messages) }
         ensures within { IfOk result (λ ready. MeetsLimit contexts.old.state ready.step → ⊥) }
         ensures number { OnOk result (count_in self.old.state.tallies (inside_of self.old.state contexts.old.state place entry).context < most_collectives) }
-        ensures err { IfErr result (IsRefusal contexts.old.state (IsPreparedEntry self.old.state.own (inside_of self.old.state contexts.old.state place entry) contexts.old.state self.old.state.kept)) }
+        ensures err { IfErr result (λ back. IsRefusal contexts.old.state (IsPreparedEntry self.old.state.own (inside_of self.old.state contexts.old.state place entry) contexts.old.state self.old.state.kept) back.refused) }
+        ensures handed { IfErr result (λ back. back.entry ≡ entry) }
         ensures room { OnOk result (0 < self.new.more_tallies) }
         ensures held { OnOk result (0 < contexts.new.more) }
         ensures kept { self.new.state ≡ self.old.state }
         ensures contexts { contexts.new.state ≡ contexts.old.state }
     {
         if make_room(&mut self.tallies).is_err() || hold_one_more(contexts).is_err() {
-            return Err(Refused::OutOfMemory);
+            let refused = Refused::OutOfMemory;
+            return Err(RefusedEntry { entry, refused });
         }
         let inside = self.inside_of(contexts, place, entry);
-        match entry_step(self.alloc, self.own, inside, contexts, &self.kept) {
+        match entry_step(self.alloc, self.own, &inside, contexts, &self.kept) {
             Ok(step) => Ok(ReadyEntry { inside, step }),
-            Err(refused) => Err(refused),
-        }
-    }
-
-    /// What is kept of what came: nothing where its collective was left.
-    fn kept_of(&self, present: Option<Inside>, arrived: Option<Note>) -> Option<Note>
-        ensures { result ≡ note_kept (record self.now.state { present = present }) arrived }
-    {
-        match arrived {
-            Some(note) => {
-                if self.is_left(present, &note) {
-                    return None;
-                }
-                Some(note)
-            }
-            None => None,
+            Err(refused) => Err(RefusedEntry {
+                entry: inside.entry,
+                refused,
+            }),
         }
     }
 
@@ -302,20 +181,57 @@ impl Collective {
         if make_room(&mut self.kept).is_err() || hold_one_more(contexts).is_err() {
             return Err(Refused::OutOfMemory);
         }
-        let present = self.met(contexts, lesson);
         match note_of(self.alloc, address, payload) {
-            Ok(arrived) => {
-                let note = self.kept_of(present, arrived);
-                prepared_with(
-                    self.alloc,
-                    self.own,
-                    present,
-                    contexts,
-                    &mut self.kept,
-                    note,
-                )
-            }
+            Ok(arrived) => prepared_for(
+                self.alloc,
+                self.own,
+                &self.tallies,
+                &self.present,
+                contexts,
+                lesson,
+                &mut self.kept,
+                arrived,
+            ),
             Err(refused) => Err(refused),
         }
     }
+}
+
+/// What is kept of what came: nothing where its collective was left.
+fn kept_of(tallies: &[Tally], present: Option<&Inside>, arrived: Option<Note>) -> Option<Note>
+    ensures { result ≡ kept_note tallies.now (option_copied present.entry) arrived }
+{
+    match arrived {
+        Some(note) => {
+            if is_left(tallies, present, &note) {
+                return None;
+            }
+            Some(note)
+        }
+        None => None,
+    }
+}
+
+/// What the rank does of itself once a lesson is learnt, if any, and it keeps what came, for which there is room.
+fn prepared_for(
+    alloc: Global,
+    own: Endpoint,
+    tallies: &[Tally],
+    present: &Option<Inside>,
+    contexts: &Contexts,
+    lesson: Option<Endpoint>,
+    kept: &mut Vec<Note>,
+    arrived: Option<Note>,
+) -> Result<ReadyMessage, Refused>
+    requires { vec_len kept.old + 1 ≤ vec_capacity kept.old }
+    ensures note { IfOk result (λ ready. ready.note ≡ kept_note tallies.now (present_met present.now contexts.now.state lesson) arrived) }
+    ensures step { IfOk result (λ ready. IsPrepared own (present_met present.now contexts.now.state lesson) contexts.now.state (kept_with kept.old.items (kept_note tallies.now (present_met present.now contexts.now.state lesson) arrived)) ready.step) }
+    ensures within { IfOk result (λ ready. MeetsLimit contexts.now.state ready.step → ⊥) }
+    ensures err { IfErr result (IsRefusal contexts.now.state (IsPrepared own (present_met present.now contexts.now.state lesson) contexts.now.state (kept_with kept.old.items (kept_note tallies.now (present_met present.now contexts.now.state lesson) arrived)))) }
+    ensures kept { kept.new.items ≡ kept.old.items }
+    ensures capacity { vec_capacity kept.old ≤ vec_capacity kept.new }
+{
+    let present = met(present, contexts, lesson);
+    let note = kept_of(tallies, present, arrived);
+    prepared_with(alloc, own, present, contexts, kept, note)
 }

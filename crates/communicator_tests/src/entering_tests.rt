@@ -1,7 +1,7 @@
 //! Entries of collectives, messages of others, and lessons.
 
-use crate::ranks::{SPLIT, Step, TURNED, arrive, enter, rank_of};
-use communicators::{Communicators, Ending, Entry, Fault};
+use crate::ranks::{End, Step, TURNED, arrive, end_of, enter, rank_of, split};
+use communicators::{Communicators, Entry, Fault};
 use payload::{Direction, Part, Payload, Record};
 
 /// What a barrier of the rank alone and a copy of its communicator give, and whether it holds the copy.
@@ -13,10 +13,7 @@ fn enter_alone(rank: &mut Communicators) -> ([Step; 2], bool) {
 #[test]
 fn collectives_of_self_are_left_at_once(rt: HostRuntime) {
     let mut rank = rank_of(rt.alloc(), 1, 2).expect(&rt, "a rank");
-    let steps = [
-        Ok((0, Some(Ending::Left))),
-        Ok((0, Some(Ending::Comm(Some(2))))),
-    ];
+    let steps = [Ok((0, Some(End::Left))), Ok((0, Some(End::Comm(Some(2)))))];
     assert_eq!(rt; enter_alone(&mut rank), (steps, true));
 }
 
@@ -36,9 +33,9 @@ fn enter_and_hear(
 #[test]
 fn a_message_ends_a_split(rt: HostRuntime) {
     let mut rank = rank_of(rt.alloc(), 1, 2).expect(&rt, "a rank");
-    let steps = [Ok((1, None)), Ok((0, Some(Ending::Comm(Some(2)))))];
+    let steps = [Ok((1, None)), Ok((0, Some(End::Comm(Some(2)))))];
     assert_eq!(rt;
-        enter_and_hear(&mut rank, SPLIT, TURNED),
+        enter_and_hear(&mut rank, split(), TURNED),
         (steps, [false, true, false])
     );
 }
@@ -59,16 +56,16 @@ fn a_part_of_another_record_is_refused(rt: HostRuntime) {
 
 /// What a barrier on world gives, what a lesson of rank 0 at incarnations 0 and 1 ends, and whether the rank is in the barrier
 /// then.
-fn learn_inside(rank: &mut Communicators) -> (Step, [Option<Ending>; 2], bool) {
+fn learn_inside(rank: &mut Communicators) -> (Step, [Option<End>; 2], bool) {
     let entered = enter(rank, 0, Entry::Barrier);
-    let lessons = [rank.learn(0, 0), rank.learn(0, 1)];
+    let lessons = [end_of(rank.learn(0, 0)), end_of(rank.learn(0, 1))];
     (entered, lessons, rank.is_inside())
 }
 
 #[test]
 fn a_lesson_ends_the_collective_of_a_former_member(rt: HostRuntime) {
     let mut rank = rank_of(rt.alloc(), 1, 2).expect(&rt, "a rank");
-    let lessons = [None, Some(Ending::Replaced)];
+    let lessons = [None, Some(End::Replaced)];
     assert_eq!(rt; learn_inside(&mut rank), (Ok((1, None)), lessons, false));
 }
 
@@ -81,7 +78,7 @@ const ALL_HAVE_ENTERED: Payload<'static> = Payload {
 #[test]
 fn a_record_that_differs_ends_the_collective_and_is_told(rt: HostRuntime) {
     let mut rank = rank_of(rt.alloc(), 1, 2).expect(&rt, "a rank");
-    let steps = [Ok((1, None)), Ok((1, Some(Ending::Mismatch)))];
+    let steps = [Ok((1, None)), Ok((1, Some(End::Mismatch)))];
     assert_eq!(rt;
         enter_and_hear(&mut rank, Entry::Dup, ALL_HAVE_ENTERED),
         (steps, [false, true, false])
@@ -97,8 +94,8 @@ fn fill(rank: &mut Communicators) -> (u32, [Option<Fault>; 2]) {
         }
     }
     let faults = [
-        rank.fault_of_entry(false, &[], Some(1), Entry::Dup),
-        rank.fault_of_entry(false, &[], Some(1), Entry::Barrier),
+        rank.fault_of_entry(false, &[], Some(1), &Entry::Dup),
+        rank.fault_of_entry(false, &[], Some(1), &Entry::Barrier),
     ];
     (made, faults)
 }

@@ -5,14 +5,39 @@ use payload::{Choice, NewGroup, Part, Payload, Record};
 use std::alloc::Global;
 use vocabulary::Endpoint;
 
+/// With what a collective ends, as a plain value.
+#[derive(Clone, Copy, Debug, PartialEq, Eq)]
+pub(crate) enum End {
+    /// Left.
+    Left,
+    /// Left with the communicator at this place, or MPI_COMM_NULL.
+    Comm(Option<usize>),
+    /// Error 11.
+    Replaced,
+    /// Error 12.
+    Mismatch,
+}
+
+/// The plain value of an ending.
+pub(crate) fn end_of(ending: Option<Ending>) -> Option<End> {
+    match ending? {
+        Ending::Left(_) => Some(End::Left),
+        Ending::Comm(place) => Some(End::Comm(place)),
+        Ending::Replaced => Some(End::Replaced),
+        Ending::Mismatch => Some(End::Mismatch),
+    }
+}
+
 /// How many messages go out, and the ending of the collective that the rank leaves; or the number of the refusal.
-pub(crate) type Step = Result<(usize, Option<Ending>), u8>;
+pub(crate) type Step = Result<(usize, Option<End>), u8>;
 
 /// A split in which all have one colour and one key.
-pub(crate) const SPLIT: Entry = Entry::Split(Choice {
-    colour: Some(0),
-    key: 0,
-});
+pub(crate) fn split() -> Entry {
+    Entry::Split(Choice {
+        colour: Some(0),
+        key: 0,
+    })
+}
 
 /// The message by which a split gives the communicator of ranks 1 and 0 of world, in this order.
 pub(crate) const TURNED: Payload<'static> = Payload {
@@ -35,7 +60,7 @@ pub(crate) fn rank_of(alloc: Global, rank: u16, size: u16) -> Option<Communicato
 /// The rank enters a collective of the communicator at a place, where no rank is known to be replaced.
 #[tactic(auto, using(crate::proofs::Entering::entry_allowed))]
 pub(crate) fn enter(rank: &mut Communicators, place: usize, entry: Entry) -> Step {
-    if let Some(fault) = rank.fault_of_entry(false, &[], Some(place), entry) {
+    if let Some(fault) = rank.fault_of_entry(false, &[], Some(place), &entry) {
         return Err(fault.number());
     }
     // An entry that breaks no rule can be made ready.
@@ -43,9 +68,9 @@ pub(crate) fn enter(rank: &mut Communicators, place: usize, entry: Entry) -> Ste
     match rank.prepare_entry(place, entry) {
         Ok(ready) => {
             let told = ready.messages().len();
-            Ok((told, rank.enter(ready)))
+            Ok((told, end_of(rank.enter(ready))))
         }
-        Err(refused) => Err(refused.number()),
+        Err(back) => Err(back.refused.number()),
     }
 }
 
@@ -62,7 +87,7 @@ pub(crate) fn arrive(rank: &mut Communicators, payload: Payload<'_>) -> Step {
     match rank.prepare_message(None, address, payload) {
         Ok(ready) => {
             let told = ready.messages().len();
-            Ok((told, rank.on_message(ready)))
+            Ok((told, end_of(rank.on_message(ready))))
         }
         Err(refused) => Err(refused.number()),
     }
@@ -70,5 +95,5 @@ pub(crate) fn arrive(rank: &mut Communicators, payload: Payload<'_>) -> Step {
 
 /// Rank 1 of two gets the communicator of ranks 1 and 0 at place 2; whether it did.
 pub(crate) fn turn(rank: &mut Communicators) -> bool {
-    enter(rank, 0, SPLIT).is_ok() && arrive(rank, TURNED).is_ok() && !rank.lacks(Some(2))
+    enter(rank, 0, split()).is_ok() && arrive(rank, TURNED).is_ok() && !rank.lacks(Some(2))
 }

@@ -72,7 +72,7 @@ fn a_replaced_member_counts_off_world_and_in_collectives(rt: HostRuntime) {
 
 /// What a barrier on world breaks where rank 0 is known at this incarnation.
 fn barrier(rank: &Communicators, is_blocked: bool, incarnation: u16) -> Option<Fault> {
-    rank.fault_of_entry(is_blocked, &[incarnation, 0], Some(0), Entry::Barrier)
+    rank.fault_of_entry(is_blocked, &[incarnation, 0], Some(0), &Entry::Barrier)
 }
 
 /// What an entry breaks: blocked on requests, with no communicator, with a member that was replaced, and with none of these; and
@@ -80,7 +80,7 @@ fn barrier(rank: &Communicators, is_blocked: bool, incarnation: u16) -> Option<F
 fn entries(rank: &mut Communicators) -> ([Option<Fault>; 4], bool, Option<Fault>) {
     let faults = [
         barrier(rank, true, 1),
-        rank.fault_of_entry(false, &[1, 0], Some(2), Entry::Dup),
+        rank.fault_of_entry(false, &[1, 0], Some(2), &Entry::Dup),
         barrier(rank, false, 1),
         barrier(rank, false, 0),
     ];

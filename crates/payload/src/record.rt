@@ -1,6 +1,7 @@
 //! Records: what a member entered.
 
 ghost use Rattle.std.specs.Prelude.{◌≡◌, ◌<◌, ◌^◌};
+ghost use Rattle.payload.specs.Agreement.{is_same_record};
 ghost use Rattle.payload.specs.Spelling.{kind_of, elements_of, operation_field, root_field, type_code, count_field, RecordIsWithin};
 
 use crate::kind::Kind;
@@ -108,6 +109,17 @@ impl Record {
             Some(elements) => elements.basic.code(),
             None => 0,
         }
+    }
+
+    /// Whether two records agree: in kind, root, operation, type and count.
+    pub fn agrees(self, other: Record) -> bool
+        ensures { result ≡ is_same_record self other }
+    {
+        self.kind().code() == other.kind().code()
+            && self.root_field() == other.root_field()
+            && self.operation_code() == other.operation_code()
+            && self.type_code() == other.type_code()
+            && self.count_field() == other.count_field()
     }
 
     /// How many elements there are, 0 where there are none.

@@ -3,10 +3,11 @@ use Rattle.std.proofs.Common.{◌≡◌, ℕ, Bool, true, false, List, [], ◌�
 use Rattle.std.specs.List.{list_any}
 use Rattle.collectives.specs.Calls.{has_former, is_ended}
 use Rattle.collective_notes.specs.Notes.{member_at}
-use Rattle.collectives.specs.State.{State, members_incarnation, ranks_of}
+use Rattle.collectives.specs.State.{State, members_incarnation}
+use Rattle.collective_steps.specs.Steps.{ranks_of}
 use Rattle.collective_notes.specs.declared.entry.Inside.{Inside}
-use Rattle.collectives.specs.declared.step.Ending.{Ending}
-use Rattle.collectives.specs.declared.step.Ending.TheVariants as endings
+use Rattle.collective_steps.specs.declared.step.Ending.{Ending}
+use Rattle.collective_steps.specs.declared.step.Ending.TheVariants as endings
 use Rattle.context_agreement.specs.Communicators.{ContextsState}
 use Rattle.context_agreement.specs.Numbers.{number_of}
 use Rattle.context_agreement.specs.declared.communicator.Communicator as held
@@ -25,7 +26,7 @@ use Rattle.vocabulary.specs.declared.endpoint.Endpoint.{Endpoint}
 settled_present : (e : Endpoint) (h : ContextsState) (given : Option Ending) (i : Option Inside) (p : Option Present) → HasEnded e h given i p → IsPresent e h i (answered_present p)
 settled_present e h None None p b = ap answered_present b
 settled_present e h None (Some i) p b =
-    record { comm = b.comm; at_place = b.at_place; context = b.context; incarnation = b.incarnation; own = b.own; is = ap answered_present b.is }
+    record { comm = b.comm; at_place = b.at_place; context = b.context; incarnation = b.incarnation; own = b.own; once = b.once; hands = b.hands; is = ap answered_present b.is }
 settled_present e h (Some x) i p b = subst (λ (o : Option Inside). IsPresent e h o (answered_present p)) (sym b.0) (ap answered_present b.1)
 
 pub events_settle : EventsSettle
@@ -111,5 +112,7 @@ lessons_follow e s h m None r i b = go s.present refl b.present
               context = p.context;
               incarnation = p.incarnation;
               own = p.own;
+              once = p.once;
+              hands = p.hands;
               is = learnt ∙ ap (λ (v : Bool). if v then Some (Out (Failed replaced)) else Some (Within (communicator_of e p.comm) j.number (part_of j.entry))) q;
             }))

@@ -1,24 +1,25 @@
 -- A message: it is kept as in the network, and the member does of itself what follows; and what is kept is what was sent.
-use Rattle.std.proofs.Common.{◌≡◌, ℕ, ◌<◌, Bool, true, false, not, ◌&&◌, List, [], ◌∷◌, ◌++◌, map, Option, Some, None, Ok, ◌⊎◌, inl, inr, option_map, is_some, if◌then◌else◌, ◌==◌, nat_lt, pos, refl, sym, ap, ◌∙◌, subst, arith}
+use Rattle.std.proofs.Common.{◌≡◌, ℕ, ◌<◌, Bool, true, false, not, ◌&&◌, List, [], ◌∷◌, ◌++◌, map, Option, Some, None, Ok, ◌⊎◌, inl, inr, option_map, ◌/◌, if◌then◌else◌, ◌==◌, nat_lt, pos, refl, sym, ap, ◌∙◌, subst, arith}
+use Rattle.std.proofs.Math.Nat.{mul-div_cancel}
 use Rattle.std.proofs.lemmas.Option.{same_Some}
 use Rattle.collective_notes.specs.Arrivals.{ArrivalGives, note_of, ranks_in, said_of}
 use Rattle.collectives.specs.Calls.{MessageGives, note_kept, with_note}
 use Rattle.collective_notes.specs.Messages.{IsWithinType, part_said}
 use Rattle.collective_notes.specs.Notes.{member_at}
-use Rattle.collectives.specs.State.{State, is_left, is_of_present, members_incarnation}
+use Rattle.collectives.specs.State.{State, after_step, is_left, is_of_present, members_incarnation}
 use Rattle.collectives.specs.State as state
-use Rattle.collectives.specs.Steps.{IsPrepared, after_step, contexts_after, ending_of}
+use Rattle.collective_steps.specs.Steps.{IsPrepared, contexts_after, ending_of}
 use Rattle.collective_notes.specs.declared.entry.Inside.{Inside}
 use Rattle.collective_notes.specs.declared.message.Given.{Given}
 use Rattle.collective_notes.specs.declared.message.Given.TheVariants as given
 use Rattle.collective_notes.specs.declared.note.Note.{Note}
 use Rattle.collective_notes.specs.declared.note.Said.{Said}
 use Rattle.collective_notes.specs.declared.note.Said.TheVariants as said
-use Rattle.collectives.specs.declared.step.Ending.{Ending}
+use Rattle.collective_steps.specs.declared.step.Ending.{Ending}
 use Rattle.context_agreement.specs.Communicators.{ContextsState}
-use Rattle.datatypes.specs.Contents.{AreWithin, bytes_of, values_of}
-use Rattle.datatypes.specs.ContentLaws.{values_of-bytes_of}
-use Rattle.payload.specs.Spelling.{PartFits, elements_of}
+use Rattle.datatypes.specs.Contents.{AreWithin, Contents, bytes_of, values_of}
+use Rattle.datatypes.specs.ContentLaws.{length-values_of, values_of-bytes_of}
+use Rattle.payload.specs.Spelling.{AreElements, PartFits, elements_of}
 use Rattle.payload.specs.declared.payload.Direction.TheVariants.{FromRoot, TowardsRoot}
 use Rattle.payload.specs.declared.record.Elements.{Elements}
 use Rattle.payload.specs.declared.record.Record as payload
@@ -26,7 +27,7 @@ use Rattle.perfect_groups.specs.Membership.{Present}
 use Rattle.proof_collective_steps.proofs.Carried.{attempt_follows}
 use Rattle.proof_group_network.proofs.SplitPlans.{flipped}
 use Rattle.proof_collective_steps.proofs.KeptNotes.{noted_more}
-use Rattle.proof_collective_steps.specs.Counterparts.{AreSaid, IsNoted, IsSaid, SaidFits, StandsFor, members_of, record_of}
+use Rattle.proof_collective_steps.specs.Counterparts.{AreAsSaid, AreSaid, IsNoted, IsSaid, SaidFits, StandsFor, members_of, record_of}
 use Rattle.proof_collective_steps.specs.Shown.{HasEnded, IsShown, or_given}
 use Rattle.proof_group_network.specs.Copies.{CopiesHaveTheirGroup}
 use Rattle.proof_collective_steps.specs.StepLaws.{MessagesArrive, MessagesFollow, ReadyMessagesGive}
@@ -123,6 +124,16 @@ arrived e d target c k r g x n st s is made stands fits =
 values_back : (b : BasicType) (t : BasicType) (vs : List ℕ) → t ≡ b → AreWithin (size_of b) vs → values_of (size_of t) (bytes_of (size_of b) vs) ≡ vs
 values_back b t vs q w = ap (λ (z : BasicType). values_of (size_of z) (bytes_of (size_of b) vs)) q ∙ values_of-bytes_of (size_of b) vs (size_some b) w
 
+-- the elements that come are as many as the record says
+as_said : (r : payload.Record) (b : Contents) (t : Elements) → elements_of r ≡ Some t → AreElements (elements_of r) (bytes_of (size_of b.basic) b.values) →
+    AreAsSaid (elements_of r) (record { basic = t.basic; values = values_of (size_of t.basic) (bytes_of (size_of b.basic) b.values) })
+as_said r b t is fits =
+    subst (λ (o : Option Elements). AreAsSaid o (record { basic = t.basic; values = values_of (size_of t.basic) (bytes_of (size_of b.basic) b.values) })) (sym is) (
+      refl,
+      length-values_of (size_of t.basic) (bytes_of (size_of b.basic) b.values)
+          ∙ (ap (λ n. n / size_of t.basic) (subst (λ (o : Option Elements). AreElements o (bytes_of (size_of b.basic) b.values)) is fits) ∙ mul-div_cancel t.count (size_some t.basic)),
+    )
+
 arrive : (e d : Endpoint) (target : Endpoint) (c k : ℕ) (r : payload.Record) (g : Given) (x : Endpoint × Notice) (n : Note) → e.incarnation ≡ d.incarnation →
     IsSaid e (record { target = target; context = c; number = k; entered = r; given = g }) x → IsWithinType g → PartFits r (part_said g) →
     note_of e c k (record { record_is = r; part = part_said g }) ≡ Some n → IsNoted d n (record { sender = e; notice = x.1 })
@@ -138,7 +149,7 @@ arrive e d target c k r (given.Elements TowardsRoot b) x n inc st w fits made = 
         (ap (λ (o : Option Elements). option_map (λ e. said.Elements TowardsRoot (record { basic = e.basic; values = values_of (size_of e.basic) (bytes_of (size_of b.basic) b.values) })) o) q) made
         (st.stands.1 ∙ ap (λ (vs : List ℕ). HasEntered (record { record_is = record_of r; values = vs; colour = None; key = pos 0 }))
         (sym (values_back b.basic t.basic b.values (same_Some _ _ (sym (ap (λ (o : Option Elements). option_map (λ t. t.basic) o) q) ∙ st.stands.0)) w)))
-        (ap (λ (o : Option Elements). is_some o) q)
+        (as_said r b t q fits)
 arrive e d target c k r (given.Elements FromRoot b) x n inc st w fits made = go (elements_of r) refl
   where
     go : (o : Option Elements) → elements_of r ≡ o → IsNoted d n (record { sender = e; notice = x.1 })
@@ -148,7 +159,7 @@ arrive e d target c k r (given.Elements FromRoot b) x n inc st w fits made = go 
         (ap (λ (o : Option Elements). option_map (λ e. said.Elements FromRoot (record { basic = e.basic; values = values_of (size_of e.basic) (bytes_of (size_of b.basic) b.values) })) o) q) made
         (st.stands.1 ∙ ap (λ (vs : List ℕ). HasResult (record_of r) (Some vs))
         (sym (values_back b.basic t.basic b.values (same_Some _ _ (sym (ap (λ (o : Option Elements). option_map (λ t. t.basic) o) q) ∙ st.stands.0)) w)))
-        (ap (λ (o : Option Elements). is_some o) q)
+        (as_said r b t q fits)
 arrive e d target c k r (given.Context number) x n inc st w fits made = arrived e d target c k r (given.Context number) x n st (said.Context number) refl made st.stands fits
 arrive e d target c k r (given.Choice a) x n inc st w fits made = arrived e d target c k r (given.Choice a) x n st (said.Choice a) refl made st.stands fits
 arrive e d target c k r given.NullCommunicator x n inc st w fits made = arrived e d target c k r given.NullCommunicator x n st said.NullCommunicator refl made st.stands fits

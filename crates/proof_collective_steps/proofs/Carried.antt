@@ -1,30 +1,31 @@
 -- What a rank does by its verdict is what its member does.
-use Rattle.std.proofs.Common.{◌≡◌, ℕ, suc, ◌+◌, ◌*◌, ◌^◌, ◌≤◌, Bool, true, false, cond, ◌&&◌, ◌||◌, List, [], ◌∷◌, ◌++◌, length, map, Option, Some, None, if◌then◌else◌, ◌==◌, slice_index_or, option_map, is_some, inl, inr, refl, sym, ap, ◌∙◌, subst, arith}
+use Rattle.std.proofs.Common.{◌≡◌, ℕ, suc, ◌+◌, ◌*◌, ◌^◌, ◌≤◌, Bool, true, false, cond, ◌&&◌, ◌||◌, List, [], ◌∷◌, length, map, Option, Some, None, if◌then◌else◌, ◌==◌, slice_index_or, option_map, inl, inr, refl, sym, ap, ◌∙◌, subst, arith}
 use Rattle.std.specs.List.{AllByRecursion, list_any}
 use Rattle.std.proofs.lemmas.Bool.{eq-eqb, eqb-true}
-use Rattle.std.proofs.lemmas.List.{length-map, map-append}
+use Rattle.std.proofs.lemmas.List.{length-map}
+use Rattle.collective_blocks.specs.Operations.{op_of}
 use Rattle.std.proofs.Math.ListN.{get_or-map}
 use Rattle.collective_notes.specs.Entering as entering
 use Rattle.collective_notes.specs.Entering.{agrees}
 use Rattle.collective_notes.specs.Notes as notes
 use Rattle.collective_notes.specs.Notes.{is_result, member_at}
-use Rattle.collectives.specs.State.{State, members_incarnation}
-use Rattle.collectives.specs.Steps as steps
-use Rattle.collectives.specs.Steps.{HasHeard, IsCarriedOut, IsHeard, IsPrepared, IsPreparedIn, Prepared, after_step, contexts_after, copy_step, barrier_step, difference_messages, ending_of, given_of, group_of_part, kept_after, left, made_by, message_to, no_step, outcome_of, split_step}
-use Rattle.collective_notes.specs.Verdicts.{is_first}
+use Rattle.collectives.specs.State.{State, after_step, members_incarnation}
+use Rattle.collective_steps.specs.Steps as steps
+use Rattle.collective_steps.specs.Steps.{HasHeard, IsCarriedOut, IsHeard, IsPrepared, IsPreparedIn, Prepared, contexts_after, difference_messages, ending_of, given_of, group_of_part, made_by, message_to, outcome_of}
+use Rattle.collective_notes.specs.Verdicts.{is_at, is_first}
 use Rattle.collective_notes.specs.Verdicts as verdicts
 use Rattle.collective_notes.specs.declared.entry.Entry.{Entry}
 use Rattle.collective_notes.specs.declared.entry.Entry.TheVariants as entries
 use Rattle.collective_notes.specs.declared.entry.Inside.{Inside}
-use Rattle.collective_notes.specs.declared.message.Given.{Given}
 use Rattle.collective_notes.specs.declared.message.Given.TheVariants as given
+use Rattle.collective_notes.specs.declared.ways.Ways.TheVariants.{Both}
 use Rattle.collective_notes.specs.declared.note.Note.{Note}
 use Rattle.collective_notes.specs.declared.note.Said.{Said}
 use Rattle.collective_notes.specs.declared.note.Said.TheVariants as said
-use Rattle.collectives.specs.declared.step.Ending as ended
-use Rattle.collectives.specs.declared.step.Ending.TheVariants as endings
-use Rattle.collectives.specs.declared.step.Outcome.{Outcome}
-use Rattle.collectives.specs.declared.step.Outcome.TheVariants as outcomes
+use Rattle.collective_steps.specs.declared.step.Ending as ended
+use Rattle.collective_steps.specs.declared.step.Ending.TheVariants as endings
+use Rattle.collective_steps.specs.declared.step.Outcome.{Outcome}
+use Rattle.collective_steps.specs.declared.step.Outcome.TheVariants as outcomes
 use Rattle.collective_notes.specs.declared.verdict.Verdict.{Verdict}
 use Rattle.collective_notes.specs.declared.verdict.Verdict.TheVariants as code
 use Rattle.context_agreement.specs.Communicators.{ContextsState, coming_context}
@@ -33,98 +34,42 @@ use Rattle.context_agreement.specs.Parts.{SplitPart}
 use Rattle.context_agreement.specs.Splits.{IsSplitPlan}
 use Rattle.context_agreement.specs.declared.communicator.Communicator as held
 use Rattle.groups.specs.Groups as groups
-use Rattle.payload.specs.Spelling.{elements_of}
+use Rattle.groups.specs.Groups.{HasNoRepeats}
 use Rattle.payload.specs.declared.payload.Direction.TheVariants.{FromRoot, TowardsRoot}
 use Rattle.payload.specs.declared.record.Record as payload
 use Rattle.payload.specs.declared.record.Record.TheVariants as records
 use Rattle.perfect_groups.specs.Collectives.{Part, bare_part, barrier, dup, split}
 use Rattle.perfect_groups.specs.Communicators.{Communicator, context_number}
 use Rattle.perfect_groups.specs.Machine.{mismatch}
-use Rattle.perfect_groups.specs.Membership.{Comm, Failed, Inside as Within, Left, Membership, Out, Present, got, mine, numbered}
-use Rattle.perfect_groups.specs.Results.{new_groups}
-use Rattle.proof_collective_steps.proofs.KeptNotes.{GroupIs, found_same, without_same}
-use Rattle.proof_collective_steps.proofs.Verdicts.{Alike, DecidesIs, here, verdicts_alike}
-use Rattle.proof_collective_steps.specs.Counterparts.{AreNoted, AreSaid, GivenStandsFor, IsSaid, SaidFits, StandsFor, communicator_of, members_of, part_of, record_of}
-use Rattle.proof_collective_steps.specs.Shown.{IsPresent, IsShown, ending_is, or_given}
+use Rattle.perfect_groups.specs.Membership.{Failed, Inside as Within, Out, Present, got, mine, numbered}
+use Rattle.perfect_groups.specs.Operations.{combined_by}
+use Rattle.perfect_groups.specs.Results.{gathered, new_groups, reduced}
+use Rattle.proof_collective_steps.proofs.Agreement.{entered_same}
+use Rattle.proof_collective_steps.proofs.KeptNotes.{GroupIs, PartsAre, found_same}
+use Rattle.proof_collective_steps.proofs.Verdicts.{Alike, DecidesBy, DecidesIs, here, verdicts_alike}
+use Rattle.proof_collective_steps.specs.Counterparts.{AreSaid, GivenStandsFor, HandsIn, IsSaid, SaidFits, StandsFor, communicator_of, members_of, part_of, record_of}
+use Rattle.proof_collective_steps.specs.Shown.{IsPresent, IsShown, or_given}
 use Rattle.proof_group_network.specs.Copies.{CopiesHaveTheirGroup}
 use Rattle.proof_group_network.proofs.SortedOnce.{IsIn, all_more, all_there}
 use Rattle.proof_group_network.proofs.SplitPlans.{flipped}
 use Rattle.proof_group_network.proofs.SplitPlans.{splits_follow}
 use Rattle.proof_group_network.specs.Notices as network
-use Rattle.proof_group_network.specs.Notices.{HasDifference, HasMade, HasResult, Member, MemberEffect, Notice, attempt, attempt_in, carried_out, differences_to, left_by, notice, tells_difference}
+use Rattle.proof_group_network.specs.Notices.{HasDifference, HasMade, HasResult, Member, attempt, attempt_in, carried_out, differences_to, left_by, notice, tells_difference}
 use Rattle.proof_group_network.specs.Splits.{members_of_part}
 use Rattle.vocabulary.specs.Endpoints.{is_same}
 use Rattle.vocabulary.specs.declared.endpoint.Endpoint.{Endpoint}
-
--- LEAVING
-
--- what a step leaves and tells is what the member's effect does
-abbrev pub Follows : Endpoint → State → ContextsState → Prepared → MemberEffect → Type 0
-Follows e s h step eff =
-    IsShown e (after_step s step.outcome) (contexts_after h step.drawn step.outcome) eff.member (ending_of h step.outcome)
-    × AreSaid e step.messages eff.out
-
-leaving : (e : Endpoint) (s : State) (h : ContextsState) (m : Member) → IsShown e s h m None → (i : Inside) → s.present ≡ Some i →
-    (k : ContextsState) (n : ℕ) (mm : Membership) (x : ended.Ending) → k.rank ≡ e.rank → k.incarnation ≡ e.incarnation → n ≡ k.next_serial → 2 ≤ k.next_serial →
-    mm.held ≡ map (communicator_of e) k.held → ((c : ℕ) → mm.count c ≡ m.membership.count c) → mm.present ≡ Some (Out (ending_is x)) →
-    IsShown e (left s) k (record { membership = mm; serial = n; kept = network.without i.context i.number m.kept }) (Some x)
-leaving e s h m b i at k n mm x rank inc serial two all count present =
-    record {
-      own = b.own;
-      rank = rank;
-      incarnation = inc;
-      serial = serial;
-      two = two;
-      held = all;
-      count = λ c. count c ∙ b.count c;
-      present = (refl, present);
-      kept = subst (λ (p : Option Inside). AreNoted e (kept_after p s.kept) (network.without i.context i.number m.kept)) (sym at) (without_same e i.context i.number s.kept m.kept b.kept);
-    }
-
--- with a communicator or with MPI_COMM_NULL
-gets : (e : Endpoint) (s : State) (h : ContextsState) (m : Member) → IsShown e s h m None → (i : Inside) → s.present ≡ Some i →
-    (o : Option held.Communicator) (drawn n : ℕ) → n ≡ h.next_serial + drawn →
-    IsShown e (after_step s (outcome_of o)) (contexts_after h drawn (outcome_of o))
-    (record { membership = got m.membership (option_map (communicator_of e) o); serial = n; kept = network.without i.context i.number m.kept }) (ending_of h (outcome_of o))
-gets e s h m b i at None drawn n q =
-    leaving e s h m b i at (record h { next_serial = h.next_serial + drawn }) n (got m.membership None) (endings.Comm None) b.rank b.incarnation q (omega (arith, b.two)) b.held (λ c. refl) refl
-gets e s h m b i at (Some c) drawn n q =
-    leaving e s h m b i at (record h { next_serial = h.next_serial + drawn; held = h.held ++ c ∷ [] }) n (got m.membership (Some (communicator_of e c))) (endings.Comm (Some (length h.held)))
-    b.rank b.incarnation q (omega (arith, b.two))
-    (ap (λ (xs : List Communicator). xs ++ communicator_of e c ∷ []) b.held ∙ sym (map-append (communicator_of e) h.held (c ∷ [])))
-    (λ c. refl) (ap (λ (l : ℕ). Some (Out (Comm (Some l)))) (ap (λ (xs : List Communicator). length xs) b.held ∙ length-map h.held (communicator_of e)))
-
--- MESSAGES
-
-pub entered_same : (y : Entry) → record_of (entering.record_of y) ≡ (part_of y).record_is
-entered_same entries.Barrier = refl
-entered_same entries.Dup = refl
-entered_same (entries.Split a) = refl
-
-pub every : {X : Type 0} (P : X → Type 0) → ((x : X) → P x) → (xs : List X) → AllByRecursion P xs
-every P f [] = tt
-every P f (x ∷ xs) = (f x, every P f xs)
-
-pub said_to : (e : Endpoint) (i : Inside) (g : Given) (r : ℕ) (x : network.Said) → GivenStandsFor e (entering.record_of i.entry) g x →
-    IsSaid e (message_to i g r) (member_at i.incarnation r, notice i.context i.number x)
-said_to e i g r x h = record { target = refl; context = refl; number = refl; stands = h }
-
-pub others_said : (e : Endpoint) (i : Inside) (f : ℕ → Given) (g : Endpoint → Notice) (rs : List ℕ) →
-    AllByRecursion (λ r. IsSaid e (message_to i (f r) r) (member_at i.incarnation r, g (member_at i.incarnation r))) rs →
-    AreSaid e (steps.to_others e i f rs) (network.to_others e g (map (member_at i.incarnation) rs))
-others_said e i f g [] h = tt
-others_said e i f g (r ∷ rs) h = go (is_same (member_at i.incarnation r) e) (others_said e i f g rs h.1)
-  where
-    go : (b : Bool) → AreSaid e (steps.to_others e i f rs) (network.to_others e g (map (member_at i.incarnation) rs)) →
-        AreSaid e (if b then steps.to_others e i f rs else message_to i (f r) r ∷ steps.to_others e i f rs)
-        (if b then network.to_others e g (map (member_at i.incarnation) rs) else (member_at i.incarnation r, g (member_at i.incarnation r)) ∷ network.to_others e g (map (member_at i.incarnation) rs))
-    go true rest = rest
-    go false rest = (h.0, rest)
+use Rattle.proof_collective_steps.proofs.Leaving.{Follows, every, gets, inside, leaves, leaves_telling, leaving, others_said, said_to, some_said}
+use Rattle.proof_collective_steps.proofs.Moving.{decides_allreduce, decides_bcast, decides_inwards, decides_scatter, gathered_by, reduced_by}
 
 -- A DIFFERENCE
 
-tells : (y : Entry) (b : Bool) → (tells_difference (part_of y).record_is.kind && b) ≡ b
+tells : (y : Entry) (b : Bool) → (tells_difference (part_of y).record_is.kind && b) ≡ (entering.tells_difference y && b)
 tells entries.Barrier b = refl
+tells (entries.Bcast root x) b = refl
+tells (entries.Gather root x) b = refl
+tells (entries.Scatter r all) b = refl
+tells (entries.Reduce o root x) b = refl
+tells (entries.Allreduce o x) b = refl
 tells entries.Dup b = refl
 tells (entries.Split a) b = refl
 
@@ -133,8 +78,9 @@ breaks : (e : Endpoint) (s : State) (h : ContextsState) (m : Member) → IsShown
 breaks e s h m b i at ranks = (
   leaving e s h m b i at h m.serial (record m.membership { present = Some (Out (Failed mismatch)) }) endings.Mismatch b.rank b.incarnation b.serial b.two b.held (λ c. refl) refl,
   subst (λ (v : Bool). AreSaid e (difference_messages e i ranks s.kept) (differences_to e (here i ranks) i.number (part_of i.entry) v))
-      (sym (tells i.entry (network.found_in i.context i.number (part_of i.entry).record_is m.kept) ∙ found_same e i.entry i.context i.number s.kept m.kept b.kept))
-      (go (notes.found_in i.context i.number i.entry s.kept)),
+      (sym (tells i.entry (network.found_in i.context i.number (part_of i.entry).record_is m.kept)
+      ∙ ap (λ (v : Bool). entering.tells_difference i.entry && v) (found_same e i.entry i.context i.number s.kept m.kept b.kept)))
+      (go (entering.tells_difference i.entry && notes.found_in i.context i.number i.entry s.kept)),
 )
   where
     go : (v : Bool) → AreSaid e (if v then steps.to_others e i (λ r. given.RecordsDiffer) ranks else []) (differences_to e (here i ranks) i.number (part_of i.entry) v)
@@ -229,33 +175,46 @@ mine_made e inc r (c ∷ cs) h =
     go true rest = refl
     go false rest = rest
 
--- MEMBER 0 DECIDES
-
-abbrev inside : (place context incarnation number : ℕ) → Entry → Inside
-inside place c inc k y = record { place = place; context = c; incarnation = inc; number = k; entry = y }
+-- WHO IS IN THE MIDDLE DECIDES
 
 given_made : (e : Endpoint) (o : Option held.Communicator) → GivenStandsFor e records.Split (given_of o) (HasMade (bare_part split).record_is (option_map (communicator_of e) o))
 given_made e None = refl
 given_made e (Some c) = (refl, refl)
 
+-- who decides where messages go both ways is member 0, and knows the parts of all
+both_first : (t : Bool) (e : Endpoint) (i : Inside) (ranks : List ℕ) (ns : List Note) (ps : List Part) → is_at e i.incarnation ranks 0 ≡ t → DecidesBy Both t e i ranks ns ps → (is_at e i.incarnation ranks 0 ≡ true) × PartsAre e i ns ranks ps
+both_first true e i ranks ns ps u d = (u, d)
+both_first false e i ranks ns ps u d = absurd d
+
 decides : (e : Endpoint) (s : State) (h : ContextsState) (m : Member) → IsShown e s h m None → (place c inc k : ℕ) (y : Entry) → s.present ≡ Some (inside place c inc k y) → e.incarnation ≡ inc →
-    (ranks : List ℕ) (ps : List Part) → DecidesIs e (inside place c inc k y) ranks s.kept ps → (step : Prepared) → steps.IsDecided e (inside place c inc k y) h ranks s.kept y step →
+    (ranks : List ℕ) → HasNoRepeats ranks → HandsIn e ranks y → (ps : List Part) → DecidesIs e (inside place c inc k y) ranks s.kept ps → (step : Prepared) → steps.IsDecided e (inside place c inc k y) h ranks s.kept y step →
     Follows e s h step (carried_out e m (here (inside place c inc k y) ranks) k (part_of y) (network.Decides ps))
-decides e s h m b place c inc k entries.Barrier at own ranks ps d step q =
-    subst (λ (st : Prepared). Follows e s h st (carried_out e m (here (inside place c inc k entries.Barrier) ranks) k (part_of entries.Barrier) (network.Decides ps))) (sym q) (
-      leaving e s h m b I at (record h { next_serial = h.next_serial + 0 }) (m.serial + 0) (record m.membership { present = Some (Out (Left None)) }) endings.Left b.rank b.incarnation
-          (ap (λ (x : ℕ). x + 0) b.serial) (omega (arith, b.two)) b.held (λ c. refl) refl,
-      others_said e I (λ r. given.Nothing FromRoot) (λ z. notice c k (HasResult (bare_part barrier).record_is None)) ranks
-          (every (λ r. IsSaid e (message_to I (given.Nothing FromRoot) r) (member_at inc r, notice c k (HasResult (bare_part barrier).record_is None)))
-          (λ r. said_to e I (given.Nothing FromRoot) r (HasResult (bare_part barrier).record_is None) refl) ranks),
-    )
+decides e s h m b place c inc k entries.Barrier at own ranks once hands ps d step q =
+    subst (λ (st : Prepared). Follows e s h st (carried_out e m (here I ranks) k (part_of entries.Barrier) (network.Decides ps))) (sym q)
+    (leaves_telling e s h m b I at None None refl _ _ (some_said e I (given.Nothing FromRoot) (HasResult (bare_part barrier).record_is None) refl ranks))
   where
     I : Inside
     I = inside place c inc k entries.Barrier
-decides e s h m b place c inc k entries.Dup at own ranks ps d step q =
+decides e s h m b place c inc k (entries.Bcast root x) at own ranks once hands ps d step q = decides_bcast e s h m b place c inc k root x at ranks ps d.0 d.1 d.2 step q
+decides e s h m b place c inc k (entries.Gather root x) at own ranks once hands ps d step q =
+    decides_inwards e s h m b I at ranks root (steps.gathered e I s.kept ranks x) (gathered ps) d.0 d.1 (gathered_by e I ranks s.kept root x ps refl d.0 d.2) step q
+  where
+    I : Inside
+    I = inside place c inc k (entries.Gather root x)
+decides e s h m b place c inc k (entries.Scatter r x) at own ranks once hands ps d step q =
+    decides_scatter e s h m b place c inc k r x at own ranks once hands ps d.0 d.1 d.2 step q
+decides e s h m b place c inc k (entries.Reduce o root x) at own ranks once hands ps d step q =
+    decides_inwards e s h m b I at ranks root (steps.reduced e I s.kept ranks o x) (reduced (combined_by (Some (op_of o)) (Some x.basic)) ps) d.0 d.1
+    (reduced_by e I ranks s.kept o root x ps hands refl d.0 d.2) step q
+  where
+    I : Inside
+    I = inside place c inc k (entries.Reduce o root x)
+decides e s h m b place c inc k (entries.Allreduce o x) at own ranks once hands ps d step q =
+    decides_allreduce e s h m b place c inc k o x at ranks hands ps d.0 d.2 step q
+decides e s h m b place c inc k entries.Dup at own ranks once hands ps d step q =
     subst (λ (st : Prepared). Follows e s h st (carried_out e m (here I ranks) k (part_of entries.Dup) (network.Decides ps))) (sym q) (
       subst (λ (o : Option Communicator). IsShown e (after_step s (outcomes.Gets X)) (contexts_after h 1 (outcomes.Gets X)) (record { membership = got m.membership o; serial = m.serial + 1; kept = network.without c k m.kept }) (ending_of h (outcomes.Gets X)))
-          (sym (is_mine e (first_member e inc ranks d.first))) (gets e s h m b I at (Some X) 1 (m.serial + 1) (ap (λ (x : ℕ). x + 1) b.serial)),
+          (sym (is_mine e (first_member e inc ranks (both_first d.0 e I ranks s.kept ps d.1 d.2).0))) (gets e s h m b I at (Some X) 1 (m.serial + 1) (ap (λ (x : ℕ). x + 1) b.serial)),
       others_said e I (λ r. given.Context (number_of (coming_context h 0))) (λ z. notice c k (HasMade (bare_part dup).record_is (mine z new))) ranks
           (all_more (λ r. IsIn r ranks) (λ r. IsSaid e (message_to I (given.Context (number_of (coming_context h 0))) r) (member_at inc r, notice c k (HasMade (bare_part dup).record_is (mine (member_at inc r) new)))) ranks
           (λ r there. said_to e I (given.Context (number_of (coming_context h 0))) r (HasMade (bare_part dup).record_is (mine (member_at inc r) new))
@@ -276,7 +235,7 @@ decides e s h m b place c inc k entries.Dup at own ranks ps d step q =
     is_mine z there =
         ap (λ (t : Bool). if t then Some (record { context = context_number e m.serial; members = map (member_at inc) ranks }) else None) there
         ∙ ap (λ (x : Communicator). Some x) (new_comm e h inc b.two b.rank b.incarnation own 0 m.serial (let z : h.next_serial ≡ h.next_serial + 0 = omega arith in b.serial ∙ z) ranks)
-decides e s h m b place c inc k (entries.Split a) at own ranks ps d step q =
+decides e s h m b place c inc k (entries.Split a) at own ranks once hands ps d step q =
     subst (λ (st : Prepared). Follows e s h st (carried_out e m (here I ranks) k (part_of (entries.Split a)) (network.Decides ps))) (sym q.2)
     (subst (λ (new : List Communicator).
     IsShown e (after_step s (outcome_of (steps.mine e.rank made))) (contexts_after h (length plan) (outcome_of (steps.mine e.rank made)))
@@ -286,6 +245,9 @@ decides e s h m b place c inc k (entries.Split a) at own ranks ps d step q =
   where
     I : Inside
     I = inside place c inc k (entries.Split a)
+
+    known : PartsAre e I s.kept ranks ps
+    known = (both_first d.0 e I ranks s.kept ps d.1 d.2).1
 
     plan : List SplitPart
     plan = q.0
@@ -299,7 +261,7 @@ decides e s h m b place c inc k (entries.Split a) at own ranks ps d step q =
     all_new : numbered e m.serial (new_groups split (map (member_at inc) ranks) ps) ≡ map (communicator_of e) made
     all_new =
         ap (λ (gs : List (List Endpoint)). numbered e m.serial gs)
-        (splits_follow (map (member_at inc) ranks) ps plan (member_at inc 0) (d.count ∙ sym (length-map ranks (member_at inc))) (subst (λ rows. IsSplitPlan rows plan) (sym (d.rows 0)) q.1))
+        (splits_follow (map (member_at inc) ranks) ps plan (member_at inc 0) (known.count ∙ sym (length-map ranks (member_at inc))) (subst (λ rows. IsSplitPlan rows plan) (sym (known.rows 0)) q.1))
         ∙ numbered_made e h inc b.two b.rank b.incarnation own ranks plan 0 m.serial (let z : h.next_serial ≡ h.next_serial + 0 = omega arith in b.serial ∙ z)
 
     own_is : e ≡ member_at inc e.rank
@@ -323,26 +285,6 @@ decides e s h m b place c inc k (entries.Split a) at own ranks ps d step q =
 
 -- A RESULT IS HEARD
 
-no_elements : (y : Entry) (r : payload.Record) → agrees y r ≡ true → is_some (elements_of r) ≡ true → ⊥
-no_elements y records.Barrier h g = cc
-no_elements y records.Dup h g = cc
-no_elements y records.Split h g = cc
-no_elements entries.Barrier (records.Bcast a) h g = cc
-no_elements entries.Barrier (records.Gather a) h g = cc
-no_elements entries.Barrier (records.Scatter a) h g = cc
-no_elements entries.Barrier (records.Reduce o a) h g = cc
-no_elements entries.Barrier (records.Allreduce o a) h g = cc
-no_elements entries.Dup (records.Bcast a) h g = cc
-no_elements entries.Dup (records.Gather a) h g = cc
-no_elements entries.Dup (records.Scatter a) h g = cc
-no_elements entries.Dup (records.Reduce o a) h g = cc
-no_elements entries.Dup (records.Allreduce o a) h g = cc
-no_elements (entries.Split b) (records.Bcast a) h g = cc
-no_elements (entries.Split b) (records.Gather a) h g = cc
-no_elements (entries.Split b) (records.Scatter a) h g = cc
-no_elements (entries.Split b) (records.Reduce o a) h g = cc
-no_elements (entries.Split b) (records.Allreduce o a) h g = cc
-
 abbrev HeardLeaves : Endpoint → State → ContextsState → Member → Inside → network.Said → Outcome → Type 0
 HeardLeaves e s h m i w o =
     IsShown e (after_step s o) (contexts_after h 0 o) (record { membership = left_by m.membership w; serial = m.serial; kept = network.without i.context i.number m.kept }) (ending_of h o)
@@ -354,11 +296,11 @@ hears e s h m b i at own ranks r said.RecordsDiffer w st res fits ag g o q = abs
 hears e s h m b i at own ranks r (said.Nothing TowardsRoot) w st res fits ag g o q = absurd cc
 hears e s h m b i at own ranks r (said.Nothing FromRoot) w st res fits ag g o q =
     subst (λ (v : Outcome). HeardLeaves e s h m i w v) (sym q)
-    (subst (λ (v : network.Said). HeardLeaves e s h m i v outcomes.Leaves) (sym st)
-    (leaving e s h m b i at (record h { next_serial = h.next_serial + 0 }) m.serial (record m.membership { present = Some (Out (Left None)) }) endings.Left b.rank b.incarnation
-    (let z : h.next_serial ≡ h.next_serial + 0 = omega arith in b.serial ∙ z) (omega (arith, b.two)) b.held (λ c. refl) refl))
+    (subst (λ (v : network.Said). HeardLeaves e s h m i v (outcomes.Leaves None)) (sym st) (leaves e s h m b i at None None refl m.serial refl))
 hears e s h m b i at own ranks r (said.Elements TowardsRoot c) w st res fits ag g o q = absurd cc
-hears e s h m b i at own ranks r (said.Elements FromRoot c) w st res fits ag g o q = absurd (no_elements i.entry r ag fits)
+hears e s h m b i at own ranks r (said.Elements FromRoot c) w st res fits ag g o q =
+    subst (λ (v : Outcome). HeardLeaves e s h m i w v) (sym q)
+    (subst (λ (v : network.Said). HeardLeaves e s h m i v (outcomes.Leaves (Some c))) (sym st) (leaves e s h m b i at (Some c) (Some c.values) refl m.serial refl))
 hears e s h m b i at own ranks r (said.Context number) w st res fits ag g o q =
     subst (λ (v : Outcome). HeardLeaves e s h m i w v) (sym q.2)
     (subst (λ (v : network.Said). HeardLeaves e s h m i v (outcomes.Gets X)) (sym st.1)
@@ -395,22 +337,22 @@ hears e s h m b i at own ranks r (said.NewGroup number group) w st res fits ag g
 
 -- ALL VERDICTS
 
-carried : (e : Endpoint) (s : State) (h : ContextsState) (m : Member) → IsShown e s h m None → (i : Inside) → s.present ≡ Some i → e.incarnation ≡ i.incarnation → (ranks : List ℕ) →
+carried : (e : Endpoint) (s : State) (h : ContextsState) (m : Member) → IsShown e s h m None → (i : Inside) → s.present ≡ Some i → e.incarnation ≡ i.incarnation → (ranks : List ℕ) → HasNoRepeats ranks → HandsIn e ranks i.entry →
     (v : Verdict) (w : network.Verdict) → Alike e i ranks s.kept v w → (step : Prepared) → IsCarriedOut e i h ranks s.kept v step →
     Follows e s h step (carried_out e m (here i ranks) i.number (part_of i.entry) w)
-carried e s h m b i at own ranks code.Stays network.Stays a step q =
+carried e s h m b i at own ranks once hands code.Stays network.Stays a step q =
     subst (λ (st : Prepared). Follows e s h st (carried_out e m (here i ranks) i.number (part_of i.entry) network.Stays)) (sym q) (b, tt)
-carried e s h m b i at own ranks code.Breaks network.Breaks a step q =
+carried e s h m b i at own ranks once hands code.Breaks network.Breaks a step q =
     subst (λ (st : Prepared). Follows e s h st (carried_out e m (here i ranks) i.number (part_of i.entry) network.Breaks)) (sym q) (breaks e s h m b i at ranks)
-carried e s h m b i at own ranks code.Decides (network.Decides ps) a step q =
-    decides e s h m b i.place i.context i.incarnation i.number i.entry at own ranks ps a step q
-carried e s h m b i at own ranks (code.Hears place) (network.Hears w) a step q =
+carried e s h m b i at own ranks once hands code.Decides (network.Decides ps) a step q =
+    decides e s h m b i.place i.context i.incarnation i.number i.entry at own ranks once hands ps a step q
+carried e s h m b i at own ranks once hands (code.Hears place) (network.Hears w) a step q =
     subst (λ (st : Prepared). Follows e s h st (carried_out e m (here i ranks) i.number (part_of i.entry) (network.Hears w))) (sym heard.2)
     (hears e s h m b i at own ranks a.0.entered a.0.said w a.2.stands a.2.result a.2.fits a.2.agreeing a.2.group heard.0 heard.1, tt)
   where
     heard : IsHeard ranks (Some a.0) step
     heard = subst (λ (o : Option Note). IsHeard ranks o step) a.1 q
-carried e s h m b i at own ranks v w a step q = absurd a
+carried e s h m b i at own ranks once hands v w a step q = absurd a
 
 -- WHAT A RANK DOES OF ITSELF
 
@@ -429,7 +371,7 @@ attempt_follows e s h m None b g step q = go s.present refl b.present
         (subst (λ (st : Prepared). Follows e s h st (record { member = m; out = [] })) (sym (subst (λ (o : Option Inside). IsPrepared e o h s.kept step) at q)) (b, tt))
     go (Some i) at p =
         subst (λ (p : Option Present). Follows e s h step (attempt_in e m p)) (sym present)
-        (carried e s h m b i at p.own p.comm.group (verdicts.verdict e i p.comm.group s.kept) (network.verdict e (here i p.comm.group) i.number (part_of i.entry) m.kept)
+        (carried e s h m b i at p.own p.comm.group p.once p.hands (verdicts.verdict e i p.comm.group s.kept) (network.verdict e (here i p.comm.group) i.number (part_of i.entry) m.kept)
         (verdicts_alike e i p.comm.group s.kept m.kept b.kept (subst (λ (z : Option Present). CopiesHaveTheirGroup z m.kept) present g)) step
         (subst (λ (c : Option held.Communicator). IsPreparedIn e i h s.kept c step) p.at_place (subst (λ (o : Option Inside). IsPrepared e o h s.kept step) at q)))
       where

@@ -6,34 +6,38 @@ use Rattle.std.proofs.lemmas.Option.{same_Some, slice_get-map}
 use Rattle.collectives.specs.Calls.{EntryGives, context_of, entered, inside_of}
 use Rattle.collective_notes.specs.Entering as entering
 use Rattle.collective_notes.specs.Notes.{member_at}
-use Rattle.collectives.specs.State.{State, members_incarnation, ranks_of}
-use Rattle.collectives.specs.Steps.{IsPrepared, Prepared, after_step, contexts_after, ending_of, entered_with, entry_messages, first_of}
-use Rattle.collectives.specs.Steps as steps
+use Rattle.collectives.specs.State.{State, after_step, members_incarnation}
+use Rattle.collective_steps.specs.Steps.{IsPrepared, Prepared, contexts_after, ending_of, entered_with, entry_messages, ranks_of}
+use Rattle.collective_steps.specs.Steps as steps
 use Rattle.collective_notes.specs.Tallies.{count_in}
 use Rattle.collective_notes.specs.Verdicts as verdicts
+use Rattle.collective_notes.specs.Ways.{root_of, ways_of}
 use Rattle.collective_notes.specs.declared.entry.Entry.{Entry}
 use Rattle.collective_notes.specs.declared.entry.Entry.TheVariants as entries
 use Rattle.collective_notes.specs.declared.entry.Inside.{Inside}
 use Rattle.collective_notes.specs.declared.message.Message.{Message}
 use Rattle.collective_notes.specs.declared.note.Note.{Note}
-use Rattle.collectives.specs.declared.step.Ending.{Ending}
+use Rattle.collective_steps.specs.declared.step.Ending.{Ending}
 use Rattle.collective_notes.specs.declared.verdict.Verdict.{Verdict}
 use Rattle.collective_notes.specs.declared.verdict.Verdict.TheVariants as code
 use Rattle.context_agreement.specs.Communicators.{ContextsState}
 use Rattle.context_agreement.specs.Numbers.{number_of}
 use Rattle.context_agreement.specs.declared.communicator.Communicator as held
-use Rattle.perfect_groups.specs.Communicators.{Communicator, is_member}
+use Rattle.groups.specs.Groups.{HasNoRepeats}
+use Rattle.perfect_groups.specs.Communicators.{Communicator, group_of, is_member}
 use Rattle.perfect_groups.specs.Membership.{Inside as Within}
-use Rattle.proof_collective_steps.proofs.Carried.{attempt_follows, every, others_said, said_to}
+use Rattle.proof_collective_steps.proofs.Carried.{attempt_follows}
+use Rattle.proof_collective_steps.proofs.Leaving.{inside, some_said}
 use Rattle.proof_collective_steps.proofs.Counting.{raised_count}
+use Rattle.proof_collective_steps.proofs.Middle.{group_back, told_same}
 use Rattle.proof_collective_steps.proofs.Verdicts.{Alike, here, verdicts_alike}
-use Rattle.proof_collective_steps.specs.Counterparts.{AreSaid, GivenStandsFor, IsSaid, communicator_of, part_of}
+use Rattle.proof_collective_steps.specs.Counterparts.{AreSaid, GivenStandsFor, HandsIn, communicator_of, part_of}
 use Rattle.proof_collective_steps.specs.Shown.{IsShown}
 use Rattle.proof_group_network.specs.Copies.{CopiesHaveTheirGroup, HasItsGroup}
 use Rattle.proof_collective_steps.specs.StepLaws.{EntriesFollow, entry_notices}
 use Rattle.proof_group_network.specs.Network.{is_broken}
 use Rattle.proof_group_network.specs.Notices as network
-use Rattle.proof_group_network.specs.Notices.{HasEntered, Member, Notice, attempt, joins, joins_unless, member_entering, notice, whom_to_tell}
+use Rattle.proof_group_network.specs.Notices.{HasEntered, Member, Notice, attempt, joins, joins_unless, member_entering, notice}
 use Rattle.vocabulary.specs.Endpoints.{is_same}
 use Rattle.vocabulary.specs.declared.endpoint.Endpoint.{Endpoint}
 
@@ -52,32 +56,33 @@ broken_same e i ranks ns code.Decides (network.Decides ps) a = refl
 broken_same e i ranks ns (code.Hears place) (network.Hears w) a = refl
 broken_same e i ranks ns v w a = absurd a
 
--- member 0 is told
-first_told : (inc : ℕ) (y : Entry) (ranks : List ℕ) → whom_to_tell (part_of y).record_is.kind (part_of y).record_is.root (map (member_at inc) ranks) ≡ map (member_at inc) (first_of ranks)
-first_told inc entries.Barrier [] = refl
-first_told inc entries.Barrier (r ∷ rs) = refl
-first_told inc entries.Dup [] = refl
-first_told inc entries.Dup (r ∷ rs) = refl
-first_told inc (entries.Split a) [] = refl
-first_told inc (entries.Split a) (r ∷ rs) = refl
+-- those in the middle are told with what the rank has entered
+joining_all : (e : Endpoint) (i : Inside) (ranks : List ℕ) → GivenStandsFor e (entering.record_of i.entry) (entered_with i.entry) (HasEntered (part_of i.entry)) →
+    AreSaid e (steps.to_others e i (λ r. entered_with i.entry) (steps.whom_to_tell (ways_of (entering.record_of i.entry)) (root_of (entering.record_of i.entry)) ranks)) (joins e (here i ranks) i.number (part_of i.entry))
+joining_all e i ranks stands =
+    subst (λ (ms : List Endpoint). AreSaid e (steps.to_others e i (λ r. entered_with i.entry) those) (network.to_others e (λ z. notice i.context i.number (HasEntered (part_of i.entry))) ms))
+    (sym (told_same i.incarnation ranks i.entry)) (some_said e i (entered_with i.entry) (HasEntered (part_of i.entry)) stands those)
+  where
+    those : List ℕ
+    those = steps.whom_to_tell (ways_of (entering.record_of i.entry)) (root_of (entering.record_of i.entry)) ranks
 
-with_what : (e : Endpoint) (y : Entry) → GivenStandsFor e (entering.record_of y) (entered_with y) (HasEntered (part_of y))
-with_what e entries.Barrier = refl
-with_what e entries.Dup = refl
-with_what e (entries.Split a) = refl
+joined : (e : Endpoint) (place c inc k : ℕ) (y : Entry) (ranks : List ℕ) →
+    AreSaid e (steps.to_others e (inside place c inc k y) (λ r. entered_with y) (steps.whom_to_tell (ways_of (entering.record_of y)) (root_of (entering.record_of y)) ranks))
+    (joins e (here (inside place c inc k y) ranks) k (part_of y))
+joined e place c inc k entries.Barrier ranks = joining_all e (inside place c inc k entries.Barrier) ranks refl
+joined e place c inc k (entries.Bcast root b) ranks = tt
+joined e place c inc k (entries.Gather root b) ranks = joining_all e (inside place c inc k (entries.Gather root b)) ranks (refl, refl)
+joined e place c inc k (entries.Scatter r b) ranks = tt
+joined e place c inc k (entries.Reduce o root b) ranks = joining_all e (inside place c inc k (entries.Reduce o root b)) ranks (refl, refl)
+joined e place c inc k (entries.Allreduce o b) ranks = joining_all e (inside place c inc k (entries.Allreduce o b)) ranks (refl, refl)
+joined e place c inc k entries.Dup ranks = joining_all e (inside place c inc k entries.Dup) ranks refl
+joined e place c inc k (entries.Split a) ranks = joining_all e (inside place c inc k (entries.Split a)) ranks refl
 
 joining : (e : Endpoint) (i : Inside) (ranks : List ℕ) (b : Bool) →
-    AreSaid e (if b then [] else steps.to_others e i (λ r. entered_with i.entry) (first_of ranks)) (joins_unless b e (here i ranks) i.number (part_of i.entry))
+    AreSaid e (if b then [] else steps.to_others e i (λ r. entered_with i.entry) (steps.whom_to_tell (ways_of (entering.record_of i.entry)) (root_of (entering.record_of i.entry)) ranks))
+    (joins_unless b e (here i ranks) i.number (part_of i.entry))
 joining e i ranks true = tt
-joining e i ranks false =
-    subst (λ (ms : List Endpoint). AreSaid e (steps.to_others e i (λ r. entered_with i.entry) (first_of ranks)) (network.to_others e (λ z. notice i.context i.number (HasEntered (part_of i.entry))) ms))
-    (sym (first_told i.incarnation i.entry ranks))
-    (others_said e i (λ r. entered_with i.entry) (λ z. notice i.context i.number (HasEntered (part_of i.entry))) (first_of ranks)
-    (every (λ r. IsSaid e (message_of r) (member_at i.incarnation r, notice i.context i.number (HasEntered (part_of i.entry))))
-    (λ r. said_to e i (entered_with i.entry) r (HasEntered (part_of i.entry)) (with_what e i.entry)) (first_of ranks)))
-  where
-    message_of : ℕ → Message
-    message_of r = steps.message_to i (entered_with i.entry) r
+joining e i ranks false = joined e i.place i.context i.incarnation i.number i.entry ranks
 
 -- THE MEMBER HAS ENTERED
 
@@ -95,9 +100,9 @@ abbrev entry_at : (e : Endpoint) → State → (place : ℕ) → Entry → (cont
 entry_at e s place x c = record { place = place; context = c; incarnation = members_incarnation e c; number = count_in s.tallies c; entry = x }
 
 entering_shown : (e : Endpoint) (s : State) (h : ContextsState) (m : Member) → IsShown e s h m None → (place : ℕ) (x : Entry) (comm : held.Communicator) → slice_get h.held place ≡ Some comm →
-    is_member e (communicator_of e comm).members ≡ true →
+    is_member e (communicator_of e comm).members ≡ true → HasNoRepeats comm.group → HandsIn e comm.group x →
     IsShown e (entered s (entry_at e s place x (number_of comm.context))) h (member_entering m (communicator_of e comm) (part_of x)) None
-entering_shown e s h m b place x comm got is_in =
+entering_shown e s h m b place x comm got is_in once hands =
     record {
       own = b.own;
       rank = b.rank;
@@ -113,16 +118,18 @@ entering_shown e s h m b place x comm got is_in =
             context = refl;
             incarnation = refl;
             own = member_incarnation e (members_incarnation e (number_of comm.context)) comm.group is_in;
+            once = once;
+            hands = hands;
             is = ap (λ (k : ℕ). Some (Within (communicator_of e comm) k (part_of x))) (b.count (number_of comm.context));
           };
       kept = b.kept;
     }
 
 entry_follows : (e : Endpoint) (s : State) (h : ContextsState) (m : Member) → IsShown e s h m None → (place : ℕ) (x : Entry) (comm : held.Communicator) → slice_get h.held place ≡ Some comm →
-    is_member e (communicator_of e comm).members ≡ true → CopiesHaveTheirGroup (member_entering m (communicator_of e comm) (part_of x)).membership.present m.kept →
+    is_member e (communicator_of e comm).members ≡ true → HasNoRepeats comm.group → HandsIn e comm.group x → CopiesHaveTheirGroup (member_entering m (communicator_of e comm) (part_of x)).membership.present m.kept →
     (answer : Option Ending × Prepared) (t : State) (k : ContextsState) → EntryGives s h (entry_at e s place x (number_of comm.context)) (Ok answer) t k →
     IsShown e t k (attempt e (member_entering m (communicator_of e comm) (part_of x))).member answer.0 × AreSaid e answer.1.messages (entry_notices e m (communicator_of e comm) x)
-entry_follows e s h m b place x comm got is_in g answer t k gives =
+entry_follows e s h m b place x comm got is_in once hands g answer t k gives =
     subst (λ (step : Prepared). IsShown e t k after.member answer.0 × AreSaid e step.messages (entry_notices e m C x)) (sym gives.0.2) (
       subst (λ (o : Option Ending). IsShown e t k after.member o) (sym (gives.1 ∙ ap (λ (p : Prepared). ending_of h p.outcome) gives.0.2))
           (subst (λ (u : State). IsShown e u k after.member (ending_of h own_step.outcome)) (sym (gives.2 ∙ ap (λ (p : Prepared). after_step (entered s I) p.outcome) gives.0.2))
@@ -147,7 +154,7 @@ entry_follows e s h m b place x comm got is_in g answer t k gives =
 
     follows : IsShown e (after_step (entered s I) own_step.outcome) (contexts_after h own_step.drawn own_step.outcome) after.member (ending_of h own_step.outcome) × AreSaid e own_step.messages after.out
     follows =
-        attempt_follows e (entered s I) h (member_entering m C (part_of x)) None (entering_shown e s h m b place x comm got is_in) g own_step
+        attempt_follows e (entered s I) h (member_entering m C (part_of x)) None (entering_shown e s h m b place x comm got is_in once hands) g own_step
         (subst (λ (o : Endpoint). IsPrepared o (Some I) h s.kept own_step) b.own gives.0.1)
 
     alike : Alike e I comm.group s.kept (verdicts.verdict e I comm.group s.kept) (network.verdict e C I.number (part_of x) m.kept)
@@ -169,7 +176,7 @@ entry_follows e s h m b place x comm got is_in g answer t k gives =
         notices n = joins_unless (is_broken (network.verdict e C n (part_of x) m.kept)) e C n (part_of x)
 
 pub entries_follow : EntriesFollow
-entries_follow e s h m place x c answer t k b fault at is_in g gives = go (slice_get h.held place) refl
+entries_follow e s h m place x c answer t k b fault at is_in once hands g gives = go (slice_get h.held place) refl
   where
     listed : option_map (communicator_of e) (slice_get h.held place) ≡ Some c
     listed = sym (ap (λ (cs : List Communicator). slice_get cs place) b.held ∙ slice_get-map (communicator_of e) h.held place) ∙ at
@@ -181,11 +188,16 @@ entries_follow e s h m place x c answer t k b fault at is_in g gives = go (slice
         subst (λ (d : Communicator). IsShown e t k (attempt e (member_entering m d (part_of x))).member answer.0 × AreSaid e answer.1.messages (entry_notices e m d x)) same
         (entry_follows e s h m b place x comm q
         (subst (λ (d : Communicator). is_member e d.members ≡ true) (sym same) is_in)
+        (subst HasNoRepeats group_is once)
+        (subst (λ (rs : List ℕ). HandsIn e rs x) group_is hands)
         (subst (λ (d : Communicator). CopiesHaveTheirGroup (member_entering m d (part_of x)).membership.present m.kept) (sym same) g)
         answer t k (subst (λ (i : Inside). EntryGives s h i (Ok answer) t k) entry gives))
       where
         same : communicator_of e comm ≡ c
         same = same_Some _ _ (sym (ap (λ (o : Option held.Communicator). option_map (communicator_of e) o) q) ∙ listed)
+
+        group_is : group_of c ≡ comm.group
+        group_is = ap (λ (d : Communicator). group_of d) (sym same) ∙ group_back (members_incarnation e (number_of comm.context)) comm.group
 
         entry : inside_of s h place x ≡ entry_at e s place x (number_of comm.context)
         entry =

@@ -31,6 +31,11 @@ use Rattle.vocabulary.specs.declared.endpoint.Endpoint.{Endpoint}
 
 making_same : (x : Entry) → is_making (part_of x).record_is.kind ≡ entering.is_making x
 making_same entries.Barrier = refl
+making_same (entries.Bcast root b) = refl
+making_same (entries.Gather root b) = refl
+making_same (entries.Scatter r all) = refl
+making_same (entries.Reduce o root b) = refl
+making_same (entries.Allreduce o b) = refl
 making_same entries.Dup = refl
 making_same (entries.Split a) = refl
 

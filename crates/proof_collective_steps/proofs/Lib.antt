@@ -1,5 +1,9 @@
+pub mod Agreement
+pub mod Middle
 pub mod KeptNotes
 pub mod Verdicts
+pub mod Leaving
+pub mod Moving
 pub mod Carried
 pub mod Answering
 pub mod Arriving
@@ -7,4 +11,5 @@ pub mod Counting
 pub mod Joining
 pub mod Judging
 pub mod Sending
+pub mod Handing
 pub mod RankSteps

@@ -3,25 +3,29 @@ use Rattle.std.proofs.Common.{◌≡◌, ℕ, ◌+◌, ◌*◌, ◌^◌, ◌==�
 use Rattle.std.proofs.lemmas.Bool.{eqb-true}
 use Rattle.collective_notes.specs.declared.entry.Inside as code
 use Rattle.collective_notes.specs.declared.refused.Refused.{Refused}
+use Rattle.collectives.proofs.Readiness.{met_is_learned}
 use Rattle.collectives.specs.Calls.{met}
 use Rattle.collectives.specs.State as state
 use Rattle.collectives.specs.State.{State, members_incarnation}
-use Rattle.collectives.specs.Steps.{IsPrepared}
-use Rattle.collectives.specs.declared.step.Ending.{Ending}
+use Rattle.collective_steps.specs.Steps.{IsPrepared}
+use Rattle.collective_steps.specs.declared.step.Ending.{Ending}
 use Rattle.context_agreement.specs.Communicators.{ContextsState}
 use Rattle.perfect_groups.specs.Calls.{Call, Enter, entry_of}
 use Rattle.perfect_groups.specs.Collectives as machine
-use Rattle.perfect_groups.specs.Collectives.{Part}
-use Rattle.perfect_groups.specs.Communicators.{Communicator, context_number, is_member, world_of}
+use Rattle.perfect_groups.specs.Collectives.{CollectiveCall}
+use Rattle.perfect_groups.specs.Communicators.{Communicator, context_number, group_of, is_member, world_of}
 use Rattle.perfect_groups.specs.Events.{ended_with, ready_by, told_of}
+use Rattle.perfect_groups.specs.Faults as faults
 use Rattle.perfect_groups.specs.Membership as membership
 use Rattle.perfect_groups.specs.Membership.{Present}
 use Rattle.proof_collective_steps.proofs.Answering.{events_settle, lessons_follow}
 use Rattle.proof_collective_steps.proofs.Arriving.{messages_follow, noted_shown, same_own}
 use Rattle.proof_collective_steps.proofs.Joining.{entries_follow}
+use Rattle.groups.specs.Groups.{HasNoRepeats}
+use Rattle.proof_collective_steps.proofs.Handing.{handing}
 use Rattle.proof_collective_steps.proofs.Judging.{entries_are_judged}
-use Rattle.proof_collective_steps.proofs.Sending.{entries_are_sendable, held_is_distinct, steps_are_sendable}
-use Rattle.proof_collective_steps.specs.Counterparts.{AreSaid, part_of}
+use Rattle.proof_collective_steps.proofs.Sending.{entries_are_sendable, held_distinct_at, held_is_distinct, steps_are_sendable}
+use Rattle.proof_collective_steps.specs.Counterparts.{AreSaid, HandsIn, part_of}
 use Rattle.proof_collective_steps.specs.RankLaws.{EntriesOfRanksFollow, LessonsOfRanksFollow, NoticesOfRanksFollow, OpeningsAreShown, lesson_at, lesson_ends, network_after}
 use Rattle.proof_collective_steps.specs.Shown.{HasEnded, IsShown, ending_is, or_given}
 use Rattle.proof_collective_steps.specs.StepLaws.{HoldsAt, IsJudged, entry_notices}
@@ -31,7 +35,9 @@ use Rattle.proof_group_network.specs.Happened.{IsAfter, met_core, noted_effect}
 use Rattle.proof_group_network.specs.Network.{Ask, GroupNetwork, Word, happens, member_settled, noticed_on, notify_all}
 use Rattle.proof_group_network.specs.Notices.{Member, MemberEffect, attempt, member_entering, member_learned, noted}
 use Rattle.proof_group_network.specs.NoticesStand.{NoticesStand, heard_member}
+use Rattle.proof_pure_network.specs.Core.{view}
 use Rattle.proof_pure_network.specs.Engine.{core_ready, core_settled}
+use Rattle.proof_pure_network.specs.Held.{blank}
 use Rattle.proof_pure_network.specs.Network.{here}
 use Rattle.vocabulary.specs.declared.endpoint.Endpoint.{Endpoint}
 
@@ -71,7 +77,7 @@ openings_are_shown n e =
 -- ---- entering
 
 pub entries_of_ranks_follow : EntriesOfRanksFollow
-entries_of_ranks_follow n r happenings place x y s h answer t k few lt same shown fit fault gives =
+entries_of_ranks_follow n r happenings place x y s h answer t k few lt same shown fit fault gives within =
     record {
       member = member_settled effect.member;
       out = entry_notices e m c y;
@@ -80,7 +86,7 @@ entries_of_ranks_follow n r happenings place x y s h answer t k few lt same show
           (entries_happen n r w (Some place) x c (part_of y) lt fit entry judged.1);
       shown = events_settle e t k effect.member answer.0 f.0;
       said = f.1;
-      sendable = entries_are_sendable n e s h m place y c answer.1 few shown (held_is_distinct n e s h m None shown (stand.held r lt)) holds.at_place is_in gives.0;
+      sendable = entries_are_sendable n e s h m place y c answer.1 few shown (held_is_distinct n e s h m None shown (stand.held r lt)) holds.at_place is_in gives.0 within;
     }
   where
     w : GroupNetwork
@@ -108,23 +114,30 @@ entries_of_ranks_follow n r happenings place x y s h answer t k few lt same show
     c = holds.comm
 
     entry : entry_of m.membership call ≡ Some (c, part_of y)
-    entry = ap (λ (o : Option Communicator). option_map (λ (d : Communicator). (d, machine.part_of x)) o) holds.at_place ∙ ap (λ (p : Part). Some (c, p)) same
+    entry = ap (λ (o : Option Communicator). option_map (λ (d : Communicator). (d, machine.part_of x)) o) holds.at_place ∙ ap (λ (z : CollectiveCall). Some (c, machine.part_of z)) same
 
     is_in : is_member e c.members ≡ true
     is_in = stand.members r call c (part_of y) lt (fit, entry)
+
+    once : HasNoRepeats (group_of c)
+    once = held_distinct_at n m.membership.held place c (stand.held r lt) holds.at_place
+
+    hands : HandsIn e (group_of c) y
+    hands = handing e (view blank (w.net.core e)) m.membership place c y holds.at_place (subst (λ (z : CollectiveCall). faults.fault e (view blank (w.net.core e)) m.membership (Enter (Some place) z) ≡ None) same fit)
 
     effect : MemberEffect
     effect = attempt e (member_entering m c (part_of y))
 
     f : IsShown e t k effect.member answer.0 × AreSaid e answer.1.messages (entry_notices e m c y)
-    f = entries_follow e s h m place y c answer t k shown fault holds.at_place is_in (stand.entered r call c (part_of y) lt (fit, entry)) gives
+    f = entries_follow e s h m place y c answer t k shown fault holds.at_place is_in once hands (stand.entered r call c (part_of y) lt (fit, entry)) gives
 
 -- ---- hearing
 
 -- the lesson, by whether there is one
 heard_shown : (e a : Endpoint) (s : State) (h : ContextsState) (m : Member) (b : Bool) → IsShown e s h m None →
     IsShown e (met s h (if b then Some a else None)) h (if b then member_learned m a.rank a.incarnation else m) (lesson_ends s h (if b then Some a else None))
-heard_shown e a s h m true shown = lessons_follow e s h m None a.rank a.incarnation shown
+heard_shown e a s h m true shown =
+    subst (λ (t : State). IsShown e t h (member_learned m a.rank a.incarnation) (lesson_ends s h (Some a))) (sym (met_is_learned s h a)) (lessons_follow e s h m None a.rank a.incarnation shown)
 heard_shown e a s h m false shown = shown
 
 pub lessons_of_ranks_follow : LessonsOfRanksFollow
@@ -137,7 +150,7 @@ lessons_of_ranks_follow w r a s h shown = (events_settle e (met s h (lesson_at w
     heard = heard_shown e a s h (w.member e) (nat_lt ((w.net.core e).known a.rank) a.incarnation) shown
 
 pub notices_of_ranks_follow : NoticesOfRanksFollow
-notices_of_ranks_follow n r happenings a i x note s h answer t k few shown word_is there noted_as gives =
+notices_of_ranks_follow n r happenings a i x note s h answer t k few shown word_is there noted_as gives within =
     record {
       member = member_settled effect.member;
       out = effect.out;
@@ -148,7 +161,7 @@ notices_of_ranks_follow n r happenings a i x note s h answer t k few shown word_
       said = f.1;
       sendable = steps_are_sendable n e (state.noted s1 note) h (noted m1 a x) before (state.noted s1 note).kept answer.1 few (noted_shown e s1 h m1 before heard note (record { sender = a; notice = x }) noted_as)
           (held_is_distinct n e s h (w.member e) None shown (stand.held r word_is.there))
-          (subst (λ (o : Endpoint). IsPrepared o (state.noted s1 note).present h (state.noted s1 note).kept answer.1) (sym (same_own s1 note)) gives.0);
+          (subst (λ (o : Endpoint). IsPrepared o (state.noted s1 note).present h (state.noted s1 note).kept answer.1) (sym (same_own s1 note)) gives.0) within;
     }
   where
     w : GroupNetwork

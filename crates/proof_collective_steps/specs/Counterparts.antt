@@ -1,8 +1,9 @@
 -- What stands for what: entries, records, communicators and messages of a rank's collectives, as the pure network says them
 -- (MPI 3.1, 5.1 to 5.9 and 6.4.2).
-use Rattle.std.specs.Prelude.{◌≡◌, ℕ, true, List, [], ◌∷◌, map, Some, None, pos, is_some, option_map}
-use Rattle.collective_notes.specs.Notes.{member_at}
-use Rattle.collectives.specs.State.{members_incarnation}
+use Rattle.std.specs.Prelude.{◌≡◌, ℕ, ◌*◌, true, length, Option, List, [], ◌∷◌, Some, None, pos, option_map}
+pub use Rattle.collective_blocks.specs.Operations.{op_of}
+pub use Rattle.communicators.specs.Members.{call_of, communicator_of, members_of}
+use Rattle.collective_steps.specs.Steps.{handed_in}
 use Rattle.collective_notes.specs.declared.entry.Entry.{Entry}
 use Rattle.collective_notes.specs.declared.entry.Entry.TheVariants as entries
 use Rattle.collective_notes.specs.declared.message.Given.{Given}
@@ -11,45 +12,47 @@ use Rattle.collective_notes.specs.declared.message.Message.{Message}
 use Rattle.collective_notes.specs.declared.note.Note.{Note}
 use Rattle.collective_notes.specs.declared.note.Said.{Said}
 use Rattle.collective_notes.specs.declared.note.Said.TheVariants as said
-use Rattle.context_agreement.specs.Numbers.{number_of}
-use Rattle.context_agreement.specs.declared.communicator.Communicator as held
+use Rattle.datatypes.specs.Contents.{Contents}
 use Rattle.payload.specs.Spelling.{SaysNothing, elements_of}
-use Rattle.payload.specs.declared.operation.Operation.{Operation}
-use Rattle.payload.specs.declared.operation.Operation.TheVariants as operations
 use Rattle.payload.specs.declared.payload.Direction.TheVariants.{FromRoot, TowardsRoot}
+use Rattle.payload.specs.declared.record.Elements.{Elements}
 use Rattle.payload.specs.declared.record.Record as payload
 use Rattle.payload.specs.declared.record.Record.TheVariants as records
+use Rattle.perfect_groups.specs.Collectives as machine
 use Rattle.perfect_groups.specs.Collectives.{Part, Record, allreduce, bare_part, barrier, bcast, dup, gather, reduce, scatter, split}
-use Rattle.perfect_groups.specs.Communicators.{Communicator}
+use Rattle.perfect_queues.specs.Groups.{rank_in}
 use Rattle.proof_group_network.specs.Notices as network
 use Rattle.proof_group_network.specs.Notices.{HasDifference, HasEntered, HasMade, HasResult, Notice}
-use Rattle.reductions.specs.declared.operation.Op.{Op}
-use Rattle.reductions.specs.declared.operation.Op.TheVariants as ops
-use Rattle.vocabulary.specs.BasicTypes.{size_of}
+use Rattle.reductions.specs.Operations.{is_defined}
 use Rattle.vocabulary.specs.declared.basic_type.BasicType.TheVariants.{Uint16}
 use Rattle.vocabulary.specs.declared.endpoint.Endpoint.{Endpoint}
 
 -- ---- what is entered
 
--- what was entered: these kinds have no root, operation, type, count or values
+-- what was entered
 abbrev pub part_of : Entry → Part
-part_of entries.Barrier = bare_part barrier
-part_of entries.Dup = bare_part dup
-part_of (entries.Split choice) = record (bare_part split) { colour = choice.colour; key = choice.key }
+part_of x = machine.part_of (call_of x)
 
--- an operation
-abbrev pub op_of : Operation → Op
-op_of operations.Max = ops.Max
-op_of operations.Min = ops.Min
-op_of operations.Sum = ops.Sum
-op_of operations.Prod = ops.Prod
-op_of operations.Land = ops.Land
-op_of operations.Lor = ops.Lor
-op_of operations.Lxor = ops.Lxor
-op_of operations.Band = ops.Band
-op_of operations.Bor = ops.Bor
-op_of operations.Bxor = ops.Bxor
-op_of operations.Affine = ops.Affine
+-- the elements of a scatter's root are a block for each of so many members
+abbrev pub AreBlocks : Elements → (size : ℕ) → Contents → Type 0
+AreBlocks e size all = (all.basic ≡ e.basic) × (length all.values ≡ size * e.count)
+
+-- what the rank at e hands in to a communicator with this group breaks no rule: a scatter's root has a block for each member (5.6), and an
+-- operation is defined on the type (5.9.2)
+abbrev pub HandsIn : (e : Endpoint) → (group : List ℕ) → Entry → Type 0
+HandsIn e group entries.Barrier = Unit {0}
+HandsIn e group (entries.Bcast root b) = Unit {0}
+HandsIn e group (entries.Gather root b) = Unit {0}
+HandsIn e group (entries.Scatter r all) = rank_in group e.rank ≡ r.root → AreBlocks r.elements (length group) (handed_in r.elements all)
+HandsIn e group (entries.Reduce o root b) = is_defined (op_of o) b.basic ≡ true
+HandsIn e group (entries.Allreduce o b) = is_defined (op_of o) b.basic ≡ true
+HandsIn e group entries.Dup = Unit {0}
+HandsIn e group (entries.Split choice) = Unit {0}
+
+-- as many elements of a type as a record says
+abbrev pub AreAsSaid : Option Elements → Contents → Type 0
+AreAsSaid None b = ⊥
+AreAsSaid (Some e) b = (b.basic ≡ e.basic) × (length b.values ≡ e.count)
 
 -- the record of a message, of any of the eight kinds
 abbrev pub record_of : payload.Record → Record
@@ -62,16 +65,6 @@ record_of (records.Reduce o r) =
 record_of (records.Allreduce o e) = record { kind = allreduce; root = 0; operation = Some (op_of o); basic = Some e.basic; count = e.count }
 record_of records.Dup = (bare_part dup).record_is
 record_of records.Split = (bare_part split).record_is
-
--- ---- communicators
-
--- the members of a communicator with this context and this group, as the rank at e knows them
-abbrev pub members_of : (e : Endpoint) → (context : ℕ) → (group : List ℕ) → List Endpoint
-members_of e c group = map (member_at (members_incarnation e c)) group
-
--- a communicator of the rank at e
-abbrev pub communicator_of : (e : Endpoint) → held.Communicator → Communicator
-communicator_of e c = record { context = number_of c.context; members = members_of e (number_of c.context) c.group }
 
 -- ---- what is told
 
@@ -93,7 +86,7 @@ StandsFor e r (said.NewGroup number group) x =
 abbrev pub SaidFits : payload.Record → Said → Type 0
 SaidFits r said.RecordsDiffer = Unit {0}
 SaidFits r (said.Nothing way) = SaysNothing r way
-SaidFits r (said.Elements way b) = is_some (elements_of r) ≡ true
+SaidFits r (said.Elements way b) = AreAsSaid (elements_of r) b
 SaidFits r (said.Context number) = r ≡ records.Dup
 SaidFits r (said.Choice choice) = r ≡ records.Split
 SaidFits r said.NullCommunicator = r ≡ records.Split

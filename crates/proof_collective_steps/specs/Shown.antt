@@ -1,15 +1,16 @@
 -- When what a rank keeps of collectives and communicators stands for its member of the pure network.
-use Rattle.std.specs.Prelude.{◌≡◌, ℕ, ◌≤◌, map, Option, Some, None, slice_get}
+use Rattle.std.specs.Prelude.{◌≡◌, ℕ, ◌≤◌, map, option_map, Option, Some, None, slice_get}
 use Rattle.collectives.specs.State.{State, members_incarnation}
 use Rattle.collective_notes.specs.Tallies.{count_in}
 use Rattle.collective_notes.specs.declared.entry.Inside as code
-use Rattle.collectives.specs.declared.step.Ending as steps
-use Rattle.collectives.specs.declared.step.Ending.TheVariants as endings
+use Rattle.collective_steps.specs.declared.step.Ending as steps
+use Rattle.collective_steps.specs.declared.step.Ending.TheVariants as endings
 use Rattle.context_agreement.specs.Communicators.{ContextsState}
 use Rattle.context_agreement.specs.Numbers.{number_of}
 use Rattle.context_agreement.specs.declared.communicator.Communicator as held
+use Rattle.groups.specs.Groups.{HasNoRepeats}
 use Rattle.perfect_groups.specs.Membership.{Comm, Ending, Failed, Inside, Left, Out, Present}
-use Rattle.proof_collective_steps.specs.Counterparts.{AreNoted, communicator_of, part_of}
+use Rattle.proof_collective_steps.specs.Counterparts.{AreNoted, HandsIn, communicator_of, part_of}
 use Rattle.proof_group_network.specs.Notices.{Member}
 use Rattle.vocabulary.specs.declared.endpoint.Endpoint.{Endpoint}
 
@@ -20,6 +21,9 @@ pub record IsInside (e : Endpoint) (h : ContextsState) (i : code.Inside) (p : Op
   pub context : i.context ≡ number_of comm.context
   pub incarnation : i.incarnation ≡ members_incarnation e i.context
   pub own : e.incarnation ≡ i.incarnation
+  -- no rank is a member twice, and what was handed in broke no rule
+  pub once : HasNoRepeats comm.group
+  pub hands : HandsIn e comm.group i.entry
   pub is : p ≡ Some (Inside (communicator_of e comm) i.number (part_of i.entry))
 
 -- the collective that the rank is in, or none
@@ -29,7 +33,7 @@ IsPresent e h (Some i) p = IsInside e h i p
 
 -- how a collective ends
 abbrev pub ending_is : steps.Ending → Ending
-ending_is endings.Left = Left None
+ending_is (endings.Left b) = Left (option_map (λ x. x.values) b)
 ending_is (endings.Comm place) = Comm place
 ending_is endings.Replaced = Failed 11
 ending_is endings.Mismatch = Failed 12

@@ -3,8 +3,8 @@ use Rattle.std.specs.Prelude.{◌≡◌, ℕ, ◌≤◌, ◌⊎◌, true, false,
 use Rattle.collective_notes.specs.Arrivals.{ArrivalGives}
 use Rattle.collectives.specs.Calls.{EntryGives, IsReady, MessageGives, entered, entry_fault, inside_of, learned, lesson_ending, most_collectives, with_note}
 use Rattle.collective_notes.specs.Messages.{IsWithinType, says}
-use Rattle.collectives.specs.State.{State}
-use Rattle.collectives.specs.Steps.{IsPreparedEntry, Prepared, after_step, contexts_after, ending_of}
+use Rattle.collectives.specs.State.{State, after_step}
+use Rattle.collective_steps.specs.Steps.{IsPreparedEntry, Prepared, contexts_after, ending_of}
 use Rattle.collective_notes.specs.declared.address.Address.{Address}
 use Rattle.collectives.specs.declared.collective.ReadyMessage.{ReadyMessage}
 use Rattle.collective_notes.specs.declared.entry.Entry.{Entry}
@@ -13,13 +13,14 @@ use Rattle.collective_notes.specs.declared.message.Message.{Message}
 use Rattle.collective_notes.specs.declared.note.Note.{Note}
 use Rattle.collective_notes.specs.declared.refused.Refused.{Refused}
 use Rattle.collective_notes.specs.declared.refused.Refused.TheVariants as refusals
-use Rattle.collectives.specs.declared.step.Ending.{Ending}
+use Rattle.collective_steps.specs.declared.step.Ending.{Ending}
 use Rattle.context_agreement.specs.Communicators.{ContextsState}
 use Rattle.payload.specs.Spelling.{PayloadText}
-use Rattle.perfect_groups.specs.Communicators.{Communicator, is_member}
+use Rattle.groups.specs.Groups.{HasNoRepeats}
+use Rattle.perfect_groups.specs.Communicators.{Communicator, group_of, is_member}
 use Rattle.perfect_groups.specs.Faults.{is_within}
 use Rattle.perfect_groups.specs.Results.{is_making}
-use Rattle.proof_collective_steps.specs.Counterparts.{AreSaid, IsNoted, IsSaid, part_of}
+use Rattle.proof_collective_steps.specs.Counterparts.{AreSaid, HandsIn, IsNoted, IsSaid, part_of}
 use Rattle.proof_collective_steps.specs.Shown.{IsShown, or_given}
 use Rattle.proof_group_network.specs.Copies.{CopiesHaveTheirGroup}
 use Rattle.proof_group_network.specs.Network.{has_serials, is_broken, member_settled}
@@ -66,13 +67,14 @@ entry_notices e m c x =
     ++ (attempt e (member_entering m c (part_of x))).out
 
 -- An entry that breaks no rule: the member has entered, tells that it has, and does of itself what follows. It is one of the
--- communicator's members
+-- communicator's members, none of which has a rank twice, and what it hands in breaks no rule
 abbrev pub EntriesFollow : Type 0
 EntriesFollow =
     (e : Endpoint) (s : State) (h : ContextsState) (m : Member) (place : ℕ) (x : Entry) (c : Communicator)
     (answer : Option Ending × Prepared) (t : State) (k : ContextsState) →
     IsShown e s h m None → entry_fault s h place x ≡ None →
     slice_get m.membership.held place ≡ Some c → is_member e c.members ≡ true →
+    HasNoRepeats (group_of c) → HandsIn e (group_of c) x →
     CopiesHaveTheirGroup (member_entering m c (part_of x)).membership.present m.kept →
     EntryGives s h (inside_of s h place x) (Ok answer) t k →
     IsShown e t k (attempt e (member_entering m c (part_of x))).member answer.0

@@ -2,8 +2,8 @@
 use Rattle.std.proofs.Common.{◌≡◌, arith}
 use Rattle.std.proofs.lemmas.Grind.{common_steps}
 use Rattle.collectives.specs.Calls.{inside_of}
-use Rattle.collectives.specs.Steps.{IsPreparedEntry, IsRefusal}
-use Rattle.collectives.proofs.Fitting.{entry_fit}
+use Rattle.collective_steps.specs.Steps.{IsPreparedEntry, IsRefusal}
+use Rattle.collective_steps.proofs.Fitting.{entry_fit}
 use Rattle.collectives.proofs.Readiness.{entry_at}
 use Rattle.collectives.proofs.collective.Collective.prepare_entry.Goals as goal
 use Rattle.collectives.proofs.collective.Collective.prepare_entry.Goals.{in-Ok, in-Err}

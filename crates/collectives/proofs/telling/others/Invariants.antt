@@ -1,9 +1,0 @@
--- The other members among the ranks so far.
-use Rattle.std.proofs.Common.{◌≡◌, take, filter}
-use Rattle.std.specs.Prelude.{not}
-use Rattle.collective_notes.specs.Notes.{member_at}
-use Rattle.vocabulary.specs.Endpoints.{is_same}
-use Rattle.collectives.proofs.telling.others.Given as goal
-
-abbrev pub invariant-loop-rank : goal.invariant-loop-rank
-invariant-loop-rank l = l.others.items ≡ filter (λ r. not (is_same (member_at l.inside.incarnation r) l.own)) (take l.rank-index l.ranks)
