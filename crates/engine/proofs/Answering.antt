@@ -1,6 +1,6 @@
 -- What the core answers is what the engine answers.
 use Rattle.std.proofs.Common.{◌≡◌, ◌<◌, ◌≤◌, ◌+◌, ◌*◌, ℕ, List, Option, Some, None, refl, sym, ap, ap₂, subst, ◌∙◌, arith}
-use Rattle.collectives.specs.declared.step.Ending.{Ending}
+use Rattle.collective_steps.specs.declared.step.Ending.{Ending}
 use Rattle.rank_calls.specs.Calls as cores
 use Rattle.rank_calls.specs.declared.call.Call as core_asks
 use Rattle.rank_calls.specs.declared.call.Call.TheVariants as core_calls

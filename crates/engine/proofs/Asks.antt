@@ -1,6 +1,6 @@
 -- What a call asks of the core, and its first rule or limit.
 use Rattle.std.proofs.Common.{◌≡◌, ◌||◌, Bool, true, false, Option, Some, None, Result, Ok, Err, refl, sym, ap, subst, ◌∙◌, is_some, option_map}
-use Rattle.collectives.specs.declared.step.Ending.{Ending}
+use Rattle.collective_steps.specs.declared.step.Ending.{Ending}
 use Rattle.communicators.specs.Routes.{RouteText}
 use Rattle.communicators.specs.Rules.{known_by}
 use Rattle.perfect_groups.specs.Calls.{held_at}

@@ -2,7 +2,7 @@
 use Rattle.std.proofs.Common.{◌≡◌, ℕ, Option, Some, None, refl, sym, ap, subst, ◌∙◌, inl, inr}
 use Rattle.collective_notes.specs.declared.entry.Entry.{Entry}
 use Rattle.collectives.specs.State.{State}
-use Rattle.collectives.specs.declared.step.Ending.{Ending}
+use Rattle.collective_steps.specs.declared.step.Ending.{Ending}
 use Rattle.context_agreement.specs.Communicators.{ContextsState}
 use Rattle.rank_calls.specs.declared.refused.Refused.{Refused}
 use Rattle.rank_calls.specs.declared.refused.Refused.TheVariants as refusals
@@ -47,6 +47,8 @@ lacks_room e place x refusals.Tag not = absurd not
 lacks_room e place x refusals.Communicator not = absurd not
 lacks_room e place x refusals.Rank not = absurd not
 lacks_room e place x refusals.Request not = absurd not
+lacks_room e place x refusals.Root not = absurd not
+lacks_room e place x refusals.Operation not = absurd not
 lacks_room e place x refusals.Replaced not = absurd not
 lacks_room e place x refusals.Short not = absurd not
 lacks_room e place x refusals.Magic not = absurd not
@@ -97,12 +99,13 @@ entered_at e now new t k links comm place x ending r reply same named back is fr
     subst (λ (a : Reply). EnteringGives e (Some place) x a new) (sym (back ∙ is))
     (subst (λ (s : EngineState). EnteringGives e (Some place) x (reply_on_entry ending) s) (sym moves) (entered e t k links place x ending allowed goes)))) free
 
--- or it is refused
-pub stays_out : (e now new : EngineState) (comm : Option ℕ) (place : ℕ) (x : Entry) (why : Refused) (reply : Reply) → e ≡ now → comm ≡ Some place →
-    reply ≡ replies.Refused why (calls.Enter (Some place) x) → fault_of now (calls.Enter comm x) ≡ None →
+-- or it is refused, and what was handed in comes back
+pub stays_out : (e now new : EngineState) (comm : Option ℕ) (place : ℕ) (x y : Entry) (why : Refused) (reply : Reply) → e ≡ now → comm ≡ Some place →
+    reply ≡ replies.Refused why (calls.Enter (Some place) y) → y ≡ x → fault_of now (calls.Enter comm x) ≡ None →
     WhyNot e.groups.collective e.groups.contexts e.sessions place x why → new ≡ e → EnteringGives now comm x reply new
-stays_out e now new comm place x why reply same named back free not stays =
-    subst (λ (a : Reply). EnteringGives now comm x a new) (sym (back ∙ ap (λ (o : Option ℕ). replies.Refused why (calls.Enter o x)) (sym named)))
+stays_out e now new comm place x y why reply same named back handed free not stays =
+    subst (λ (a : Reply). EnteringGives now comm x a new)
+    (sym (back ∙ ap (λ (z : Entry). replies.Refused why (calls.Enter (Some place) z)) handed ∙ ap (λ (o : Option ℕ). replies.Refused why (calls.Enter o x)) (sym named)))
     (refused_for now new (calls.Enter comm x) why free (stays ∙ same)
     (subst (λ (o : Option ℕ). LacksRoom now (calls.Enter o x) why) (sym named)
     (subst (λ (s : EngineState). LacksRoom s (calls.Enter (Some place) x) why) same (lacks_room e place x why not))))

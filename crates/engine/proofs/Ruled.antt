@@ -1,55 +1,73 @@
 -- The first rule or limit that entering a collective, or a question, meets.
 use Rattle.std.proofs.Common.{◌≡◌, ℕ, ◌==◌, ◌||◌, Bool, true, false, cond, if◌then◌else◌, is_some, List, Option, Some, None, refl, sym, ap, subst, ◌∙◌}
 use Rattle.std.specs.Prelude.{is_none, option_map}
+use Rattle.std.specs.Option.{option_or}
+use Rattle.collective_blocks.specs.Rules.{number_of_rule}
+use Rattle.collective_blocks.specs.declared.rules.Rule.{Rule}
+use Rattle.collective_blocks.specs.declared.rules.Rule.TheVariants as rules
 use Rattle.collective_notes.specs.declared.entry.Entry.{Entry}
-use Rattle.collective_notes.specs.declared.entry.Entry.TheVariants as entries
-use Rattle.communicators.specs.Members.{call_of}
+use Rattle.communicators.proofs.Judging.{entry_judged, question_judged}
+use Rattle.communicators.specs.Members.{call_of, held_in}
 use Rattle.communicators.specs.Questions.{question_of}
-use Rattle.communicators.specs.Rules.{Allows, EntriesAreAllowed, known_by, limit_in, no_requests, number_of_fault, or_limited}
+use Rattle.communicators.specs.Rules.{Allows, EntriesAreAllowed, known_by, limit_in, no_requests, number_of_fault, or_limited, rule_in}
 use Rattle.communicators.specs.declared.fault.Fault.{Fault}
 use Rattle.communicators.specs.declared.fault.Fault.TheVariants as faults
 use Rattle.communicators.specs.declared.question.Question.{Question}
-use Rattle.communicators.specs.declared.question.Question.TheVariants as questions
 use Rattle.perfect_groups.specs.Calls.{Enter, Inquire, held_at}
 use Rattle.perfect_groups.specs.Faults.{asks_of_none, fault_by, has_replaced, is_within}
 use Rattle.perfect_groups.specs.Membership.{Membership}
 use Rattle.rank_calls.specs.declared.refused.Refused.{Refused}
 use Rattle.rank_calls.specs.declared.refused.Refused.TheVariants as refusals
-use Rattle.vocabulary.specs.declared.endpoint.Endpoint.{Endpoint}
 use Rattle.engine.specs.EngineState.{EngineState, member_of}
 use Rattle.engine.specs.Faults.{broken, fault_of, is_busy}
-use Rattle.engine.specs.Refusals.{first_fault, of_rule}
+use Rattle.engine.specs.Refusals.{first_fault, of_entry_rule, of_rule}
 use Rattle.engine.specs.declared.call.Call.TheVariants as calls
 
 -- the refusal with a number
 abbrev refusal_of : ℕ → Refused
-refusal_of n = if n == 6 then refusals.Request else (if n == 4 then refusals.Communicator else (if n == 11 then refusals.Replaced else refusals.Limit))
+refusal_of n =
+    if n == 6 then refusals.Request else
+    (if n == 4 then refusals.Communicator else
+    (if n == 2 then refusals.WrongType else
+    (if n == 1 then refusals.Count else
+    (if n == 7 then refusals.Root else
+    (if n == 9 then refusals.Operation else
+    (if n == 11 then refusals.Replaced else refusals.Limit))))))
 
 by_number : (o : Option Fault) → option_map of_rule o ≡ option_map refusal_of (option_map number_of_fault o)
 by_number None = refl
 by_number (Some faults.Blocked) = refl
 by_number (Some faults.NoCommunicator) = refl
+by_number (Some (faults.Entry rules.WrongType)) = refl
+by_number (Some (faults.Entry rules.WrongCount)) = refl
+by_number (Some (faults.Entry rules.NoRoot)) = refl
+by_number (Some (faults.Entry rules.NotDefined)) = refl
 by_number (Some faults.Replaced) = refl
 by_number (Some faults.Limit) = refl
 
 -- ---- entering
 
-entry_judged : (b : Bool) (e : Endpoint) (known : ℕ → ℕ) (m : Membership) (comm : Option ℕ) (x : Entry) →
-    fault_by b no_requests e known m (Enter comm (call_of x))
-    ≡ cond b (Some 6) (cond (is_none (held_at m comm)) (Some 4) (cond (has_replaced known (held_at m comm)) (Some 11) None))
-entry_judged true e known m comm x = refl
-entry_judged false e known m comm entries.Barrier = refl
-entry_judged false e known m comm entries.Dup = refl
-entry_judged false e known m comm (entries.Split choice) = refl
+-- the number of the first rule that an entry breaks: 6, 4, one on what is handed in, 11
+abbrev number_by : (b n : Bool) → Option Rule → (r : Bool) → Option ℕ
+number_by b n o r = cond b (Some 6) (cond n (Some 4) (option_or (option_map number_of_rule o) (cond r (Some 11) None)))
 
-in_order : (b n r l : Bool) → option_map refusal_of (or_limited (cond b (Some 6) (cond n (Some 4) (cond r (Some 11) None))) l)
-    ≡ first_fault (broken b refusals.Request)
-    (first_fault (broken n refusals.Communicator) (first_fault (broken r refusals.Replaced) (broken l refusals.Limit)))
-in_order true n r l = refl
-in_order false true r l = refl
-in_order false false true l = refl
-in_order false false false true = refl
-in_order false false false false = refl
+-- and as the engine answers it, where a limit comes last
+abbrev fault_in : (b n : Bool) → Option Rule → (r l : Bool) → Option Refused
+fault_in b n o r l =
+    first_fault (broken b refusals.Request)
+    (first_fault (broken n refusals.Communicator)
+    (first_fault (option_map of_entry_rule o) (first_fault (broken r refusals.Replaced) (broken l refusals.Limit))))
+
+in_order : (b n : Bool) (o : Option Rule) (r l : Bool) → option_map refusal_of (or_limited (number_by b n o r) l) ≡ fault_in b n o r l
+in_order true n o r l = refl
+in_order false true o r l = refl
+in_order false false (Some rules.WrongType) r l = refl
+in_order false false (Some rules.WrongCount) r l = refl
+in_order false false (Some rules.NoRoot) r l = refl
+in_order false false (Some rules.NotDefined) r l = refl
+in_order false false None true l = refl
+in_order false false None false true = refl
+in_order false false None false false = refl
 
 pub entry_ruled : (e : EngineState) (b : Bool) (known : List ℕ) (comm : Option ℕ) (x : Entry) (o : Option Fault) → b ≡ is_some e.core.blocked →
     known ≡ e.sessions.known →
@@ -64,17 +82,18 @@ entry_ruled e b known comm x o blocked knows is =
     by_number o ∙ ap (option_map refusal_of) is
     ∙ ap (λ (t : Bool). option_map refusal_of (or_limited (fault_by (t || is_within m.present) no_requests e.groups.collective.own (known_by known) m (Enter comm (call_of x))) limit)) blocked
     ∙ ap (λ (k : List ℕ). option_map refusal_of (or_limited (fault_by (is_busy e) no_requests e.groups.collective.own (known_by k) m (Enter comm (call_of x))) limit)) knows
-    ∙ ap (λ (f : Option ℕ). option_map refusal_of (or_limited f limit)) (entry_judged (is_busy e) e.groups.collective.own (known_by e.sessions.known) m comm x)
-    ∙ in_order (is_busy e) (is_none (held_at m comm)) (has_replaced (known_by e.sessions.known) (held_at m comm)) limit
+    ∙ ap (λ (f : Option ℕ). option_map refusal_of (or_limited f limit))
+    (entry_judged (is_busy e) e.groups.collective e.groups.contexts (known_by e.sessions.known) comm x)
+    ∙ in_order (is_busy e) (is_none (held_at m comm)) (rule_in e.groups.collective.own (held_in e.groups.contexts comm) x)
+    (has_replaced (known_by e.sessions.known) (held_at m comm)) limit
 
-none_of : (b n r l : Bool) →
-    first_fault (broken b refusals.Request) (first_fault (broken n refusals.Communicator) (first_fault (broken r refusals.Replaced) (broken l refusals.Limit))) ≡ None →
-    or_limited (cond b (Some 6) (cond n (Some 4) (cond r (Some 11) None))) l ≡ None
-none_of true n r l is = absurd cc
-none_of false true r l is = absurd cc
-none_of false false true l is = absurd cc
-none_of false false false true is = absurd cc
-none_of false false false false is = refl
+none_of : (b n : Bool) (o : Option Rule) (r l : Bool) → fault_in b n o r l ≡ None → or_limited (number_by b n o r) l ≡ None
+none_of true n o r l is = absurd cc
+none_of false true o r l is = absurd cc
+none_of false false (Some rule) r l is = absurd cc
+none_of false false None true l is = absurd cc
+none_of false false None false true is = absurd cc
+none_of false false None false false is = refl
 
 -- where none is met, it can be made ready
 pub entry_allowed : EntriesAreAllowed → (e now : EngineState) (comm : Option ℕ) (x : Entry) → e ≡ now → fault_of now (calls.Enter comm x) ≡ None → Allows e.groups.collective e.groups.contexts comm x
@@ -83,8 +102,9 @@ entry_allowed allowed e now comm x same met =
     let m : Membership = member_of e.groups in
     let limit : Bool = limit_in e.groups.collective e.groups.contexts comm x in
     allowed e.groups.collective e.groups.contexts (is_some e.core.blocked) (known_by e.sessions.known) comm x
-    (ap (λ (f : Option ℕ). or_limited f limit) (entry_judged (is_busy e) e.groups.collective.own (known_by e.sessions.known) m comm x)
-    ∙ none_of (is_busy e) (is_none (held_at m comm)) (has_replaced (known_by e.sessions.known) (held_at m comm)) limit free)
+    (ap (λ (f : Option ℕ). or_limited f limit) (entry_judged (is_busy e) e.groups.collective e.groups.contexts (known_by e.sessions.known) comm x)
+    ∙ none_of (is_busy e) (is_none (held_at m comm)) (rule_in e.groups.collective.own (held_in e.groups.contexts comm) x)
+    (has_replaced (known_by e.sessions.known) (held_at m comm)) limit free)
 
 -- at its place
 pub allowed_at : EntriesAreAllowed → (e now : EngineState) (comm : Option ℕ) (place : ℕ) (x : Entry) → e ≡ now → comm ≡ Some place →
@@ -93,15 +113,6 @@ allowed_at allowed e now comm place x same named met =
     subst (λ (o : Option ℕ). Allows e.groups.collective e.groups.contexts o x) named (entry_allowed allowed e now comm x same met)
 
 -- ---- questions
-
-question_judged : (b : Bool) (e : Endpoint) (known : ℕ → ℕ) (m : Membership) (comm : Option ℕ) (q : Question) →
-    fault_by b no_requests e known m (Inquire comm (question_of q))
-    ≡ cond b (Some 6) (cond (is_none (held_at m comm) || asks_of_none m (question_of q)) (Some 4) None)
-question_judged true e known m comm q = refl
-question_judged false e known m comm questions.Rank = refl
-question_judged false e known m comm questions.Size = refl
-question_judged false e known m comm questions.Group = refl
-question_judged false e known m comm (questions.Compare other) = refl
 
 in_turn : (b n : Bool) → option_map refusal_of (cond b (Some 6) (cond n (Some 4) None)) ≡ first_fault (broken b refusals.Request) (broken n refusals.Communicator)
 in_turn true n = refl

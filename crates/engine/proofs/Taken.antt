@@ -6,10 +6,10 @@ use Rattle.collective_notes.specs.declared.address.Address.{Address}
 use Rattle.collective_notes.specs.declared.refused.Refused as noted
 use Rattle.collective_notes.specs.declared.refused.Refused.TheVariants as notes
 use Rattle.collectives.specs.Calls.{IsReady, MessageRefused, met, with_note}
-use Rattle.collectives.specs.State.{State}
-use Rattle.collectives.specs.Steps.{after_step, contexts_after, ending_of}
+use Rattle.collectives.specs.State.{State, after_step}
+use Rattle.collective_steps.specs.Steps.{contexts_after, ending_of}
 use Rattle.collectives.specs.declared.collective.ReadyMessage.{ReadyMessage}
-use Rattle.collectives.specs.declared.step.Ending.{Ending}
+use Rattle.collective_steps.specs.declared.step.Ending.{Ending}
 use Rattle.context_agreement.specs.Communicators.{ContextsState}
 use Rattle.datagram.specs.Spelling.{EagerText}
 use Rattle.payload.specs.Reading.{payload_of}
@@ -132,6 +132,8 @@ stopped old h t lesson p ready why taught read is stops =
     go refusals.Communicator s i = absurd s
     go refusals.Rank s i = absurd s
     go refusals.Request s i = absurd s
+    go refusals.Root s i = absurd s
+    go refusals.Operation s i = absurd s
     go refusals.Replaced s i = absurd s
     go refusals.Short s i = absurd s
     go refusals.Magic s i = absurd s

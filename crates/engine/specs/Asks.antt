@@ -1,6 +1,6 @@
 -- What the core is asked by a call, and what becomes of its answer.
 use Rattle.std.specs.Prelude.{◌≡◌, ℕ, List, Option, Some, None, Result, Ok, Err}
-use Rattle.collectives.specs.declared.step.Ending.{Ending}
+use Rattle.collective_steps.specs.declared.step.Ending.{Ending}
 use Rattle.communicators.specs.Members.{Held}
 use Rattle.communicators.specs.Routes.{RouteText}
 use Rattle.communicators.specs.Rules.{known_by}

@@ -3,9 +3,9 @@
 use Rattle.std.specs.Prelude.{◌≡◌, ◌⊎◌, ℕ, Option, Some, None, Ok, option_map}
 use Rattle.collective_notes.specs.declared.entry.Entry.{Entry}
 use Rattle.collectives.specs.Calls.{EntryGives, inside_of}
-use Rattle.collectives.specs.Steps.{IsPreparedEntry, Prepared}
-use Rattle.collectives.specs.Steps as steps
-use Rattle.collectives.specs.declared.step.Ending.{Ending}
+use Rattle.collective_steps.specs.Steps.{IsPreparedEntry, Prepared}
+use Rattle.collective_steps.specs.Steps as steps
+use Rattle.collective_steps.specs.declared.step.Ending.{Ending}
 use Rattle.communicators.specs.Questions.{comparison_of, question_of}
 use Rattle.communicators.specs.declared.question.Question.{Question}
 use Rattle.communicators.specs.declared.question.Question.TheVariants as questions

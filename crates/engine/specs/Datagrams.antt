@@ -3,10 +3,10 @@ use Rattle.std.specs.Prelude.{◌≡◌, ◌⊎◌, ℕ, Bool, true, false, List
 use Rattle.collective_notes.specs.declared.address.Address.{Address}
 use Rattle.collective_notes.specs.declared.refused.Refused.TheVariants as notes
 use Rattle.collectives.specs.Calls.{IsReady, MessageRefused, lesson_ending, met, with_note}
-use Rattle.collectives.specs.State.{State}
-use Rattle.collectives.specs.Steps.{after_step, contexts_after, ending_of}
+use Rattle.collectives.specs.State.{State, after_step}
+use Rattle.collective_steps.specs.Steps.{contexts_after, ending_of}
 use Rattle.collectives.specs.declared.collective.ReadyMessage.{ReadyMessage}
-use Rattle.collectives.specs.declared.step.Ending.{Ending}
+use Rattle.collective_steps.specs.declared.step.Ending.{Ending}
 use Rattle.datagram.specs.Reading.{datagram_of}
 use Rattle.datagram.specs.Spelling.{ClearFrame, DataFrame, DatagramText, EagerFrame, EagerText, FrameText, RequestFrame}
 use Rattle.datagram.specs.declared.kinds.Plane.{Plane}

@@ -1,7 +1,7 @@
 -- What a rank's engine holds: a core, its communicators and collectives, and its sessions.
 use Rattle.std.specs.Prelude.{[], Option, Some, None}
 use Rattle.collectives.specs.State as collectives
-use Rattle.collectives.specs.declared.step.Ending.{Ending}
+use Rattle.collective_steps.specs.declared.step.Ending.{Ending}
 use Rattle.communicators.specs.Members.{membership_of}
 use Rattle.context_agreement.specs.Communicators as contexts
 use Rattle.context_agreement.specs.Communicators.{ContextsState}

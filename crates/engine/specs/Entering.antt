@@ -3,9 +3,9 @@ use Rattle.std.specs.Prelude.{◌≡◌, ◌⊎◌, ℕ, Option, Some, None, Ok}
 use Rattle.collective_notes.specs.declared.entry.Entry.{Entry}
 use Rattle.collectives.specs.Calls.{EntryGives, inside_of}
 use Rattle.collectives.specs.State.{State}
-use Rattle.collectives.specs.Steps.{IsPreparedEntry, Prepared}
-use Rattle.collectives.specs.Steps as steps
-use Rattle.collectives.specs.declared.step.Ending.{Ending}
+use Rattle.collective_steps.specs.Steps.{IsPreparedEntry, Prepared}
+use Rattle.collective_steps.specs.Steps as steps
+use Rattle.collective_steps.specs.declared.step.Ending.{Ending}
 use Rattle.context_agreement.specs.Communicators.{ContextsState}
 use Rattle.rank_calls.specs.declared.refused.Refused.{Refused}
 use Rattle.rank_calls.specs.declared.refused.Refused.TheVariants as refusals

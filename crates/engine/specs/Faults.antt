@@ -1,9 +1,10 @@
 -- The first rule or limit that a call meets.
-use Rattle.std.specs.Prelude.{ℕ, ◌||◌, Bool, List, length, Option, Some, None, if◌then◌else◌, is_none, is_some, nat_lt}
+use Rattle.std.specs.Prelude.{ℕ, ◌||◌, Bool, List, length, Option, Some, None, if◌then◌else◌, is_none, is_some, nat_lt, option_map}
 use Rattle.collective_notes.specs.declared.entry.Entry.{Entry}
+use Rattle.communicators.specs.Members.{held_in}
 use Rattle.communicators.specs.Questions.{question_of}
 use Rattle.communicators.specs.Routes.{RouteText}
-use Rattle.communicators.specs.Rules.{known_by, limit_in}
+use Rattle.communicators.specs.Rules.{known_by, limit_in, rule_in}
 use Rattle.communicators.specs.declared.question.Question.{Question}
 use Rattle.perfect_groups.specs.Calls.{held_at}
 use Rattle.perfect_groups.specs.Faults.{asks_of_none, has_replaced, is_no_target, is_source_beyond, is_within, names_replaced}
@@ -15,7 +16,7 @@ use Rattle.rank_core.specs.Calls.{argument_fault, call_frame, free_request_fault
 use Rattle.vocabulary.specs.declared.envelope.Source.{Source}
 use Rattle.engine.specs.EngineState.{EngineState, member_of}
 use Rattle.engine.specs.Frames.{frame_limit}
-use Rattle.engine.specs.Refusals.{first_fault}
+use Rattle.engine.specs.Refusals.{first_fault, of_entry_rule}
 use Rattle.engine.specs.Routing.{receive_by, route_at, send_by}
 use Rattle.engine.specs.declared.call.Call.{Call}
 use Rattle.engine.specs.declared.call.Call.TheVariants as calls
@@ -63,12 +64,17 @@ on_route (Some r) rules = rules r
 
 -- ---- collectives and questions
 
--- of entering: 4, 11, 13
+-- of what is handed in: 2, 1, 7, 9
+abbrev pub handed_rules : EngineState → (comm : Option ℕ) → Entry → Option Refused
+handed_rules e comm x = option_map of_entry_rule (rule_in e.groups.collective.own (held_in e.groups.contexts comm) x)
+
+-- of entering: 4, 2, 1, 7, 9, 11, 13
 abbrev pub entry_rules : EngineState → (comm : Option ℕ) → Entry → Option Refused
 entry_rules e comm x =
     first_fault (broken (is_none (held_at (member_of e.groups) comm)) refusals.Communicator)
+    (first_fault (handed_rules e comm x)
     (first_fault (broken (has_replaced (known_by e.sessions.known) (held_at (member_of e.groups) comm)) refusals.Replaced)
-    (broken (limit_in e.groups.collective e.groups.contexts comm x) refusals.Limit))
+    (broken (limit_in e.groups.collective e.groups.contexts comm x) refusals.Limit)))
 
 -- of a question: 4
 abbrev pub question_rules : EngineState → (comm : Option ℕ) → Question → Option Refused

@@ -1,7 +1,7 @@
 -- The frames that an event sends: that of a call, and those of a step of a collective.
-use Rattle.std.specs.Prelude.{◌≡◌, ◌<◌, ◌^◌, ℕ, zero, suc, ◌==◌, ◌&&◌, Bool, List, [], ◌∷◌, ◌++◌, filter, length, map, Option, Some, None, if◌then◌else◌, nat_le, nat_lt}
+use Rattle.std.specs.Prelude.{◌<◌, ◌^◌, ℕ, zero, suc, ◌==◌, ◌&&◌, Bool, List, [], ◌∷◌, ◌++◌, filter, length, map, Option, Some, None, if◌then◌else◌, nat_le, nat_lt}
 use Rattle.std.specs.List.{AllByRecursion, list_all}
-use Rattle.collective_notes.specs.Messages.{says}
+use Rattle.collective_notes.specs.Messages.{IsWithinType, says}
 use Rattle.collective_notes.specs.declared.message.Message.{Message}
 use Rattle.datagram.specs.Spelling.{EagerFrame}
 use Rattle.datagram.specs.declared.kinds.Plane.TheVariants.{Collective}
@@ -70,8 +70,9 @@ by_rank (suc k) fs = by_rank k fs ++ filter (λ (f : Sending). f.rank == k) fs
 abbrev pub step_sendings : Place → List Message → List Sending
 step_sendings p ms = by_rank p.size (map sending_of_message ms)
 
--- whether a frame can carry a message: to a rank of the job, under a number that a tag can be, in at most 1,024 bytes. Of a dup or a
--- split among at most 256 ranks each can
+-- whether a frame can carry a message: to a rank of the job, under a number that a tag can be, in at most 1,024 bytes. Of a barrier,
+-- a dup and a split among at most 256 ranks each can; of the collectives that move elements each can whose elements have at most
+-- 1,008 bytes, since the record has 16
 abbrev pub can_go : Place → Message → Bool
 can_go p m = nat_lt m.target.rank p.size && (nat_le m.number highest_tag && nat_le (length (spelling (says m))) eager_limit)
 
@@ -80,9 +81,10 @@ abbrev pub step_limit : SessionsState → Option HeardText → List Message → 
 step_limit s heard ms =
     if list_all (can_go s.place) ms then fault_of_sessions (event_limit s heard (step_sendings s.place ms)) else Some refusals.Limit
 
--- a message can be read as it was written, and its context has 64 bits
+-- a message can be read as it was written, each element that it carries is within its type, and its context has 64 bits
 pub record IsWhole (m : Message) : Type 0 where
   pub fits : PayloadFits (says m)
+  pub within : IsWithinType m.given
   pub context : m.context < 2 ^ 64
 
 -- each does

@@ -1,11 +1,13 @@
 -- The refusals of the sessions, of communicators and of collectives, as the engine's.
 use Rattle.std.specs.Prelude.{Option, Some, None}
+use Rattle.collective_blocks.specs.declared.rules.Rule.{Rule}
+use Rattle.collective_blocks.specs.declared.rules.Rule.TheVariants as entry_faults
 use Rattle.collective_notes.specs.declared.refused.Refused as notes
 use Rattle.collective_notes.specs.declared.refused.Refused.TheVariants as notes_refusals
 use Rattle.communicators.specs.declared.fault.Fault as rules
 use Rattle.communicators.specs.declared.fault.Fault.TheVariants as rule_faults
 use Rattle.rank_calls.specs.declared.refused.Refused.{Refused}
-use Rattle.rank_calls.specs.declared.refused.Refused.TheVariants.{Communicator, Rank, Replaced, Request, Limit, OutOfMemory, Short, Magic, Version, Kind, Length, ForeignJob, NotForMe, StaleSource, StaleTarget, BadFrame, OutOfWindow, ClockBack}
+use Rattle.rank_calls.specs.declared.refused.Refused.TheVariants.{Communicator, Count, Operation, Rank, Replaced, Request, Root, WrongType, Limit, OutOfMemory, Short, Magic, Version, Kind, Length, ForeignJob, NotForMe, StaleSource, StaleTarget, BadFrame, OutOfWindow, ClockBack}
 use Rattle.sessions.specs.declared.refused.Refused as lower
 use Rattle.sessions.specs.declared.refused.Refused.TheVariants as lowers
 
@@ -37,10 +39,18 @@ abbrev pub first_fault : Option Refused → Option Refused → Option Refused
 first_fault (Some e) other = Some e
 first_fault None other = other
 
+-- a rule that what a rank enters a collective with breaks
+abbrev pub of_entry_rule : Rule → Refused
+of_entry_rule entry_faults.WrongType = WrongType
+of_entry_rule entry_faults.WrongCount = Count
+of_entry_rule entry_faults.NoRoot = Root
+of_entry_rule entry_faults.NotDefined = Operation
+
 -- a rule that a call breaks by its communicator, or a limit that it meets there
 abbrev pub of_rule : rules.Fault → Refused
 of_rule rule_faults.Blocked = Request
 of_rule rule_faults.NoCommunicator = Communicator
+of_rule (rule_faults.Entry rule) = of_entry_rule rule
 of_rule rule_faults.Replaced = Replaced
 of_rule rule_faults.Limit = Limit
 

@@ -3,7 +3,7 @@ use Rattle.std.specs.Prelude.{◌≡◌, ◌&&◌, Bool, false, length, Option, 
 use Rattle.collectives.specs.Calls.{lesson_ending}
 use Rattle.collectives.specs.State.{State}
 use Rattle.communicators.specs.Members.{Held}
-use Rattle.collectives.specs.declared.step.Ending.{Ending}
+use Rattle.collective_steps.specs.declared.step.Ending.{Ending}
 use Rattle.context_agreement.specs.Communicators.{ContextsState}
 use Rattle.datagram.specs.Spelling.{ClearFrame, DataFrame, EagerFrame, FrameText, RequestFrame}
 use Rattle.datagram.specs.declared.kinds.Plane.TheVariants.{Collective}

@@ -53,8 +53,8 @@ pub enum Call {
     Waitall(RequestList),
     /// Ends a receive that waits as cancelled; one that was matched goes on (3.8.4).
     Cancel(Option<Request>),
-    /// Enters a collective of the communicator: a barrier (5.3), a copy of it or a split (6.4.2). All members are to enter
-    /// the same ones in the same order.
+    /// Enters a collective of the communicator: a barrier (5.3), a broadcast (5.4), a gather (5.5), a scatter (5.6), a reduction
+    /// (5.9.1, 5.9.6), a copy of it or a split (6.4.2). All members are to enter the same ones in the same order.
     Enter(Option<usize>, Entry),
     /// Asks about the communicator (6.4.1).
     Ask(Option<usize>, Question),
@@ -83,7 +83,7 @@ impl Call {
             Call::Waitany(list) => Ok(Call::Waitany(list.try_clone(alloc)?)),
             Call::Waitall(list) => Ok(Call::Waitall(list.try_clone(alloc)?)),
             Call::Cancel(request) => Ok(Call::Cancel(*request)),
-            Call::Enter(comm, entry) => Ok(Call::Enter(*comm, *entry)),
+            Call::Enter(comm, entry) => Ok(Call::Enter(*comm, entry.try_clone(alloc)?)),
             Call::Ask(comm, question) => Ok(Call::Ask(*comm, *question)),
         }
     }

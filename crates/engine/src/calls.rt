@@ -1,7 +1,7 @@
 //! How an engine answers calls.
 
 ghost use Rattle.std.specs.Prelude.{◌≡◌, ◌≤◌, ◌<◌, ◌+◌, ◌*◌, length, Option, IfErr, IfOk, OnErr, OnOk, None};
-ghost use Rattle.collectives.specs.declared.step.Ending.{Ending};
+ghost use Rattle.collective_steps.specs.declared.step.Ending.{Ending};
 ghost use Rattle.rank_calls.specs.Calls.{NeedsMemory};
 ghost use Rattle.rank_core.specs.Calls.{CanAnswer, call_frame};
 ghost use Rattle.engine.specs.Asks.{AnswerGives, AskGives, CanAsk, CanAskBy, IsAsked, IsClear, IsOnRequests, call_named, engine_of, groups_of};
@@ -235,7 +235,7 @@ impl Engine {
         judgement(self.asked_on_requests(call))
     }
 
-    /// The first rule or limit that a call would be refused by now, of 6, 4, 2, 1, 3, 5, 11 and 13: see `call`; and the call as it
+    /// The first rule or limit that a call would be refused by now, of 6, 4, 2, 1, 3, 5, 7, 9, 11 and 13: see `call`; and the call as it
     /// was handed in. It takes no memory; a call that meets none is refused for want of memory (14), and a collective also where
     /// what the rank then does of itself meets a limit (13).
     #[tactic(auto, using(crate::proofs::Asks::judged_fault, crate::proofs::Asks::judged_back))]
@@ -252,7 +252,7 @@ impl Engine {
             Call::Waitall(list) => self.judge_on_requests(rank_core::Call::Waitall(list)),
             Call::Cancel(request) => self.judge_on_requests(rank_core::Call::Cancel(request)),
             Call::Enter(comm, entry) => Judged {
-                fault: self.fault_of_entry(comm, entry),
+                fault: self.fault_of_entry(comm, &entry),
                 call: Call::Enter(comm, entry),
             },
             Call::Ask(comm, question) => Judged {
@@ -266,12 +266,15 @@ impl Engine {
     ///
     /// Refused is the first that holds of: 6 (an earlier call is blocked, on requests or in a collective; there is no such
     /// request, a list names one twice, or what is cancelled is no receive), 4 (MPI_COMM_NULL, or the rank holds no such
-    /// communicator, nor one to compare with), 2 (buffer and layout are of different basic types, or a receive names a place
-    /// twice), 1 (more than 1,048,576 bytes of data in a send, or the buffer is too short), 3 (the tag is above the greatest, or
-    /// the wildcard in a send), 5 (no such rank in the communicator, or any rank in a send), 11 (the member that is named is known
-    /// at another incarnation, which counts off `world` alone; in a collective any member), 13 (65,536 requests are there, no
-    /// number is left for a large message to the rank or for a frame to it, a communicator can't be held or given, or no further
-    /// collective may be entered on it), 14. A refusal hands the call back, and changes nothing. A send to the own rank (MPI 3.1,
+    /// communicator, nor one to compare with), 2 (buffer and layout are of different basic types, a receive names a place twice,
+    /// or a scatter's root hands in elements of another type than its blocks), 1 (more than 1,048,576 bytes of data in a send,
+    /// the buffer is too short, a block of a collective has more than 1,048,560 bytes, or a scatter's root hands in another number
+    /// of elements than a block for each member), 3 (the tag is above the greatest, or the wildcard in a send), 5 (no such rank in
+    /// the communicator, or any rank in a send), 7 (no such root), 9 (the operation isn't defined on the type), 11 (the member that
+    /// is named is known at another incarnation, which counts off `world` alone; in a collective any member), 13 (65,536 requests
+    /// are there, no number is left for a large message to the rank or for a frame to it, a communicator can't be held or given,
+    /// no further collective may be entered on it, or a member would have to be told more than 1,008 bytes of elements), 14. A
+    /// refusal hands the call back, and changes nothing. A send to the own rank (MPI 3.1,
     /// 3.2.4) or to the null process (3.11) emits no datagram; one of more than 1,024 bytes to another rank is announced, and
     /// finished once that rank answers. A receive that takes a message which was announced answers it: its data are to come
     /// where the receive has their type and places for them, and else it has ended without them. A collective is entered, and

@@ -1,7 +1,7 @@
 //! How an engine takes datagrams in.
 
 ghost use Rattle.std.specs.Prelude.{◌≡◌, ◌≤◌, ◌<◌, ◌+◌, ◌*◌, length, map, option_map, IfErr, IfOk, None, Ok, Err, OnErr, OnOk, Option, Some};
-ghost use Rattle.collectives.specs.declared.step.Ending.{Ending};
+ghost use Rattle.collective_steps.specs.declared.step.Ending.{Ending};
 ghost use Rattle.datagram.specs.Spelling.{eager_text};
 ghost use Rattle.rank_calls.specs.Hearing.{frame_option, news_text};
 ghost use Rattle.rank_core.specs.Hearing.{CanTake, news_fault};
@@ -211,7 +211,8 @@ impl Engine {
             &mut self.sessions,
             heard,
         )?;
-        self.ended = or_before(ending, self.ended);
+        let before = self.ended.take();
+        self.ended = or_before(ending, before);
         Ok(())
     }
 

@@ -14,24 +14,26 @@ use crate::refusals::{of_collectives, of_rule};
 use crate::reply::Reply;
 use collective_notes::Entry;
 use collectives::Ending;
-use communicators::{Communicators, entries_are_allowed};
-use rank_core::Refused;
+use communicators::{Communicators, RefusedEntry, entries_are_allowed};
+use rank_core::{Handed, Refused};
 use sessions::Sessions;
 use std::alloc::Global;
 
 /// Enters a collective of the communicator at a place, which breaks no rule and meets no limit: what the rank then does of
-/// itself is made ready and its frames are sent, and only then it has entered. Refused is 13 and 14; then nothing changes.
+/// itself is made ready and its frames are sent, and only then it has entered. Refused is 13 and 14; then nothing changes, and
+/// what was handed in comes back.
 fn go_in(
     alloc: Global,
     communicators: &mut Communicators,
     sessions: &mut Sessions,
     place: usize,
     entry: Entry,
-) -> Result<Option<Ending>, Refused>
+) -> Result<Option<Ending>, Handed<Entry>>
     requires rule { entry_rule communicators.old.collective.state communicators.old.contexts.state place ≡ None }
     requires limit { limit_at communicators.old.collective.state communicators.old.contexts.state place entry ≡ false }
     ensures ok { IfOk result (λ ending. Goes communicators.old.collective.state communicators.old.contexts.state sessions.old place entry ending communicators.new.collective.state communicators.new.contexts.state sessions.new) }
-    ensures err { IfErr result (WhyNot communicators.old.collective.state communicators.old.contexts.state sessions.old place entry) }
+    ensures err { IfErr result (λ back. WhyNot communicators.old.collective.state communicators.old.contexts.state sessions.old place entry back.refused) }
+    ensures handed { IfErr result (λ back. back.value ≡ entry) }
     ensures collective { OnErr result (communicators.new.collective.state ≡ communicators.old.collective.state) }
     ensures contexts { OnErr result (communicators.new.contexts.state ≡ communicators.old.contexts.state) }
     ensures sessions { OnErr result (sessions.new ≡ sessions.old) }
@@ -40,10 +42,20 @@ fn go_in(
 {
     let ready = match communicators.prepare_entry(place, entry) {
         Ok(ready) => ready,
-        Err(refused) => return Err(of_collectives(refused)),
+        Err(RefusedEntry { entry, refused }) => {
+            return Err(Handed {
+                refused: of_collectives(refused),
+                value: entry,
+            });
+        }
     };
-    send_step(alloc, sessions, None, ready.messages())?;
-    Ok(communicators.enter(ready))
+    match send_step(alloc, sessions, None, ready.messages()) {
+        Ok(()) => Ok(communicators.enter(ready)),
+        Err(refused) => Err(Handed {
+            refused,
+            value: ready.into_entry(),
+        }),
+    }
 }
 
 /// The answer to an entry: with what the rank left at once, or that it is blocked.
@@ -57,9 +69,9 @@ fn reply_on_entry(ending: Option<Ending>) -> Reply
 }
 
 impl Engine {
-    /// The first rule or limit that entering a collective meets, of 6, 4, 11 and 13. It takes no memory.
-    pub(crate) fn fault_of_entry(&self, comm: Option<usize>, entry: Entry) -> Option<Refused>
-        ensures { result ≡ fault_of self.now (calls.Enter comm entry) }
+    /// The first rule or limit that entering a collective meets, of 6, 4, 2, 1, 7, 9, 11 and 13. It takes no memory.
+    pub(crate) fn fault_of_entry(&self, comm: Option<usize>, entry: &Entry) -> Option<Refused>
+        ensures { result ≡ fault_of self.now (calls.Enter comm entry.now) }
     {
         let known = self.sessions.incarnations();
         match self
@@ -71,8 +83,8 @@ impl Engine {
         }
     }
 
-    /// Enters a collective (MPI 3.1, 5.3 and 6.4.2). Refused is the first that holds of 6, 4, 11, 13 and 14; a refusal hands
-    /// the call back, and changes nothing.
+    /// Enters a collective (MPI 3.1, chapter 5 and 6.4.2). Refused is the first that holds of 6, 4, 2, 1, 7, 9, 11, 13 and 14; a
+    /// refusal hands the call back, and changes nothing.
     pub(crate) fn enter(&mut self, comm: Option<usize>, entry: Entry) -> Reply
         ensures exact { EnteringGives self.old comm entry result self.new }
         ensures unchanged { RefusedLeaves result self.old self.new }
@@ -80,7 +92,7 @@ impl Engine {
         ensures placed { self.new.sessions.place ≡ self.old.sessions.place }
         ensures core_placed { self.new.core.place ≡ self.old.core.place }
     {
-        if let Some(fault) = self.fault_of_entry(comm, entry) {
+        if let Some(fault) = self.fault_of_entry(comm, &entry) {
             return Reply::Refused(fault, Call::Enter(comm, entry));
         }
         // An entry that meets none can be made ready.
@@ -96,7 +108,7 @@ impl Engine {
             entry,
         ) {
             Ok(ending) => reply_on_entry(ending),
-            Err(refused) => Reply::Refused(refused, Call::Enter(comm, entry)),
+            Err(back) => Reply::Refused(back.refused, Call::Enter(comm, back.value)),
         }
     }
 }

@@ -1,7 +1,7 @@
 //! The first rule or limit that a call meets.
 
 ghost use Rattle.std.specs.Prelude.{◌≡◌, ◌||◌, Option, None, is_some};
-ghost use Rattle.collectives.specs.declared.step.Ending.{Ending};
+ghost use Rattle.collective_steps.specs.declared.step.Ending.{Ending};
 ghost use Rattle.communicators.specs.Routes.{route_text};
 ghost use Rattle.perfect_groups.specs.Faults.{is_within};
 ghost use Rattle.rank_calls.specs.Calls.{IsWithin};

@@ -26,12 +26,12 @@ mod reply;
 
 pub use call::{Call, Receive, Send};
 pub use collectives::Ending;
-pub use communicators::{Comparison, Entry, Question};
+pub use communicators::{Block, Comparison, Entry, Question};
 pub use datatypes::{Buffer, Layout};
 pub use engine::Engine;
 pub use incarnation::Place;
 pub use judging::Judged;
-pub use payload::Choice;
+pub use payload::{Choice, Elements, Operation, Rooted};
 pub use rank_core::{Handed, Refused};
 pub use reply::{Completion, Fact, Reply};
 pub use requests::{Answer, Outcome, Outcomes, Places, Region, Request, RequestList};

@@ -2,7 +2,7 @@
 
 ghost use Rattle.std.specs.Prelude.{◌≡◌, ◌≤◌, ◌+◌, ◌*◌, length, IfErr, IfOk, None, OnErr, Option, Some};
 ghost use Rattle.collectives.specs.Calls.{met};
-ghost use Rattle.collectives.specs.declared.step.Ending.{Ending};
+ghost use Rattle.collective_steps.specs.declared.step.Ending.{Ending};
 ghost use Rattle.datagram.specs.Spelling.{eager_text};
 ghost use Rattle.payload.specs.Reading.{payload_of};
 ghost use Rattle.payload.specs.Spelling.{payload_text};

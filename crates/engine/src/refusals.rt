@@ -1,9 +1,9 @@
 //! The refusals of the sessions, of communicators and of collectives, as the engine's.
 
 ghost use Rattle.std.specs.Prelude.{◌≡◌};
-ghost use Rattle.engine.specs.Refusals.{of_collectives, of_rule, of_sessions};
+ghost use Rattle.engine.specs.Refusals.{of_collectives, of_entry_rule, of_rule, of_sessions};
 
-use communicators::Fault;
+use communicators::{Fault, Rule};
 use rank_core::Refused;
 
 /// A refusal of the sessions.
@@ -29,6 +29,18 @@ pub(crate) fn of_sessions(refused: sessions::Refused) -> Refused
     }
 }
 
+/// A rule that what a rank enters a collective with breaks.
+fn of_entry_rule(rule: Rule) -> Refused
+    ensures { result ≡ of_entry_rule rule }
+{
+    match rule {
+        Rule::WrongType => Refused::WrongType,
+        Rule::WrongCount => Refused::Count,
+        Rule::NoRoot => Refused::Root,
+        Rule::NotDefined => Refused::Operation,
+    }
+}
+
 /// A rule that a call breaks by its communicator, or a limit that it meets there.
 pub(crate) fn of_rule(fault: Fault) -> Refused
     ensures { result ≡ of_rule fault }
@@ -36,6 +48,7 @@ pub(crate) fn of_rule(fault: Fault) -> Refused
     match fault {
         Fault::Blocked => Refused::Request,
         Fault::NoCommunicator => Refused::Communicator,
+        Fault::Entry(rule) => of_entry_rule(rule),
         Fault::Replaced => Refused::Replaced,
         Fault::Limit => Refused::Limit,
     }

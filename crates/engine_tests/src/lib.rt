@@ -2,4 +2,6 @@
 #![tactic(auto)]
 
 #[cfg(test)]
+mod collective_tests;
+#[cfg(test)]
 mod tests;

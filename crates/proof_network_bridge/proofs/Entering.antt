@@ -2,20 +2,23 @@
 use Rattle.std.proofs.Common.{◌≡◌, ℕ, ◌<◌, ◌≤◌, Bool, true, false, cond, ◌||◌, ◌==◌, List, [], ◌∷◌, ◌++◌, map, Option, Some, None, is_some, not, option_map, slice_index, refl, sym, ap, subst, ◌∙◌, arith, append-nil}
 use Rattle.std.specs.Prelude.{is_none, slice_get}
 use Rattle.std.specs.List.{AllByRecursion, list_any}
+use Rattle.std.specs.Option.{option_or}
 use Rattle.std.proofs.lemmas.Bool.{eqb-true}
 use Rattle.std.proofs.lemmas.Option.{slice_get-map}
+use Rattle.collective_blocks.specs.Rules.{number_of_rule}
+use Rattle.collective_blocks.specs.declared.rules.Rule.{Rule}
 use Rattle.collective_notes.specs.Notes.{member_at}
 use Rattle.collective_notes.specs.declared.entry.Entry.{Entry}
-use Rattle.collective_notes.specs.declared.entry.Entry.TheVariants as entries
 use Rattle.collective_notes.specs.declared.message.Message.{Message}
 use Rattle.collective_notes.specs.declared.refused.Refused as notes
 use Rattle.collectives.specs.Calls.{context_of, entry_fault, inside_of, limit_at, or_limit}
-use Rattle.collectives.specs.State.{State, members_incarnation, ranks_at, ranks_of}
-use Rattle.collectives.specs.declared.step.Ending.{Ending}
+use Rattle.collectives.specs.State.{State, members_incarnation}
+use Rattle.collective_steps.specs.Steps.{ranks_at, ranks_of}
+use Rattle.collective_steps.specs.declared.step.Ending.{Ending}
 use Rattle.communicators.proofs.Judging.{entries_allowed, entry_judged}
 use Rattle.communicators.specs.Members as communicators
-use Rattle.communicators.specs.Members.{call_of, membership_of}
-use Rattle.communicators.specs.Rules.{Allows, known_by, limit_in, no_requests, or_limited}
+use Rattle.communicators.specs.Members.{call_of, held_in, membership_of}
+use Rattle.communicators.specs.Rules.{Allows, known_by, limit_in, no_requests, or_limited, rule_in}
 use Rattle.context_agreement.specs.Communicators.{ContextsState}
 use Rattle.context_agreement.specs.declared.communicator.Communicator as held
 use Rattle.datagram.specs.Spelling.{FrameText}
@@ -23,16 +26,15 @@ use Rattle.engine.specs.Calls.{reply_on_entry}
 use Rattle.engine.specs.EngineState.{EngineState, completion_by, completion_of, member_of}
 use Rattle.engine.specs.Faults.{broken, entry_rules, fault_of, is_busy}
 use Rattle.engine.specs.Frames.{sending_of_message, step_sendings}
+use Rattle.engine.specs.Refusals.{of_entry_rule}
 use Rattle.engine.specs.declared.call.Call.TheVariants as calls
 use Rattle.engine.specs.declared.reply.Reply.{Reply}
 use Rattle.incarnation.specs.declared.place.Place.{Place}
 use Rattle.perfect_groups.specs.Calls.{Enter, held_at}
-use Rattle.perfect_groups.specs.Collectives as machine
 use Rattle.perfect_groups.specs.Communicators.{Communicator}
 use Rattle.perfect_groups.specs.Events as seen
 use Rattle.perfect_groups.specs.Events.{ready_by, told_of}
 use Rattle.perfect_groups.specs.Faults.{fault_by, has_replaced, is_replaced, is_within}
-use Rattle.proof_collective_steps.specs.Counterparts.{part_of}
 use Rattle.proof_collective_steps.specs.RankLaws.{EntriesOfRanksFollow, Follows}
 use Rattle.proof_collective_steps.specs.Shown.{ending_is}
 use Rattle.proof_engine_view.specs.Shown.{IsShown}
@@ -57,23 +59,28 @@ use Rattle.proof_network_bridge.proofs.Followed as followed
 use Rattle.proof_network_bridge.proofs.Followed.{IsHeldAs, followed_after}
 use Rattle.proof_network_bridge.proofs.Reasons.{allowed_faultless}
 use Rattle.proof_network_bridge.proofs.Halves.{Keeps, neither_fault, sends_keep}
-use Rattle.proof_network_bridge.proofs.Sending.{IsKnown, bring, step_is_true}
+use Rattle.proof_network_bridge.proofs.Sending.{IsKnown, are_within, bring, step_is_true}
 use Rattle.proof_network_bridge.proofs.StepTargets.{AreMembers, entry_goes}
 use Rattle.proof_network_bridge.proofs.Worlds.{is_at, only_same, place_is}
 
 -- ---- what entering breaks
 
--- nothing: the rank isn't blocked, holds the communicator, knows its members as they were, and meets no limit
+-- nothing: the rank isn't blocked, holds the communicator, hands in what it may, knows the members as they were, and meets no limit
 record IsAllowed (e : EngineState) (comm : Option ℕ) (x : Entry) : Type 0 where
   free : is_some e.core.blocked ≡ false
   outside : is_within (member_of e.groups).present ≡ false
   there : is_none (held_at (member_of e.groups) comm) ≡ false
+  ruled : rule_in e.groups.collective.own (held_in e.groups.contexts comm) x ≡ None
   alike : has_replaced (known_by e.sessions.known) (held_at (member_of e.groups) comm) ≡ false
   unlimited : limit_in e.groups.collective e.groups.contexts comm x ≡ false
 
 not_broken : (b : Bool) (rule : Refused) → broken b rule ≡ None → b ≡ false
 not_broken false rule h = refl
 not_broken true rule h = absurd cc
+
+not_ruled : (o : Option Rule) → option_map of_entry_rule o ≡ None → o ≡ None
+not_ruled None h = refl
+not_ruled (Some r) h = absurd cc
 
 neither : (a b : Bool) → (a || b) ≡ false → (a ≡ false) × (b ≡ false)
 neither false b h = (refl, h)
@@ -84,23 +91,27 @@ is_allowed e comm x none =
     let whole = neither_fault (broken (is_busy e) refusals.Request) (entry_rules e comm x) none in
     let busy = neither (is_some e.core.blocked) (is_within (member_of e.groups).present) (not_broken (is_busy e) refusals.Request whole.0) in
     let first = neither_fault (broken (is_none (held_at (member_of e.groups) comm)) refusals.Communicator) _ whole.1 in
-    let second = neither_fault (broken (has_replaced (known_by e.sessions.known) (held_at (member_of e.groups) comm)) refusals.Replaced) _ first.1 in
+    let second = neither_fault (option_map of_entry_rule (rule_in e.groups.collective.own (held_in e.groups.contexts comm) x)) _ first.1 in
+    let third = neither_fault (broken (has_replaced (known_by e.sessions.known) (held_at (member_of e.groups) comm)) refusals.Replaced) _ second.1 in
     record {
       free = busy.0;
       outside = busy.1;
       there = not_broken _ refusals.Communicator first.0;
-      alike = not_broken _ refusals.Replaced second.0;
-      unlimited = not_broken _ refusals.Limit second.1;
+      ruled = not_ruled (rule_in e.groups.collective.own (held_in e.groups.contexts comm) x) second.0;
+      alike = not_broken _ refusals.Replaced third.0;
+      unlimited = not_broken _ refusals.Limit third.1;
     }
 
 -- ---- by the rank's rules
 
--- the three rules
-no_fault : (b n r : Bool) → b ≡ false → n ≡ false → r ≡ false → cond {A = Option ℕ} b (Some 6) (cond n (Some 4) (cond r (Some 11) None)) ≡ None
-no_fault false false false p q s = refl
-no_fault true n r p q s = absurd cc
-no_fault false true r p q s = absurd cc
-no_fault false false true p q s = absurd cc
+-- 6, 4, those on what is handed in, and 11
+no_fault : (b n : Bool) (o : Option ℕ) (r : Bool) → b ≡ false → n ≡ false → o ≡ None → r ≡ false →
+    cond {A = Option ℕ} b (Some 6) (cond n (Some 4) (option_or o (cond r (Some 11) None))) ≡ None
+no_fault false false None false p q t s = refl
+no_fault true n o r p q t s = absurd cc
+no_fault false true o r p q t s = absurd cc
+no_fault false false (Some k) r p q t s = absurd cc
+no_fault false false None true p q t s = absurd cc
 
 no_entry_fault : (old : EngineState) (place : ℕ) (x : Entry) → IsAllowed old (Some place) x → entry_fault old.groups.collective old.groups.contexts place x ≡ None
 no_entry_fault old place x allowed =
@@ -120,8 +131,9 @@ no_entry_fault old place x allowed =
 
     judged : fault_by b no_requests s.own (known_by old.sessions.known) (membership_of s h) (Enter (Some place) (call_of x)) ≡ None
     judged =
-        entry_judged b s.own (known_by old.sessions.known) (membership_of s h) (Some place) x
-        ∙ no_fault b (is_none (held_at (membership_of s h) (Some place))) (has_replaced (known_by old.sessions.known) (held_at (membership_of s h) (Some place))) free allowed.there allowed.alike
+        entry_judged b s h (known_by old.sessions.known) (Some place) x
+        ∙ no_fault b (is_none (held_at (membership_of s h) (Some place))) (option_map number_of_rule (rule_in s.own (held_in h (Some place)) x))
+        (has_replaced (known_by old.sessions.known) (held_at (membership_of s h) (Some place))) free allowed.there (ap (λ (o : Option Rule). option_map number_of_rule o) allowed.ruled) allowed.alike
 
     allows : Allows s h (Some place) x
     allows =
@@ -157,12 +169,6 @@ members_known old place x allowed =
     go (Some c) none = each_known old.sessions.known (members_incarnation own (context_of (Some c))) c.group none
 
 -- ---- what is seen
-
--- what is entered is the same to both
-same_part : (x : Entry) → machine.part_of (call_of x) ≡ part_of x
-same_part entries.Barrier = refl
-same_part entries.Dup = refl
-same_part (entries.Split choice) = refl
 
 -- what is told of entering is the call, with how it ended, if it did
 told_entry : (e : Endpoint) (place : ℕ) (x : Entry) (ending : Option Ending) →
@@ -218,8 +224,8 @@ entries_follow ranks carried truth n r engines datagrams history old mid comm x 
     fo : Follows n w (happens n w (Ask r (Enter (Some place) (call_of x)))) e (w.net.core e) w.net.link w.notices mid.groups.collective mid.groups.contexts sent
         (told_of e (Some (Enter (Some place) (call_of x), None)) (ready_by (option_map ending_is entered.ending) None))
     fo =
-        ranks n r f.happenings place (call_of x) x s h (entered.ending, entered.step) mid.groups.collective mid.groups.contexts (few n f.few) stands.0 (same_part x) shown.groups
-        (allowed_faultless n r engines datagrams history old (calls.Enter (Some place) x) f there fine).none (no_entry_fault old place x allowed) entered.enters
+        ranks n r f.happenings place (call_of x) x s h (entered.ending, entered.step) mid.groups.collective mid.groups.contexts (few n f.few) stands.0 refl shown.groups
+        (allowed_faultless n r engines datagrams history old (calls.Enter (Some place) x) f there fine).none (no_entry_fault old place x allowed) entered.enters (are_within sent entered.whole)
       where
         few : (n : ℕ) → n ≤ 256 → n ≤ 65536
         few n le = omega (arith, le)

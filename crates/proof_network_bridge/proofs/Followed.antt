@@ -4,7 +4,7 @@ use Rattle.std.specs.Prelude.{slice_get, slice_set}
 use Rattle.datagram.specs.Spelling.{FrameText}
 use Rattle.engine.specs.EngineState.{EngineState, GroupsState, completion_by, completion_of, emptied}
 use Rattle.engine.specs.declared.reply.Completion.{Completion}
-use Rattle.collectives.specs.declared.step.Ending.{Ending}
+use Rattle.collective_steps.specs.declared.step.Ending.{Ending}
 use Rattle.perfect_groups.specs.Events.{Entry}
 use Rattle.proof_collective_steps.specs.Shown as groups
 use Rattle.proof_engine_view.specs.Shown.{IsShown}

@@ -4,7 +4,7 @@ use Rattle.std.specs.Prelude.{if◌then◌else◌, option_map, slice_get, slice_
 use Rattle.std.proofs.lemmas.Bool.{eqb-false, le-ltb, lt-ltb}
 use Rattle.collectives.specs.Calls as collective_calls
 use Rattle.collectives.specs.State.{State}
-use Rattle.collectives.specs.declared.step.Ending.{Ending}
+use Rattle.collective_steps.specs.declared.step.Ending.{Ending}
 use Rattle.datagram.specs.Spelling.{FrameText}
 use Rattle.engine.specs.Datagrams.{ended_by, groups_met}
 use Rattle.engine.specs.EngineState.{EngineState, GroupsState, completion_by, completion_of, or_before}

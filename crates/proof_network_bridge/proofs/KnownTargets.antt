@@ -6,9 +6,9 @@ use Rattle.std.proofs.lemmas.Bool.{eqb-true}
 use Rattle.collective_notes.specs.Notes.{member_at}
 use Rattle.collective_notes.specs.declared.entry.Inside.{Inside}
 use Rattle.collective_notes.specs.declared.note.Note.{Note}
-use Rattle.collectives.specs.State.{members_incarnation, ranks_of}
-use Rattle.collectives.specs.Steps.{IsPrepared, Prepared}
-use Rattle.collectives.specs.declared.step.Ending.{Ending}
+use Rattle.collectives.specs.State.{members_incarnation}
+use Rattle.collective_steps.specs.Steps.{IsPrepared, Prepared, ranks_of}
+use Rattle.collective_steps.specs.declared.step.Ending.{Ending}
 use Rattle.context_agreement.specs.Communicators.{ContextsState}
 use Rattle.context_agreement.specs.Numbers.{number_of}
 use Rattle.context_agreement.specs.declared.communicator.Communicator.{Communicator}

@@ -8,10 +8,10 @@ use Rattle.collective_notes.specs.declared.note.Note.{Note}
 use Rattle.collective_notes.specs.declared.refused.Refused.{Refused}
 use Rattle.collectives.specs.Calls as collective_calls
 use Rattle.collectives.specs.Calls.{MessageGives, with_note}
-use Rattle.collectives.specs.State.{State}
-use Rattle.collectives.specs.Steps.{IsPrepared, Prepared, after_step, ending_of}
-use Rattle.collectives.specs.declared.step.Ending.{Ending}
-use Rattle.collectives.specs.declared.step.Ending.TheVariants as endings
+use Rattle.collectives.specs.State.{State, after_step}
+use Rattle.collective_steps.specs.Steps.{IsPrepared, Prepared, ending_of}
+use Rattle.collective_steps.specs.declared.step.Ending.{Ending}
+use Rattle.collective_steps.specs.declared.step.Ending.TheVariants as endings
 use Rattle.context_agreement.specs.Communicators.{ContextsState}
 use Rattle.datagram.specs.Spelling.{EagerFrame, EagerText, FrameText}
 use Rattle.datagram.specs.declared.kinds.Plane.{Plane}
@@ -71,7 +71,7 @@ use Rattle.proof_network_bridge.proofs.Halves.{Keeps, sends_keep}
 use Rattle.proof_network_bridge.proofs.Heard.{ended_alike, is_from_other, is_word, known_alike, lesson_same, told_alike}
 use Rattle.proof_network_bridge.proofs.KnownMembers.{Knows, hear_knows, members_are_known}
 use Rattle.proof_network_bridge.proofs.KnownTargets.{IsKnownAs, targets_known}
-use Rattle.proof_network_bridge.proofs.Sending.{IsKnown, bring, step_is_true}
+use Rattle.proof_network_bridge.proofs.Sending.{IsKnown, are_within, bring, step_is_true}
 use Rattle.proof_network_bridge.proofs.StepTargets.{GoTo}
 use Rattle.proof_network_bridge.proofs.Words.{core_hears, queues_plainly}
 use Rattle.proof_network_bridge.proofs.Worlds.{is_at, only_same, place_is}
@@ -152,7 +152,7 @@ one_ending : (s : State) (h : ContextsState) (l : Option Endpoint) (own : Endpoi
 one_ending s h None own notes step is = or_none (ending_of h step.outcome)
 one_ending s h (Some a) own notes step is = go (collective_calls.is_ended a.rank a.incarnation h s.present) is
   where
-    go : (b : Bool) → IsPrepared own (if b then record s { present = None } else s).present h notes step →
+    go : (b : Bool) → IsPrepared own (if b then None else s.present) h notes step →
         or_before (ending_of h step.outcome) (if b then Some endings.Replaced else None) ≡ or_given (if b then Some endings.Replaced else None) (ending_of h step.outcome)
     go true none = ap (λ (p : Prepared). or_before (ending_of h p.outcome) (Some endings.Replaced)) none
     go false inside = or_none (ending_of h step.outcome)
@@ -261,6 +261,7 @@ notice_follows shows hearing events n r engines datagrams history old mid h t f 
     follows = notices_of_ranks_follow n r f.happenings s number notice.notice note.note old.groups.collective old.groups.contexts (ending_of old.groups.contexts i.ready.step.outcome, i.ready.step) mid.groups.collective mid.groups.contexts
         (omega (arith, f.few)) held.groups word (notice_handed f.joined.sessions w.net.link w.notices s own notice.notice f.joined.between.parts notice.there).0 note.noted
         (subst (λ (o : Option Endpoint). MessageGives (collective_calls.met old.groups.collective old.groups.contexts o) old.groups.contexts note.note (Ok (ending_of old.groups.contexts i.ready.step.outcome, i.ready.step)) mid.groups.collective mid.groups.contexts) (sym same) note.gives)
+        (are_within messages i.whole)
 
     known : List ℕ
     known = (below_events.after_heard old.sessions (Some h)).known

@@ -1,6 +1,6 @@
 -- A world of engines follows the pure network through questions about communicators.
 use Rattle.std.proofs.Common.{◌≡◌, ◌<◌, List, ◌++◌, Option, Some, None, option_map, refl, sym, ap, subst, ◌∙◌, append-nil}
-use Rattle.collectives.specs.declared.step.Ending.{Ending}
+use Rattle.collective_steps.specs.declared.step.Ending.{Ending}
 use Rattle.communicators.specs.Questions.{question_of}
 use Rattle.engine.specs.Calls.{fact_said}
 use Rattle.engine.specs.EngineState.{EngineState, completion_by, completion_of, member_of}

@@ -174,7 +174,7 @@ refused_reason n r engines datagrams history e mid call back why f there gives =
     go : (b : Bool) → is_busy e ≡ b → WhyRefused (first_fault (broken b refusals.Request) (free_fault e call)) e call why →
         IsReason (fault own (view blank core) m.membership (call_meant e.core call)) why
     go true busy because = by_rule (fault own (view blank core) m.membership (call_meant e.core call)) refusals.Request why because (busy_fault a own e core m (call_meant e.core call) h busy)
-    go false idle because = free_reason a own e core m.membership call why (free_at a own e core m h idle (inside_world n r engines datagrams history e f there)) because
+    go false idle because = free_reason a own e core m.membership call why (free_at a own e core m h idle (inside_world n r engines datagrams history e f there)) h.groups.own because
 
 -- a call that meets no rule and no limit has no fault there, and names no request of another engine
 pub allowed_faultless : (n r : ℕ) (engines : List EngineState) (datagrams : List (ℕ × List ℕ)) (history : List Entry) (e : EngineState) (call : Call) → (f : IsFollowed n engines datagrams history) →
@@ -198,11 +198,12 @@ allowed_faultless n r engines datagrams history e call f there fine = go (is_bus
     a : Announcements
     a = announcements_of w.net.link own
 
+    h : IsHeldAs a own e core m
+    h = held_at n r engines datagrams w e f.joined there
+
     go : (b : Bool) → is_busy e ≡ b → first_fault (broken b refusals.Request) (free_fault e call) ≡ None → IsFaultless (fault own (view blank core) m.membership (call_seen call)) e.core call
-    go true busy h = absurd cc
-    go false idle h =
-        free_faultless a own e core m.membership call
-        (free_at a own e core m (held_at n r engines datagrams w e f.joined there) idle (inside_world n r engines datagrams history e f there)) h
+    go true busy none = absurd cc
+    go false idle none = free_faultless a own e core m.membership call (free_at a own e core m h idle (inside_world n r engines datagrams history e f there)) h.groups.own none
 
 -- so has one that it takes
 pub taken_faultless : (n r : ℕ) (engines : List EngineState) (datagrams : List (ℕ × List ℕ)) (history : List Entry) (e mid : EngineState) (call : Call) (reply : Reply) →

@@ -1,27 +1,33 @@
 -- Why calls are refused, and that one that is taken has no fault: each kind of call, while no earlier one is blocked.
-use Rattle.std.proofs.Common.{◌≡◌, ℕ, Bool, true, false, ◌||◌, cond, List, [], ◌∷◌, Option, Some, None, option_map, refl, sym, ap, ◌∙◌, subst, inl, inr}
+use Rattle.std.proofs.Common.{◌≡◌, ℕ, Bool, true, false, ◌&&◌, ◌||◌, cond, if◌then◌else◌, List, [], ◌∷◌, Option, Some, None, option_map, refl, sym, ap, ◌∙◌, subst, inl, inr}
 use Rattle.std.specs.Prelude.{is_none, slice_get}
+use Rattle.std.specs.Option.{option_or}
+use Rattle.collective_blocks.specs.Rules.{number_of_rule}
+use Rattle.collective_blocks.specs.declared.rules.Rule.{Rule}
+use Rattle.collective_blocks.specs.declared.rules.Rule.TheVariants as entry_faults
 use Rattle.collective_notes.specs.declared.entry.Entry.{Entry}
 use Rattle.communicators.proofs.Judging.{entry_judged, question_judged}
-use Rattle.communicators.specs.Members.{call_of}
+use Rattle.communicators.specs.Members.{call_of, held_in}
 use Rattle.communicators.specs.Questions.{question_of}
 use Rattle.communicators.specs.Routes.{RouteText, route_on}
-use Rattle.communicators.specs.Rules.{known_by, limit_in}
+use Rattle.communicators.specs.Rules.{known_by, limit_in, rule_in}
 use Rattle.communicators.specs.declared.question.Question.{Question}
 use Rattle.communicators.specs.declared.question.Question.TheVariants as questions
 use Rattle.engine.specs.Calls.{LacksRoom, WhyRefused}
 use Rattle.engine.specs.EngineState.{EngineState, member_of}
 use Rattle.engine.specs.Faults.{broken, free_fault, group_limit, is_replaced, on_route, receive_rules, routed_limit, send_rules}
-use Rattle.engine.specs.Refusals.{first_fault}
+use Rattle.engine.specs.Refusals.{first_fault, of_entry_rule}
 use Rattle.engine.specs.Routing.{receive_by, send_by}
 use Rattle.engine.specs.declared.call.Call as engine
 use Rattle.engine.specs.declared.call.Call.TheVariants as calls
 use Rattle.engine.specs.declared.call.Receive.{Receive}
 use Rattle.engine.specs.declared.call.Send.{Send}
 use Rattle.perfect_groups.specs.Calls.{Call, Cancel, Enter, Inquire, Irecv, Isend, Test, Wait, held_at, in_world, queue_call, receive_on}
+use Rattle.perfect_groups.specs.Collectives.{CollectiveCall, part_of}
 use Rattle.perfect_groups.specs.Communicators.{Communicator}
-use Rattle.perfect_groups.specs.Faults.{asks_of_none, fault, fault_by, has_replaced, is_blocked, is_no_target, is_source_beyond, is_within, names_replaced, wrong_communicator, wrong_count, wrong_incarnation, wrong_operation, wrong_rank, wrong_request, wrong_root, wrong_tag, wrong_type}
+use Rattle.perfect_groups.specs.Faults.{asks_of_none, fault, fault_by, has_replaced, is_beyond, is_blocked, is_no_target, is_rooted, is_source_beyond, is_within, names_replaced, wrong_block, wrong_communicator, wrong_count, wrong_data, wrong_incarnation, wrong_operation, wrong_rank, wrong_request, wrong_root, wrong_tag, wrong_type}
 use Rattle.perfect_groups.specs.Membership.{Membership}
+use Rattle.perfect_groups.specs.Operations.{is_undefined}
 use Rattle.perfect_queues.specs.Calls as queues
 use Rattle.perfect_queues.specs.Completions as completions
 use Rattle.perfect_queues.specs.Refusals as rules
@@ -284,15 +290,27 @@ receive_faultless a own e core m v free allowed = go (held_at (member_of e.group
 
 -- ---- COLLECTIVES AND QUESTIONS
 
+-- the machine's faults of an entry of the rank at e, by the communicator that the call names, while no earlier call is blocked
+abbrev entering_fault : (e : Endpoint) → (known : ℕ → ℕ) → Option Communicator → CollectiveCall → Option ℕ
+entering_fault e known o p =
+    if is_none o then Some 4 else
+    (if wrong_data o e p then Some 2 else
+    (if wrong_block o e (part_of p) then Some 1 else
+    (if is_rooted (part_of p).record_is.kind && is_beyond o (part_of p).record_is.root then Some 7 else
+    (if is_undefined (part_of p).record_is.operation (part_of p).record_is.basic then Some 9 else
+    (if has_replaced known o then Some 11 else None)))))
+
 -- what the machine finds with an entry, as the engine looks
-entry_seen : (a : Announcements) (own : Endpoint) (e : EngineState) (core : Core) (m : Membership) (comm : Option ℕ) (x : Entry) → IsFree a e core m →
+entry_seen : (a : Announcements) (own : Endpoint) (e : EngineState) (core : Core) (m : Membership) (comm : Option ℕ) (x : Entry) → IsFree a e core m → e.groups.collective.own ≡ own →
     fault own (view blank core) m (Enter comm (call_of x))
-    ≡ cond (is_none (held_at (member_of e.groups) comm)) (Some 4) (cond (has_replaced (known_by e.sessions.known) (held_at (member_of e.groups) comm)) (Some 11) None)
-entry_seen a own e core m comm x free =
+    ≡ cond (is_none (held_at (member_of e.groups) comm)) (Some 4)
+    (option_or (option_map number_of_rule (rule_in e.groups.collective.own (held_in e.groups.contexts comm) x)) (cond (has_replaced (known_by e.sessions.known) (held_at (member_of e.groups) comm)) (Some 11) None))
+entry_seen a own e core m comm x free stands =
     ap (λ (b : Bool). fault_by b f own core.known m (Enter comm (call_of x))) (not_blocked a e core m free)
-    ∙ entry_judged false own core.known m comm x
-    ∙ ap (λ (o : Option Communicator). cond (is_none o) (Some 4) (cond (has_replaced core.known o) (Some 11) None)) (at_same a e core m comm free)
-    ∙ ap (λ (known : ℕ → ℕ). cond (is_none (held_at (member_of e.groups) comm)) (Some 4) (cond (has_replaced known (held_at (member_of e.groups) comm)) (Some 11) None)) free.known
+    ∙ ap (λ (o : Option Communicator). entering_fault own core.known o (call_of x)) (at_same a e core m comm free)
+    ∙ ap (λ (known : ℕ → ℕ). entering_fault own known (held_at (member_of e.groups) comm) (call_of x)) free.known
+    ∙ ap (λ (d : Endpoint). entering_fault d (known_by e.sessions.known) (held_at (member_of e.groups) comm) (call_of x)) (sym stands)
+    ∙ entry_judged false e.groups.collective e.groups.contexts (known_by e.sessions.known) comm x
   where
     f : ℕ → Standing
     f k = standing (slice_get (view blank core).requests k)
@@ -318,31 +336,44 @@ entry_room : (e : EngineState) (comm : Option ℕ) (x : Entry) (why : Refused) �
 entry_room e comm x why (inl is) = inr is
 entry_room e comm x why (inr limited) = inl limited.0
 
-entry_reason : (a : Announcements) (own : Endpoint) (e : EngineState) (core : Core) (m : Membership) (comm : Option ℕ) (x : Entry) (why : Refused) → IsFree a e core m →
-    WhyRefused (free_fault e (calls.Enter comm x)) e (calls.Enter comm x) why → IsReason (fault own (view blank core) m (Enter comm (call_of x))) why
-entry_reason a own e core m comm x why free reason =
-    subst (λ (o : Option ℕ). IsReason o why) (sym (entry_seen a own e core m comm x free))
-    (go (is_none (held_at (member_of e.groups) comm)) (has_replaced (known_by e.sessions.known) (held_at (member_of e.groups) comm)) (limit_in e.groups.collective e.groups.contexts comm x) reason)
-  where
-    go : (four eleven limited : Bool) →
-        WhyRefused (first_fault (broken four refusals.Communicator) (first_fault (broken eleven refusals.Replaced) (broken limited refusals.Limit))) e (calls.Enter comm x) why →
-        IsReason (cond {A = Option ℕ} four (Some 4) (cond eleven (Some 11) None)) why
-    go true eleven limited because = by_rule (Some 4) refusals.Communicator why because refl
-    go false true limited because = by_rule (Some 11) refusals.Replaced why because refl
-    go false false true because = NoRoom (inl because) refl
-    go false false false because = NoRoom (entry_room e comm x why because) refl
+-- the number of a rule on what is handed in is that of the engine's refusal
+rule_number : (r : Rule) → number_of_rule r ≡ number_of_refusal (of_entry_rule r)
+rule_number entry_faults.WrongType = refl
+rule_number entry_faults.WrongCount = refl
+rule_number entry_faults.NoRoot = refl
+rule_number entry_faults.NotDefined = refl
 
-entry_faultless : (a : Announcements) (own : Endpoint) (e : EngineState) (core : Core) (m : Membership) (comm : Option ℕ) (x : Entry) → IsFree a e core m →
-    free_fault e (calls.Enter comm x) ≡ None → fault own (view blank core) m (Enter comm (call_of x)) ≡ None
-entry_faultless a own e core m comm x free allowed =
-    entry_seen a own e core m comm x free
-    ∙ go (is_none (held_at (member_of e.groups) comm)) (has_replaced (known_by e.sessions.known) (held_at (member_of e.groups) comm)) (limit_in e.groups.collective e.groups.contexts comm x) allowed
+entry_reason : (a : Announcements) (own : Endpoint) (e : EngineState) (core : Core) (m : Membership) (comm : Option ℕ) (x : Entry) (why : Refused) → IsFree a e core m → e.groups.collective.own ≡ own →
+    WhyRefused (free_fault e (calls.Enter comm x)) e (calls.Enter comm x) why → IsReason (fault own (view blank core) m (Enter comm (call_of x))) why
+entry_reason a own e core m comm x why free stands reason =
+    subst (λ (o : Option ℕ). IsReason o why) (sym (entry_seen a own e core m comm x free stands))
+    (go (is_none (held_at (member_of e.groups) comm)) (rule_in e.groups.collective.own (held_in e.groups.contexts comm) x) (has_replaced (known_by e.sessions.known) (held_at (member_of e.groups) comm))
+    (limit_in e.groups.collective e.groups.contexts comm x) reason)
   where
-    go : (four eleven limited : Bool) → first_fault (broken four refusals.Communicator) (first_fault (broken eleven refusals.Replaced) (broken limited refusals.Limit)) ≡ None →
-        cond {A = Option ℕ} four (Some 4) (cond eleven (Some 11) None) ≡ None
-    go true eleven limited h = absurd cc
-    go false true limited h = absurd cc
-    go false false limited h = refl
+    go : (four : Bool) (rule : Option Rule) (eleven limited : Bool) →
+        WhyRefused (first_fault (broken four refusals.Communicator) (first_fault (option_map of_entry_rule rule) (first_fault (broken eleven refusals.Replaced) (broken limited refusals.Limit)))) e (calls.Enter comm x) why →
+        IsReason (cond {A = Option ℕ} four (Some 4) (option_or (option_map number_of_rule rule) (cond eleven (Some 11) None))) why
+    go true rule eleven limited because = by_rule (Some 4) refusals.Communicator why because refl
+    go false (Some r) eleven limited because = by_rule (Some (number_of_rule r)) (of_entry_rule r) why because (ap (λ (k : ℕ). Some k) (rule_number r))
+    go false None true limited because = by_rule (Some 11) refusals.Replaced why because refl
+    go false None false true because = NoRoom (inl because) refl
+    go false None false false because = NoRoom (entry_room e comm x why because) refl
+
+entry_faultless : (a : Announcements) (own : Endpoint) (e : EngineState) (core : Core) (m : Membership) (comm : Option ℕ) (x : Entry) → IsFree a e core m → e.groups.collective.own ≡ own →
+    free_fault e (calls.Enter comm x) ≡ None → fault own (view blank core) m (Enter comm (call_of x)) ≡ None
+entry_faultless a own e core m comm x free stands allowed =
+    entry_seen a own e core m comm x free stands
+    ∙ go (is_none (held_at (member_of e.groups) comm)) (rule_in e.groups.collective.own (held_in e.groups.contexts comm) x) (has_replaced (known_by e.sessions.known) (held_at (member_of e.groups) comm))
+    (limit_in e.groups.collective e.groups.contexts comm x) allowed
+  where
+    go : (four : Bool) (rule : Option Rule) (eleven limited : Bool) →
+        first_fault (broken four refusals.Communicator) (first_fault (option_map of_entry_rule rule) (first_fault (broken eleven refusals.Replaced) (broken limited refusals.Limit))) ≡ None →
+        cond {A = Option ℕ} four (Some 4) (option_or (option_map number_of_rule rule) (cond eleven (Some 11) None)) ≡ None
+    go true rule eleven limited h = absurd cc
+    go false (Some r) eleven limited h = absurd cc
+    go false None true limited h = absurd cc
+    go false None false true h = absurd cc
+    go false None false false h = refl
 
 -- the reason why a question is
 question_reason : (a : Announcements) (own : Endpoint) (e : EngineState) (core : Core) (m : Membership) (comm : Option ℕ) (q : Question) (why : Refused) → IsFree a e core m →
@@ -371,47 +402,47 @@ free_is : (a : Announcements) (e : EngineState) (core : Core) (m : Membership) (
 free_is a e core m q free = ap (λ (b : Option Awaited). fault_at b e.core q) free.idle
 
 -- a call that is refused has a reason
-pub free_reason : (a : Announcements) (own : Endpoint) (e : EngineState) (core : Core) (m : Membership) (call : engine.Call) (why : Refused) → IsFree a e core m →
+pub free_reason : (a : Announcements) (own : Endpoint) (e : EngineState) (core : Core) (m : Membership) (call : engine.Call) (why : Refused) → IsFree a e core m → e.groups.collective.own ≡ own →
     WhyRefused (free_fault e call) e call why → IsReason (fault own (view blank core) m (call_meant e.core call)) why
-free_reason a own e core m (calls.Isend s) why free reason = send_reason a own e core m s why free reason
-free_reason a own e core m (calls.Irecv v) why free reason = receive_reason a own e core m v why free reason
-free_reason a own e core m (calls.Wait q) why free reason =
+free_reason a own e core m (calls.Isend s) why free stands reason = send_reason a own e core m s why free reason
+free_reason a own e core m (calls.Irecv v) why free stands reason = receive_reason a own e core m v why free reason
+free_reason a own e core m (calls.Wait q) why free stands reason =
     requests_reason a e core m (calls.Wait q) (cores_calls.Wait q) _ why free (free_is a e core m (cores_calls.Wait q) free)
     (wait_found e.core.place.size own (view blank core) m (in_queues.awaited_by (in_queues.serial_meant e.core) (awaiteds.One q)) free.apart) (λ lacks. absurd lacks) reason
-free_reason a own e core m (calls.Test q) why free reason =
+free_reason a own e core m (calls.Test q) why free stands reason =
     requests_reason a e core m (calls.Test q) (cores_calls.Test q) _ why free (free_is a e core m (cores_calls.Test q) free)
     (test_found e.core.place.size own (view blank core) m (in_queues.request_by (in_queues.serial_meant e.core) q) free.apart) (λ lacks. absurd lacks) reason
-free_reason a own e core m (calls.Waitany qs) why free reason =
+free_reason a own e core m (calls.Waitany qs) why free stands reason =
     requests_reason a e core m (calls.Waitany qs) (cores_calls.Waitany qs) _ why free (free_is a e core m (cores_calls.Waitany qs) free)
     (wait_found e.core.place.size own (view blank core) m (in_queues.awaited_by (in_queues.serial_meant e.core) (awaiteds.AnyOf qs)) free.apart) (λ lacks. absurd lacks) reason
-free_reason a own e core m (calls.Waitall qs) why free reason =
+free_reason a own e core m (calls.Waitall qs) why free stands reason =
     requests_reason a e core m (calls.Waitall qs) (cores_calls.Waitall qs) _ why free (free_is a e core m (cores_calls.Waitall qs) free)
     (wait_found e.core.place.size own (view blank core) m (in_queues.awaited_by (in_queues.serial_meant e.core) (awaiteds.AllOf qs)) free.apart) (λ lacks. lacks) reason
-free_reason a own e core m (calls.Cancel q) why free reason =
+free_reason a own e core m (calls.Cancel q) why free stands reason =
     requests_reason a e core m (calls.Cancel q) (cores_calls.Cancel q) _ why free (free_is a e core m (cores_calls.Cancel q) free)
     (cancel_found e.core.place.size own (view blank core) m (in_queues.request_by (in_queues.serial_meant e.core) q) free.apart) (λ lacks. absurd lacks) reason
-free_reason a own e core m (calls.Enter comm x) why free reason = entry_reason a own e core m comm x why free reason
-free_reason a own e core m (calls.Ask comm q) why free reason = question_reason a own e core m comm q why free reason
+free_reason a own e core m (calls.Enter comm x) why free stands reason = entry_reason a own e core m comm x why free stands reason
+free_reason a own e core m (calls.Ask comm q) why free stands reason = question_reason a own e core m comm q why free reason
 
 -- one that is taken has no fault
-pub free_faultless : (a : Announcements) (own : Endpoint) (e : EngineState) (core : Core) (m : Membership) (call : engine.Call) → IsFree a e core m → free_fault e call ≡ None →
+pub free_faultless : (a : Announcements) (own : Endpoint) (e : EngineState) (core : Core) (m : Membership) (call : engine.Call) → IsFree a e core m → e.groups.collective.own ≡ own → free_fault e call ≡ None →
     IsFaultless (fault own (view blank core) m (call_seen call)) e.core call
-free_faultless a own e core m (calls.Isend s) free allowed = record { own = refl; none = send_faultless a own e core m s free allowed }
-free_faultless a own e core m (calls.Irecv v) free allowed = record { own = refl; none = receive_faultless a own e core m v free allowed }
-free_faultless a own e core m (calls.Wait q) free allowed =
+free_faultless a own e core m (calls.Isend s) free stands allowed = record { own = refl; none = send_faultless a own e core m s free allowed }
+free_faultless a own e core m (calls.Irecv v) free stands allowed = record { own = refl; none = receive_faultless a own e core m v free allowed }
+free_faultless a own e core m (calls.Wait q) free stands allowed =
     requests_faultless a e core m (calls.Wait q) (cores_calls.Wait q) _ free (free_is a e core m (cores_calls.Wait q) free)
     (wait_found e.core.place.size own (view blank core) m (in_queues.awaited_by in_queues.own_serial (awaiteds.One q)) free.apart) (λ f. refl) allowed
-free_faultless a own e core m (calls.Test q) free allowed =
+free_faultless a own e core m (calls.Test q) free stands allowed =
     requests_faultless a e core m (calls.Test q) (cores_calls.Test q) _ free (free_is a e core m (cores_calls.Test q) free)
     (test_found e.core.place.size own (view blank core) m (in_queues.request_by in_queues.own_serial q) free.apart) (λ f. refl) allowed
-free_faultless a own e core m (calls.Waitany qs) free allowed =
+free_faultless a own e core m (calls.Waitany qs) free stands allowed =
     requests_faultless a e core m (calls.Waitany qs) (cores_calls.Waitany qs) _ free (free_is a e core m (cores_calls.Waitany qs) free)
     (wait_found e.core.place.size own (view blank core) m (in_queues.awaited_by in_queues.own_serial (awaiteds.AnyOf qs)) free.apart) (λ f. refl) allowed
-free_faultless a own e core m (calls.Waitall qs) free allowed =
+free_faultless a own e core m (calls.Waitall qs) free stands allowed =
     requests_faultless a e core m (calls.Waitall qs) (cores_calls.Waitall qs) _ free (free_is a e core m (cores_calls.Waitall qs) free)
     (wait_found e.core.place.size own (view blank core) m (in_queues.awaited_by in_queues.own_serial (awaiteds.AllOf qs)) free.apart) (λ f. refl) allowed
-free_faultless a own e core m (calls.Cancel q) free allowed =
+free_faultless a own e core m (calls.Cancel q) free stands allowed =
     requests_faultless a e core m (calls.Cancel q) (cores_calls.Cancel q) _ free (free_is a e core m (cores_calls.Cancel q) free)
     (cancel_found e.core.place.size own (view blank core) m (in_queues.request_by in_queues.own_serial q) free.apart) (λ f. refl) allowed
-free_faultless a own e core m (calls.Enter comm x) free allowed = record { own = refl; none = entry_faultless a own e core m comm x free allowed }
-free_faultless a own e core m (calls.Ask comm q) free allowed = record { own = refl; none = question_faultless a own e core m comm q free allowed }
+free_faultless a own e core m (calls.Enter comm x) free stands allowed = record { own = refl; none = entry_faultless a own e core m comm x free stands allowed }
+free_faultless a own e core m (calls.Ask comm q) free stands allowed = record { own = refl; none = question_faultless a own e core m comm q free allowed }

@@ -9,7 +9,7 @@ use Rattle.engine.specs.Refusals.{fault_of_sessions}
 use Rattle.incarnation.specs.declared.place.Place.{Place}
 use Rattle.payload.proofs.Grammar.{payload_again}
 use Rattle.payload.specs.Spelling.{spelling}
-use Rattle.proof_collective_steps.specs.Sending.{IsSendable}
+use Rattle.proof_collective_steps.specs.Sending.{AreWithinTypes, IsSendable}
 use Rattle.proof_link_truth.specs.Events.{Comes, EventsAreTrue, IsAt, LeavesTrue, MaySend, MaySendAll, all_addressed, links_heard}
 use Rattle.proof_link_truth.specs.Links.{Links}
 use Rattle.proof_link_truth.specs.Truth.{AreTrue}
@@ -76,6 +76,13 @@ may_be_sent n own ms sendable whole goes =
 ranks_there : (n : ℕ) (own : Endpoint) (ms : List Message) → AllByRecursion (IsSendable n own) ms → AllByRecursion (λ (f : Sending). f.rank < n) (map sending_of_message ms)
 ranks_there n own [] sendable = tt
 ranks_there n own (m ∷ ms) sendable = (sendable.0.there, ranks_there n own ms sendable.1)
+
+-- ---- within its types
+
+-- each element of what is whole is within its type
+pub are_within : (ms : List Message) → AreWhole ms → AreWithinTypes ms
+are_within [] whole = tt
+are_within (m ∷ ms) whole = (whole.0.within, are_within ms whole.1)
 
 -- ---- what it brings
 

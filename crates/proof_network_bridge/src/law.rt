@@ -6,7 +6,7 @@ ghost use Rattle.proof_network_bridge.specs.Following.{OpeningFollows, CallsFoll
 /// States that a world of engines follows the pure network with communicators from its opening on, through every call that
 /// is taken, every datagram that is taken in or refused, every tick and every restart of a rank; and that whoever follows
 /// that network is seen as a run of the machine of queues and groups. Calls are of point to point and on requests, on
-/// whatever communicator a rank holds (MPI 3.1, 3 and 6.2.4), they enter collectives (5.3, 6.4.2), or ask about communicators
+/// whatever communicator a rank holds (MPI 3.1, 3 and 6.2.4), they enter collectives (5.3 to 5.9, 6.4.2), or ask about communicators
 /// (6.4.1).
 ///
 /// That run ends with each rank at the incarnation of its engine, which knows there what its engine knows, and holds the

@@ -9,10 +9,12 @@ use thiserror::Error;
 /// for the reset that goes out with `StaleTarget`.
 #[derive(Clone, Copy, Debug, PartialEq, Eq, Error)]
 pub enum Refused {
-    /// More data than a send may have, or a buffer too short for its layout and number of copies (MPI 3.1, ERR_COUNT).
+    /// More data than a send or a block of a collective may have, a buffer too short for its layout and number of copies, or a
+    /// scatter's root that hands in another number of elements than a block for each member (MPI 3.1, ERR_COUNT).
     #[error("the count is out of range")]
     Count,
-    /// Buffer and layout are of different basic types, or a receive names a place twice (ERR_TYPE, 3.3.1 and 4.1.11).
+    /// Buffer and layout are of different basic types, a receive names a place twice, or a scatter's root hands in elements of
+    /// another type than its blocks (ERR_TYPE, 3.3.1, 4.1.11 and 5.6).
     #[error("the type is wrong")]
     WrongType,
     /// A tag above 2,147,483,647, or the wildcard in a send (ERR_TAG).
@@ -28,6 +30,12 @@ pub enum Refused {
     /// blocked (ERR_REQUEST).
     #[error("there is no such request, it is named twice or no receive, or an earlier call is blocked")]
     Request,
+    /// A collective names a root that is no rank in the communicator (ERR_ROOT).
+    #[error("there is no such root")]
+    Root,
+    /// The operation isn't defined on the type (ERR_OP, 5.9.2).
+    #[error("the operation isn't defined on the type")]
+    Operation,
     /// A member of the communicator was started anew. MPI 3.1 has no restarts of a rank: this rule is this project's own.
     #[error("a member of the communicator was started anew")]
     Replaced,
@@ -88,6 +96,8 @@ impl Refused {
             Refused::Communicator => 4,
             Refused::Rank => 5,
             Refused::Request => 6,
+            Refused::Root => 7,
+            Refused::Operation => 9,
             Refused::Replaced => 11,
             Refused::Limit => 13,
             Refused::OutOfMemory => 14,

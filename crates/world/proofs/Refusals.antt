@@ -8,7 +8,7 @@ use Rattle.vocabulary.specs.declared.endpoint.Endpoint.{Endpoint}
 use Rattle.datagram.specs.Spelling.{EagerText}
 use Rattle.engine.specs.Datagrams.{HeardGivesBy, HearingGives, notice_in}
 use Rattle.engine.specs.EngineState.{EngineState, emptied, without_completion, without_out}
-use Rattle.collectives.specs.declared.step.Ending.{Ending}
+use Rattle.collective_steps.specs.declared.step.Ending.{Ending}
 use Rattle.sessions.specs.declared.heard.Unheard.{Unheard}
 use Rattle.sessions.specs.declared.refused.Refused as lower
 use Rattle.sessions.specs.Events.{TurnedAway}

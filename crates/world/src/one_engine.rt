@@ -165,6 +165,13 @@ fn tick(alloc: Global, engine: &mut Engine, now: u64) -> Result<Given, Rejected>
     }
 }
 
+/// The engine gives way to this one; what it held is dropped.
+fn give_way(engine: &mut Engine, next: Engine)
+    ensures { engine.new ≡ next }
+{
+    *engine = next;
+}
+
 /// The engine gives way to a new one, at the next incarnation.
 fn restart(alloc: Global, engine: &mut Engine) -> Result<Given, Rejected>
     requires { IsReady engine.old }
@@ -187,7 +194,7 @@ fn restart(alloc: Global, engine: &mut Engine) -> Result<Given, Rejected>
     };
     match Engine::new(alloc, place) {
         Ok(next) => {
-            *engine = next;
+            give_way(engine, next);
             Ok(Given {
                 endpoint: former.endpoint,
                 out: Vec::new(alloc),

@@ -1,7 +1,7 @@
 //! Communicators that ranks of a world make, what they hold of them, and how a collective ends.
 
-use crate::steps::{Told, WORLD, ask, deliver, enter, receive, send, step, test};
-use engine::{Choice, Comparison, Ending, Entry, Question, Source, Status};
+use crate::steps::{End, Told, WORLD, ask, deliver, enter, receive, send, step, test};
+use engine::{Choice, Comparison, Entry, Question, Source, Status};
 use std::alloc::Global;
 use world::{Event, World};
 
@@ -41,10 +41,7 @@ fn came(rank: u16, tag: u32) -> Option<Told> {
 #[test]
 fn messages_on_a_copy_meet_none_on_world(rt: HostRuntime) {
     let mut world = World::new(rt.alloc(), 3).expect(&rt, "a world");
-    assert_eq!(rt;
-        copy_of_three(&mut world),
-        Told::Ended(Ending::Comm(Some(2)))
-    );
+    assert_eq!(rt; copy_of_three(&mut world), Told::Ended(End::Comm(Some(2))));
     assert_eq!(rt;
         messages_apart(rt.alloc(), &mut world),
         Some([Some(Told::Pending), came(1, 9), came(1, 6)])
@@ -84,10 +81,10 @@ fn parts_of_four(world: &mut World) -> [Told; 7] {
 #[test]
 fn a_split_makes_a_communicator_for_each_colour(rt: HostRuntime) {
     let mut world = World::new(rt.alloc(), 4).expect(&rt, "a world");
-    let made = Told::Ended(Ending::Comm(Some(2)));
+    let made = Told::Ended(End::Comm(Some(2)));
     assert_eq!(rt;
         split_of_four(&mut world),
-        [made, made, Told::Ended(Ending::Comm(None))]
+        [made, made, Told::Ended(End::Comm(None))]
     );
     assert_eq!(rt;
         parts_of_four(&mut world),
@@ -140,7 +137,7 @@ fn other_kinds(world: &mut World) -> [Told; 6] {
 #[test]
 fn another_kind_ends_a_collective_with_12(rt: HostRuntime) {
     let mut world = World::new(rt.alloc(), 2).expect(&rt, "a world");
-    let mismatch = Told::Ended(Ending::Mismatch);
+    let mismatch = Told::Ended(End::Mismatch);
     assert_eq!(rt;
         other_kinds(&mut world),
         [
@@ -177,7 +174,7 @@ fn started_anew(alloc: Global, world: &mut World) -> Option<[Told; 7]> {
 #[test]
 fn a_member_started_anew_ends_a_collective_with_11(rt: HostRuntime) {
     let mut world = World::new(rt.alloc(), 3).expect(&rt, "a world");
-    let replaced = Told::Ended(Ending::Replaced);
+    let replaced = Told::Ended(End::Replaced);
     assert_eq!(rt;
         started_anew(rt.alloc(), &mut world),
         Some([
@@ -187,7 +184,7 @@ fn a_member_started_anew_ends_a_collective_with_11(rt: HostRuntime) {
             Told::Refused(11),
             Told::Refused(11),
             Told::Refused(11),
-            Told::Ended(Ending::Comm(Some(2))),
+            Told::Ended(End::Comm(Some(2))),
         ])
     );
 }
@@ -212,6 +209,6 @@ fn three_ranks_leave_a_barrier(rt: HostRuntime) {
     let mut world = World::new(rt.alloc(), 3).expect(&rt, "a world");
     assert_eq!(rt;
         barrier_of_three(&mut world),
-        ([Told::Ended(Ending::Left); 3], true)
+        ([Told::Ended(End::Left); 3], true)
     );
 }

@@ -2,6 +2,8 @@
 #![tactic(auto)]
 
 #[cfg(test)]
+mod collective_tests;
+#[cfg(test)]
 mod communicator_tests;
 #[cfg(test)]
 mod row_tests;

@@ -4,14 +4,14 @@
 //! Bytes 40 to 47 of a datagram are the context of the communicator that it is on, and bytes 68 to 75, where they are there,
 //! the one of the communicator that was made.
 
-use crate::steps::{Told, WORLD, all_are_spelled, deliver, enter, send};
-use engine::{Choice, Ending, Entry};
+use crate::steps::{End, Told, WORLD, all_are_spelled, deliver, enter, send};
+use engine::{Choice, Entry};
 use std::alloc::Global;
 use world::World;
 
 /// A communicator that was made, at this place of its rank.
 fn made(place: usize) -> Told {
-    Told::Ended(Ending::Comm(Some(place)))
+    Told::Ended(End::Comm(Some(place)))
 }
 
 /// A split with this colour and key.
@@ -125,7 +125,7 @@ fn a_split_is_told_in_these_bytes(rt: HostRuntime) {
             made(2),
             made(2),
             made(2),
-            Told::Ended(Ending::Comm(None)),
+            Told::Ended(End::Comm(None)),
         ]
     );
     assert!(rt; all_are_spelled(rt.alloc(), &world, &SPLIT_OF_FOUR,));
@@ -285,7 +285,7 @@ const DIFFERENCE: [(usize, &str); 8] = [
 #[test]
 fn a_difference_is_told_in_these_bytes(rt: HostRuntime) {
     let mut world = World::new(rt.alloc(), 3).expect(&rt, "a world");
-    let mismatch = Told::Ended(Ending::Mismatch);
+    let mismatch = Told::Ended(End::Mismatch);
     assert_eq!(rt;
         different(&mut world),
         (

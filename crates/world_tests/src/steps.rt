@@ -12,6 +12,21 @@ use world::{Entry, Event, World};
 /// The place of a rank's first communicator.
 pub(crate) const WORLD: Option<usize> = Some(0);
 
+/// With what a collective ended.
+#[derive(Clone, Copy, Debug, PartialEq, Eq)]
+pub(crate) enum End {
+    /// The rank left with nothing.
+    Left,
+    /// It left with so many elements, and these are the first two.
+    Elements(usize, Option<u64>, Option<u64>),
+    /// It left with the communicator at this place, or with MPI_COMM_NULL.
+    Comm(Option<usize>),
+    /// Error 11.
+    Replaced,
+    /// Error 12.
+    Mismatch,
+}
+
 /// What is told of an event.
 #[derive(Clone, Copy, Debug, PartialEq, Eq)]
 pub(crate) enum Told {
@@ -30,7 +45,7 @@ pub(crate) enum Told {
     /// The cancel was taken.
     Accepted,
     /// A collective ended so, at once or for a rank that was blocked in it.
-    Ended(Ending),
+    Ended(End),
     /// A question is answered with a number.
     Number(usize),
     /// A question is answered with so many ranks, and these are the first two.
@@ -47,6 +62,19 @@ fn answered(answer: &Answer) -> Told {
         Answer::One(Outcome::Received(status, _buffer)) => Told::Received(*status),
         _ => Told::Finished,
     }
+}
+
+/// With what a collective ended.
+fn ended(ending: &Ending) -> Told {
+    Told::Ended(match ending {
+        Ending::Left(None) => End::Left,
+        Ending::Left(Some(elements)) => {
+            End::Elements(elements.len(), elements.get(0), elements.get(1))
+        }
+        Ending::Comm(place) => End::Comm(*place),
+        Ending::Replaced => End::Replaced,
+        Ending::Mismatch => End::Mismatch,
+    })
 }
 
 /// What is told of a fact.
@@ -68,7 +96,7 @@ fn replied(reply: &Reply) -> Told {
         Reply::Pending => Told::Pending,
         Reply::Accepted => Told::Accepted,
         Reply::Blocked => Told::Blocked,
-        Reply::Left(ending) => Told::Ended(*ending),
+        Reply::Left(ending) => ended(ending),
         Reply::Fact(fact) => fact_told(fact),
         Reply::Refused(_refused, _call) => Told::Nothing,
     }
@@ -79,7 +107,7 @@ fn told_in(entry: &Entry) -> Told {
     match (&entry.reply, &entry.completion) {
         (Some(reply), _) => replied(reply),
         (None, Some(Completion::Requests(answer))) => answered(answer),
-        (None, Some(Completion::Collective(ending))) => Told::Ended(*ending),
+        (None, Some(Completion::Collective(ending))) => ended(ending),
         (None, None) => Told::Nothing,
     }
 }
@@ -187,4 +215,27 @@ fn is_spelled(alloc: Global, world: &World, number: usize, digits: &str) -> bool
 pub(crate) fn all_are_spelled(alloc: Global, world: &World, rows: &[(usize, &str)]) -> bool {
     rows.iter()
         .all(|row| is_spelled(alloc, world, row.0, row.1))
+}
+
+/// All datagrams are delivered, those too that this emits, up to this many.
+pub(crate) fn deliver_all(world: &mut World, most: usize) {
+    for number in 0..most {
+        if world.datagram(number).is_none() {
+            return;
+        }
+        deliver(world, number);
+    }
+}
+
+/// With what this rank left its last collective.
+pub(crate) fn last_end(world: &World, rank: u16) -> Option<End> {
+    let mut last = None;
+    for entry in world.history() {
+        if entry.endpoint.rank == rank {
+            if let Told::Ended(end) = told_in(entry) {
+                last = Some(end);
+            }
+        }
+    }
+    last
 }

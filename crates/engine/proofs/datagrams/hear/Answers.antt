@@ -1,5 +1,5 @@
 use Rattle.std.proofs.Common.{IfErr, Option, Err, subst}
-use Rattle.collectives.specs.declared.step.Ending.{Ending}
+use Rattle.collective_steps.specs.declared.step.Ending.{Ending}
 use Rattle.datagram.specs.Spelling.{EagerText}
 use Rattle.sessions.specs.Heard.{heard_text}
 use Rattle.engine.specs.Datagrams.{HeardGivesBy}

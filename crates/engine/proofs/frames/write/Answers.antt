@@ -5,5 +5,6 @@ use Rattle.engine.proofs.frames.write.Goals as goal
 pub returns-in-Ok-clause-whole : goal.returns-in-Ok-clause-whole
 returns-in-Ok-clause-whole c = record {
   fits = subst PayloadFits c.payload.ensures.says c.in-Ok.ensures.fits;
+  within = c.payload.ensures.within;
   context = omega (arith, c.context_of.ensures, c.context_of.type_inv);
 }
