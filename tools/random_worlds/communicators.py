@@ -1,10 +1,14 @@
-"""The communicators of a rank, and the two collectives that make new ones, dup and split (MPI 3.1, 6.4).
+"""The communicators of a rank, and their collectives: barrier, those that move elements (MPI 3.1, 5), dup and split (6.4).
 
 Nothing here knows requests or messages of point to point: a rank holds communicators, enters a collective of one of them, and hears
-notices of other members. What a rank gives out are notices, each with the rank of world that it goes to.
+notices of other members. What a rank gives out are notices, each with the rank of world that it goes to. Notices go in the form of a
+star: to the root and from it, which is member 0 where a collective has no root.
 """
 
 from dataclasses import dataclass, field
+
+import reductions
+from reading import TYPES
 
 # Whether the engine has other communicators than world.
 ARE_THERE = True
@@ -14,8 +18,29 @@ MOST_COMMUNICATORS = 4096
 FIRST_SERIAL = 2
 SERIALS = 2**32
 
+MOST_BLOCK_BYTES = 1048560
+RECORD_BYTES = 16
+
 # The phases of a notice.
 TOWARDS, BACK, DIFFERS = "towards", "back", "differs"
+
+# The collectives that all members wait for; one that finds a difference in these tells the others.
+FOR_ALL = ("barrier", "allreduce", "dup", "split")
+
+
+@dataclass(frozen=True)
+class Record:
+    """What all members have to agree on. Where a collective has no root, operation, type or count, that is None."""
+
+    kind: str
+    root: object = None
+    operation: object = None
+    type: object = None
+    count: object = None
+
+    def center(self):
+        """The member to which and from which notices go."""
+        return self.root or 0
 
 
 @dataclass
@@ -35,29 +60,45 @@ class Communicator:
 
 @dataclass
 class Notice:
-    """What a member tells another one of the collective of this number on a context: the kind that it entered with, and what the phase
-    brings. Towards member 0 that is its choice; back from it the new context and its ranks, or None for MPI_COMM_NULL."""
+    """What a member tells another one of the collective of this number on a context: the record that it entered with, and what the phase
+    brings: elements; or towards member 0 the choice of a split; or back from it the new context and its ranks, or None for
+    MPI_COMM_NULL."""
 
     source: int
     incarnation: int
     context: int
     number: int
-    kind: str
+    record: Record
     phase: str
     brings: object = None
+    transfer: object = None
+
+    # As a message it is bytes, of which only the number counts.
+    type = "byte"
+
+    @property
+    def values(self):
+        moves = self.record.type is not None and self.phase != DIFFERS
+        return [0] * (RECORD_BYTES + (len(self.brings) * TYPES[self.record.type][0] if moves else 0))
 
 
 @dataclass
 class Present:
-    """The collective that a rank is in; `choice` is its colour and key, and `parts` are at member 0 the choices of all that have come."""
+    """The collective that a rank is in; `handed` are the elements that it gives, or its colour and key in a split, and `parts` are at
+    the root what all that have come handed in. What it gets has this name. `data` are the elements that it gets."""
 
     communicator: Communicator
     number: int
-    kind: str
-    choice: object
-    name: str
+    record: Record
+    handed: object
+    name: object
     parts: dict = field(default_factory=dict)
     answer: object = None
+    data: object = None
+
+    def center(self):
+        """The rank of world of the member to which and from which notices go."""
+        return self.communicator.ranks()[self.record.center()]
 
 
 @dataclass
@@ -86,22 +127,34 @@ class Communicators:
 
     # Entering and hearing.
 
-    def enter(self, communicator, kind, choice, name):
+    def enter(self, communicator, record, handed, name):
         """Enters the next collective of a communicator; gives the notices that go out."""
         number = self.entered.get(communicator.context, 0)
         self.entered[communicator.context] = number + 1
-        self.present = Present(communicator, number, kind, choice, name)
+        self.present = Present(communicator, number, record, handed, name)
         held = [notice for notice in self.waiting if (notice.context, notice.number) == (communicator.context, number)]
         self.waiting = [notice for notice in self.waiting if not any(notice is other for other in held)]
-        if any(notice.phase != DIFFERS and notice.kind != kind for notice in held):
+        if any(notice.phase != DIFFERS and notice.record != record for notice in held):
             return self.differ()
         if any(notice.phase == DIFFERS for notice in held):
             self.present.answer = "error 12"
             return []
-        if communicator.ranks()[0] != self.rank:
-            return [(communicator.ranks()[0], self.notice(TOWARDS, choice))]
-        self.present.parts = {notice.source: notice.brings for notice in held} | {self.rank: choice}
-        return self.lead()
+        if self.present.center() == self.rank:
+            self.present.parts = {notice.source: notice.brings for notice in held} | {self.rank: handed}
+            return self.lead()
+        return self.follow(held)
+
+    def follow(self, held):
+        """A member that isn't the root gives its part to it, or waits for its part from it."""
+        present = self.present
+        kind = present.record.kind
+        if kind in ("bcast", "scatter"):
+            for notice in held:
+                self.get(notice.brings)
+            return []
+        if kind in ("gather", "reduce"):
+            present.answer = "done"
+        return [(present.center(), self.notice(TOWARDS, present.handed))]
 
     def hear(self, notice):
         """Takes a notice in; gives those that go out. One of a collective that was left is dropped."""
@@ -113,33 +166,77 @@ class Communicators:
         if notice.phase == DIFFERS:
             present.answer = "error 12"
             return []
-        if notice.kind != present.kind:
+        if notice.record != present.record:
             return self.differ()
         if notice.phase == TOWARDS:
             present.parts[notice.source] = notice.brings
             return self.lead()
-        self.install(notice.brings)
+        if present.record.kind in ("dup", "split"):
+            self.install(notice.brings)
+        else:
+            self.get(notice.brings)
         return []
 
     def notice(self, phase, brings=None):
         present = self.present
-        return Notice(self.rank, self.incarnation, present.communicator.context, present.number, present.kind, phase, brings)
+        return Notice(self.rank, self.incarnation, present.communicator.context, present.number, present.record, phase, brings)
 
     def others(self):
         return [rank for rank in self.present.communicator.ranks() if rank != self.rank]
 
     def differ(self):
-        """The member finds that another one entered another kind, tells all others, and leaves with 12."""
+        """The member finds that another one entered something else, and leaves with 12; where all wait for one another, it tells all."""
         self.present.answer = "error 12"
+        if self.present.record.kind not in FOR_ALL:
+            return []
         return [(rank, self.notice(DIFFERS)) for rank in self.others()]
 
     def lead(self):
-        """Member 0 makes the new communicators once it has the choices of all members, and tells each of its own."""
+        """The root goes on: with its own part where it gives, else once it has the parts of all members."""
         present = self.present
+        kind = present.record.kind
         ranks = present.communicator.ranks()
+        if kind in ("bcast", "scatter"):
+            return self.give(ranks)
         if len(present.parts) < len(ranks):
             return []
-        plan = [ranks] if present.kind == "dup" else split_plan(ranks, present.parts)
+        if kind in ("dup", "split"):
+            return self.make(ranks)
+        blocks = [present.parts[rank] for rank in ranks]
+        if kind == "barrier":
+            self.get(None)
+            return [(rank, self.notice(BACK)) for rank in self.others()]
+        if kind == "gather":
+            self.get([value for block in blocks for value in block])
+            return []
+        folded = reductions.fold(present.record.operation, present.record.type, blocks)
+        self.get(folded)
+        return [(rank, self.notice(BACK, folded)) for rank in self.others()] if kind == "allreduce" else []
+
+    def give(self, ranks):
+        """The root of a broadcast gives all to each; that of a scatter gives each its block, itself too."""
+        present = self.present
+        if present.record.kind == "bcast":
+            present.answer = "done"
+            return [(rank, self.notice(BACK, present.handed)) for rank in self.others()]
+        count = present.record.count
+        block = {rank: present.handed[place * count:(place + 1) * count] for place, rank in enumerate(ranks)}
+        self.get(block[self.rank])
+        return [(rank, self.notice(BACK, block[rank])) for rank in self.others()]
+
+    def get(self, values):
+        """The member leaves, with elements or without."""
+        present = self.present
+        if values is None:
+            present.answer = "done"
+            return
+        present.data = (present.record.type, values)
+        present.answer = " ".join(["data"] + [str(value) for value in values])
+
+    def make(self, ranks):
+        """Member 0 makes the new communicators, and tells each member of its own."""
+        present = self.present
+        plan = [ranks] if present.record.kind == "dup" else split_plan(ranks, present.parts)
         made = {}
         for group in plan:
             made |= dict.fromkeys(group, (self.context(), group))

@@ -5,6 +5,7 @@ that lines can be chosen that mean something: a datagram that is on its way, a r
 What is compared later is the model on the whole text, from its first byte on.
 """
 
+import collecting
 import communicators
 import reading
 import rules
@@ -19,8 +20,9 @@ MIXED = {
     "tick": 5, "restart": 1, "stray": 1, "refused_call": 3, "refused_event": 2, "set_buffer": 2, "rename": 0.3, "unblock": 6,
     "test": 5, "cancel": 2, "wait_for_several": 5, "set_layout": 2, "bring_some": 2,
     "restart_in_the_middle": 0.5, "cancel_in_the_middle": 0.5, "make_communicator": 1, "enter_alone": 0.5, "ask": 2,
+    "move_elements": 1.5, "enter_one": 0.3, "refused_collective": 0.3,
 }
-ON_COMMUNICATORS = ["make_communicator", "enter_alone", "ask", "restart_in_a_collective"]
+ON_COMMUNICATORS = ["make_communicator", "enter_alone", "ask", "restart_in_a_collective", "move_elements", "enter_one", "refused_collective"]
 THEMES = {
     "mixed": (30, {}),
     "wildcards": (12, {"receive": 30, "send": 30, "wait": 20, "restart": 0}),
@@ -36,6 +38,8 @@ THEMES = {
     "large": (24, {"send": 14, "receive": 16, "deliver_new": 30, "bring_some": 14, "deliver_any": 10, "lose": 4, "tick": 8, "cancel": 4, "test": 8,
                    "restart_in_the_middle": 3, "cancel_in_the_middle": 4}),
     "communicators": (24, {"make_communicator": 16, "enter_alone": 3, "ask": 12, "send": 24, "receive": 24, "deliver_new": 34, "refused_call": 4}),
+    "collectives": (34, {"move_elements": 30, "make_communicator": 3, "enter_one": 2, "refused_collective": 4, "deliver_new": 34, "bring_some": 8,
+                         "restart_in_a_collective": 2}),
     "replaced": (14, {"make_communicator": 14, "enter_alone": 3, "ask": 6, "deliver_new": 30, "restart": 5, "restart_in_a_collective": 8,
                       "refused_call": 5}),
     "large_restarts": (8, {"send": 14, "receive": 16, "deliver_new": 30, "bring_some": 8, "deliver_any": 12, "restart": 5, "deliver_late": 6,
@@ -43,13 +47,13 @@ THEMES = {
 }
 SHARE_OF_LARGE = {"large": 0.65, "large_restarts": 0.65, "restarts": 0.2, "losses": 0.15, "several": 0.1, "wildcards": 0.1, "window": 0.1}
 LARGE_BYTES = [1025, 1025, 1026, 1032, 2048, 2049, 3072, 5000, 5000]
-SHARE_OFF_WORLD = {"communicators": 0.8, "replaced": 0.7, "mixed": 0.3, "large": 0.2, "large_restarts": 0.2, "restarts": 0.2, "wildcards": 0.2}
+SHARE_OFF_WORLD = {"communicators": 0.8, "collectives": 0.3, "replaced": 0.7, "mixed": 0.3, "large": 0.2, "large_restarts": 0.2, "restarts": 0.2, "wildcards": 0.2}
 TAGS = [0, 1, 2, 7]
 COLOURS = ["undefined", 0, 1, 7, 2**32 - 1]
 KEYS = [0, 0, 1, -1, 5, 2**31 - 1, -2**31]
 
 
-class Maker:
+class Maker(collecting.Collecting):
     """A file of events that is being made."""
 
     def __init__(self, random, theme):
@@ -329,7 +333,7 @@ class Maker:
     def half_received(self):
         """Each receive whose data are on their way, with its rank and the rank that they come from."""
         return [(rank.number, other, half.receive) for rank in self.world.ranks for other, session in rank.sessions.items()
-                for half in session.collections.values()]
+                for half in session.collections.values() if half.receive is not None]
 
     def a_half_received(self):
         """One of these, or a new one where there is none and the network brings all."""
@@ -518,7 +522,7 @@ class Maker:
 
     def restart_in_a_collective(self):
         """A member of a communicator is started anew while others are in a collective of it, and they learn of it, mostly."""
-        self.make_communicator(until=self.random.choice([1, 1, 2, 3]))
+        self.random.choice([self.make_communicator, self.move_elements])(until=self.random.choice([1, 1, 2, 3]))
         inside = [rank for rank in self.world.ranks if rank.communicators.is_busy()]
         if not inside or self.is_over:
             return
@@ -604,7 +608,8 @@ class Maker:
         if self.random.random() < 0.3:
             rank, words = self.random.choice([self.size, 256, 2**32]), ["world", "self"]
         one, other = self.random.choice(words), self.random.choice(words)
-        self.add(f"{rank} " + self.random.choice([f"dup d {one}", f"split d {one} 0 0", f"who {one}", f"members {one}", f"compare {one} {other}"]))
+        self.add(f"{rank} " + self.random.choice([f"dup d {one}", f"split d {one} 0 0", f"who {one}", f"members {one}", f"compare {one} {other}",
+                                                  f"barrier {one}"]))
 
     # Events.
 

@@ -119,6 +119,59 @@ class Waitall:
 
 
 @dataclass
+class Barrier:
+    rank: int
+    communicator: str
+
+
+@dataclass
+class Bcast:
+    rank: int
+    communicator: str
+    root: int
+    buffer: str
+
+
+@dataclass
+class Gather:
+    rank: int
+    communicator: str
+    root: int
+    buffer: str
+    into: str
+
+
+@dataclass
+class Scatter:
+    """`buffer` is None where it is `-`."""
+
+    rank: int
+    communicator: str
+    root: int
+    buffer: object
+    into: str
+
+
+@dataclass
+class Reduce:
+    rank: int
+    communicator: str
+    root: int
+    operation: str
+    buffer: str
+    into: str
+
+
+@dataclass
+class Allreduce:
+    rank: int
+    communicator: str
+    operation: str
+    buffer: str
+    into: str
+
+
+@dataclass
 class Dup:
     rank: int
     name: str
@@ -289,9 +342,42 @@ def statement(rank, words):
         return {"wait": Wait, "test": Test, "cancel": Cancel}[kind](rank, request(rest[0]))
     if kind in ("waitany", "waitall"):
         return {"waitany": Waitany, "waitall": Waitall}[kind](rank, [request(word) for word in rest])
+    if kind in COLLECTIVES and len(rest) == COLLECTIVES[kind]:
+        return a_collective(rank, kind, rest)
     if kind in COMMUNICATORS and len(rest) == COMMUNICATORS[kind]:
         return of_communicators(rank, kind, rest)
     raise Faulty
+
+
+# The collectives that make no communicator, and how many words each has behind its first.
+COLLECTIVES = {"barrier": 1, "bcast": 3, "gather": 4, "scatter": 4, "reduce": 5, "allreduce": 4}
+
+# The operations of a reduction.
+OPERATIONS = ("max", "min", "sum", "prod", "land", "lor", "lxor", "band", "bor", "bxor", "affine")
+
+
+def a_collective(rank, kind, words):
+    """A barrier, or a collective that moves elements."""
+    communicator = a_communicator(words[0])
+    if kind == "barrier":
+        return Barrier(rank, communicator)
+    if kind == "allreduce":
+        return Allreduce(rank, communicator, an_operation(words[1]), name(words[2]), name(words[3]))
+    root = number(words[1])
+    if kind == "bcast":
+        return Bcast(rank, communicator, root, name(words[2]))
+    if kind == "gather":
+        return Gather(rank, communicator, root, name(words[2]), name(words[3]))
+    if kind == "scatter":
+        return Scatter(rank, communicator, root, None if words[2] == "-" else name(words[2]), name(words[3]))
+    return Reduce(rank, communicator, root, an_operation(words[2]), name(words[3]), name(words[4]))
+
+
+def an_operation(word):
+    """The word of an operation."""
+    if word not in OPERATIONS:
+        raise Faulty
+    return word
 
 
 # The statements on communicators, and how many words each has behind its first.

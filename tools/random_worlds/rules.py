@@ -11,98 +11,15 @@ from dataclasses import dataclass, field
 
 import communicators
 import reading
+import reductions
 from bytes_of_strays import HIGHEST_TAG, MOST_BYTES, MOST_EAGER_BYTES, fault_of_bytes
-from communicators import Notice, WORLD
+from communicators import MOST_BLOCK_BYTES, Notice, Record, WORLD
+from frames import Collection, Datagram, Frame, Message, Session, byte_count, pieces_of
+from layouts import Layout, layout_made
 from reading import ANY, NULL, TYPES
 
-PIECE_BYTES = 1024
-WINDOW = 64
-RESEND_AFTER = 20
 MOST_REQUESTS = 65536
-MOST_ENTRIES = 2**20
-HIGHEST_PLACE = 2**31 - 1
 LAST_INCARNATION = 65535
-
-
-@dataclass
-class Message:
-    """What a send puts on its way: its envelope and its elements, and the number of its transfer where it is only announced. The source
-    is a rank of world, whatever the context."""
-
-    source: int
-    incarnation: int
-    context: int
-    tag: int
-    type: str
-    values: list
-    transfer: object = None
-
-
-@dataclass
-class Frame:
-    """What goes under one number of a session: a message or a notice of a collective (EAGER), the announcement of a message (RTS), the
-    answer to one (CTS), or some of the elements of one (DATA), of which the first stands at `start` in the message."""
-
-    kind: str
-    message: object = None
-    transfer: object = None
-    is_wanted: bool = False
-    start: int = 0
-    values: list = field(default_factory=list)
-
-
-@dataclass
-class Collection:
-    """A receive that was matched with an announced message, and what has come of its data."""
-
-    receive: object
-    message: Message
-    values: list = field(default_factory=list)
-
-    def due(self):
-        """How many elements the next frame of data has."""
-        return min(len(self.message.values) - len(self.values), PIECE_BYTES // TYPES[self.message.type][0])
-
-
-@dataclass
-class Datagram:
-    """What an engine emitted, from one endpoint to another; an acknowledgement and a reset have no frame."""
-
-    source: int
-    source_incarnation: int
-    target: int
-    target_incarnation: int
-    kind: str
-    sequence: int
-    frame: object = None
-
-    def text(self, number):
-        return (f"+{number} {self.source}.{self.source_incarnation}>{self.target}.{self.target_incarnation}"
-                f" {self.kind} {self.sequence}")
-
-
-@dataclass
-class Session:
-    """One rank's side of what passes between its endpoint and another one, in both directions."""
-
-    frames: list = field(default_factory=list)  # every frame that was accepted for sending, by its sequence
-    sent_at: list = field(default_factory=list)  # when each frame that came into the window was last sent
-    lowest: int = 0  # the lowest number that isn't acknowledged
-    next: int = 0  # the number that is taken next from the other side
-    transfers: int = 0  # how many messages were announced to the other side
-    unanswered: dict = field(default_factory=dict)  # those without an answer: the send and its message, by the transfer
-    announced: int = 0  # how many messages the other side announced
-    collections: dict = field(default_factory=dict)  # the receives whose data are to come, by the transfer
-
-    def fill_window(self, now):
-        """Emits what has room in the window, and gives the numbers."""
-        new = range(len(self.sent_at), min(len(self.frames), self.lowest + WINDOW))
-        self.sent_at += [now] * len(new)
-        return new
-
-    def due(self, now):
-        """The numbers of the frames that are sent again at this time."""
-        return [n for n in range(self.lowest, len(self.sent_at)) if now - self.sent_at[n] >= RESEND_AFTER]
 
 
 @dataclass
@@ -123,30 +40,6 @@ class Request:
 
     def is_receive(self):
         return self.values is not None
-
-
-@dataclass
-class Layout:
-    """Offsets in elements of one basic type, in order (MPI 3.1, 4.1.2)."""
-
-    type: str
-    offsets: list
-
-    def extent(self):
-        return max(self.offsets) + 1 - min(self.offsets) if self.offsets else 0
-
-    def count(self, copies):
-        return copies * len(self.offsets)
-
-    def room(self, copies):
-        """How many elements a buffer needs to have all places."""
-        return (copies - 1) * self.extent() + max(self.offsets) + 1 if copies and self.offsets else 0
-
-    def places(self, copies):
-        return [copy * self.extent() + offset for copy in range(copies if self.offsets else 0) for offset in self.offsets]
-
-    def repeats(self):
-        return len(set(self.offsets)) < len(self.offsets)
 
 
 @dataclass
@@ -238,49 +131,11 @@ def fill(receive, message, values):
         receive.values[place] = value
 
 
-def pieces_of(message):
-    """The frames of data of an announced message, in order."""
-    step = PIECE_BYTES // TYPES[message.type][0]
-    return [Frame("DATA", transfer=message.transfer, start=start, values=message.values[start:start + step])
-            for start in range(0, len(message.values), step)]
-
-
-def byte_count(message):
-    return len(message.values) * TYPES[message.type][0]
-
-
 def text_of(request):
     """The text of a finished request."""
     if request.values is None:
         return request.outcome
     return " ".join([request.outcome, "data"] + [str(value) for value in request.values])
-
-
-def blocks_of(event, extent):
-    """Where the copies of the old layout begin, by the constructor; or None where there are too many to be told."""
-    if event.form == "contiguous":
-        blocks = [(event.numbers[0], 0)]
-    elif event.form == "vector":
-        count, length, stride = event.numbers
-        if count * length > MOST_ENTRIES:
-            return None
-        blocks = [(length, place * stride) for place in range(count if length else 0)]
-    else:
-        blocks = event.blocks
-    if sum(length for length, _ in blocks) > MOST_ENTRIES:
-        return None
-    return [(displacement + copy) * extent for length, displacement in blocks for copy in range(length)]
-
-
-def layout_made(event, old):
-    """The layout that a line makes of an old one; None where it is above a limit."""
-    starts = blocks_of(event, old.extent()) if old.offsets else []
-    if starts is None or len(starts) * len(old.offsets) > MOST_ENTRIES:
-        return None
-    made = Layout(old.type, [start + offset for start in starts for offset in old.offsets])
-    if made.offsets and (max(made.offsets) > HIGHEST_PLACE or made.extent() > HIGHEST_PLACE):
-        return None
-    return made
 
 
 class World:
@@ -411,13 +266,14 @@ class World:
 
     @staticmethod
     def first_frame(session, request, target, message):
-        """A message goes whole; a large one is announced, and its send isn't finished before that is answered."""
+        """A message goes whole; a large one is announced, and its send, where it has one, isn't finished before that is answered."""
         if byte_count(message) <= MOST_EAGER_BYTES:
             return Frame("EAGER", message)
         message.transfer = session.transfers
         session.transfers += 1
         session.unanswered[message.transfer] = (request, message)
-        request.outcome, request.target = None, target
+        if request is not None:
+            request.outcome, request.target = None, target
         return Frame("RTS", message, message.transfer)
 
     def on_irecv(self, event):
@@ -538,37 +394,122 @@ class World:
     # Communicators.
 
     def on_dup(self, event):
-        return self.enter(event, "dup", None)
+        return self.enter(event, Record("dup"), None, event.name, None)
 
     def on_split(self, event):
-        return self.enter(event, "split", (event.colour, event.key))
+        return self.enter(event, Record("split"), (event.colour, event.key), event.name, None)
 
-    def enter(self, event, kind, choice):
-        """A collective on a communicator: refused with 11 where a member of it was started anew, the caller included (own)."""
+    def enter(self, event, record, handed, name, broken):
+        """A collective on a communicator: refused by a rule on what is handed in (`broken`, where one is broken), and with 11 where a
+        member of it was started anew, the caller included (own)."""
         self.check_communicators()
         place = self.place_of(event.rank, event.communicator)
         rank = self.caller(event.rank)
         communicator = self.communicator(rank, place)
+        self.check(broken and broken(communicator))
         if any(rank.has_replaced(member) for member in communicator.members):
             raise RefusedEvent(11)
-        if rank.communicators.is_left_without(communicator):
+        if record.kind in ("dup", "split") and rank.communicators.is_left_without(communicator):
             raise RefusedEvent(13)
-        self.tell(rank, rank.communicators.enter(communicator, kind, choice, event.name))
+        self.tell(rank, rank.communicators.enter(communicator, record, handed, name))
         answer = self.answer_of_collective(rank)
         return "blocked" if answer is None else answer, self.all_in_windows(rank), None
+
+    # Collectives that move elements, and barrier.
+
+    def on_barrier(self, event):
+        return self.enter(event, Record("barrier"), None, None, None)
+
+    def used(self, event, name):
+        """The buffer of a name, which is set and not lent."""
+        names = self.names_of(event.rank)
+        if name not in names.buffers or name in names.lent:
+            raise NotSet
+        return names.buffers[name]
+
+    def check_settable(self, event, name):
+        """A buffer that a collective is to set isn't lent."""
+        if name in self.names_of(event.rank).lent:
+            raise NotSet
+
+    def is_root(self, event):
+        """Whether the caller is the root; where there is no such member, nobody is."""
+        place = self.place_of(event.rank, event.communicator)
+        if event.rank >= len(self.ranks) or place is None:
+            return False
+        ranks = self.ranks[event.rank].communicators.at(place).ranks()
+        return event.root < len(ranks) and ranks[event.root] == event.rank
+
+    @staticmethod
+    def fault_of_block(record, communicator):
+        """What is wrong with what is handed in: too many bytes, no such root, an operation that isn't defined on the type."""
+        if record.count * TYPES[record.type][0] > MOST_BLOCK_BYTES:
+            return 1
+        if record.root is not None and record.root >= len(communicator.members):
+            return 7
+        if record.operation is not None and record.type not in reductions.DEFINED[record.operation]:
+            return 9
+        return None
+
+    def move(self, event, record, handed, name):
+        return self.enter(event, record, handed, name, lambda communicator: self.fault_of_block(record, communicator))
+
+    def on_bcast(self, event):
+        kind, values = self.used(event, event.buffer)
+        return self.move(event, Record("bcast", event.root, None, kind, len(values)), values, event.buffer)
+
+    def on_gather(self, event):
+        kind, values = self.used(event, event.buffer)
+        if self.is_root(event):
+            self.check_settable(event, event.into)
+        return self.move(event, Record("gather", event.root, None, kind, len(values)), values, event.into)
+
+    def on_reduce(self, event):
+        kind, values = self.used(event, event.buffer)
+        if self.is_root(event):
+            self.check_settable(event, event.into)
+        return self.move(event, Record("reduce", event.root, event.operation, kind, len(values)), values, event.into)
+
+    def on_allreduce(self, event):
+        kind, values = self.used(event, event.buffer)
+        self.place_of(event.rank, event.communicator)
+        self.check_settable(event, event.into)
+        return self.move(event, Record("allreduce", None, event.operation, kind, len(values)), values, event.into)
+
+    def on_scatter(self, event):
+        """The root's elements are a block for each member, of the type and count of the buffer that gets one."""
+        kind, values = self.used(event, event.into)
+        record = Record("scatter", event.root, None, kind, len(values))
+        if not self.is_root(event):
+            return self.move(event, record, None, event.into)
+        if event.buffer is None:
+            raise NotSet
+        given, blocks = self.used(event, event.buffer)
+
+        def broken(communicator):
+            if given != kind:
+                return 2
+            if len(blocks) != len(communicator.members) * len(values):
+                return 1
+            return self.fault_of_block(record, communicator)
+
+        return self.enter(event, record, blocks, event.into, broken)
 
     @staticmethod
     def tell(rank, notices):
         """Puts notices on their way."""
         for other, notice in notices:
-            rank.session(other).frames.append(Frame("EAGER", notice))
+            session = rank.session(other)
+            session.frames.append(World.first_frame(session, None, other, notice))
 
     def answer_of_collective(self, rank):
-        """The answer of the present collective, where it has ended; a new communicator has its name then."""
+        """The answer of the present collective, where it has ended; what it gave has its name then."""
         present = rank.communicators.present
         if present is None or present.answer is None:
             return None
         rank.communicators.present = None
+        if present.data is not None:
+            self.names_of(rank.number).buffers[present.name] = present.data
         kind, _, place = present.answer.partition(" ")
         if kind == "comm":
             self.names_of(rank.number).communicators[present.name] = None if place == NULL else int(place)
@@ -736,7 +677,8 @@ class World:
         rank.communicators.learn(other, incarnation)
         former = rank.session(other)
         for request in [send for send, _ in former.unanswered.values()] + [half.receive for half in former.collections.values()]:
-            request.outcome = "error 11"
+            if request is not None:
+                request.outcome = "error 11"
         rank.sessions[other] = Session()
         for receive in rank.posted:
             if receive.source == other:
@@ -760,23 +702,40 @@ class World:
 
     def take(self, rank, session, frame):
         """The next frame of a session is taken: a notice or a message arrives, an announcement is answered, or data come."""
-        if isinstance(frame.message, Notice):
-            self.tell(rank, rank.communicators.hear(frame.message))
-        elif frame.kind == "EAGER":
-            self.arrive(rank, frame.message)
+        if frame.kind == "EAGER":
+            self.come(rank, frame.message)
         elif frame.kind == "RTS":
             session.announced += 1
-            self.arrive(rank, frame.message)
+            if isinstance(frame.message, Notice):
+                session.frames.append(Frame("CTS", transfer=frame.transfer, is_wanted=True))
+                session.collections[frame.transfer] = Collection(None, frame.message)
+            else:
+                self.arrive(rank, frame.message)
         elif frame.kind == "CTS":
             request, message = session.unanswered.pop(frame.transfer)
-            request.outcome = "sent"
+            if request is not None:
+                request.outcome = "sent"
             session.frames += pieces_of(message) if frame.is_wanted else []
         else:
             collection = session.collections[frame.transfer]
             collection.values += frame.values
             if len(collection.values) == len(collection.message.values):
                 del session.collections[frame.transfer]
-                fill(collection.receive, collection.message, collection.values)
+                self.collected(rank, collection)
+
+    def come(self, rank, message):
+        """A message is there whole, or a notice is."""
+        if isinstance(message, Notice):
+            self.tell(rank, rank.communicators.hear(message))
+        else:
+            self.arrive(rank, message)
+
+    def collected(self, rank, collection):
+        """All data of an announced message are there: a notice is heard, those of a receive go to its places."""
+        if collection.receive is None:
+            self.come(rank, collection.message)
+        else:
+            fill(collection.receive, collection.message, collection.values)
 
     def wake(self, rank):
         """Answers the blocked call of a rank once its answer is ready."""

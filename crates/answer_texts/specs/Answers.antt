@@ -71,6 +71,7 @@ answer_text (answers.One outcome) = outcome_text outcome
 answer_text (answers.Index place outcome) = codes "index " ++ decimal place ++ codes " " ++ outcome_text outcome
 answer_text answers.IndexUndefined = codes "index undefined"
 answer_text (answers.All ended) = outcomes_text ended.now
+answer_text (answers.Data buffer) = codes "data" ++ elements_text buffer.now
 answer_text (answers.Communicator communicator) = communicator_text communicator.place
 answer_text (answers.Position position) = position_text position.rank position.size
 answer_text (answers.Members members) = members_text members.ranks.now

@@ -1,7 +1,8 @@
 //! The texts of answers.
 
 use crate::communicators::{CommunicatorText, ComparisonText, MembersText, PositionText};
-use crate::outcomes::{OutcomeText, OutcomesText};
+use crate::outcomes::{Elements, OutcomeText, OutcomesText};
+use datatypes::Buffer;
 use std::fmt;
 
 /// What a call or an event answers, as it is written.
@@ -21,6 +22,8 @@ pub enum Answer<'a> {
     IndexUndefined,
     /// All operations ended: how, in the order of the requests (MPI 3.1, 3.7.5).
     All(&'a [OutcomeText<'a>]),
+    /// A collective ended, and the rank gets these elements (MPI 3.1, 5.1).
+    Data(&'a Buffer),
     /// A communicator was made, or none for this rank (MPI 3.1, 6.4.2).
     Communicator(CommunicatorText),
     /// The caller's rank in a communicator, and the communicator's size (MPI 3.1, 6.4.1).
@@ -54,6 +57,10 @@ impl<'a> fmt::Display for Answer<'a> {
             Answer::All(outcomes) => {
                 let outcomes = OutcomesText { outcomes };
                 write!(f, "{outcomes}")
+            }
+            Answer::Data(buffer) => {
+                let elements = Elements { buffer };
+                write!(f, "data{elements}")
             }
             Answer::Communicator(communicator) => write!(f, "{communicator}"),
             Answer::Position(position) => write!(f, "{position}"),

@@ -13,6 +13,7 @@ pub use file::{EventFile, Line, Lines, Statement};
 pub use line_words::{Name, ParseError};
 pub use parsing::parse;
 pub use statements::{
-    Action, Blocks, BufferLine, Communicator, LayoutForm, LayoutLine, OldLayout, Receiving,
-    Requested, RequestedList, Sending, Splitting, Stripes, Through,
+    Action, Blocks, Broadcasting, BufferLine, Communicator, Gathering, LayoutForm, LayoutLine,
+    OldLayout, Operation, Receiving, Reducing, ReducingToAll, Requested, RequestedList, Scattering,
+    Sending, Splitting, Stripes, Through,
 };

@@ -182,6 +182,12 @@ fn run_groups<R: Net + Clock + Print + AllocGlobal + Processes>(
     run_launch(
         rt,
         itself,
+        "collectives",
+        &["-n", "4", itself, "collectives.txt"],
+    )?;
+    run_launch(
+        rt,
+        itself,
         "a member of a communicator is started anew",
         &["-restart", "1", "-n", "2", itself, "anew_group.txt"],
     )

@@ -8,11 +8,12 @@ use Rattle.std.proofs.lemmas.Option.{slice_get-get_or}
 use Rattle.std.proofs.lemmas.Slice.Eq.{bytes_eq-Decides}
 use Rattle.datatypes.specs.Contents.{Contents}
 use Rattle.rank_script.specs.declared.table.Entry.{Entry}
-use Rattle.rank_script.specs.declared.names.Held.{Held}
+use Rattle.statement_calls.specs.declared.awaited.Held.{Held}
+use Rattle.statement_calls.specs.Awaited.{null}
 use Rattle.rank_script.specs.Tables.{place_of, value_at, value_there, with_value, with_value_there}
 use Rattle.rank_script.specs.NamesState.{NamesState, with_request}
 use Rattle.rank_script.specs.Acting.{LendGives}
-use Rattle.rank_script.specs.Heeding.{held_buffer, null}
+use Rattle.rank_script.specs.Heeding.{held_buffer}
 
 -- an entry, and where it was found
 pub record IsFound {V : Type 0} (entries : List (Entry V)) (name : List ℕ) (place : ℕ) (e : Entry V) : Type 0 where

@@ -23,7 +23,11 @@ use Rattle.statements.specs.declared.action.Requested.{Requested}
 use Rattle.statements.specs.declared.action.Requested.TheVariants as requested
 use Rattle.statements.specs.declared.action.Receiving.{Receiving}
 use Rattle.statements.specs.declared.action.Sending.{Sending}
-use Rattle.statements.specs.declared.action.Splitting.{Splitting}
+use Rattle.statements.specs.declared.collective_line.Broadcasting.{Broadcasting}
+use Rattle.statements.specs.declared.collective_line.Gathering.{Gathering}
+use Rattle.statements.specs.declared.collective_line.Scattering.{Scattering}
+use Rattle.statements.specs.declared.collective_line.Reducing.{Reducing}
+use Rattle.statements.specs.declared.collective_line.ReducingToAll.{ReducingToAll}
 use Rattle.statements.specs.declared.action.Through.{Through}
 use Rattle.statements.specs.declared.layout_line.LayoutLine.{LayoutLine}
 use Rattle.statements.specs.declared.layout_line.OldLayout.{OldLayout}
@@ -33,10 +37,12 @@ use Rattle.script_files.specs.declared.script.Statement.{Statement}
 use Rattle.script_files.specs.declared.script.Statement.TheVariants as statements
 use Rattle.rank_drive.specs.declared.runner.Step.{Step}
 use Rattle.rank_drive.specs.declared.runner.Step.TheVariants as steps
-use Rattle.rank_script.specs.declared.names.Doing.{Doing}
-use Rattle.rank_script.specs.declared.names.Stage.{Stage}
-use Rattle.rank_script.specs.declared.names.Stage.TheVariants as stages
-use Rattle.rank_script.specs.NamesState.{NamesState, free, here, is_lent, place_named, request_at, with_buffer, with_layout}
+use Rattle.statement_calls.specs.declared.awaited.Doing.{Doing}
+use Rattle.statement_calls.specs.declared.awaited.Stage.{Stage}
+use Rattle.statement_calls.specs.declared.awaited.Stage.TheVariants as stages
+use Rattle.statement_calls.specs.Awaited.{asking, entering, free, making, starting, waiting, waiting_for_several}
+use Rattle.statement_calls.specs.Entries.{elements_like, entry_with, refusal_of_block, split_by}
+use Rattle.rank_script.specs.NamesState.{NamesState, here, is_lent, is_root, place_named, request_at, with_buffer, with_layout}
 use Rattle.rank_script.specs.Tables.{value_at}
 use Rattle.script_lines.specs.Lines.{elements_line, error_line, words_line}
 
@@ -98,10 +104,6 @@ sends_from number doing x (Some comm) (Some named) None s = stops number s
 sends_from number doing x (Some comm) (Some named) (Some buffer) s =
     makes_call (calls.Isend (record { comm = comm; target = x.target; tag = x.tag; from = record { buffer = buffer; places = named } })) doing s
 
--- what the answer to the start of an operation is for
-abbrev pub starting : Stage → Option (List ℕ) → Option (List ℕ) → Doing
-starting stage request buffer = record { stage = stage; request = request; buffer = buffer; several = None; communicator = None }
-
 abbrev pub sends : ℕ → Stage → Option (List ℕ) → Sending → NamesState → Acts
 sends number stage request x s =
     sends_from number (starting stage request None) x (place_named s x.communicator) (places_named s x.through) (here s x.buffer) s
@@ -132,15 +134,6 @@ abbrev pub request_named : NamesState → Requested → Option (Option Request)
 request_named s requested.Null = Some None
 request_named s (requested.Named name) = request_at s name
 
--- its name, unless it is the null request
-abbrev pub name_of : Requested → Option (List ℕ)
-name_of requested.Null = None
-name_of (requested.Named name) = Some name
-
--- what the answer to a wait or a test of this request is for
-abbrev pub waiting : Requested → Doing
-waiting r = record { stage = stages.Waiting; request = name_of r; buffer = None; several = None; communicator = None }
-
 -- a wait for a request
 abbrev pub waits_for : ℕ → Requested → Option (Option Request) → NamesState → Acts
 waits_for number r None s = stops number s
@@ -162,10 +155,6 @@ requests_named s [] = Some []
 requests_named s (r ∷ rs) =
     option_and_then (λ request. option_map (λ rest. request ∷ rest) (requests_named s rs)) (request_named s r)
 
--- what the answer to a wait for several is for
-abbrev pub waiting_for_several : List Requested → Doing
-waiting_for_several rs = record { stage = stages.WaitingForSeveral; request = None; buffer = None; several = Some rs; communicator = None }
-
 -- a vector of them, if each is set
 abbrev pub AreListed : Option (List (Option Request)) → Option (Vec (Option Request)) → Type 0
 AreListed None listed = listed ≡ None
@@ -184,22 +173,74 @@ waits_for_several number call rs (Some requests) s = makes_call (call requests) 
 
 -- ---- communicators
 
--- what the answer to a collective is for: this name is that of the communicator which it makes
-abbrev pub making : List ℕ → Doing
-making name = record { stage = stages.Making; request = None; buffer = None; several = None; communicator = Some name }
-
 -- a collective on a communicator that is set makes another one, which has this name then (MPI 3.1, 6.4.2)
 abbrev pub makes : ℕ → (name : List ℕ) → (comm : Option (Option ℕ)) → Entry → NamesState → Acts
 makes number name None entry s = stops number s
 makes number name (Some comm) entry s = makes_call (calls.Enter comm entry) (making name) s
 
--- what is entered by a split
-abbrev pub split_by : Splitting → Entry
-split_by x = entries.Split (record { colour = x.colour; key = x.key })
+-- ---- collectives that make no communicator (MPI 3.1, 5)
 
--- what the answer to a question is for
-abbrev pub asking : Stage → Doing
-asking stage = record free { stage = stage }
+-- `barrier`
+abbrev pub waits_for_all : ℕ → (comm : Option (Option ℕ)) → NamesState → Acts
+waits_for_all number None s = stops number s
+waits_for_all number (Some comm) s = makes_call (calls.Enter comm entries.Barrier) (entering None) s
+
+-- a collective is entered, which may set a buffer
+abbrev pub hands_in_to : (comm : Option ℕ) → Option (List ℕ) → Option Entry → NamesState → Acts
+hands_in_to comm name None s = prints (error_line (refusal_of_block comm)) s
+hands_in_to comm name (Some entry) s = makes_call (calls.Enter comm entry) (entering name) s
+
+-- the same on a communicator that is set, of a buffer that is here; what is to be set isn't lent
+abbrev pub hands_in : ℕ → (comm : Option (Option ℕ)) → (lent : Bool) → (name : Option (List ℕ)) → Option Contents → (Contents → Entry) → NamesState → Acts
+hands_in number None lent name block entry s = stops number s
+hands_in number (Some comm) true name block entry s = stops number s
+hands_in number (Some comm) false name None entry s = stops number s
+hands_in number (Some comm) false name (Some block) entry s = hands_in_to comm name (entry_with entry block) s
+
+-- `bcast`: the root's elements are those of the others from then on
+abbrev pub broadcasts : ℕ → Broadcasting → NamesState → Acts
+broadcasts number x s = hands_in number (place_named s x.communicator) false (Some x.buffer) (here s x.buffer) (λ block. entries.Bcast x.root block) s
+
+-- whether the root is to set a buffer that is lent; elsewhere that isn't looked at
+abbrev pub is_lent_at_root : NamesState → Bool → List ℕ → Bool
+is_lent_at_root s true name = is_lent s name
+is_lent_at_root s false name = false
+
+-- `gather`, `reduce`: the root has the blocks of all, or what they make, from then on
+abbrev pub gathers : ℕ → Gathering → NamesState → Acts
+gathers number x s =
+    hands_in number (place_named s x.communicator) (is_lent_at_root s (is_root s x.communicator x.root) x.into) (Some x.into) (here s x.buffer)
+    (λ block. entries.Gather x.root block) s
+
+abbrev pub reduces : ℕ → Reducing → NamesState → Acts
+reduces number x s =
+    hands_in number (place_named s x.communicator) (is_lent_at_root s (is_root s x.communicator x.root) x.into) (Some x.into) (here s x.buffer)
+    (λ block. entries.Reduce x.operation x.root block) s
+
+-- `allreduce`: all have what the blocks of all make
+abbrev pub reduces_to_all : ℕ → ReducingToAll → NamesState → Acts
+reduces_to_all number x s =
+    hands_in number (place_named s x.communicator) (is_lent s x.into) (Some x.into) (here s x.buffer) (λ block. entries.Allreduce x.operation block) s
+
+-- what a scatter hands in: at the root a buffer that is here, elsewhere nothing
+abbrev pub blocks_named : NamesState → Bool → Option (List ℕ) → Option (Option Contents)
+blocks_named s false name = Some None
+blocks_named s true None = None
+blocks_named s true (Some name) = option_map (λ blocks. Some blocks) (here s name)
+
+-- `scatter`: each has its block of the root's elements from then on
+abbrev pub scatters_from : ℕ → Scattering → (comm : Option (Option ℕ)) → Option Contents → Option (Option Contents) → NamesState → Acts
+scatters_from number x None into blocks s = stops number s
+scatters_from number x (Some comm) None blocks s = stops number s
+scatters_from number x (Some comm) (Some into) None s = stops number s
+scatters_from number x (Some comm) (Some into) (Some blocks) s =
+    makes_call (calls.Enter comm (entries.Scatter (record { elements = elements_like into; root = x.root }) blocks)) (entering (Some x.into)) s
+
+abbrev pub scatters : ℕ → Scattering → NamesState → Acts
+scatters number x s =
+    scatters_from number x (place_named s x.communicator) (here s x.into) (blocks_named s (is_root s x.communicator x.root) x.buffer) s
+
+-- ---- questions
 
 -- a question about a communicator that is set (MPI 3.1, 6.4.1); for its rank in it and its size a rank asks one after the other
 abbrev pub asks_rank : ℕ → (comm : Option (Option ℕ)) → NamesState → Acts
@@ -240,6 +281,12 @@ acts_on number (actions.Test r) s = tests_for number r (request_named s r) s
 acts_on number (actions.Cancel r) s = cancels_for number (request_named s r) s
 acts_on number (actions.Waitany rs) s = waits_for_several number calls.Waitany rs (requests_named s rs) s
 acts_on number (actions.Waitall rs) s = waits_for_several number calls.Waitall rs (requests_named s rs) s
+acts_on number (actions.Barrier c) s = waits_for_all number (place_named s c) s
+acts_on number (actions.Bcast x) s = broadcasts number x s
+acts_on number (actions.Gather x) s = gathers number x s
+acts_on number (actions.Scatter x) s = scatters number x s
+acts_on number (actions.Reduce x) s = reduces number x s
+acts_on number (actions.Allreduce x) s = reduces_to_all number x s
 acts_on number (actions.Dup name c) s = makes number name (place_named s c) entries.Dup s
 acts_on number (actions.Split name x) s = makes number name (place_named s x.communicator) (split_by x) s
 acts_on number (actions.Who c) s = asks_rank number (place_named s c) s

@@ -1,7 +1,6 @@
 -- What is made of the answer to a call.
 use Rattle.std.specs.Prelude.{◌≡◌, ℕ, Option, Some, None, List, [], ◌∷◌, ◌++◌, option_and_then, slice_get}
-use Rattle.vocabulary.specs.declared.envelope.Status.{Status}
-use Rattle.requests.specs.Outcomes.{number_of_failure}
+use Rattle.datatypes.specs.Contents.{Contents}
 use Rattle.requests.specs.declared.answer.Answer.{Answer}
 use Rattle.requests.specs.declared.answer.Answer.TheVariants as answers
 use Rattle.requests.specs.declared.outcome.Outcome.{Outcome}
@@ -10,12 +9,8 @@ use Rattle.requests.specs.declared.table.Request.{Request}
 use Rattle.rank_calls.specs.Refusals.{number_of_refusal}
 use Rattle.rank_calls.specs.declared.refused.Refused.{Refused}
 use Rattle.answer_texts.specs.Communicators.{comparison_text, members_text, position_text}
-use Rattle.answer_texts.specs.declared.communicators.ComparisonText.{ComparisonText}
-use Rattle.answer_texts.specs.declared.communicators.ComparisonText.TheVariants as texts
-use Rattle.collectives.specs.declared.step.Ending.{Ending}
-use Rattle.collectives.specs.declared.step.Ending.TheVariants as endings
-use Rattle.communicators.specs.declared.question.Comparison.{Comparison}
-use Rattle.communicators.specs.declared.question.Comparison.TheVariants as comparisons
+use Rattle.collective_steps.specs.declared.step.Ending.{Ending}
+use Rattle.collective_steps.specs.declared.step.Ending.TheVariants as endings
 use Rattle.communicators.specs.declared.question.Question.TheVariants as questions
 use Rattle.engine.specs.declared.call.Call.{Call}
 use Rattle.engine.specs.declared.call.Call.TheVariants as calls
@@ -25,22 +20,21 @@ use Rattle.engine.specs.declared.reply.Reply.{Reply}
 use Rattle.engine.specs.declared.reply.Reply.TheVariants as replies
 use Rattle.statements.specs.declared.action.Requested.{Requested}
 use Rattle.statements.specs.declared.action.Requested.TheVariants as requested
-use Rattle.rank_script.specs.declared.names.Doing.{Doing}
-use Rattle.rank_script.specs.declared.names.Held.{Held}
-use Rattle.rank_script.specs.declared.names.Stage.{Stage}
-use Rattle.rank_script.specs.declared.names.Stage.TheVariants as stages
-use Rattle.rank_script.specs.Acting.{Acts, asking, makes_call, prints}
-use Rattle.rank_script.specs.NamesState.{NamesState, empty_status, free, given_back, with_communicator, with_request}
+use Rattle.statement_calls.specs.declared.awaited.Doing.{Doing}
+use Rattle.statement_calls.specs.declared.awaited.Held.{Held}
+use Rattle.statement_calls.specs.declared.awaited.Seat.{Seat}
+use Rattle.statement_calls.specs.declared.awaited.Stage.{Stage}
+use Rattle.statement_calls.specs.declared.awaited.Stage.TheVariants as stages
+use Rattle.statement_calls.specs.Awaited.{asking, free, null, seating, several_of, starting}
+use Rattle.statement_calls.specs.Told.{as_text, error_of, status_after}
+use Rattle.rank_script.specs.Acting.{Acts, makes_call, prints}
+use Rattle.rank_script.specs.NamesState.{NamesState, given_back, with_communicator, with_request}
 use Rattle.rank_script.specs.Tables.{value_at}
 use Rattle.script_lines.specs.Lines.{error_line, error_lines, pending_line}
 
 -- nothing but a change of names
 abbrev pub goes_on : NamesState → Acts
 goes_on s = (None, s)
-
--- the null request
-abbrev pub null : Held
-null = record { request = None; buffer = None }
 
 -- a request that was started has this name
 abbrev pub named_as : Option (List ℕ) → Held → NamesState → NamesState
@@ -52,10 +46,12 @@ abbrev pub starts_at : Stage → Doing → Request → NamesState → Acts
 starts_at stages.Free doing request s = goes_on s
 starts_at stages.Starting doing request s = goes_on (named_as doing.request (record { request = Some request; buffer = doing.buffer }) s)
 starts_at stages.StartingToWait doing request s =
-    makes_call (calls.Wait (Some request)) (record { stage = stages.Waiting; request = None; buffer = doing.buffer; several = None; communicator = None }) s
+    makes_call (calls.Wait (Some request)) (starting stages.Waiting None doing.buffer) s
 starts_at stages.Waiting doing request s = goes_on s
 starts_at stages.WaitingForSeveral doing request s = goes_on s
 starts_at stages.Making doing request s = goes_on s
+starts_at (stages.Seating place) doing request s = goes_on s
+starts_at stages.Entering doing request s = goes_on s
 starts_at (stages.AskingRank comm) doing request s = goes_on s
 starts_at (stages.AskingSize rank) doing request s = goes_on s
 starts_at stages.Asking doing request s = goes_on s
@@ -92,15 +88,6 @@ abbrev pub nulled : Option (List ℕ) → NamesState → NamesState
 nulled None s = s
 nulled (Some name) s = with_request s name null
 
--- the number of the error with which an operation ended, if it did
-abbrev pub error_of : Outcome → Option ℕ
-error_of outcomes.Sent = None
-error_of (outcomes.Received status buffer) = None
-error_of (outcomes.Ended failure status buffer) = Some (number_of_failure failure)
-error_of (outcomes.Replaced buffer) = Some 11
-error_of (outcomes.Cancelled buffer) = None
-error_of outcomes.Empty = None
-
 -- a receive's buffer comes back to this name with its outcome
 abbrev pub returned : Option (List ℕ) → Outcome → NamesState → NamesState
 returned name outcomes.Sent s = s
@@ -110,15 +97,6 @@ returned name (outcomes.Replaced None) s = s
 returned name (outcomes.Replaced (Some buffer)) s = given_back s name buffer
 returned name (outcomes.Cancelled buffer) s = given_back s name buffer
 returned name outcomes.Empty s = s
-
--- the status that `status` and `count` tell of from now on: that of a receive, or of the null request, without an error
-abbrev pub status_after : Status → Outcome → Status
-status_after last outcomes.Sent = last
-status_after last (outcomes.Received status buffer) = status
-status_after last (outcomes.Ended failure status buffer) = last
-status_after last (outcomes.Replaced buffer) = last
-status_after last (outcomes.Cancelled buffer) = last
-status_after last outcomes.Empty = empty_status
 
 -- an error is printed, if there is one
 abbrev pub tells_error : Option ℕ → NamesState → Acts
@@ -169,15 +147,6 @@ EndsNext errors r o s errors' s' = (rs : List Requested) → (os : List Outcome)
 abbrev pub ends_all : List Requested → List Outcome → NamesState → Acts
 ends_all rs os s = tells_errors (ended_each rs os s).0 (ended_each rs os s).1
 
--- the requests of a list, if there is one
-abbrev pub listed : Option (List Requested) → List Requested
-listed None = []
-listed (Some rs) = rs
-
--- the requests that were waited for
-abbrev pub several_of : Doing → List Requested
-several_of doing = listed doing.several
-
 -- an answer, where one is waited for
 abbrev pub ends_by : Stage → Doing → Answer → NamesState → Acts
 ends_by stages.Waiting doing (answers.One outcome) s =
@@ -187,6 +156,8 @@ ends_by stages.Starting doing (answers.One outcome) s = goes_on s
 ends_by stages.StartingToWait doing (answers.One outcome) s = goes_on s
 ends_by stages.WaitingForSeveral doing (answers.One outcome) s = goes_on s
 ends_by stages.Making doing (answers.One outcome) s = goes_on s
+ends_by (stages.Seating place) doing (answers.One outcome) s = goes_on s
+ends_by stages.Entering doing (answers.One outcome) s = goes_on s
 ends_by (stages.AskingRank comm) doing (answers.One outcome) s = goes_on s
 ends_by (stages.AskingSize rank) doing (answers.One outcome) s = goes_on s
 ends_by stages.Asking doing (answers.One outcome) s = goes_on s
@@ -197,39 +168,45 @@ ends_by stage doing (answers.All outcomes) s = ends_all (several_of doing) outco
 -- ---- communicators
 
 -- the communicator that a collective made has its name
-abbrev pub named_communicator : Option (List ℕ) → (place : Option ℕ) → NamesState → NamesState
-named_communicator None place s = s
-named_communicator (Some name) place s = with_communicator s name place
+abbrev pub named_communicator : Option (List ℕ) → Option Seat → NamesState → NamesState
+named_communicator None seat s = s
+named_communicator (Some name) seat s = with_communicator s name seat
 
--- a collective is over: the communicator that it made has its name, or an error is printed and nothing is named
+-- a communicator was made: the rank in it is asked for, and then it has its name; or none was, and the name stands for that
+abbrev pub takes_seat : Option (List ℕ) → (place : Option ℕ) → NamesState → Acts
+takes_seat name None s = goes_on (named_communicator name None s)
+takes_seat name (Some place) s = makes_call (calls.Ask (Some place) questions.Rank) (seating name place) s
+
+-- a collective has given these elements, which the buffer of this name has from now on
+abbrev pub takes_elements : Option (List ℕ) → Option Contents → NamesState → Acts
+takes_elements name None s = goes_on s
+takes_elements name (Some elements) s = goes_on (given_back s name elements)
+
+-- a collective is over: what it gave has its name, or an error is printed and nothing is named
 abbrev pub leaves : Doing → Ending → NamesState → Acts
-leaves doing endings.Left s = goes_on s
-leaves doing (endings.Comm place) s = goes_on (named_communicator doing.communicator place s)
+leaves doing (endings.Left elements) s = takes_elements doing.buffer elements s
+leaves doing (endings.Comm place) s = takes_seat doing.communicator place s
 leaves doing endings.Replaced s = prints (error_line 11) s
 leaves doing endings.Mismatch s = prints (error_line 12) s
 
--- how two communicators compare, as it is written
-abbrev pub as_text : Comparison → ComparisonText
-as_text comparisons.Ident = texts.Ident
-as_text comparisons.Congruent = texts.Congruent
-as_text comparisons.Similar = texts.Similar
-as_text comparisons.Unequal = texts.Unequal
-
--- a number was asked for: behind the rank the size is asked for, and with the size both are printed
-abbrev pub counts : Stage → ℕ → NamesState → Acts
-counts (stages.AskingRank comm) n s = makes_call (calls.Ask comm questions.Size) (asking (stages.AskingSize n)) s
-counts (stages.AskingSize rank) n s = prints (position_text rank n) s
-counts stages.Free n s = goes_on s
-counts stages.Starting n s = goes_on s
-counts stages.StartingToWait n s = goes_on s
-counts stages.Waiting n s = goes_on s
-counts stages.WaitingForSeveral n s = goes_on s
-counts stages.Making n s = goes_on s
-counts stages.Asking n s = goes_on s
+-- a number was asked for: behind the rank the size is asked for, and with the size both are printed; with the rank in a communicator
+-- that was made, that has its name
+abbrev pub counts : Stage → Option (List ℕ) → ℕ → NamesState → Acts
+counts (stages.AskingRank comm) name n s = makes_call (calls.Ask comm questions.Size) (asking (stages.AskingSize n)) s
+counts (stages.AskingSize own) name n s = prints (position_text own n) s
+counts (stages.Seating place) name n s = goes_on (named_communicator name (Some (record { place = place; rank = n })) s)
+counts stages.Free name n s = goes_on s
+counts stages.Starting name n s = goes_on s
+counts stages.StartingToWait name n s = goes_on s
+counts stages.Waiting name n s = goes_on s
+counts stages.WaitingForSeveral name n s = goes_on s
+counts stages.Making name n s = goes_on s
+counts stages.Entering name n s = goes_on s
+counts stages.Asking name n s = goes_on s
 
 -- the answer to a question
 abbrev pub learns : Doing → Fact → NamesState → Acts
-learns doing (facts.Number n) s = counts doing.stage n s
+learns doing (facts.Number n) s = counts doing.stage doing.communicator n s
 learns doing (facts.Ranks ranks) s = prints (members_text ranks.items) s
 learns doing (facts.Compares comparison) s = prints (comparison_text (as_text comparison)) s
 

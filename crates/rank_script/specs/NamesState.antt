@@ -1,40 +1,34 @@
 -- What the names of a rank stand for, and what it waits for.
-use Rattle.std.specs.Prelude.{ℕ, Bool, true, false, List, [], Option, Some, None, option_and_then, option_map}
-use Rattle.vocabulary.specs.declared.envelope.Source.TheVariants as sources
+use Rattle.std.specs.Prelude.{ℕ, ◌==◌, Bool, true, false, List, [], Option, Some, None, option_and_then, option_map}
 use Rattle.vocabulary.specs.declared.envelope.Status.{Status}
 use Rattle.layouts.specs.Layouts.{Shape}
 use Rattle.datatypes.specs.Contents.{Contents}
 use Rattle.requests.specs.declared.table.Request.{Request}
 use Rattle.statements.specs.declared.action.Communicator.{Communicator}
 use Rattle.statements.specs.declared.action.Communicator.TheVariants as communicators
+use Rattle.statement_calls.specs.declared.awaited.Doing.{Doing}
+use Rattle.statement_calls.specs.declared.awaited.Held.{Held}
+use Rattle.statement_calls.specs.declared.awaited.Seat.{Seat}
+use Rattle.statement_calls.specs.Awaited.{free}
+use Rattle.statement_calls.specs.Told.{empty_status}
 use Rattle.rank_script.specs.declared.table.Entry.{Entry}
-use Rattle.rank_script.specs.declared.names.Held.{Held}
-use Rattle.rank_script.specs.declared.names.Doing.{Doing}
-use Rattle.rank_script.specs.declared.names.Stage.TheVariants.{Free}
 use Rattle.rank_script.specs.Tables.{value_at, with_value}
 
--- The buffers that were set, where none is one that is lent; the layouts; the requests that were started; the communicators that
--- were made, each by its place among those of the rank, where none is MPI_COMM_NULL; the status of the last receive; and what the
--- answer to the last call is for.
+-- The rank in world; the buffers that were set, where none is one that is lent; the layouts; the requests that were started; the
+-- communicators that were made, where none is MPI_COMM_NULL; the status of the last receive; and what the answer to the last call is
+-- for.
 pub record NamesState : Type 0 where
+  pub rank : ℕ
   pub buffers : List (Entry (Option Contents))
   pub layouts : List (Entry Shape)
   pub requests : List (Entry Held)
-  pub communicators : List (Entry (Option ℕ))
+  pub communicators : List (Entry (Option Seat))
   pub last : Status
   pub doing : Doing
 
--- the status of a null request, and of no receive at all (MPI 3.1, 3.7.3)
-abbrev pub empty_status : Status
-empty_status = record { source = sources.Any; tag = None; count = 0 }
-
--- no answer is awaited
-abbrev pub free : Doing
-free = record { stage = Free; request = None; buffer = None; several = None; communicator = None }
-
--- the names at the start
-abbrev pub no_names : NamesState
-no_names = record { buffers = []; layouts = []; requests = []; communicators = []; last = empty_status; doing = free }
+-- the names at the start, of this rank
+abbrev pub no_names : ℕ → NamesState
+no_names own = record { rank = own; buffers = []; layouts = []; requests = []; communicators = []; last = empty_status; doing = free }
 
 -- the buffer of a name, unless it is lent or isn't set
 abbrev pub here : NamesState → List ℕ → Option Contents
@@ -59,7 +53,19 @@ request_at s name = option_map (λ h. h.request) (value_at s.requests name)
 abbrev pub place_named : NamesState → Communicator → Option (Option ℕ)
 place_named s communicators.World = Some (Some 0)
 place_named s communicators.Own = Some (Some 1)
-place_named s (communicators.Named name) = value_at s.communicators name
+place_named s (communicators.Named name) = option_map (λ held. option_map (λ seat. seat.place) held) (value_at s.communicators name)
+
+-- whether this is the rank's rank in a communicator that was made
+abbrev pub has_rank : ℕ → Option (Option Seat) → Bool
+has_rank root None = false
+has_rank root (Some None) = false
+has_rank root (Some (Some seat)) = seat.rank == root
+
+-- whether the rank is the member with this rank of the communicator that a line names; where there is no such member, nobody is
+abbrev pub is_root : NamesState → Communicator → ℕ → Bool
+is_root s communicators.World root = s.rank == root
+is_root s communicators.Own root = root == 0
+is_root s (communicators.Named name) root = has_rank root (value_at s.communicators name)
 
 -- a buffer's name stands for these elements, or is lent
 abbrev pub with_buffer : NamesState → List ℕ → Option Contents → NamesState
@@ -74,8 +80,8 @@ abbrev pub with_request : NamesState → List ℕ → Held → NamesState
 with_request s name held = record s { requests = with_value s.requests name held }
 
 -- a communicator's name stands for this
-abbrev pub with_communicator : NamesState → List ℕ → Option ℕ → NamesState
-with_communicator s name place = record s { communicators = with_value s.communicators name place }
+abbrev pub with_communicator : NamesState → List ℕ → Option Seat → NamesState
+with_communicator s name seat = record s { communicators = with_value s.communicators name seat }
 
 -- a buffer comes back to the name that lent it, if one did
 abbrev pub given_back : NamesState → Option (List ℕ) → Contents → NamesState

@@ -17,7 +17,7 @@ pub record RunnerState : Type 0 where
 
 -- a script for a rank at its start: no name is set
 abbrev pub opening : List Line → (rank incarnation : ℕ) → RunnerState
-opening script rank incarnation = record { lines = lines_for rank incarnation script; names = no_names }
+opening script rank incarnation = record { lines = lines_for rank incarnation script; names = no_names rank }
 
 -- what a rank does, and what it then stands at
 abbrev pub Does : Type 0

@@ -3,73 +3,27 @@
 ghost use Rattle.std.specs.Prelude.{◌≡◌, IfOk, Some};
 ghost use Rattle.rank_script.specs.NamesState.{here, place_named};
 ghost use Rattle.rank_script.specs.Tables.{value_at};
-ghost use Rattle.rank_script.specs.Acting.{acts, acts_on, AreListed, asking, asks_group, asks_rank, Begins, cancels_for, compares, makes, old_layout, places_named, prints_count, prints_elements, LendGives, receives, request_named, requests_named, sends, sets, sets_layout, split_by, starting, states, tests_for, waiting, waits_for, waits_for_several};
+ghost use Rattle.rank_script.specs.Acting.{acts, acts_on, AreListed, asks_group, asks_rank, Begins, cancels_for, compares, makes, old_layout, places_named, prints_count, prints_elements, LendGives, receives, request_named, requests_named, sends, sets, sets_layout, states, tests_for, waits_for, waits_for_several};
 
-use crate::names::{Doing, Names, Stage, free};
+use crate::names::Names;
 use crate::table::place_of;
 use datatypes::{Buffer, Layout, Refusal};
-use engine::{Call, Choice, Entry, Places, Question, Receive, Region, Request, RequestList, Send};
+use engine::{Call, Entry, Places, Question, Receive, Region, Request, RequestList, Send};
 use rank_drive::Step;
 use script_files::{RankLine, Statement};
 use script_lines::{count_line, elements_line, error_line, status_line, words_line};
+use statement_calls::{Doing, Stage, split_by};
 use statements::{
     Action, BufferLine, Communicator, LayoutLine, Name, OldLayout, Receiving, Requested,
-    RequestedList, Sending, Splitting, Through,
+    RequestedList, Sending, Through,
 };
 use std::alloc::{AllocError, Global};
 
 /// The line is faulty now that it is reached, and the script ends.
-fn stop(number: usize) -> Step
+pub(crate) fn stop(number: usize) -> Step
     ensures { result ≡ Step.End 1 (Some number) }
 {
     Step::End(1, Some(number))
-}
-
-/// What the answer to the start of an operation is for.
-fn starting(stage: Stage, request: Option<Name>, buffer: Option<Name>) -> Doing
-    ensures { result ≡ starting stage request buffer }
-{
-    Doing {
-        stage,
-        request,
-        buffer,
-        several: None,
-        communicator: None,
-    }
-}
-
-/// What the answer to a wait or a test of this request is for.
-fn waiting(requested: Requested) -> Doing
-    ensures { result ≡ waiting requested }
-{
-    let request = match requested {
-        Requested::Null => None,
-        Requested::Named(name) => Some(name),
-    };
-    Doing {
-        stage: Stage::Waiting,
-        request,
-        buffer: None,
-        several: None,
-        communicator: None,
-    }
-}
-
-/// What is entered by a split.
-fn split_by(splitting: &Splitting) -> Entry
-    ensures { result ≡ split_by splitting.now }
-{
-    Entry::Split(Choice {
-        colour: splitting.colour,
-        key: splitting.key,
-    })
-}
-
-/// What the answer to a question about a communicator is for.
-pub(crate) fn asking(stage: Stage) -> Doing
-    ensures { result ≡ asking stage }
-{
-    Doing { stage, ..free() }
 }
 
 impl Names {
@@ -163,7 +117,7 @@ impl Names {
         let Some(buffer) = self.copy_of(&sending.buffer)? else {
             return Ok(Some(stop(number)));
         };
-        self.doing = starting(stage, request, None);
+        self.doing = Doing::starting(stage, request, None);
         Ok(Some(Step::Call(Call::Isend(Send {
             comm,
             target: sending.target,
@@ -190,7 +144,7 @@ impl Names {
         let Some(buffer) = self.lend(&receiving.buffer) else {
             return Ok(Some(stop(number)));
         };
-        self.doing = starting(stage, request, Some(receiving.buffer));
+        self.doing = Doing::starting(stage, request, Some(receiving.buffer));
         Ok(Some(Step::Call(Call::Irecv(Receive {
             comm,
             source: receiving.source,
@@ -215,7 +169,7 @@ impl Names {
         let Some(request) = self.request_named(&requested) else {
             return Some(stop(number));
         };
-        self.doing = waiting(requested);
+        self.doing = Doing::waiting(requested);
         Some(Step::Call(Call::Wait(request)))
     }
 
@@ -225,7 +179,7 @@ impl Names {
         let Some(request) = self.request_named(&requested) else {
             return Some(stop(number));
         };
-        self.doing = waiting(requested);
+        self.doing = Doing::waiting(requested);
         Some(Step::Call(Call::Test(request)))
     }
 
@@ -235,7 +189,7 @@ impl Names {
         let Some(request) = self.request_named(&requested) else {
             return Some(stop(number));
         };
-        self.doing = free();
+        self.doing = Doing::free();
         Some(Step::Call(Call::Cancel(request)))
     }
 
@@ -264,13 +218,7 @@ impl Names {
             return Ok(None);
         };
         let list = RequestList::new(self.alloc, requests)?;
-        self.doing = Doing {
-            stage: Stage::WaitingForSeveral,
-            request: None,
-            buffer: None,
-            several: Some(several),
-            communicator: None,
-        };
+        self.doing = Doing::waiting_for_several(several);
         Ok(Some(list))
     }
 
@@ -309,11 +257,7 @@ impl Names {
         let Some(comm) = self.place_named(communicator) else {
             return stop(number);
         };
-        self.doing = Doing {
-            stage: Stage::Making,
-            communicator: Some(name),
-            ..free()
-        };
+        self.doing = Doing::making(name);
         Step::Call(Call::Enter(comm, entry))
     }
 
@@ -323,7 +267,7 @@ impl Names {
         let Some(comm) = self.place_named(communicator) else {
             return stop(number);
         };
-        self.doing = asking(Stage::AskingRank(comm));
+        self.doing = Doing::asking(Stage::AskingRank(comm));
         Step::Call(Call::Ask(comm, Question::Rank))
     }
 
@@ -333,7 +277,7 @@ impl Names {
         let Some(comm) = self.place_named(communicator) else {
             return stop(number);
         };
-        self.doing = asking(Stage::Asking);
+        self.doing = Doing::asking(Stage::Asking);
         Step::Call(Call::Ask(comm, Question::Group))
     }
 
@@ -343,7 +287,7 @@ impl Names {
         let (Some(comm), Some(other)) = (self.place_named(one), self.place_named(other)) else {
             return stop(number);
         };
-        self.doing = asking(Stage::Asking);
+        self.doing = Doing::asking(Stage::Asking);
         Step::Call(Call::Ask(comm, Question::Compare(other)))
     }
 
@@ -387,6 +331,12 @@ impl Names {
             Action::Cancel(requested) => Ok(self.cancel(number, requested)),
             Action::Waitany(several) => self.wait_any(number, several),
             Action::Waitall(several) => self.wait_all(number, several),
+            Action::Barrier(communicator) => Ok(Some(self.wait_for_all(number, &communicator))),
+            Action::Bcast(said) => Ok(Some(self.broadcast(number, said)?)),
+            Action::Gather(said) => Ok(Some(self.gather(number, said)?)),
+            Action::Scatter(said) => Ok(Some(self.scatter(number, said)?)),
+            Action::Reduce(said) => Ok(Some(self.reduce(number, said)?)),
+            Action::Allreduce(said) => Ok(Some(self.reduce_to_all(number, said)?)),
             Action::Dup(name, communicator) => Ok(Some(self.make(
                 number,
                 name,

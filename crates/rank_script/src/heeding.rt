@@ -1,13 +1,13 @@
 //! What is made of the answer to a call.
 
 ghost use Rattle.std.specs.Prelude.{◌≡◌, IfOk, OnOk, slice_get};
+ghost use Rattle.statement_calls.specs.Awaited.{null, several_of};
 ghost use Rattle.rank_script.specs.NamesState.{with_request};
-ghost use Rattle.rank_script.specs.Heeding.{as_text, buffer_of, counts, ended_each, ended_named, ends_all, ends_by, ends_one, ends_with, error_of, handed_back, heeds, held_buffer, EndsNext, learns, leaves, named_as, named_communicator, null, nulled, refuses, returned, several_of, starts_at, status_after, tells_error, tells_errors};
+ghost use Rattle.rank_script.specs.Heeding.{buffer_of, counts, ended_each, ended_named, ends_all, ends_by, ends_one, ends_with, handed_back, heeds, held_buffer, EndsNext, learns, leaves, named_as, named_communicator, nulled, refuses, returned, starts_at, takes_elements, takes_seat, tells_error, tells_errors};
 
-use crate::acting::asking;
-use crate::names::{Doing, Held, Names, Stage, empty_status};
+use crate::names::Names;
 use crate::table::place_of;
-use answer_texts::ComparisonText;
+use datatypes::Buffer;
 use engine::{
     Answer, Call, Comparison, Ending, Fact, Outcome, Outcomes, Question, Refused, Reply, Request,
 };
@@ -15,74 +15,10 @@ use rank_drive::Step;
 use script_lines::{
     comparison_line, error_line, error_lines, members_line, pending_line, position_line,
 };
+use statement_calls::{Doing, Held, Seat, Stage, as_text, error_of, status_after};
 use statements::{Name, Requested};
-use std::alloc::{AllocError, Global};
+use std::alloc::AllocError;
 use std::mem;
-use vocabulary::Status;
-
-/// The null request.
-fn null() -> Held
-    ensures { result ≡ null }
-{
-    Held {
-        request: None,
-        buffer: None,
-    }
-}
-
-/// The number of the error with which an operation ended, if it did.
-fn error_of(outcome: &Outcome) -> Option<u8>
-    ensures { result ≡ error_of outcome.now }
-{
-    match outcome {
-        Outcome::Ended(failure, _, _) => Some(failure.number()),
-        Outcome::Replaced(_) => Some(11),
-        Outcome::Sent => None,
-        Outcome::Received(_, _) => None,
-        Outcome::Cancelled(_) => None,
-        Outcome::Empty => None,
-    }
-}
-
-/// The status that is told of from now on: that of a receive, or of the null request, without an error.
-fn status_after(last: Status, outcome: &Outcome) -> Status
-    ensures { result ≡ status_after last outcome.now }
-{
-    match outcome {
-        Outcome::Received(status, _) => *status,
-        Outcome::Empty => empty_status(),
-        Outcome::Sent => last,
-        Outcome::Ended(_, _, _) => last,
-        Outcome::Replaced(_) => last,
-        Outcome::Cancelled(_) => last,
-    }
-}
-
-/// How two communicators compare, as it is written.
-fn as_text(comparison: Comparison) -> ComparisonText
-    ensures { result ≡ as_text comparison }
-{
-    match comparison {
-        Comparison::Ident => ComparisonText::Ident,
-        Comparison::Congruent => ComparisonText::Congruent,
-        Comparison::Similar => ComparisonText::Similar,
-        Comparison::Unequal => ComparisonText::Unequal,
-    }
-}
-
-/// The request at this place among those that were waited for.
-fn requested_at(alloc: Global, doing: &Doing, index: usize) -> Result<Option<Requested>, AllocError>
-    ensures { IfOk result (λ requested. requested ≡ slice_get (several_of doing.now) index) }
-{
-    let Some(several) = &doing.several else {
-        return Ok(None);
-    };
-    match several.as_slice().get(index) {
-        Some(Requested::Null) => Ok(Some(Requested::Null)),
-        Some(Requested::Named(name)) => Ok(Some(Requested::Named(name.try_clone(alloc)?))),
-        None => Ok(None),
-    }
-}
 
 impl Names {
     fn name_request(
@@ -121,19 +57,15 @@ impl Names {
                 Ok(None)
             }
             Stage::StartingToWait => {
-                self.doing = Doing {
-                    stage: Stage::Waiting,
-                    request: None,
-                    buffer,
-                    several: None,
-                    communicator: None,
-                };
+                self.doing = Doing::starting(Stage::Waiting, None, buffer);
                 Ok(Some(Step::Call(Call::Wait(Some(request)))))
             }
             Stage::Free
             | Stage::Waiting
             | Stage::WaitingForSeveral
             | Stage::Making
+            | Stage::Seating(_)
+            | Stage::Entering
             | Stage::AskingRank(_)
             | Stage::AskingSize(_)
             | Stage::Asking => Ok(None),
@@ -174,11 +106,11 @@ impl Names {
     {
         match place_of(&self.requests, &name) {
             Some(place) => {
-                let held = mem::replace(&mut self.requests[place].value, null());
+                let held = mem::replace(&mut self.requests[place].value, Held::null());
                 Ok(held.buffer)
             }
             None => {
-                self.set_request(name, null())?;
+                self.set_request(name, Held::null())?;
                 Ok(None)
             }
         }
@@ -265,7 +197,7 @@ impl Names {
     ) -> Result<Option<Step>, AllocError>
         ensures { IfOk result (λ step. ends_one (slice_get (several_of doing) index) outcome self.old ≡ (step, self.new)) }
     {
-        match requested_at(self.alloc, &doing, index)? {
+        match doing.requested_at(self.alloc, index)? {
             Some(requested) => {
                 let error = error_of(&outcome);
                 self.end_named(requested, outcome)?;
@@ -342,6 +274,8 @@ impl Names {
                 | Stage::StartingToWait
                 | Stage::WaitingForSeveral
                 | Stage::Making
+                | Stage::Seating(_)
+                | Stage::Entering
                 | Stage::AskingRank(_)
                 | Stage::AskingSize(_)
                 | Stage::Asking => Ok(None),
@@ -356,14 +290,48 @@ impl Names {
     fn name_communicator(
         &mut self,
         name: Option<Name>,
-        place: Option<usize>,
+        seat: Option<Seat>,
     ) -> Result<(), AllocError>
-        ensures { OnOk result (self.new ≡ named_communicator name place self.old) }
+        ensures { OnOk result (self.new ≡ named_communicator name seat self.old) }
     {
         match name {
-            Some(name) => self.set_communicator(name, place),
+            Some(name) => self.set_communicator(name, seat),
             None => Ok(()),
         }
+    }
+
+    /// A communicator was made: behind it the rank in it is asked for.
+    fn take_seat(
+        &mut self,
+        name: Option<Name>,
+        place: Option<usize>,
+    ) -> Result<Option<Step>, AllocError>
+        ensures { IfOk result (λ step. takes_seat name place self.old ≡ (step, self.new)) }
+    {
+        match place {
+            Some(place) => {
+                self.doing = Doing::seating(name, place);
+                Ok(Some(Step::Call(Call::Ask(Some(place), Question::Rank))))
+            }
+            None => {
+                self.name_communicator(name, None)?;
+                Ok(None)
+            }
+        }
+    }
+
+    /// A collective has given these elements, if it gave any.
+    fn take_elements(
+        &mut self,
+        name: Option<Name>,
+        elements: Option<Buffer>,
+    ) -> Result<Option<Step>, AllocError>
+        ensures { IfOk result (λ step. takes_elements name elements self.old ≡ (step, self.new)) }
+    {
+        if let Some(elements) = elements {
+            self.give_back(name, elements)?;
+        }
+        Ok(None)
     }
 
     /// A collective is over.
@@ -371,27 +339,33 @@ impl Names {
         ensures { IfOk result (λ step. leaves doing ending self.old ≡ (step, self.new)) }
     {
         match ending {
-            Ending::Left => Ok(None),
-            Ending::Comm(place) => {
-                self.name_communicator(doing.communicator, place)?;
-                Ok(None)
-            }
+            Ending::Left(elements) => self.take_elements(doing.buffer, elements),
+            Ending::Comm(place) => self.take_seat(doing.communicator, place),
             Ending::Replaced => Ok(Some(Step::Print(error_line(self.alloc, 11)?))),
             Ending::Mismatch => Ok(Some(Step::Print(error_line(self.alloc, 12)?))),
         }
     }
 
-    /// A number that was asked for: behind the rank the size is asked for, and with the size both are printed.
-    fn count_members(&mut self, stage: Stage, number: usize) -> Result<Option<Step>, AllocError>
-        ensures { IfOk result (λ step. counts stage number self.old ≡ (step, self.new)) }
+    /// A number that was asked for: behind the rank the size is asked for, and with the size both are printed; with the rank in a
+    /// communicator that was made, that has its name.
+    fn count_members(&mut self, doing: Doing, number: usize) -> Result<Option<Step>, AllocError>
+        ensures { IfOk result (λ step. counts doing.stage doing.communicator number self.old ≡ (step, self.new)) }
     {
-        match stage {
+        match doing.stage {
             Stage::AskingRank(comm) => {
-                self.doing = asking(Stage::AskingSize(number));
+                self.doing = Doing::asking(Stage::AskingSize(number));
                 Ok(Some(Step::Call(Call::Ask(comm, Question::Size))))
             }
             Stage::AskingSize(rank) => {
                 Ok(Some(Step::Print(position_line(self.alloc, rank, number)?)))
+            }
+            Stage::Seating(place) => {
+                let seat = Seat {
+                    place,
+                    rank: number,
+                };
+                self.name_communicator(doing.communicator, Some(seat))?;
+                Ok(None)
             }
             Stage::Free
             | Stage::Starting
@@ -399,6 +373,7 @@ impl Names {
             | Stage::Waiting
             | Stage::WaitingForSeveral
             | Stage::Making
+            | Stage::Entering
             | Stage::Asking => Ok(None),
         }
     }
@@ -408,7 +383,7 @@ impl Names {
         ensures { IfOk result (λ step. learns doing fact self.old ≡ (step, self.new)) }
     {
         match fact {
-            Fact::Number(number) => self.count_members(doing.stage, number),
+            Fact::Number(number) => self.count_members(doing, number),
             Fact::Ranks(ranks) => Ok(Some(Step::Print(members_line(self.alloc, &ranks)?))),
             Fact::Compares(comparison) => {
                 let line = comparison_line(self.alloc, as_text(comparison))?;

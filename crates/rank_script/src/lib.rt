@@ -2,6 +2,7 @@
 #![tactic(auto)]
 
 mod acting;
+mod entering;
 mod heeding;
 mod names;
 mod runner;

@@ -1,73 +1,29 @@
 //! What the names of a rank stand for, and what it waits for.
 
 ghost use Rattle.std.specs.Prelude.{◌≡◌, IfOk, OnOk, Option, Some, None};
+ghost use Rattle.statement_calls.specs.Awaited.{free};
 ghost use Rattle.rank_script.specs.Tables.{value_at, value_there, with_value};
-ghost use Rattle.rank_script.specs.NamesState.{empty_status, free, no_names, here, is_lent, place_named, request_at, with_buffer, with_communicator, with_layout, with_request, given_back};
+ghost use Rattle.rank_script.specs.NamesState.{no_names, here, is_lent, is_root, place_named, request_at, with_buffer, with_communicator, with_layout, with_request, given_back};
 
 use crate::table::{Entry, place_of, set};
 use datatypes::{Buffer, Layout};
 use requests::Request;
-use statements::{Communicator, Name, RequestedList};
+use statement_calls::{Doing, Held, Seat, empty_status};
+use statements::{Communicator, Name};
 use std::alloc::{AllocError, Global};
 use std::marker::Model;
 use std::mem;
-use vocabulary::{Source, Status};
-
-/// What a name of a request stands for.
-#[derive(Drop)]
-pub(crate) struct Held {
-    /// The request; none is the null request.
-    pub request: Option<Request>,
-    /// The name of the buffer that comes back with the request's outcome.
-    pub buffer: Option<Name>,
-}
-
-/// What the answer to the last call is for.
-#[derive(Clone, Copy)]
-pub(crate) enum Stage {
-    /// No answer is awaited.
-    Free,
-    /// An operation is started.
-    Starting,
-    /// An operation is started, to be waited for.
-    StartingToWait,
-    /// An operation is waited for, or tested.
-    Waiting,
-    /// Any or all of several operations are waited for.
-    WaitingForSeveral,
-    /// A communicator is made.
-    Making,
-    /// The rank in the communicator at this place is asked for; its size is to be asked for next.
-    AskingRank(Option<usize>),
-    /// The size of a communicator is asked for, in which the rank is this.
-    AskingSize(usize),
-    /// Anything else is asked of a communicator.
-    Asking,
-}
-
-/// What the answer to the last call is for, and what it changes.
-#[derive(Drop)]
-pub(crate) struct Doing {
-    /// What the answer is for.
-    pub stage: Stage,
-    /// The name of the request that is started or waited for, if it has one.
-    pub request: Option<Name>,
-    /// The name of the buffer that comes back, if no request's name says so.
-    pub buffer: Option<Name>,
-    /// The requests that are waited for, where there are several.
-    pub several: Option<RequestedList>,
-    /// The name of the communicator that is made.
-    pub communicator: Option<Name>,
-}
+use vocabulary::Status;
 
 /// What the names of a rank stand for, and what it waits for.
 #[derive(Drop)]
 pub(crate) struct Names {
     pub alloc: Global,
+    pub rank: u16,
     pub buffers: Vec<Entry<Option<Buffer>>>,
     pub layouts: Vec<Entry<Layout>>,
     pub requests: Vec<Entry<Held>>,
-    pub communicators: Vec<Entry<Option<usize>>>,
+    pub communicators: Vec<Entry<Option<Seat>>>,
     pub last: Status,
     pub doing: Doing,
 }
@@ -78,6 +34,7 @@ impl Model for Names {
     ghost Value = { NamesState };
 
     ghost view = { λ n. record {
+      rank = n.rank;
       buffers = n.buffers.items;
       layouts = n.layouts.items;
       requests = n.requests.items;
@@ -87,43 +44,20 @@ impl Model for Names {
     } };
 }
 
-/// No answer is awaited.
-pub(crate) fn free() -> Doing
-    ensures { result ≡ free }
-{
-    Doing {
-        stage: Stage::Free,
-        request: None,
-        buffer: None,
-        several: None,
-        communicator: None,
-    }
-}
-
-/// The status of a null request, and of no receive at all (MPI 3.1, 3.7.3).
-pub(crate) fn empty_status() -> Status
-    ensures { result ≡ empty_status }
-{
-    Status {
-        source: Source::Any,
-        tag: None,
-        count: 0,
-    }
-}
-
 impl Names {
-    /// No name is set.
-    pub(crate) fn new(alloc: Global) -> Names
-        ensures { result ≡ no_names }
+    /// No name is set at this rank of `world`.
+    pub(crate) fn new(alloc: Global, rank: u16) -> Names
+        ensures { result ≡ no_names rank }
     {
         Names {
             alloc,
+            rank,
             buffers: Vec::new(alloc),
             layouts: Vec::new(alloc),
             requests: Vec::new(alloc),
             communicators: Vec::new(alloc),
             last: empty_status(),
-            doing: free(),
+            doing: Doing::free(),
         }
     }
 
@@ -158,15 +92,15 @@ impl Names {
         set(&mut self.requests, name, held)
     }
 
-    /// Lets a communicator's name stand for the one at this place; none is MPI_COMM_NULL.
+    /// Lets a communicator's name stand for this one; none is MPI_COMM_NULL.
     pub(crate) fn set_communicator(
         &mut self,
         name: Name,
-        place: Option<usize>,
+        seat: Option<Seat>,
     ) -> Result<(), AllocError>
-        ensures { OnOk result (self.new ≡ with_communicator self.old name place) }
+        ensures { OnOk result (self.new ≡ with_communicator self.old name seat) }
     {
-        set(&mut self.communicators, name, place)
+        set(&mut self.communicators, name, seat)
     }
 
     /// The place of the communicator that a line names, if it is set; none is MPI_COMM_NULL.
@@ -177,8 +111,28 @@ impl Names {
             Communicator::World => Some(Some(0)),
             Communicator::Own => Some(Some(1)),
             Communicator::Named(name) => match place_of(&self.communicators, name) {
-                Some(place) => Some(self.communicators[place].value),
+                Some(place) => match self.communicators[place].value {
+                    Some(seat) => Some(Some(seat.place)),
+                    None => Some(None),
+                },
                 None => None,
+            },
+        }
+    }
+
+    /// Whether the rank is the member with this rank of the communicator that a line names.
+    pub(crate) fn is_root(&self, communicator: &Communicator, root: u16) -> bool
+        ensures { result ≡ is_root self.now communicator.now root }
+    {
+        match communicator {
+            Communicator::World => self.rank == root,
+            Communicator::Own => root == 0,
+            Communicator::Named(name) => match place_of(&self.communicators, name) {
+                Some(place) => match self.communicators[place].value {
+                    Some(seat) => seat.rank == usize::from(root),
+                    None => false,
+                },
+                None => false,
             },
         }
     }
@@ -231,6 +185,6 @@ impl Names {
         ensures doing { result ≡ self.old.doing }
         ensures rest { self.new ≡ record self.old { doing = free } }
     {
-        mem::replace(&mut self.doing, free())
+        mem::replace(&mut self.doing, Doing::free())
     }
 }

@@ -74,7 +74,7 @@ impl ScriptRunner {
         let lines = script.into_lines_for(alloc, rank, incarnation)?;
         Ok(ScriptRunner {
             lines,
-            names: Names::new(alloc),
+            names: Names::new(alloc, rank),
         })
     }
 }

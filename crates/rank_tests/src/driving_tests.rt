@@ -1,6 +1,6 @@
 ghost use Rattle.std.specs.Prelude.{◌≡◌};
 
-use crate::two_ranks::{PING_PONG, new_pair, place_of_two, runner_of};
+use crate::two_ranks::{COLLECTIVES, PING_PONG, new_pair, place_of_two, runner_of};
 use engine::Engine;
 use rank_drive::{Ended, Memory, Rising, Transport, drive};
 use std::alloc::Global;
@@ -8,34 +8,35 @@ use std::collections::VecDeque;
 use std::process::Abort;
 use std::sync::Wait;
 
-/// How rank 0 of the ping-pong ends over a transport, with patience 500, and whether nothing of it is unacknowledged then; no
+/// How rank 0 of a script ends over a transport, with patience 500, and whether nothing of it is unacknowledged then; no
 /// ending is a fault of the transport.
 fn run<R: Wait, T: Transport>(
     rt: &R,
     alloc: Global,
+    text: &[u8],
     transport: &mut T,
 ) -> Option<(Option<Ended>, bool)>
     requires { T.failed transport.old ≡ 0 }
 {
-    let mut runner = runner_of(alloc, PING_PONG, 0)?;
+    let mut runner = runner_of(alloc, text, 0)?;
     let mut engine = Engine::new(alloc, place_of_two(0)).ok()?;
     let mut clock = Rising { time: 0 };
     let ended = drive(rt, &mut engine, &mut runner, 500, transport, &mut clock).ok();
     Some((ended, engine.is_idle()))
 }
 
-/// How it ends over a pair, whether nothing is unacknowledged, whether it has printed `2` alone, and how many calls of the
-/// transport there were and how many of them failed.
+/// How rank 0 of the ping-pong ends over a pair, whether nothing is unacknowledged, whether it has printed `2` alone, and how
+/// many calls of the transport there were and how many of them failed.
 fn run_pair<R: Wait>(
     rt: &R,
     alloc: Global,
     fails_at: u64,
     answers: bool,
 ) -> Option<(Option<Ended>, bool, bool, u64, u64)> {
-    let mut pair = new_pair(alloc, fails_at, answers)?;
-    let (ended, idle) = run(rt, alloc, &mut pair)?;
+    let mut pair = new_pair(alloc, PING_PONG, fails_at, answers)?;
+    let (ended, idle) = run(rt, alloc, PING_PONG, &mut pair)?;
     let (calls, failures) = pair.counts();
-    Some((ended, idle, pair.has_printed(b"2"), calls, failures))
+    Some((ended, idle, pair.has_printed(b"2\n"), calls, failures))
 }
 
 #[test]
@@ -45,6 +46,20 @@ fn a_rank_ends_by_its_script(rt: HostRuntime) {
     ));
     assert_eq!(rt; shown, Some((Some(Ended::Runner(0, None)), true, true, 0)));
     assert_eq!(rt; Ended::Runner(0, None).status(), 0);
+}
+
+/// How rank 0 of the script of collectives ends, whether nothing is unacknowledged, and whether it has printed what it must.
+fn run_collectives<R: Wait>(rt: &R, alloc: Global) -> Option<(Option<Ended>, bool, bool)> {
+    let mut pair = new_pair(alloc, COLLECTIVES, 100_000, true)?;
+    let (ended, idle) = run(rt, alloc, COLLECTIVES, &mut pair)?;
+    let printed = pair.has_printed(b"1 2\n4 6\n3 8\n1 2 3 4\n3 4\nerror 7\ndone\n");
+    Some((ended, idle, printed))
+}
+
+#[test]
+fn collectives_carry_elements_between_ranks(rt: HostRuntime) {
+    let shown = run_collectives(&rt, rt.alloc());
+    assert_eq!(rt; shown, Some((Some(Ended::Runner(0, None)), true, true)));
 }
 
 #[test]
@@ -62,7 +77,7 @@ fn a_rank_ends_by_its_patience(rt: HostRuntime) {
 /// Over a transport in memory that gives nothing.
 fn run_alone<R: Wait>(rt: &R, alloc: Global, calls: u64) -> Option<(Option<Ended>, bool)> {
     let mut memory = Memory::new(alloc, VecDeque::new(alloc), calls);
-    run(rt, alloc, &mut memory)
+    run(rt, alloc, PING_PONG, &mut memory)
 }
 
 #[test]

@@ -15,6 +15,10 @@ use vocabulary::Endpoint;
 pub const PING_PONG: &[u8] =
     b"on 0\nbuf a int32 1\nsend world 1 1 a\nrecv world 1 2 a\nprint a\non 1\nbuf b int32 0\nrecv world 0 1 b\nbuf c int32 2\nsend world 0 2 c\nprint b\n";
 
+/// A script of two ranks in which elements go by collectives: all kinds but those that make communicators.
+pub const COLLECTIVES: &[u8] =
+    b"on 0\nbuf all int32 1 2 3 4\non all\nbuf own int32 0 0\nscatter world 0 all own\nprint own\nallreduce world sum own sums\nprint sums\nreduce world 0 prod own products\ngather world 0 own back\non 0\nprint products\nprint back\non all\nbcast world 1 own\nprint own\nbcast world 2 own\nbarrier world\nsay done\n";
+
 /// One of two ranks.
 pub fn place_of_two(rank: u16) -> Place {
     Place {
@@ -36,7 +40,6 @@ pub fn runner_of(alloc: Global, text: &[u8], rank: u16) -> Option<ScriptRunner> 
 /// A transport of rank 0 behind which rank 1 runs, and which fails from its call of a given number on.
 #[derive(Drop)]
 pub struct Pair {
-    alloc: Global,
     engine: Engine,
     runner: ScriptRunner,
     /// What the runner is told next, if it may go on.
@@ -45,8 +48,8 @@ pub struct Pair {
     to_us: VecDeque<Bytes>,
     /// Whether what rank 1 sends comes.
     answers: bool,
-    /// What rank 0 has printed.
-    lines: Vec<Bytes>,
+    /// What rank 0 has printed, each line with its end.
+    printed: Vec<u8>,
     /// How many calls there were.
     calls: u64,
     /// From which call on it fails.
@@ -55,20 +58,19 @@ pub struct Pair {
     failures: u64,
 }
 
-/// A pair whose rank 1 answers, or doesn't, and which fails from its call of this number on.
-pub fn new_pair(alloc: Global, fails_at: u64, answers: bool) -> Option<Pair>
+/// A pair whose rank 1 runs this script and answers, or doesn't, and which fails from its call of this number on.
+pub fn new_pair(alloc: Global, text: &[u8], fails_at: u64, answers: bool) -> Option<Pair>
     ensures { IfSome result (λ p. p.failures ≡ 0) }
 {
-    let runner = runner_of(alloc, PING_PONG, 1)?;
+    let runner = runner_of(alloc, text, 1)?;
     let engine = Engine::new(alloc, place_of_two(1)).ok()?;
     Some(Pair {
-        alloc,
         engine,
         runner,
         told: Some(None),
         to_us: VecDeque::new(alloc),
         answers,
-        lines: Vec::new(alloc),
+        printed: Vec::new(alloc),
         calls: 0,
         fails_at,
         failures: 0,
@@ -81,12 +83,9 @@ impl Pair {
         (self.calls, self.failures)
     }
 
-    /// Whether rank 0 has printed this line, and no other.
-    pub fn has_printed(&self, line: &[u8]) -> bool {
-        match self.lines.as_slice() {
-            [only] => only.as_slice() == line,
-            _ => false,
-        }
+    /// Whether rank 0 has printed these lines, each with its end, and no other.
+    pub fn has_printed(&self, lines: &[u8]) -> bool {
+        self.printed.as_slice() == lines
     }
 
     fn fail(&mut self) -> TransportFault
@@ -189,9 +188,8 @@ impl Transport for Pair {
         if self.is_faulty() {
             return Err(self.fail());
         }
-        if let Ok(copy) = Bytes::from_slice(self.alloc, line) {
-            let _ = self.lines.push(copy);
-        }
+        let _ = self.printed.extend_from_slice(line);
+        let _ = self.printed.push(b'\n');
         Ok(())
     }
 

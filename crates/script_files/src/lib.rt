@@ -16,6 +16,7 @@ pub use line_words::{Name, ParseError, Word, Words};
 pub use parsing::parse;
 pub use script::{Item, Line, RankLine, RankLines, Script, Statement};
 pub use statements::{
-    Action, Blocks, BufferLine, Communicator, LayoutForm, LayoutLine, OldLayout, Receiving,
-    Requested, RequestedList, Sending, Splitting, Stripes, Through,
+    Action, Blocks, Broadcasting, BufferLine, Communicator, Gathering, LayoutForm, LayoutLine,
+    OldLayout, Operation, Receiving, Reducing, ReducingToAll, Requested, RequestedList, Scattering,
+    Sending, Splitting, Stripes, Through,
 };

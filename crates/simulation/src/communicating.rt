@@ -1,9 +1,9 @@
 //! What lines on communicators do: dup, split, who, members and compare.
 
-use crate::error::SimulateError;
-use crate::printing::{print_position, print_refusal};
+use crate::names::{Gives, Seat};
 use crate::running::Simulation;
 use engine::{Call, Choice, Entry, Fact, Question, Reply};
+use event_lines::{SimulateError, print_position, print_refusal};
 use statements::{Communicator, Name, Splitting};
 use std::io::Write;
 use std::mem;
@@ -27,12 +27,29 @@ impl Simulation {
         }
     }
 
-    /// The collective that the rank enters makes a communicator of this name. Answers the name that the one before makes.
-    fn set_making(&mut self, rank: u16, name: Option<Name>) -> Option<Name> {
+    /// The collective that the rank enters gives this. Answers what the one before gives.
+    fn set_gives(&mut self, rank: u16, gives: Gives) -> Gives {
         match self.ranks.get_mut(&rank) {
-            Some(names) => mem::replace(&mut names.making, name),
-            None => name,
+            Some(names) => mem::replace(&mut names.gives, gives),
+            None => gives,
         }
+    }
+
+    /// A collective on a communicator, which gives this once it has ended.
+    pub(crate) fn enter<W: Write>(
+        &mut self,
+        rank: u16,
+        comm: Option<usize>,
+        entry: Entry,
+        gives: Gives,
+        out: &mut W,
+    ) -> Result<(), SimulateError> {
+        let earlier = self.set_gives(rank, gives);
+        let call = Call::Enter(comm, entry);
+        if self.happen(Event::Call(rank, call), out)?.is_some() {
+            let _ = self.set_gives(rank, earlier);
+        }
+        Ok(())
     }
 
     /// A collective on a communicator makes another one, which has this name once it is there.
@@ -44,11 +61,23 @@ impl Simulation {
         entry: Entry,
         out: &mut W,
     ) -> Result<(), SimulateError> {
-        let name = name.try_clone(self.alloc)?;
-        let earlier = self.set_making(rank, Some(name));
-        let call = Call::Enter(comm, entry);
-        if self.happen(Event::Call(rank, call), out)?.is_some() {
-            let _ = self.set_making(rank, earlier);
+        let gives = Gives::Communicator(name.try_clone(self.alloc)?);
+        self.enter(rank, comm, entry, gives, out)
+    }
+
+    /// The rank got the communicator at this place, and has a rank in it, which the engine is asked for; then it has its name.
+    pub(crate) fn take_seat(&mut self, rank: u16, place: usize) -> Result<(), SimulateError> {
+        let call = Call::Ask(Some(place), Question::Rank);
+        if self.world.step(Event::Call(rank, call)).is_err() {
+            return Err(SimulateError::OutOfMemory);
+        }
+        let seat = match self.last_number() {
+            Some(rank) => Some(Seat { place, rank }),
+            None => None,
+        };
+        let alloc = self.alloc;
+        if let Some(names) = self.ranks.get_mut(&rank) {
+            names.note_communicator(alloc, seat)?;
         }
         Ok(())
     }
@@ -95,7 +124,7 @@ impl Simulation {
     }
 
     /// Asks a rank for a number; or prints why that is refused. It emits nothing.
-    fn number_of<W: Write>(
+    pub(crate) fn number_of<W: Write>(
         &mut self,
         rank: u16,
         comm: Option<usize>,

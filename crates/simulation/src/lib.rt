@@ -1,11 +1,11 @@
 //! Running a file of events, and what it prints.
 #![tactic(auto)]
 
+mod collecting;
 mod communicating;
-mod error;
 mod names;
 mod printing;
 mod running;
 
-pub use error::SimulateError;
+pub use event_lines::SimulateError;
 pub use running::simulate;

@@ -1,12 +1,12 @@
 //! The buffers, layouts, requests and communicators that a rank's lines name.
 
 use datatypes::{Buffer, Layout};
-use engine::Ending;
 use requests::{Answer, Outcome, Request};
 use statements::{Communicator, Name};
 use std::alloc::{AllocError, Global};
 use std::collections::BTreeMap;
 use std::mem;
+use vocabulary::BasicType;
 
 /// What a name of a buffer stands for.
 #[derive(Drop)]
@@ -26,6 +26,26 @@ pub struct Held {
     pub buffer: Option<Name>,
 }
 
+/// A communicator that the rank holds.
+#[derive(Clone, Copy)]
+pub struct Seat {
+    /// Its place among those of the rank.
+    pub place: usize,
+    /// The rank's rank in it.
+    pub rank: usize,
+}
+
+/// What the present collective gives, by its name.
+#[derive(Drop)]
+pub enum Gives {
+    /// Nothing that a line named.
+    Nothing,
+    /// A communicator.
+    Communicator(Name),
+    /// The elements of a buffer.
+    Elements(Name),
+}
+
 /// The names of one rank. Each kind of thing has its own.
 #[derive(Drop)]
 pub struct Names {
@@ -37,10 +57,10 @@ pub struct Names {
     pub requests: BTreeMap<Vec<u8>, Held>,
     /// The names of the requests that the last completing call is about, in order; the null request has none.
     pub waiting: Vec<Option<Name>>,
-    /// The communicators that were made, by name: the place of each among the rank's; none is MPI_COMM_NULL.
-    pub communicators: BTreeMap<Vec<u8>, Option<usize>>,
-    /// The name of the communicator that the last collective makes.
-    pub making: Option<Name>,
+    /// The communicators that were made, by name; none is MPI_COMM_NULL.
+    pub communicators: BTreeMap<Vec<u8>, Option<Seat>>,
+    /// What the last collective gives.
+    pub gives: Gives,
 }
 
 impl Names {
@@ -51,7 +71,7 @@ impl Names {
             requests: BTreeMap::new(alloc),
             waiting: Vec::new(alloc),
             communicators: BTreeMap::new(alloc),
-            making: None,
+            gives: Gives::Nothing,
         }
     }
 
@@ -65,6 +85,14 @@ impl Names {
         match self.buffers.get(name.as_bytes()) {
             Some(Slot::Here(buffer)) => Ok(Some(buffer.try_clone(alloc)?)),
             _ => Ok(None),
+        }
+    }
+
+    /// The type of the buffer of this name and how many elements it has, if it is here.
+    pub fn shape_of(&self, name: &Name) -> Option<(BasicType, usize)> {
+        match self.buffers.get(name.as_bytes()) {
+            Some(Slot::Here(buffer)) => Some((buffer.basic(), buffer.len())),
+            _ => None,
         }
     }
 
@@ -160,23 +188,49 @@ impl Names {
             Communicator::World => Some(Some(0)),
             Communicator::Own => Some(Some(1)),
             Communicator::Named(name) => match self.communicators.get(name.as_bytes()) {
-                Some(place) => Some(*place),
+                Some(Some(seat)) => Some(Some(seat.place)),
+                Some(None) => Some(None),
                 None => None,
             },
         }
     }
 
-    /// The last collective has ended so: where it made a communicator, that has its name.
-    pub fn note_ending(&mut self, alloc: Global, ending: Ending) -> Result<(), AllocError> {
-        let making = mem::replace(&mut self.making, None);
-        let (Some(name), Ending::Comm(place)) = (making, ending) else {
+    /// The rank's rank in a communicator that has this name.
+    pub fn rank_in(&self, name: &Name) -> Option<usize> {
+        match self.communicators.get(name.as_bytes()) {
+            Some(Some(seat)) => Some(seat.rank),
+            _ => None,
+        }
+    }
+
+    /// The last collective has ended: what it gives is this communicator; none is MPI_COMM_NULL.
+    pub fn note_communicator(
+        &mut self,
+        alloc: Global,
+        seat: Option<Seat>,
+    ) -> Result<(), AllocError> {
+        let Gives::Communicator(name) = self.take_gives() else {
             return Ok(());
         };
         let key = Vec::from_slice(alloc, name.as_bytes())?;
         self.communicators
-            .insert(key, place)
+            .insert(key, seat)
             .map_err(AllocError::from)?;
         Ok(())
+    }
+
+    /// The last collective has ended: what it gives are these elements.
+    pub fn note_elements(&mut self, alloc: Global, buffer: &Buffer) -> Result<(), AllocError> {
+        let Gives::Elements(name) = self.take_gives() else {
+            return Ok(());
+        };
+        let copy = buffer.try_clone(alloc)?;
+        self.set_buffer(&name, alloc, Slot::Here(copy))
+    }
+
+    /// What the last collective gives, which is noted now.
+    pub fn take_gives(&mut self) -> Gives {
+        mem::replace(&mut self.gives, Gives::Nothing)
     }
 
     /// The last completing call was answered so.

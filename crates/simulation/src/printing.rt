@@ -1,164 +1,10 @@
-//! What a file of events prints.
+//! What one event of a world prints.
 
-use crate::error::SimulateError;
-use answer_texts::{
-    CommunicatorText, ComparisonText, Emission, FrameKind, Load, MembersText, OutcomeText,
-    PositionText, Route,
-};
-use datagram::{Content, Datagram, Frame};
-use engine::{Comparison, Completion, Ending, Fact, Reply};
-use requests::{Answer, Outcome};
-use std::alloc::{AllocError, Global};
+use event_lines::{SimulateError, print_completion, print_datagram, print_reply, print_taken};
+use std::alloc::Global;
 use std::io;
 use std::io::Write;
 use world::{Entry, World};
-
-/// The text of an outcome.
-fn outcome_text(outcome: &Outcome) -> OutcomeText<'_> {
-    match outcome {
-        Outcome::Sent => OutcomeText::Sent,
-        Outcome::Received(status, buffer) => OutcomeText::Received(*status, buffer),
-        Outcome::Ended(failure, status, buffer) => {
-            OutcomeText::Ended(failure.number(), *status, buffer)
-        }
-        Outcome::Replaced(Some(buffer)) => OutcomeText::Lost(buffer),
-        Outcome::Replaced(None) => OutcomeText::Failed(11),
-        Outcome::Cancelled(buffer) => OutcomeText::Cancelled(buffer),
-        Outcome::Empty => OutcomeText::Null,
-    }
-}
-
-fn print_text<W: Write>(text: &answer_texts::Answer<'_>, out: &mut W) -> io::Result<()> {
-    writeln!(out, "{text}")
-}
-
-/// The answer of a completing call.
-fn print_answer<W: Write>(
-    alloc: Global,
-    answer: &Answer,
-    out: &mut W,
-) -> Result<(), SimulateError> {
-    match answer {
-        Answer::One(outcome) => {
-            print_text(&answer_texts::Answer::One(outcome_text(outcome)), out)?;
-        }
-        Answer::Index(index, outcome) => {
-            let text = answer_texts::Answer::Index(*index, outcome_text(outcome));
-            print_text(&text, out)?;
-        }
-        Answer::IndexUndefined => print_text(&answer_texts::Answer::IndexUndefined, out)?,
-        Answer::All(outcomes) => {
-            let mut texts = Vec::new(alloc);
-            for outcome in outcomes.as_slice() {
-                texts.push(outcome_text(outcome)).map_err(AllocError::from)?;
-            }
-            print_text(&answer_texts::Answer::All(texts.as_slice()), out)?;
-        }
-    }
-    Ok(())
-}
-
-/// With what a collective ended.
-fn ending_text(ending: Ending) -> answer_texts::Answer<'static> {
-    match ending {
-        Ending::Left => answer_texts::Answer::Done,
-        Ending::Comm(place) => answer_texts::Answer::Communicator(CommunicatorText { place }),
-        Ending::Replaced => answer_texts::Answer::One(OutcomeText::Failed(11)),
-        Ending::Mismatch => answer_texts::Answer::One(OutcomeText::Failed(12)),
-    }
-}
-
-/// The text of how two communicators compare.
-fn comparison_text(comparison: Comparison) -> ComparisonText {
-    match comparison {
-        Comparison::Ident => ComparisonText::Ident,
-        Comparison::Congruent => ComparisonText::Congruent,
-        Comparison::Similar => ComparisonText::Similar,
-        Comparison::Unequal => ComparisonText::Unequal,
-    }
-}
-
-/// What is told of a communicator. A rank or a size is told with the other one alone: see `print_position`.
-fn fact_text(fact: &Fact) -> answer_texts::Answer<'_> {
-    match fact {
-        Fact::Number(_) => answer_texts::Answer::Done,
-        Fact::Ranks(ranks) => answer_texts::Answer::Members(MembersText { ranks }),
-        Fact::Compares(comparison) => {
-            answer_texts::Answer::Comparison(comparison_text(*comparison))
-        }
-    }
-}
-
-/// A rank in a communicator, and the communicator's size.
-pub fn print_position<W: Write>(rank: usize, size: usize, out: &mut W) -> io::Result<()> {
-    let position = PositionText { rank, size };
-    print_text(&answer_texts::Answer::Position(position), out)
-}
-
-/// The answer of a call that was blocked.
-fn print_completion<W: Write>(
-    alloc: Global,
-    completion: &Completion,
-    out: &mut W,
-) -> Result<(), SimulateError> {
-    match completion {
-        Completion::Requests(answer) => print_answer(alloc, answer, out),
-        Completion::Collective(ending) => Ok(print_text(&ending_text(*ending), out)?),
-    }
-}
-
-/// What a call answers.
-fn print_reply<W: Write>(alloc: Global, reply: &Reply, out: &mut W) -> Result<(), SimulateError> {
-    let text = match reply {
-        Reply::Started(request) => answer_texts::Answer::Started(request.serial),
-        Reply::Done(answer) => return print_answer(alloc, answer, out),
-        Reply::Pending => answer_texts::Answer::Pending,
-        Reply::Accepted => answer_texts::Answer::Done,
-        Reply::Blocked => answer_texts::Answer::Blocked,
-        Reply::Left(ending) => ending_text(*ending),
-        Reply::Fact(fact) => fact_text(fact),
-        Reply::Refused(refused, _) => answer_texts::Answer::Refused(refused.number()),
-    };
-    print_text(&text, out)?;
-    Ok(())
-}
-
-/// A refusal.
-pub fn print_refusal<W: Write>(number: u8, out: &mut W) -> io::Result<()> {
-    print_text(&answer_texts::Answer::Refused(number), out)
-}
-
-/// The text of a datagram that was emitted, by its number.
-fn emission_of(number: usize, datagram: &Datagram<'_>) -> Emission {
-    let kind = match datagram.content {
-        Content::Frame(Frame::Eager(_)) => FrameKind::Eager,
-        Content::Frame(Frame::RequestToSend(_)) => FrameKind::Rts,
-        Content::Frame(Frame::ClearToSend(_)) => FrameKind::Cts,
-        Content::Frame(Frame::Data(_)) => FrameKind::Data,
-        Content::Ack => FrameKind::Ack,
-        Content::Reset => FrameKind::Reset,
-    };
-    Emission {
-        datagram: number,
-        route: Route {
-            source: datagram.header.source,
-            target: datagram.header.target,
-        },
-        load: Load {
-            kind,
-            sequence: datagram.header.sequence,
-        },
-    }
-}
-
-/// A datagram that was emitted, by its number.
-fn print_datagram<W: Write>(number: usize, bytes: &[u8], out: &mut W) -> io::Result<()> {
-    let Ok(datagram) = datagram::read(bytes) else {
-        return Ok(());
-    };
-    let emission = emission_of(number, &datagram);
-    writeln!(out, "{emission}")
-}
 
 /// So many datagrams that a world emitted, from this number on.
 pub fn print_emitted<W: Write>(
@@ -187,13 +33,11 @@ pub fn print_event<W: Write>(
 ) -> Result<(), SimulateError> {
     match &entry.reply {
         Some(reply) => print_reply(alloc, reply, out)?,
-        None => print_text(&answer_texts::Answer::Taken, out)?,
+        None => print_taken(out)?,
     }
     print_emitted(world, first, count, out)?;
     if let Some(completion) = &entry.completion {
-        let rank = entry.endpoint.rank;
-        write!(out, "{rank} ")?;
-        print_completion(alloc, completion, out)?;
+        print_completion(alloc, entry.endpoint.rank, completion, out)?;
     }
     Ok(())
 }

@@ -1,11 +1,11 @@
 //! Running a file of events.
 
-use crate::error::SimulateError;
 use crate::names::{Held, Names, Slot};
-use crate::printing::{print_emitted, print_event, print_refusal};
+use crate::printing::{print_emitted, print_event};
 use datatypes::{Buffer, Layout, Refusal};
 use engine::{Call, Completion, Ending, Receive, Reply, Send};
 use event_files::{Line, Statement, parse};
+use event_lines::{SimulateError, print_refusal};
 use requests::{Answer, Places, Region, Request, RequestList};
 use statements::{
     Action, LayoutLine, Name, OldLayout, ParseError, Receiving, Requested, Sending, Through,
@@ -20,6 +20,7 @@ use world::{Entry, Event, World};
 #[derive(Drop)]
 pub(crate) struct Simulation {
     pub alloc: Global,
+    pub size: u16,
     pub world: World,
     pub ranks: BTreeMap<u16, Names>,
 }
@@ -37,33 +38,50 @@ fn answer_of(entry: &Entry) -> Option<&Answer> {
 }
 
 /// With what the last event at a rank ended a collective, one that was entered in it or before.
-fn ending_of(entry: &Entry) -> Option<Ending> {
+fn ending_of(entry: &Entry) -> Option<&Ending> {
     match &entry.completion {
-        Some(Completion::Collective(ending)) => Some(*ending),
+        Some(Completion::Collective(ending)) => Some(ending),
         Some(Completion::Requests(_)) => None,
         None => match &entry.reply {
-            Some(Reply::Left(ending)) => Some(*ending),
+            Some(Reply::Left(ending)) => Some(ending),
             _ => None,
         },
     }
 }
 
-/// The names of the event's rank, after what it answered.
+/// A communicator that a rank got, at this place among those that it holds.
+#[derive(Clone, Copy)]
+struct Got {
+    rank: u16,
+    place: usize,
+}
+
+/// The names of the event's rank, after what it answered. Answers the communicator that the rank got, if it got one: what the rank
+/// is in it has yet to be asked.
 fn note_answer(
     alloc: Global,
     ranks: &mut BTreeMap<u16, Names>,
     entry: &Entry,
-) -> Result<(), SimulateError> {
-    let Some(names) = ranks.get_mut(&entry.endpoint.rank) else {
-        return Ok(());
+) -> Result<Option<Got>, SimulateError> {
+    let rank = entry.endpoint.rank;
+    let Some(names) = ranks.get_mut(&rank) else {
+        return Ok(None);
     };
     if let Some(answer) = answer_of(entry) {
         names.note(alloc, answer)?;
     }
-    if let Some(ending) = ending_of(entry) {
-        names.note_ending(alloc, ending)?;
+    match ending_of(entry) {
+        Some(Ending::Comm(Some(place))) => {
+            return Ok(Some(Got {
+                rank,
+                place: *place,
+            }));
+        }
+        Some(Ending::Comm(None)) => names.note_communicator(alloc, None)?,
+        Some(Ending::Left(Some(buffer))) => names.note_elements(alloc, buffer)?,
+        _ => {}
     }
-    Ok(())
+    Ok(None)
 }
 
 impl Simulation {
@@ -93,9 +111,15 @@ impl Simulation {
                 return Ok(Some(failed.event));
             }
         };
-        if let Some(entry) = self.world.history().last() {
-            print_event(self.alloc, &self.world, entry, first, count, out)?;
-            note_answer(self.alloc, &mut self.ranks, entry)?;
+        let got = match self.world.history().last() {
+            Some(entry) => {
+                print_event(self.alloc, &self.world, entry, first, count, out)?;
+                note_answer(self.alloc, &mut self.ranks, entry)?
+            }
+            None => None,
+        };
+        if let Some(got) = got {
+            self.take_seat(got.rank, got.place)?;
         }
         Ok(None)
     }
@@ -157,7 +181,12 @@ impl Simulation {
     }
 
     /// A copy of a buffer that is here.
-    fn copy_of(&self, rank: u16, line: usize, name: &Name) -> Result<Buffer, SimulateError> {
+    pub(crate) fn copy_of(
+        &self,
+        rank: u16,
+        line: usize,
+        name: &Name,
+    ) -> Result<Buffer, SimulateError> {
         match self.ranks.get(&rank) {
             Some(names) => match names.copy_of(self.alloc, name)? {
                 Some(buffer) => Ok(buffer),
@@ -447,6 +476,12 @@ impl Simulation {
             Action::Cancel(requested) => self.cancel(rank, line, requested, out),
             Action::Waitany(several) => self.wait_any(rank, line, several.as_slice(), out),
             Action::Waitall(several) => self.wait_all(rank, line, several.as_slice(), out),
+            Action::Barrier(communicator) => self.barrier(rank, line, communicator, out),
+            Action::Bcast(said) => self.bcast(rank, line, said, out),
+            Action::Gather(said) => self.gather(rank, line, said, out),
+            Action::Scatter(said) => self.scatter(rank, line, said, out),
+            Action::Reduce(said) => self.reduce(rank, line, said, out),
+            Action::Allreduce(said) => self.allreduce(rank, line, said, out),
             Action::Dup(name, communicator) => self.dup(rank, line, name, communicator, out),
             Action::Split(name, splitting) => self.split(rank, line, name, splitting, out),
             Action::Who(communicator) => self.who(rank, line, communicator, out),
@@ -489,11 +524,13 @@ pub fn simulate<W: Write>(alloc: Global, text: &[u8], out: &mut W) -> Result<(),
         Err(ParseError::Line(line)) => return Err(SimulateError::Script(line)),
         Err(ParseError::OutOfMemory) => return Err(SimulateError::OutOfMemory),
     };
-    let Ok(world) = World::new(alloc, file.size) else {
+    let size = file.size;
+    let Ok(world) = World::new(alloc, size) else {
         return Err(SimulateError::OutOfMemory);
     };
     let mut simulation = Simulation {
         alloc,
+        size,
         world,
         ranks: BTreeMap::new(alloc),
     };

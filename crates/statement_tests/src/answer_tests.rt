@@ -35,6 +35,7 @@ fn is_written(alloc: Global, answer: Answer<'_>, text: &str) -> bool {
 /// How many of the answers about a buffer are written as they are to be.
 fn answers_with_data(alloc: Global) -> Option<usize> {
     let held = buffer(alloc)?;
+    let empty = Buffer::new(alloc, BasicType::Int8);
     let several = [
         OutcomeText::Cancelled(&held),
         OutcomeText::Sent,
@@ -52,6 +53,8 @@ fn answers_with_data(alloc: Global) -> Option<usize> {
         ),
         (Answer::One(OutcomeText::Lost(&held)), "error 11 data -1 7"),
         (Answer::All(&several), "cancelled data -1 7; sent; error 11"),
+        (Answer::Data(&held), "data -1 7"),
+        (Answer::Data(&empty), "data"),
     ] {
         if is_written(alloc, answer, text) {
             good = good.saturating_add(1);
@@ -71,7 +74,7 @@ fn is_count(alloc: Global, copies: Option<u64>, text: &str) -> bool {
 
 #[test]
 fn answers_are_written(rt: HostRuntime) {
-    assert_eq!(rt; answers_with_data(rt.alloc()), Some(4));
+    assert_eq!(rt; answers_with_data(rt.alloc()), Some(6));
     assert!(rt; is_count(rt.alloc(), Some(0), "0"));
     assert!(rt; is_count(rt.alloc(), None, "undefined"));
     for (answer, text) in [

@@ -199,6 +199,100 @@ fn layouts_and_requests_are_read(rt: HostRuntime) {
     assert_eq!(rt; layouts_and_requests(rt.alloc()), Some(10));
 }
 
+/// Lines of collectives that move elements, and of a barrier.
+const COLLECTIVES: &str =
+    "world 1\n0 barrier world\n0 barrier c\n0 bcast self 0 a\n0 bcast c 65536 a\n0 gather world 1 a b\n0 scatter world 2 a b\n0 scatter c 3 - b\n0 reduce world 4 band sum max\n0 allreduce self affine a a";
+
+/// Whether these are the two names.
+fn are_named(one: &Name, other: &Name, names: (&[u8], &[u8])) -> bool {
+    one.as_bytes() == names.0 && other.as_bytes() == names.1
+}
+
+/// Whether what is scattered is a buffer of this name; none: `-`.
+fn is_scattered(line: &Scattering, name: Option<&[u8]>) -> bool {
+    let is_from = match (&line.buffer, name) {
+        (Some(buffer), Some(name)) => buffer.as_bytes() == name,
+        (None, None) => true,
+        _ => false,
+    };
+    is_from && line.into.as_bytes() == b"b".as_slice()
+}
+
+/// Whether the collective at this place of the row is as the row says.
+fn is_of_collectives(place: usize, action: &Action) -> bool {
+    match (place, action) {
+        (0, Action::Barrier(Communicator::World)) => true,
+        (1, Action::Barrier(communicator)) => is_named(communicator, b"c"),
+        (2, Action::Bcast(line)) => line.root == 0 && line.buffer.as_bytes() == b"a".as_slice(),
+        (3, Action::Bcast(line)) => line.root == u16::MAX && is_named(&line.communicator, b"c"),
+        (4, Action::Gather(line)) => {
+            line.root == 1 && are_named(&line.buffer, &line.into, (b"a", b"b"))
+        }
+        (5, Action::Scatter(line)) => line.root == 2 && is_scattered(line, Some(b"a")),
+        (6, Action::Scatter(line)) => line.root == 3 && is_scattered(line, None),
+        (7, Action::Reduce(line)) => {
+            line.root == 4
+                && line.operation == Operation::Band
+                && are_named(&line.buffer, &line.into, (b"sum", b"max"))
+        }
+        (8, Action::Allreduce(line)) => {
+            line.operation == Operation::Affine && are_named(&line.buffer, &line.into, (b"a", b"a"))
+        }
+        _ => false,
+    }
+}
+
+/// How many of the lines are as the row says.
+fn collectives(alloc: Global) -> Option<usize> {
+    let file = parse(alloc, COLLECTIVES.as_bytes()).ok()?;
+    let mut good = 0;
+    for (place, line) in file.lines.as_slice().iter().enumerate() {
+        if let Statement::Rank(0, action) = &line.statement {
+            if is_of_collectives(place, action) {
+                good = 1_usize.saturating_add(good);
+            }
+        }
+    }
+    Some(good)
+}
+
+#[test]
+fn collectives_are_read(rt: HostRuntime) {
+    assert_eq!(rt; collectives(rt.alloc()), Some(9));
+}
+
+/// The operations by their words, in the order of their codes.
+const OPERATIONS: [(&str, Operation); 11] = [
+    ("max", Operation::Max),
+    ("min", Operation::Min),
+    ("sum", Operation::Sum),
+    ("prod", Operation::Prod),
+    ("land", Operation::Land),
+    ("lor", Operation::Lor),
+    ("lxor", Operation::Lxor),
+    ("band", Operation::Band),
+    ("bor", Operation::Bor),
+    ("bxor", Operation::Bxor),
+    ("affine", Operation::Affine),
+];
+
+/// The operation of a line that reduces by this word.
+fn operation_read(alloc: Global, word: &str) -> Option<Operation> {
+    let text = format!(in alloc; "world 1\n0 allreduce world {word} a b").ok()?;
+    let file = parse(alloc, text.as_bytes()).ok()?;
+    match &file.lines.as_slice().first()?.statement {
+        Statement::Rank(0, Action::Allreduce(line)) => Some(line.operation),
+        _ => None,
+    }
+}
+
+#[test]
+fn operations_are_read(rt: HostRuntime) {
+    for (word, operation) in OPERATIONS {
+        assert_eq!(rt; operation_read(rt.alloc(), word), Some(operation), "{word}");
+    }
+}
+
 /// Lines that make communicators and ask about them.
 const COMMUNICATORS: &str =
     "world 1\n0 dup d world\n0 dup e self\n0 split f d undefined -2147483648\n0 split g world 4294967295 2147483647\n0 split h e 0 -0\n0 who d\n0 members self\n0 compare d world\n0 compare self e";
@@ -286,7 +380,27 @@ fn faulty_lines_answer_their_number(rt: HostRuntime) {
         ("world 2\nstray 0 4F\n", 2),
         ("world 2\n0 buf a uint8 256\n", 2),
         ("world 2\n0 isend q world 1 7 a as int32 1\n", 2),
-        ("world 2\n0 barrier world\n", 2),
+        ("world 2\n0 barrier\n", 2),
+        ("world 2\n0 barrier null\n", 2),
+        ("world 2\n0 barrier world self\n", 2),
+        ("world 2\n0 bcast world 0\n", 2),
+        ("world 2\n0 bcast world any a\n", 2),
+        ("world 2\n0 bcast world 0 -\n", 2),
+        ("world 2\n0 bcast world 0 a b\n", 2),
+        ("world 2\n0 gather world 0 a\n", 2),
+        ("world 2\n0 gather world 0 - b\n", 2),
+        ("world 2\n0 gather world -1 a b\n", 2),
+        ("world 2\n0 scatter world 0 a\n", 2),
+        ("world 2\n0 scatter world 0 a -\n", 2),
+        ("world 2\n0 scatter world 0 -- b\n", 2),
+        ("world 2\n0 scatter world 0 null b\n", 2),
+        ("world 2\n0 reduce world 0 a b\n", 2),
+        ("world 2\n0 reduce world sum 0 a b\n", 2),
+        ("world 2\n0 reduce world 0 SUM a b\n", 2),
+        ("world 2\n0 reduce world 0 minloc a b\n", 2),
+        ("world 2\n0 allreduce world a b\n", 2),
+        ("world 2\n0 allreduce world 0 sum a b\n", 2),
+        ("world 2\n0 allreduce world null a b\n", 2),
         ("world 2\n0 dup d world self\n", 2),
         ("world 2\n0 dup world self\n", 2),
         ("world 2\n0 dup d null\n", 2),

@@ -153,7 +153,28 @@ fn completions_are_told_from_other_lines(rt: HostRuntime) {
         ("waitany q null q", true),
         ("waitall", true),
         ("waitall q int8", false),
-        ("barrier world", false),
+        ("waitsome q", false),
+    ] {
+        assert_eq!(rt; is_spelled(rt.alloc(), line), Some(is_one), "{line}");
+    }
+}
+
+#[test]
+fn collectives_are_told_from_other_lines(rt: HostRuntime) {
+    for (line, is_one) in [
+        ("barrier world", true),
+        ("barrier", false),
+        ("ibarrier world", false),
+        ("bcast c 99999999999999999999 a", true),
+        ("bcast c -1 a", false),
+        ("gather self 0 a a", true),
+        ("gather self 0 - a", false),
+        ("scatter self 0 - a", true),
+        ("scatter self 0 a -", false),
+        ("reduce world 0 lxor sum max", true),
+        ("reduce world 0 xor sum max", false),
+        ("allreduce world affine a b", true),
+        ("allreduce world 0 affine a b", false),
     ] {
         assert_eq!(rt; is_spelled(rt.alloc(), line), Some(is_one), "{line}");
     }

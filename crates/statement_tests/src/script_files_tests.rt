@@ -60,7 +60,7 @@ fn lines_are_for_their_ranks(rt: HostRuntime) {
 
 /// A line of each kind.
 const EVERY_STATEMENT: &str =
-    "buf a uint8 1\nisend q world 1 2 a\nirecv q self any 2 a\nwait q\nsend world null 3 a\nrecv c 4 any a as l 2\nprint a\nstatus\nsay #a b\nfail\ncount l\nwaitall q null";
+    "buf a uint8 1\nisend q world 1 2 a\nirecv q self any 2 a\nwait q\nsend world null 3 a\nrecv c 4 any a as l 2\nprint a\nstatus\nsay #a b\nfail\ncount l\nwaitall q null\nbarrier world\nallreduce world sum a b";
 
 /// Whether the statement of the line of this number is as the row says.
 fn is_as_said(number: usize, statement: &Statement) -> bool {
@@ -79,6 +79,8 @@ fn is_as_said(number: usize, statement: &Statement) -> bool {
         (10, Statement::Fail) => true,
         (11, Statement::Count(name)) => name.as_bytes() == b"l".as_slice(),
         (12, Statement::Action(Action::Waitall(requests))) => requests.as_slice().len() == 2,
+        (13, Statement::Action(Action::Barrier(Communicator::World))) => true,
+        (14, Statement::Action(Action::Allreduce(line))) => line.operation == Operation::Sum,
         _ => false,
     }
 }
@@ -99,7 +101,7 @@ fn every_statement(alloc: Global) -> Option<usize> {
 
 #[test]
 fn every_statement_is_read(rt: HostRuntime) {
-    assert_eq!(rt; every_statement(rt.alloc()), Some(12));
+    assert_eq!(rt; every_statement(rt.alloc()), Some(14));
 }
 
 /// The line that the text is faulty at.
@@ -132,7 +134,9 @@ fn faulty_lines_answer_their_number(rt: HostRuntime) {
         ("count int8\n", 1),
         ("count l m\n", 1),
         ("send world 1 2 a as l\n", 1),
-        ("barrier world\n", 1),
+        ("barrier\n", 1),
+        ("bcast world 0 world\n", 1),
+        ("scatter world 0 - -\n", 1),
         ("fail\t\n", 1),
         ("#\ta\n", 1),
         ("fail\r\n", 1),

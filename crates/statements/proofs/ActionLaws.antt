@@ -1,5 +1,5 @@
 -- What ranks do: reading and the grammar agree.
-use Rattle.std.proofs.Common.{◌≡◌, ℕ, List, [], ◌∷◌, Option, Some, None, refl, sym, ap, subst, ◌∙◌}
+use Rattle.std.proofs.Common.{◌≡◌, ℕ, List, [], ◌∷◌, Option, Some, refl, sym, ap, subst, ◌∙◌}
 use Rattle.std.specs.Prelude.{codes}
 use Rattle.vocabulary.specs.declared.envelope.Source.{Source}
 use Rattle.datatypes.specs.Contents.{Contents}
@@ -18,7 +18,7 @@ use Rattle.line_words.specs.Grammar.{Word, type_word}
 use Rattle.statements.specs.Words.{verb_of}
 use Rattle.line_words.specs.Words.{basic_type_of}
 use Rattle.line_words.specs.Results.{◌>>=◌}
-use Rattle.statements.specs.Reading.{communicator_of, target_of, source_of, tag_of, requested_of, through_of, one_request, elements_of, buffer_with, buffer_of, sending_of, receiving_of, isend_of, irecv_of, one_of, layout_of, communicator_alone, two_communicators, dup_of, split_of, action_by, action_of}
+use Rattle.statements.specs.Reading.{communicator_of, target_of, source_of, tag_of, requested_of, through_of, one_request, elements_of, buffer_with, buffer_of, sending_of, receiving_of, isend_of, irecv_of, one_of, layout_of, communicator_alone, two_communicators, bcast_of, gather_of, scatter_of, reduce_of, allreduce_of, dup_of, split_of, action_by, action_of}
 use Rattle.line_words.specs.Fields.{first, ended, name_of, each}
 use Rattle.statements.proofs.VerbLaws.{verb_word, verb_takes, verb_again}
 use Rattle.line_words.proofs.WordLaws.{bind_ok, made, type_takes, type_again}
@@ -26,19 +26,9 @@ use Rattle.statements.proofs.FieldLaws.{communicator_takes, communicator_again, 
 use Rattle.line_words.proofs.FieldLaws.{named_takes, named_again}
 use Rattle.statements.proofs.LayoutLaws.{layout_takes, layout_again}
 use Rattle.statements.proofs.CommunicatorLaws.{asks_takes, asks_again, compare_takes, compare_again, dup_takes, dup_again, split_takes, split_again}
+use Rattle.statements.proofs.CollectiveLaws.{bcast_takes, bcast_again, gather_takes, gather_again, scatter_takes, scatter_again, reduce_takes, reduce_again, allreduce_takes, allreduce_again}
+use Rattle.statements.proofs.FieldSteps.{five}
 use Rattle.statements.proofs.ElementLaws.{elements_take, elements_again}
-
--- ---- fields that don't depend on one another
-
-pub five : {A B C D E S : Type 0} (a : Option A) (b : Option B) (c : Option C) (d : Option D) (e : Option E) (make : A → B → C → D → E → S) (s : S)
-    → (a >>= λ x. b >>= λ y. c >>= λ z. d >>= λ u. e >>= λ v. Some (make x y z u v)) ≡ Some s
-    → (x : A) × (y : B) × (z : C) × (u : D) × (v : E) × (a ≡ Some x) × (b ≡ Some y) × (c ≡ Some z) × (d ≡ Some u) × (e ≡ Some v) × (make x y z u v ≡ s)
-five (Some x) (Some y) (Some z) (Some u) (Some v) make s h = (x, y, z, u, v, refl, refl, refl, refl, refl, cc)
-five None b c d e make s h = absurd cc
-five (Some x) None c d e make s h = absurd cc
-five (Some x) (Some y) None d e make s h = absurd cc
-five (Some x) (Some y) (Some z) None e make s h = absurd cc
-five (Some x) (Some y) (Some z) (Some u) None make s h = absurd cc
 
 -- ---- arguments
 
@@ -178,6 +168,14 @@ by_takes verbs.Waitany words s e =
     let b = bind_ok (each one_request words) (λ x. Some (actions.Waitany x)) s e in made (Spells (codes "waitany" ∷ words)) (actions.Waitany b.0) s (words, refl, requests_take words b.0 b.1) b.2
 by_takes verbs.Waitall words s e =
     let b = bind_ok (each one_request words) (λ x. Some (actions.Waitall x)) s e in made (Spells (codes "waitall" ∷ words)) (actions.Waitall b.0) s (words, refl, requests_take words b.0 b.1) b.2
+by_takes verbs.Barrier words s e =
+    let b = bind_ok (communicator_alone words) (λ x. Some (actions.Barrier x)) s e in
+    made (Spells (codes "barrier" ∷ words)) (actions.Barrier b.0) s (asks_takes (λ (ws : List Word). Spells (codes "barrier" ∷ ws) (actions.Barrier b.0)) words b.0 (λ a h. (a, refl, h)) b.1) b.2
+by_takes verbs.Bcast words s e = let b = bind_ok (bcast_of words) (λ x. Some (actions.Bcast x)) s e in made (Spells (codes "bcast" ∷ words)) (actions.Bcast b.0) s (words, refl, bcast_takes words b.0 b.1) b.2
+by_takes verbs.Gather words s e = let b = bind_ok (gather_of words) (λ x. Some (actions.Gather x)) s e in made (Spells (codes "gather" ∷ words)) (actions.Gather b.0) s (words, refl, gather_takes words b.0 b.1) b.2
+by_takes verbs.Scatter words s e = let b = bind_ok (scatter_of words) (λ x. Some (actions.Scatter x)) s e in made (Spells (codes "scatter" ∷ words)) (actions.Scatter b.0) s (words, refl, scatter_takes words b.0 b.1) b.2
+by_takes verbs.Reduce words s e = let b = bind_ok (reduce_of words) (λ x. Some (actions.Reduce x)) s e in made (Spells (codes "reduce" ∷ words)) (actions.Reduce b.0) s (words, refl, reduce_takes words b.0 b.1) b.2
+by_takes verbs.Allreduce words s e = let b = bind_ok (allreduce_of words) (λ x. Some (actions.Allreduce x)) s e in made (Spells (codes "allreduce" ∷ words)) (actions.Allreduce b.0) s (words, refl, allreduce_takes words b.0 b.1) b.2
 by_takes verbs.Dup words s e = let b = bind_ok (dup_of words) (λ x. Some (actions.Dup x.0 x.1)) s e in made (Spells (codes "dup" ∷ words)) (actions.Dup b.0.0 b.0.1) s (dup_takes words b.0 b.1) b.2
 by_takes verbs.Split words s e = let b = bind_ok (split_of words) (λ x. Some (actions.Split x.0 x.1)) s e in made (Spells (codes "split" ∷ words)) (actions.Split b.0.0 b.0.1) s (split_takes words b.0 b.1) b.2
 by_takes verbs.Who words s e =
@@ -215,6 +213,12 @@ action_again words (actions.Test x) h = ap action_of h.1 ∙ from_verb verbs.Tes
 action_again words (actions.Cancel x) h = ap action_of h.1 ∙ from_verb verbs.Cancel (h.0 ∷ []) (actions.Cancel x) (then_some (one_of (h.0 ∷ [])) (λ y. actions.Cancel y) x (one_from h.0 x (requested_again h.0 x h.2)))
 action_again words (actions.Waitany x) h = ap action_of h.1 ∙ from_verb verbs.Waitany h.0 (actions.Waitany x) (then_some (each one_request h.0) (λ y. actions.Waitany y) x (requests_again h.0 x h.2))
 action_again words (actions.Waitall x) h = ap action_of h.1 ∙ from_verb verbs.Waitall h.0 (actions.Waitall x) (then_some (each one_request h.0) (λ y. actions.Waitall y) x (requests_again h.0 x h.2))
+action_again words (actions.Barrier c) h = ap action_of h.1 ∙ from_verb verbs.Barrier (h.0 ∷ []) (actions.Barrier c) (then_some (communicator_alone (h.0 ∷ [])) (λ y. actions.Barrier y) c (asks_again h.0 c h.2))
+action_again words (actions.Bcast x) h = ap action_of h.1 ∙ from_verb verbs.Bcast h.0 (actions.Bcast x) (then_some (bcast_of h.0) (λ y. actions.Bcast y) x (bcast_again h.0 x h.2))
+action_again words (actions.Gather x) h = ap action_of h.1 ∙ from_verb verbs.Gather h.0 (actions.Gather x) (then_some (gather_of h.0) (λ y. actions.Gather y) x (gather_again h.0 x h.2))
+action_again words (actions.Scatter x) h = ap action_of h.1 ∙ from_verb verbs.Scatter h.0 (actions.Scatter x) (then_some (scatter_of h.0) (λ y. actions.Scatter y) x (scatter_again h.0 x h.2))
+action_again words (actions.Reduce x) h = ap action_of h.1 ∙ from_verb verbs.Reduce h.0 (actions.Reduce x) (then_some (reduce_of h.0) (λ y. actions.Reduce y) x (reduce_again h.0 x h.2))
+action_again words (actions.Allreduce x) h = ap action_of h.1 ∙ from_verb verbs.Allreduce h.0 (actions.Allreduce x) (then_some (allreduce_of h.0) (λ y. actions.Allreduce y) x (allreduce_again h.0 x h.2))
 action_again words (actions.Dup new c) h =
     ap action_of h.2 ∙ from_verb verbs.Dup (h.0 ∷ h.1 ∷ []) (actions.Dup new c) (then_some (dup_of (h.0 ∷ h.1 ∷ [])) (λ y. actions.Dup y.0 y.1) (new, c) (dup_again h.0 h.1 new c h.3 h.4))
 action_again words (actions.Split new x) h =
@@ -226,20 +230,28 @@ action_again words (actions.Compare one other) h =
 
 -- what spells something begins with one of these words
 pub begins : (words : List Word) (s : Action) → Spells words s → (P : Word → Type 0)
-    → P (codes "buf") → P (codes "type") → P (codes "isend") → P (codes "irecv") → P (codes "wait") → P (codes "test") → P (codes "cancel") → P (codes "waitany") → P (codes "waitall")
+    → P (codes "buf") → P (codes "type") → P (codes "isend") → P (codes "irecv") → P (codes "wait")
+    → P (codes "test") → P (codes "cancel") → P (codes "waitany") → P (codes "waitall") → P (codes "barrier")
+    → P (codes "bcast") → P (codes "gather") → P (codes "scatter") → P (codes "reduce") → P (codes "allreduce")
     → P (codes "dup") → P (codes "split") → P (codes "who") → P (codes "members") → P (codes "compare")
     → (word : Word) × (rest : List Word) × (words ≡ word ∷ rest) × P word
-begins words (actions.Buffer x) h P b0 l0 i0 r0 w0 t0 c0 o0 a0 d0 s0 u0 m0 e0 = (codes "buf", h.0, h.1, b0)
-begins words (actions.Layout x) h P b0 l0 i0 r0 w0 t0 c0 o0 a0 d0 s0 u0 m0 e0 = (codes "type", h.0, h.1, l0)
-begins words (actions.Isend q x) h P b0 l0 i0 r0 w0 t0 c0 o0 a0 d0 s0 u0 m0 e0 = (codes "isend", h.0 ∷ h.1, h.2, i0)
-begins words (actions.Irecv q x) h P b0 l0 i0 r0 w0 t0 c0 o0 a0 d0 s0 u0 m0 e0 = (codes "irecv", h.0 ∷ h.1, h.2, r0)
-begins words (actions.Wait x) h P b0 l0 i0 r0 w0 t0 c0 o0 a0 d0 s0 u0 m0 e0 = (codes "wait", h.0 ∷ [], h.1, w0)
-begins words (actions.Test x) h P b0 l0 i0 r0 w0 t0 c0 o0 a0 d0 s0 u0 m0 e0 = (codes "test", h.0 ∷ [], h.1, t0)
-begins words (actions.Cancel x) h P b0 l0 i0 r0 w0 t0 c0 o0 a0 d0 s0 u0 m0 e0 = (codes "cancel", h.0 ∷ [], h.1, c0)
-begins words (actions.Waitany x) h P b0 l0 i0 r0 w0 t0 c0 o0 a0 d0 s0 u0 m0 e0 = (codes "waitany", h.0, h.1, o0)
-begins words (actions.Waitall x) h P b0 l0 i0 r0 w0 t0 c0 o0 a0 d0 s0 u0 m0 e0 = (codes "waitall", h.0, h.1, a0)
-begins words (actions.Dup q x) h P b0 l0 i0 r0 w0 t0 c0 o0 a0 d0 s0 u0 m0 e0 = (codes "dup", h.0 ∷ h.1 ∷ [], h.2, d0)
-begins words (actions.Split q x) h P b0 l0 i0 r0 w0 t0 c0 o0 a0 d0 s0 u0 m0 e0 = (codes "split", h.0 ∷ h.1, h.2, s0)
-begins words (actions.Who x) h P b0 l0 i0 r0 w0 t0 c0 o0 a0 d0 s0 u0 m0 e0 = (codes "who", h.0 ∷ [], h.1, u0)
-begins words (actions.Members x) h P b0 l0 i0 r0 w0 t0 c0 o0 a0 d0 s0 u0 m0 e0 = (codes "members", h.0 ∷ [], h.1, m0)
-begins words (actions.Compare x y) h P b0 l0 i0 r0 w0 t0 c0 o0 a0 d0 s0 u0 m0 e0 = (codes "compare", h.0 ∷ h.1 ∷ [], h.2, e0)
+begins words (actions.Buffer x) h P of0 of1 of2 of3 of4 of5 of6 of7 of8 of9 of10 of11 of12 of13 of14 of15 of16 of17 of18 of19 = (codes "buf", h.0, h.1, of0)
+begins words (actions.Layout x) h P of0 of1 of2 of3 of4 of5 of6 of7 of8 of9 of10 of11 of12 of13 of14 of15 of16 of17 of18 of19 = (codes "type", h.0, h.1, of1)
+begins words (actions.Isend q x) h P of0 of1 of2 of3 of4 of5 of6 of7 of8 of9 of10 of11 of12 of13 of14 of15 of16 of17 of18 of19 = (codes "isend", h.0 ∷ h.1, h.2, of2)
+begins words (actions.Irecv q x) h P of0 of1 of2 of3 of4 of5 of6 of7 of8 of9 of10 of11 of12 of13 of14 of15 of16 of17 of18 of19 = (codes "irecv", h.0 ∷ h.1, h.2, of3)
+begins words (actions.Wait x) h P of0 of1 of2 of3 of4 of5 of6 of7 of8 of9 of10 of11 of12 of13 of14 of15 of16 of17 of18 of19 = (codes "wait", h.0 ∷ [], h.1, of4)
+begins words (actions.Test x) h P of0 of1 of2 of3 of4 of5 of6 of7 of8 of9 of10 of11 of12 of13 of14 of15 of16 of17 of18 of19 = (codes "test", h.0 ∷ [], h.1, of5)
+begins words (actions.Cancel x) h P of0 of1 of2 of3 of4 of5 of6 of7 of8 of9 of10 of11 of12 of13 of14 of15 of16 of17 of18 of19 = (codes "cancel", h.0 ∷ [], h.1, of6)
+begins words (actions.Waitany x) h P of0 of1 of2 of3 of4 of5 of6 of7 of8 of9 of10 of11 of12 of13 of14 of15 of16 of17 of18 of19 = (codes "waitany", h.0, h.1, of7)
+begins words (actions.Waitall x) h P of0 of1 of2 of3 of4 of5 of6 of7 of8 of9 of10 of11 of12 of13 of14 of15 of16 of17 of18 of19 = (codes "waitall", h.0, h.1, of8)
+begins words (actions.Barrier x) h P of0 of1 of2 of3 of4 of5 of6 of7 of8 of9 of10 of11 of12 of13 of14 of15 of16 of17 of18 of19 = (codes "barrier", h.0 ∷ [], h.1, of9)
+begins words (actions.Bcast x) h P of0 of1 of2 of3 of4 of5 of6 of7 of8 of9 of10 of11 of12 of13 of14 of15 of16 of17 of18 of19 = (codes "bcast", h.0, h.1, of10)
+begins words (actions.Gather x) h P of0 of1 of2 of3 of4 of5 of6 of7 of8 of9 of10 of11 of12 of13 of14 of15 of16 of17 of18 of19 = (codes "gather", h.0, h.1, of11)
+begins words (actions.Scatter x) h P of0 of1 of2 of3 of4 of5 of6 of7 of8 of9 of10 of11 of12 of13 of14 of15 of16 of17 of18 of19 = (codes "scatter", h.0, h.1, of12)
+begins words (actions.Reduce x) h P of0 of1 of2 of3 of4 of5 of6 of7 of8 of9 of10 of11 of12 of13 of14 of15 of16 of17 of18 of19 = (codes "reduce", h.0, h.1, of13)
+begins words (actions.Allreduce x) h P of0 of1 of2 of3 of4 of5 of6 of7 of8 of9 of10 of11 of12 of13 of14 of15 of16 of17 of18 of19 = (codes "allreduce", h.0, h.1, of14)
+begins words (actions.Dup q x) h P of0 of1 of2 of3 of4 of5 of6 of7 of8 of9 of10 of11 of12 of13 of14 of15 of16 of17 of18 of19 = (codes "dup", h.0 ∷ h.1 ∷ [], h.2, of15)
+begins words (actions.Split q x) h P of0 of1 of2 of3 of4 of5 of6 of7 of8 of9 of10 of11 of12 of13 of14 of15 of16 of17 of18 of19 = (codes "split", h.0 ∷ h.1, h.2, of16)
+begins words (actions.Who x) h P of0 of1 of2 of3 of4 of5 of6 of7 of8 of9 of10 of11 of12 of13 of14 of15 of16 of17 of18 of19 = (codes "who", h.0 ∷ [], h.1, of17)
+begins words (actions.Members x) h P of0 of1 of2 of3 of4 of5 of6 of7 of8 of9 of10 of11 of12 of13 of14 of15 of16 of17 of18 of19 = (codes "members", h.0 ∷ [], h.1, of18)
+begins words (actions.Compare x y) h P of0 of1 of2 of3 of4 of5 of6 of7 of8 of9 of10 of11 of12 of13 of14 of15 of16 of17 of18 of19 = (codes "compare", h.0 ∷ h.1 ∷ [], h.2, of19)

@@ -9,12 +9,12 @@ use Rattle.statements.specs.declared.action.Action.TheVariants as actions
 use Rattle.statements.specs.Grammar.{IsColour, IsCommunicator, IsKey, IsSplitting, Spells}
 use Rattle.line_words.specs.Grammar.{Word, NamesIt}
 use Rattle.line_words.specs.Numbers.{number_up_to}
-use Rattle.line_words.specs.Results.{◌>>=◌}
 use Rattle.line_words.specs.Fields.{first, ended, name_of}
 use Rattle.statements.specs.Reading.{colour_of, communicator_alone, communicator_of, dup_of, key_below, key_of, split_of, two_communicators}
 use Rattle.line_words.proofs.FieldLaws.{named_takes, named_again}
 use Rattle.line_words.proofs.WordLaws.{bind_ok, made, pick, no_test, same_word, no_letters, bounded_takes, bounded_again}
-use Rattle.statements.proofs.FieldLaws.{two, communicator_takes, communicator_again}
+use Rattle.statements.proofs.FieldSteps.{two, four}
+use Rattle.statements.proofs.FieldLaws.{communicator_takes, communicator_again}
 use Rattle.statements.proofs.ElementLaws.{dash_front, digit_front}
 
 -- ---- colours and keys
@@ -133,16 +133,6 @@ dup_from a b n c p q = rw (p, q) refl
 
 pub dup_again : (a b n : Word) (c : Communicator) → NamesIt a n → IsCommunicator b c → dup_of (a ∷ b ∷ []) ≡ Some (n, c)
 dup_again a b n c h k = dup_from a b n c (named_again a n h) (communicator_again b c k)
-
--- four fields that don't depend on one another
-four : {A B C D S : Type 0} (a : Option A) (b : Option B) (c : Option C) (d : Option D) (make : A → B → C → D → S) (s : S)
-    → (a >>= λ x. b >>= λ y. c >>= λ z. d >>= λ u. Some (make x y z u)) ≡ Some s
-    → (x : A) × (y : B) × (z : C) × (u : D) × (a ≡ Some x) × (b ≡ Some y) × (c ≡ Some z) × (d ≡ Some u) × (make x y z u ≡ s)
-four (Some x) (Some y) (Some z) (Some u) make s h = (x, y, z, u, refl, refl, refl, refl, cc)
-four None b c d make s h = absurd cc
-four (Some x) None c d make s h = absurd cc
-four (Some x) (Some y) None d make s h = absurd cc
-four (Some x) (Some y) (Some z) None make s h = absurd cc
 
 named_split : Word → Communicator → Option ℕ → ℤ → Word × Splitting
 named_split n c o k = (n, record { communicator = c; colour = o; key = k })

@@ -12,10 +12,10 @@ use Rattle.statements.specs.declared.action.Through.{Through}
 use Rattle.statements.specs.Grammar.{IsCommunicator, IsTarget, IsSource, IsTag, IsRequested, IsThrough}
 use Rattle.line_words.specs.Grammar.{Word, IsLarge, StandFor, NamesIt}
 use Rattle.line_words.specs.Numbers.{number_or}
-use Rattle.line_words.specs.Results.{◌>>=◌}
 use Rattle.statements.specs.Reading.{one_request, communicator_of, target_of, source_of, tag_of, requested_of, behind_as, through_of}
 use Rattle.line_words.specs.Fields.{first, ended, each, name_of, rank_of, large_of}
 use Rattle.line_words.proofs.WordLaws.{bind_ok, made, pick, same_word, other_word, no_letters, capped_takes, capped_again}
+use Rattle.statements.proofs.FieldSteps.{two}
 use Rattle.line_words.proofs.EachLaws.{all_take, all_again}
 use Rattle.line_words.proofs.FieldLaws.{named_takes, named_again, rank_takes, rank_again, large_takes, large_again}
 
@@ -111,13 +111,6 @@ requests_again words rs h = all_again IsRequested requested_of requested_again w
 
 through_made : Word → ℕ → Through
 through_made l n = record { layout = l; copies = n }
-
--- two fields that don't depend on one another
-pub two : {A B S : Type 0} (a : Option A) (b : Option B) (make : A → B → S) (s : S)
-    → (a >>= λ x. b >>= λ y. Some (make x y)) ≡ Some s → (x : A) × (y : B) × (a ≡ Some x) × (b ≡ Some y) × (make x y ≡ s)
-two (Some x) (Some y) make s h = (x, y, refl, refl, cc)
-two None b make s h = absurd cc
-two (Some x) None make s h = absurd cc
 
 IsBehind : List Word → Through → Type 0
 IsBehind words through = (layout copies : Word) × (words ≡ layout ∷ copies ∷ []) × NamesIt layout through.layout × IsLarge copies through.copies

@@ -22,7 +22,7 @@ use Rattle.line_words.specs.Fields.{first, ended, each, name_of, large_of}
 use Rattle.line_words.proofs.WordLaws.{bind_ok, made, is_nothing, Yields, step, yielded, same_word, type_takes, type_again}
 use Rattle.line_words.proofs.EachLaws.{all_take, all_again}
 use Rattle.line_words.proofs.MarkLaws.{mark_here, digits_plain, a_place, take_front, drop_front}
-use Rattle.statements.proofs.FieldLaws.{two}
+use Rattle.statements.proofs.FieldSteps.{two, four}
 use Rattle.line_words.proofs.FieldLaws.{named_takes, named_again, large_takes, large_again}
 
 -- ---- what a layout is made of
@@ -142,16 +142,6 @@ contiguous_takes (a ∷ b ∷ []) m e =
 contiguous_from : (a b : Word) (n : ℕ) (o : OldLayout) → large_of a ≡ Some n → old_of b ≡ Some o → contiguous_of (a ∷ b ∷ []) ≡ Some (forms.Contiguous n, o)
 unfolding contiguous_of first ended
 contiguous_from a b n o p q = rw (p, q) refl
-
--- fields that don't depend on one another
-four : {A B C D S : Type 0} (a : Option A) (b : Option B) (c : Option C) (d : Option D) (make : A → B → C → D → S) (s : S)
-    → (a >>= λ x. b >>= λ y. c >>= λ z. d >>= λ u. Some (make x y z u)) ≡ Some s
-    → (x : A) × (y : B) × (z : C) × (u : D) × (a ≡ Some x) × (b ≡ Some y) × (c ≡ Some z) × (d ≡ Some u) × (make x y z u ≡ s)
-four (Some x) (Some y) (Some z) (Some u) make s h = (x, y, z, u, refl, refl, refl, refl, cc)
-four None b c d make s h = absurd cc
-four (Some x) None c d make s h = absurd cc
-four (Some x) (Some y) None d make s h = absurd cc
-four (Some x) (Some y) (Some z) None make s h = absurd cc
 
 vector_made : ℕ → ℕ → ℕ → OldLayout → LayoutForm × OldLayout
 vector_made c b s o = (forms.Vector (record { count = c; blocklength = b; stride = s }), o)

@@ -1,7 +1,9 @@
 pub mod VerbLaws
+pub mod FieldSteps
 pub mod FieldLaws
 pub mod ElementLaws
 pub mod ElementSteps
 pub mod LayoutLaws
 pub mod CommunicatorLaws
+pub mod CollectiveLaws
 pub mod ActionLaws

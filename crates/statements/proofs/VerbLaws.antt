@@ -18,6 +18,12 @@ verb_word verbs.Test = codes "test"
 verb_word verbs.Cancel = codes "cancel"
 verb_word verbs.Waitany = codes "waitany"
 verb_word verbs.Waitall = codes "waitall"
+verb_word verbs.Barrier = codes "barrier"
+verb_word verbs.Bcast = codes "bcast"
+verb_word verbs.Gather = codes "gather"
+verb_word verbs.Scatter = codes "scatter"
+verb_word verbs.Reduce = codes "reduce"
+verb_word verbs.Allreduce = codes "allreduce"
 verb_word verbs.Dup = codes "dup"
 verb_word verbs.Split = codes "split"
 verb_word verbs.Who = codes "who"
@@ -37,11 +43,17 @@ verbs_are word =
     (step P (bytes_eq word (codes "cancel")) _ _ (same_word word (codes "cancel"))
     (step P (bytes_eq word (codes "waitany")) _ _ (same_word word (codes "waitany"))
     (step P (bytes_eq word (codes "waitall")) _ _ (same_word word (codes "waitall"))
+    (step P (bytes_eq word (codes "barrier")) _ _ (same_word word (codes "barrier"))
+    (step P (bytes_eq word (codes "bcast")) _ _ (same_word word (codes "bcast"))
+    (step P (bytes_eq word (codes "gather")) _ _ (same_word word (codes "gather"))
+    (step P (bytes_eq word (codes "scatter")) _ _ (same_word word (codes "scatter"))
+    (step P (bytes_eq word (codes "reduce")) _ _ (same_word word (codes "reduce"))
+    (step P (bytes_eq word (codes "allreduce")) _ _ (same_word word (codes "allreduce"))
     (step P (bytes_eq word (codes "dup")) _ _ (same_word word (codes "dup"))
     (step P (bytes_eq word (codes "split")) _ _ (same_word word (codes "split"))
     (step P (bytes_eq word (codes "who")) _ _ (same_word word (codes "who"))
     (step P (bytes_eq word (codes "members")) _ _ (same_word word (codes "members"))
-    (step P (bytes_eq word (codes "compare")) _ _ (same_word word (codes "compare")) tt)))))))))))))
+    (step P (bytes_eq word (codes "compare")) _ _ (same_word word (codes "compare")) tt)))))))))))))))))))
 
 pub verb_takes : (word : Word) (verb : Verb) → verb_of word ≡ Some verb → word ≡ verb_word verb
 verb_takes word verb e = yielded (λ verb. word ≡ verb_word verb) (verb_of word) verb (verbs_are word) e
@@ -57,6 +69,12 @@ verb_again verbs.Test = refl
 verb_again verbs.Cancel = refl
 verb_again verbs.Waitany = refl
 verb_again verbs.Waitall = refl
+verb_again verbs.Barrier = refl
+verb_again verbs.Bcast = refl
+verb_again verbs.Gather = refl
+verb_again verbs.Scatter = refl
+verb_again verbs.Reduce = refl
+verb_again verbs.Allreduce = refl
 verb_again verbs.Dup = refl
 verb_again verbs.Split = refl
 verb_again verbs.Who = refl

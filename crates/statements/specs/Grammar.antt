@@ -5,6 +5,8 @@ use Rattle.vocabulary.specs.declared.envelope.Source.{Source}
 use Rattle.vocabulary.specs.declared.envelope.Source.TheVariants as sources
 use Rattle.datatypes.specs.Elements.{has_sign, numbers_of}
 use Rattle.derived_types.specs.declared.block.Block.{Block}
+use Rattle.payload.specs.declared.operation.Operation.{Operation}
+use Rattle.payload.specs.declared.operation.Operation.TheVariants as operations
 use Rattle.line_words.specs.Grammar.{Word, IsNumeral, IsCapped, IsLarge, StandFor, type_word, NamesIt}
 use Rattle.statements.specs.declared.action.Communicator.{Communicator}
 use Rattle.statements.specs.declared.action.Communicator.TheVariants as communicators
@@ -15,6 +17,11 @@ use Rattle.statements.specs.declared.action.Through.{Through}
 use Rattle.statements.specs.declared.action.Sending.{Sending}
 use Rattle.statements.specs.declared.action.Receiving.{Receiving}
 use Rattle.statements.specs.declared.action.Splitting.{Splitting}
+use Rattle.statements.specs.declared.collective_line.Broadcasting.{Broadcasting}
+use Rattle.statements.specs.declared.collective_line.Gathering.{Gathering}
+use Rattle.statements.specs.declared.collective_line.Scattering.{Scattering}
+use Rattle.statements.specs.declared.collective_line.Reducing.{Reducing}
+use Rattle.statements.specs.declared.collective_line.ReducingToAll.{ReducingToAll}
 use Rattle.statements.specs.declared.action.Action.{Action}
 use Rattle.statements.specs.declared.action.Action.TheVariants as actions
 use Rattle.statements.specs.declared.layout_line.OldLayout.{OldLayout}
@@ -176,6 +183,57 @@ IsSplitting words split =
     (communicator colour key : Word) × (words ≡ communicator ∷ colour ∷ key ∷ [])
     × IsCommunicator communicator split.communicator × IsColour colour split.colour × IsKey key split.key
 
+-- ---- collectives that move elements
+
+-- the word of an operation
+abbrev pub operation_word : Operation → Word
+operation_word operations.Max = codes "max"
+operation_word operations.Min = codes "min"
+operation_word operations.Sum = codes "sum"
+operation_word operations.Prod = codes "prod"
+operation_word operations.Land = codes "land"
+operation_word operations.Lor = codes "lor"
+operation_word operations.Lxor = codes "lxor"
+operation_word operations.Band = codes "band"
+operation_word operations.Bor = codes "bor"
+operation_word operations.Bxor = codes "bxor"
+operation_word operations.Affine = codes "affine"
+
+-- a buffer's name, or `-`
+abbrev pub IsBlocks : Word → Option Word → Type 0
+IsBlocks word None = word ≡ codes "-"
+IsBlocks word (Some name) = NamesIt word name
+
+-- `COMM ROOT B`
+abbrev pub IsBroadcasting : List Word → Broadcasting → Type 0
+IsBroadcasting words line =
+    (communicator root buffer : Word) × (words ≡ communicator ∷ root ∷ buffer ∷ [])
+    × IsCommunicator communicator line.communicator × IsCapped 65535 root line.root × NamesIt buffer line.buffer
+
+-- `COMM ROOT B INTO`
+abbrev pub IsGathering : List Word → Gathering → Type 0
+IsGathering words line =
+    (communicator root buffer into : Word) × (words ≡ communicator ∷ root ∷ buffer ∷ into ∷ [])
+    × IsCommunicator communicator line.communicator × IsCapped 65535 root line.root × NamesIt buffer line.buffer × NamesIt into line.into
+
+-- `COMM ROOT B INTO`, where B may be `-`
+abbrev pub IsScattering : List Word → Scattering → Type 0
+IsScattering words line =
+    (communicator root buffer into : Word) × (words ≡ communicator ∷ root ∷ buffer ∷ into ∷ [])
+    × IsCommunicator communicator line.communicator × IsCapped 65535 root line.root × IsBlocks buffer line.buffer × NamesIt into line.into
+
+-- `COMM ROOT OP B INTO`
+abbrev pub IsReducing : List Word → Reducing → Type 0
+IsReducing words line =
+    (communicator root buffer into : Word) × (words ≡ communicator ∷ root ∷ operation_word line.operation ∷ buffer ∷ into ∷ [])
+    × IsCommunicator communicator line.communicator × IsCapped 65535 root line.root × NamesIt buffer line.buffer × NamesIt into line.into
+
+-- `COMM OP B INTO`
+abbrev pub IsReducingToAll : List Word → ReducingToAll → Type 0
+IsReducingToAll words line =
+    (communicator buffer into : Word) × (words ≡ communicator ∷ operation_word line.operation ∷ buffer ∷ into ∷ [])
+    × IsCommunicator communicator line.communicator × NamesIt buffer line.buffer × NamesIt into line.into
+
 -- ---- all that ranks do
 
 -- the first word of what a rank does, and what the words behind it say
@@ -191,6 +249,12 @@ Spells words (actions.Test request) = (word : Word) × (words ≡ codes "test" �
 Spells words (actions.Cancel request) = (word : Word) × (words ≡ codes "cancel" ∷ word ∷ []) × IsRequested word request
 Spells words (actions.Waitany requests) = (rest : List Word) × (words ≡ codes "waitany" ∷ rest) × StandFor IsRequested rest requests
 Spells words (actions.Waitall requests) = (rest : List Word) × (words ≡ codes "waitall" ∷ rest) × StandFor IsRequested rest requests
+Spells words (actions.Barrier communicator) = (word : Word) × (words ≡ codes "barrier" ∷ word ∷ []) × IsCommunicator word communicator
+Spells words (actions.Bcast line) = (rest : List Word) × (words ≡ codes "bcast" ∷ rest) × IsBroadcasting rest line
+Spells words (actions.Gather line) = (rest : List Word) × (words ≡ codes "gather" ∷ rest) × IsGathering rest line
+Spells words (actions.Scatter line) = (rest : List Word) × (words ≡ codes "scatter" ∷ rest) × IsScattering rest line
+Spells words (actions.Reduce line) = (rest : List Word) × (words ≡ codes "reduce" ∷ rest) × IsReducing rest line
+Spells words (actions.Allreduce line) = (rest : List Word) × (words ≡ codes "allreduce" ∷ rest) × IsReducingToAll rest line
 Spells words (actions.Dup new communicator) =
     (name old : Word) × (words ≡ codes "dup" ∷ name ∷ old ∷ []) × NamesIt name new × IsCommunicator old communicator
 Spells words (actions.Split new split) =

@@ -5,6 +5,8 @@ use Rattle.std.specs.Str.{bytes_eq}
 use Rattle.vocabulary.specs.declared.basic_type.BasicType.{BasicType}
 use Rattle.vocabulary.specs.declared.envelope.Source.{Source}
 use Rattle.vocabulary.specs.declared.envelope.Source.TheVariants as sources
+use Rattle.payload.specs.declared.operation.Operation.{Operation}
+use Rattle.payload.specs.declared.operation.Operation.TheVariants as operations
 use Rattle.datatypes.specs.Contents.{Contents}
 use Rattle.datatypes.specs.Elements.{number_of_value}
 use Rattle.derived_types.specs.declared.block.Block.{Block}
@@ -19,6 +21,11 @@ use Rattle.statements.specs.declared.action.Through.{Through}
 use Rattle.statements.specs.declared.action.Sending.{Sending}
 use Rattle.statements.specs.declared.action.Receiving.{Receiving}
 use Rattle.statements.specs.declared.action.Splitting.{Splitting}
+use Rattle.statements.specs.declared.collective_line.Broadcasting.{Broadcasting}
+use Rattle.statements.specs.declared.collective_line.Gathering.{Gathering}
+use Rattle.statements.specs.declared.collective_line.Scattering.{Scattering}
+use Rattle.statements.specs.declared.collective_line.Reducing.{Reducing}
+use Rattle.statements.specs.declared.collective_line.ReducingToAll.{ReducingToAll}
 use Rattle.statements.specs.declared.action.Action.{Action}
 use Rattle.statements.specs.declared.action.Action.TheVariants as actions
 use Rattle.statements.specs.declared.layout_line.OldLayout.{OldLayout}
@@ -299,6 +306,100 @@ split_of words = do
   k ← key_of key.0
   Some (n, record { communicator = c; colour = o; key = k })
 
+-- ---- collectives that move elements
+
+-- the operation that the word names
+unfoldable pub operation_of : Word → Option Operation
+operation_of word =
+    if bytes_eq word (codes "max") then Some operations.Max
+    else (if bytes_eq word (codes "min") then Some operations.Min
+    else (if bytes_eq word (codes "sum") then Some operations.Sum
+    else (if bytes_eq word (codes "prod") then Some operations.Prod
+    else (if bytes_eq word (codes "land") then Some operations.Land
+    else (if bytes_eq word (codes "lor") then Some operations.Lor
+    else (if bytes_eq word (codes "lxor") then Some operations.Lxor
+    else (if bytes_eq word (codes "band") then Some operations.Band
+    else (if bytes_eq word (codes "bor") then Some operations.Bor
+    else (if bytes_eq word (codes "bxor") then Some operations.Bxor
+    else (if bytes_eq word (codes "affine") then Some operations.Affine
+    else None))))))))))
+
+-- a buffer's name, or `-`
+unfoldable pub block_from : Word → Option (Option Word)
+block_from word =
+    if bytes_eq word (codes "-") then Some None
+    else (name_of word >>= λ name. Some (Some name))
+
+-- `COMM ROOT B`
+unfoldable pub bcast_of : List Word → Option Broadcasting
+bcast_of words = do
+  communicator ← first words
+  root ← first communicator.1
+  buffer ← first root.1
+  end ← ended buffer.1
+  c ← communicator_of communicator.0
+  r ← rank_of root.0
+  b ← name_of buffer.0
+  Some (record { communicator = c; root = r; buffer = b })
+
+-- `COMM ROOT B INTO`
+unfoldable pub gather_of : List Word → Option Gathering
+gather_of words = do
+  communicator ← first words
+  root ← first communicator.1
+  buffer ← first root.1
+  into ← first buffer.1
+  end ← ended into.1
+  c ← communicator_of communicator.0
+  r ← rank_of root.0
+  b ← name_of buffer.0
+  i ← name_of into.0
+  Some (record { communicator = c; root = r; buffer = b; into = i })
+
+-- `COMM ROOT B INTO`, where B may be `-`
+unfoldable pub scatter_of : List Word → Option Scattering
+scatter_of words = do
+  communicator ← first words
+  root ← first communicator.1
+  buffer ← first root.1
+  into ← first buffer.1
+  end ← ended into.1
+  c ← communicator_of communicator.0
+  r ← rank_of root.0
+  b ← block_from buffer.0
+  i ← name_of into.0
+  Some (record { communicator = c; root = r; buffer = b; into = i })
+
+-- `COMM ROOT OP B INTO`
+unfoldable pub reduce_of : List Word → Option Reducing
+reduce_of words = do
+  communicator ← first words
+  root ← first communicator.1
+  operation ← first root.1
+  buffer ← first operation.1
+  into ← first buffer.1
+  end ← ended into.1
+  c ← communicator_of communicator.0
+  r ← rank_of root.0
+  o ← operation_of operation.0
+  b ← name_of buffer.0
+  i ← name_of into.0
+  Some (record { communicator = c; root = r; operation = o; buffer = b; into = i })
+
+-- `COMM OP B INTO`
+unfoldable pub allreduce_of : List Word → Option ReducingToAll
+allreduce_of words = do
+  communicator ← first words
+  operation ← first communicator.1
+  buffer ← first operation.1
+  into ← first buffer.1
+  end ← ended into.1
+  c ← communicator_of communicator.0
+  o ← operation_of operation.0
+  b ← name_of buffer.0
+  i ← name_of into.0
+  Some (record { communicator = c; operation = o; buffer = b; into = i })
+
 -- ---- all that ranks do, by the first word
 
 abbrev pub action_by : Verb → List Word → Option Action
@@ -311,6 +412,12 @@ action_by verbs.Test words = one_of words >>= λ request. Some (actions.Test req
 action_by verbs.Cancel words = one_of words >>= λ request. Some (actions.Cancel request)
 action_by verbs.Waitany words = each one_request words >>= λ requests. Some (actions.Waitany requests)
 action_by verbs.Waitall words = each one_request words >>= λ requests. Some (actions.Waitall requests)
+action_by verbs.Barrier words = communicator_alone words >>= λ communicator. Some (actions.Barrier communicator)
+action_by verbs.Bcast words = bcast_of words >>= λ line. Some (actions.Bcast line)
+action_by verbs.Gather words = gather_of words >>= λ line. Some (actions.Gather line)
+action_by verbs.Scatter words = scatter_of words >>= λ line. Some (actions.Scatter line)
+action_by verbs.Reduce words = reduce_of words >>= λ line. Some (actions.Reduce line)
+action_by verbs.Allreduce words = allreduce_of words >>= λ line. Some (actions.Allreduce line)
 action_by verbs.Dup words = dup_of words >>= λ made. Some (actions.Dup made.0 made.1)
 action_by verbs.Split words = split_of words >>= λ made. Some (actions.Split made.0 made.1)
 action_by verbs.Who words = communicator_alone words >>= λ communicator. Some (actions.Who communicator)

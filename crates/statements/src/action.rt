@@ -2,6 +2,7 @@
 
 ghost use Rattle.std.specs.Prelude.{◌≡◌, ◌++◌, [], ◌∷◌, OnOk};
 
+use crate::collective_line::{Broadcasting, Gathering, Reducing, ReducingToAll, Scattering};
 use crate::layout_line::LayoutLine;
 use datatypes::Buffer;
 use line_words::Name;
@@ -159,6 +160,18 @@ pub enum Action {
     Waitany(RequestedList),
     /// `waitall Q ..` waits for all the requests, of which there may be none (MPI 3.1, 3.7.5).
     Waitall(RequestedList),
+    /// `barrier COMM` waits until all members have entered (MPI 3.1, 5.3).
+    Barrier(Communicator),
+    /// `bcast COMM ROOT B` gives the root's elements to all members (MPI 3.1, 5.4).
+    Bcast(Broadcasting),
+    /// `gather COMM ROOT B INTO` gives the elements of all members to the root (MPI 3.1, 5.5).
+    Gather(Gathering),
+    /// `scatter COMM ROOT B INTO` gives each member its block of the root's elements (MPI 3.1, 5.6).
+    Scatter(Scattering),
+    /// `reduce COMM ROOT OP B INTO` combines the elements of all members for the root (MPI 3.1, 5.9.1).
+    Reduce(Reducing),
+    /// `allreduce COMM OP B INTO` combines the elements of all members for each of them (MPI 3.1, 5.9.6).
+    Allreduce(ReducingToAll),
     /// `dup NEW COMM` makes a communicator with the same group, and names it (MPI 3.1, 6.4.2).
     Dup(Name, Communicator),
     /// `split NEW COMM COLOUR KEY` makes a communicator of those who give the same colour, and names it (MPI 3.1, 6.4.2).

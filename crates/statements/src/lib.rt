@@ -5,6 +5,8 @@
 #![tactic(auto)]
 
 mod action;
+mod collective_line;
+mod collective_reading;
 mod communicator_reading;
 mod fields;
 mod layout_line;
@@ -17,6 +19,8 @@ pub use action::{
     Action, BufferLine, Communicator, Receiving, Requested, RequestedList, Sending, Splitting,
     Through,
 };
+pub use collective_line::{Broadcasting, Gathering, Reducing, ReducingToAll, Scattering};
 pub use layout_line::{Blocks, LayoutForm, LayoutLine, OldLayout, Stripes};
 pub use line_words::{LineError, Name, ParseError, Word, Words};
+pub use payload::Operation;
 pub use reading::{action_of, receiving_of, sending_of};

@@ -5,6 +5,7 @@ ghost use Rattle.statements.specs.Reading.{buffer_of, sending_of, receiving_of, 
 ghost use Rattle.line_words.specs.Results.{Gives};
 
 use crate::action::{Action, BufferLine, Receiving, Requested, Sending};
+use crate::collective_reading::{allreduce_of, bcast_of, gather_of, reduce_of, scatter_of};
 use crate::communicator_reading::{communicator_alone, dup_of, split_of, two_communicators};
 use crate::fields::{
     communicator_of, requested_of, requests_of, source_of, tag_of, target_of, through_of,
@@ -112,6 +113,12 @@ pub fn action_of(alloc: Global, words: &[Word]) -> Result<Action, LineError>
         Verb::Cancel => Ok(Action::Cancel(one_of(alloc, rest)?)),
         Verb::Waitany => Ok(Action::Waitany(requests_of(alloc, rest)?)),
         Verb::Waitall => Ok(Action::Waitall(requests_of(alloc, rest)?)),
+        Verb::Barrier => Ok(Action::Barrier(communicator_alone(alloc, rest)?)),
+        Verb::Bcast => Ok(Action::Bcast(bcast_of(alloc, rest)?)),
+        Verb::Gather => Ok(Action::Gather(gather_of(alloc, rest)?)),
+        Verb::Scatter => Ok(Action::Scatter(scatter_of(alloc, rest)?)),
+        Verb::Reduce => Ok(Action::Reduce(reduce_of(alloc, rest)?)),
+        Verb::Allreduce => Ok(Action::Allreduce(allreduce_of(alloc, rest)?)),
         Verb::Dup => {
             let (name, communicator) = dup_of(alloc, rest)?;
             Ok(Action::Dup(name, communicator))

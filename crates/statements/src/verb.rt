@@ -26,6 +26,18 @@ pub(crate) enum Verb {
     Waitany,
     /// `waitall`
     Waitall,
+    /// `barrier`
+    Barrier,
+    /// `bcast`
+    Bcast,
+    /// `gather`
+    Gather,
+    /// `scatter`
+    Scatter,
+    /// `reduce`
+    Reduce,
+    /// `allreduce`
+    Allreduce,
     /// `dup`
     Dup,
     /// `split`
@@ -61,6 +73,18 @@ pub(crate) fn verb_of(word: &[u8]) -> Option<Verb>
         Some(Verb::Waitany)
     } else if is(word, b"waitall") {
         Some(Verb::Waitall)
+    } else if is(word, b"barrier") {
+        Some(Verb::Barrier)
+    } else if is(word, b"bcast") {
+        Some(Verb::Bcast)
+    } else if is(word, b"gather") {
+        Some(Verb::Gather)
+    } else if is(word, b"scatter") {
+        Some(Verb::Scatter)
+    } else if is(word, b"reduce") {
+        Some(Verb::Reduce)
+    } else if is(word, b"allreduce") {
+        Some(Verb::Allreduce)
     } else if is(word, b"dup") {
         Some(Verb::Dup)
     } else if is(word, b"split") {

@@ -1,7 +1,7 @@
 //! Why a file of events did not run to its end.
 
 ghost use Rattle.std.specs.Prelude.{◌≡◌};
-ghost use Rattle.simulation.specs.declared.error.SimulateError.TheVariants.{OutOfMemory, Output};
+ghost use Rattle.event_lines.specs.declared.error.SimulateError.TheVariants.{OutOfMemory, Output};
 
 use std::alloc::AllocError;
 use std::io;
