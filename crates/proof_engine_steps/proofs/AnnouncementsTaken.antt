@@ -57,7 +57,7 @@ next_same (n ∷ ns) (suc k) zero = refl
 next_same (n ∷ ns) (suc k) (suc r) = next_same ns k r
 
 -- so they go on to count what was announced to each
-announced_numbers : (to : Endpoint → List Transfer) (known : List ℕ) (p : Place) (ns : List Numbers) (rank : ℕ) → IsNumbered to known p ns → IsNumbered to known p (with_announced ns rank)
+pub announced_numbers : (to : Endpoint → List Transfer) (known : List ℕ) (p : Place) (ns : List Numbers) (rank : ℕ) → IsNumbered to known p ns → IsNumbered to known p (with_announced ns rank)
 announced_numbers to known p ns rank h =
     record {
       width = length-set ns rank _ ∙ h.width;

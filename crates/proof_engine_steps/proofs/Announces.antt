@@ -51,16 +51,16 @@ one_more : (n most : ℕ) → n ≤ most → n ≢ most → n + 1 ≤ most
 one_more n most le ne = omega arith
 
 -- so its next number can be one more
-next_below : (ns : List Numbers) (rank : ℕ) → rank < length ns → is_full_to ns rank ≡ false → next_to ns rank ≤ most_transfers → next_to ns rank + 1 ≤ most_transfers
+pub next_below : (ns : List Numbers) (rank : ℕ) → rank < length ns → is_full_to ns rank ≡ false → next_to ns rank ≤ most_transfers → next_to ns rank + 1 ≤ most_transfers
 next_below ns rank inside free le =
     one_more (next_to ns rank) most_transfers le (below_last (slice_get ns rank) free (slice_index_or ns rank fresh) (number_at ns rank inside))
 
 -- one more has begun to the rank, and none to another one
-next_here : (ns : List Numbers) (rank : ℕ) → rank < length ns → next_to (with_begun ns rank) rank ≡ next_to ns rank + 1
+pub next_here : (ns : List Numbers) (rank : ℕ) → rank < length ns → next_to (with_begun ns rank) rank ≡ next_to ns rank + 1
 next_here ns rank inside =
     ap (λ (n : Numbers). n.begun) (get_or-set_same ns rank (record (slice_index_or ns rank fresh) { begun = next_to ns rank + 1 }) fresh inside)
 
-next_elsewhere : (ns : List Numbers) (rank other : ℕ) → other ≢ rank → next_to (with_begun ns rank) other ≡ next_to ns other
+pub next_elsewhere : (ns : List Numbers) (rank other : ℕ) → other ≢ rank → next_to (with_begun ns rank) other ≡ next_to ns other
 next_elsewhere ns rank other apart =
     ap (λ (n : Numbers). n.begun) (get_or-set_other ns rank other (record (slice_index_or ns rank fresh) { begun = next_to ns rank + 1 }) fresh apart)
 
@@ -83,7 +83,7 @@ announced_number a known p ns to context tag serial c n inside other rank there 
     ∙ ap (λ (ts : List Transfer). length ts) (sym (announced_there a (endpoint_of known to) context tag serial c)))))
 
 -- and none is above the greatest
-most_begun : (ns : List Numbers) (to rank : ℕ) → to < length ns → next_to ns to + 1 ≤ most_transfers → next_to ns rank ≤ most_transfers → (rank ≡ to) ⊎ (rank ≢ to) →
+pub most_begun : (ns : List Numbers) (to rank : ℕ) → to < length ns → next_to ns to + 1 ≤ most_transfers → next_to ns rank ≤ most_transfers → (rank ≡ to) ⊎ (rank ≢ to) →
     next_to (with_begun ns to) rank ≤ most_transfers
 most_begun ns to rank inside below le (inl e) =
     subst (λ (r : ℕ). next_to (with_begun ns to) r ≤ most_transfers) (sym e) (subst (λ (m : ℕ). m ≤ most_transfers) (sym (next_here ns to inside)) below)

@@ -51,3 +51,4 @@ pub mod DataSent
 pub mod AnswersTaken
 pub mod GatheredPieces
 pub mod PiecesTaken
+pub mod Counting

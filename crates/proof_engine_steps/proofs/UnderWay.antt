@@ -3,23 +3,26 @@ use Rattle.std.proofs.Common.{◌≡◌, ◌≢◌, ℕ, zero, suc, List, [], �
 use Rattle.std.specs.List.{AllByRecursion}
 use Rattle.std.proofs.lemmas.Bool.{cases_eq}
 use Rattle.std.proofs.lemmas.Option.{same_Some}
-use Rattle.vocabulary.specs.declared.endpoint.Endpoint.{Endpoint}
 use Rattle.incarnation.specs.declared.place.Place.{Place}
 use Rattle.match_queues.specs.declared.envelope.Body.{Body}
 use Rattle.match_queues.specs.declared.envelope.Body.TheVariants as bodies
 use Rattle.match_queues.specs.declared.envelope.Message.{Message}
+use Rattle.rank_core.specs.CoreState.{CoreState}
 use Rattle.rendezvous.specs.declared.offer.Offer.{Offer}
+use Rattle.rendezvous.specs.declared.transfers.Numbers.{Numbers}
 use Rattle.rendezvous.specs.Collecting as rendezvous
 use Rattle.rendezvous.specs.State as transfers
 use Rattle.perfect_queues.proofs.ListLemmas.{get_set_other}
 use Rattle.proof_pure_network.proofs.JobLemmas.{get_set_same}
+use Rattle.proof_pure_network.specs.Core.{Core}
 use Rattle.proof_pure_network.specs.Held as held
 use Rattle.proof_pure_network.specs.Held.{Held, Part}
 use Rattle.proof_pure_network.specs.Jobs.{Job, Waiting, Collecting, Offering, Over, Closed}
 use Rattle.proof_engine_view.specs.Frames.{endpoint_of}
 use Rattle.proof_engine_view.specs.Rows.{Row, body_seen, held_of}
 use Rattle.proof_engine_view.specs.Transfers.{Announcements, AnnouncementsGrow, Transfer}
-use Rattle.proof_engine_view.specs.UnderWay.{AreUnderWay, IsCollectionOf, IsFromLink, IsOfferOf}
+use Rattle.proof_engine_view.specs.Shown.{IsShown}
+use Rattle.proof_engine_view.specs.UnderWay.{AreUnderWay, IsCollectionOf, IsFromLink, IsNumbered, IsOfferOf}
 use Rattle.proof_engine_view.proofs.Growing.{begun_at, number_more, serial_more}
 use Rattle.proof_engine_steps.specs.Steps.{OthersMayAnnounce}
 
@@ -155,15 +158,12 @@ held_same old new known p [] g all = refl
 held_same old new known p (m ∷ ms) g all =
     ap₂ (λ (b : held.Body) (hs : List Held). record (held_of old.from m) { body = b } ∷ hs) (sym (body_same old new known p m m.body g all.0)) (held_same old new known p ms g all.1)
 
-pub under_way_more : (old new : Announcements) (known : List ℕ) (p : Place) (rows : List Row) (t : transfers.State) (ms : List Message) → AnnouncementsGrow old new → ((d : Endpoint) → new.to d ≡ old.to d)
-    → AreUnderWay old known p rows t ms → AreUnderWay new known p rows t ms
-under_way_more old new known p rows t ms g to u =
+-- whatever the numbers of the sessions become, where they count what is announced now
+under_way_counted : (old new : Announcements) (known : List ℕ) (p : Place) (rows : List Row) (t : transfers.State) (ns : List Numbers) (ms : List Message) → AnnouncementsGrow old new → IsNumbered new.to known p ns
+    → AreUnderWay old known p rows t ms → AreUnderWay new known p rows (record t { numbers = ns }) ms
+under_way_counted old new known p rows t ns ms g numbered u =
     record {
-      numbered = record {
-        width = u.numbered.width;
-        begun = λ rank there apart. u.numbered.begun rank there apart ∙ ap (λ (ts : List Transfer). length ts) (sym (to (endpoint_of known rank)));
-        most = u.numbered.most;
-      };
+      numbered = numbered;
       offers = follow (IsOfferOf old.to known rows) (IsOfferOf new.to known rows) offer t.offers u.offers;
       offered = u.offered;
       offers_apart = u.offers_apart;
@@ -201,9 +201,10 @@ under_way_more old new known p rows t ms g to u =
       within = i.within;
     }
 
--- the law of what others announce
-pub others_may_announce : OthersMayAnnounce
-others_may_announce old new c known core shown g to =
+-- a core goes on to hold what it held as transfers are counted
+pub shown_counted : (old new : Announcements) (c : CoreState) (known : List ℕ) (core : Core) (ns : List Numbers) → IsShown old c known core → AnnouncementsGrow old new → IsNumbered new.to known c.place ns →
+    IsShown new (record c { transfers = record c.transfers { numbers = ns } }) known core
+shown_counted old new c known core ns shown g numbered =
     record {
       rows = shown.rows;
       jobs = shown.jobs;
@@ -211,10 +212,20 @@ others_may_announce old new c known core shown g to =
       table = shown.table;
       posted = shown.posted;
       held = shown.held ∙ held_same old new known c.place c.queues.unexpected g shown.under_way.messages;
-      under_way = under_way_more old new known c.place shown.rows c.transfers c.queues.unexpected g to shown.under_way;
+      under_way = under_way_counted old new known c.place shown.rows c.transfers ns c.queues.unexpected g numbered shown.under_way;
       blocked = shown.blocked;
       pending = shown.pending;
       width = shown.width;
       known_alike = shown.known_alike;
       itself = shown.itself;
     }
+
+-- the law of what others announce
+pub others_may_announce : OthersMayAnnounce
+others_may_announce old new c known core shown g to =
+    shown_counted old new c known core c.transfers.numbers shown g
+    (record {
+      width = shown.under_way.numbered.width;
+      begun = λ rank there apart. shown.under_way.numbered.begun rank there apart ∙ ap (λ (ts : List Transfer). length ts) (sym (to (endpoint_of known rank)));
+      most = shown.under_way.numbered.most;
+    })

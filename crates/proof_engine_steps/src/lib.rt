@@ -2,5 +2,7 @@
 #![tactic(auto)]
 
 mod law;
+mod numbers;
 
 pub use law::engines_are_cores;
+pub use numbers::transfers_are_counted;

@@ -1,4 +1,4 @@
--- The text of a notice is read as a message whose note stands for the notice.
+-- The message of a notice is read, and its note stands for the notice.
 use Rattle.std.proofs.Common.{◌≡◌, ℕ, Option, Some, None, Result, Ok, Err, ap, subst, ◌∙◌}
 use Rattle.collective_notes.specs.Arrivals.{ArrivalGives}
 use Rattle.collective_notes.specs.Messages.{says}
@@ -6,13 +6,12 @@ use Rattle.collective_notes.specs.declared.message.Message.{Message}
 use Rattle.collective_notes.specs.declared.note.Note.{Note}
 use Rattle.collective_notes.specs.declared.refused.Refused.{Refused}
 use Rattle.collective_notes.specs.declared.refused.Refused.TheVariants as refusals
-use Rattle.datagram.specs.Spelling.{EagerFrame, EagerText, FrameText}
 use Rattle.payload.specs.Reading.{payload_of}
 use Rattle.proof_collective_steps.proofs.Arriving.{messages_arrive}
 use Rattle.proof_collective_steps.specs.Counterparts.{IsSaid}
 use Rattle.proof_collective_steps.specs.Sending.{IsReadable}
 use Rattle.proof_group_network.specs.Notices.{Notice}
-use Rattle.proof_session_carrying.specs.CarryLaws.{ArrivesAs, NoticesArrive}
+use Rattle.proof_session_carrying.specs.CarryLaws.{ArrivesAs, MessagesArrive, NoticesArrive}
 use Rattle.vocabulary.specs.declared.endpoint.Endpoint.{Endpoint}
 
 -- a message that can be read becomes a note, or memory is lacking
@@ -25,19 +24,16 @@ sent_arrives s d sent x alike said can (Err refusals.Blocked) gives = gives
 sent_arrives s d sent x alike said can (Err refusals.NoCommunicator) gives = gives
 sent_arrives s d sent x alike said can (Err refusals.Limit) gives = gives
 
-abbrev eager_or : EagerText → FrameText → EagerText
-eager_or d (EagerFrame t) = t
-eager_or d _ = d
+pub brought_arrives : MessagesArrive
+brought_arrives s d m x b = (b.spelled, λ result gives. sent_arrives s d m x b.alike b.said b.readable result gives)
 
 pub notices_arrive : NoticesArrive
-notices_arrive s d t x i =
-    let same : t ≡ i.eager = ap (eager_or t) i.frame_is in (
-      ap (λ (e : EagerText). e.plane) same ∙ i.plane,
-      (
-        says i.sent,
-        ap (λ (e : EagerText). payload_of e.elements) same ∙ i.payload,
-        λ result gives. sent_arrives s d i.sent x i.alike i.said i.readable result
-            (subst (λ (c : ℕ). ArrivalGives s c i.sent.number (says i.sent) result) (ap (λ (e : EagerText). e.context) same ∙ i.context)
-            (subst (λ (k : ℕ). ArrivalGives s t.context k (says i.sent) result) (ap (λ (e : EagerText). e.tag) same ∙ i.number) gives)),
-      ),
-    )
+notices_arrive s d t m x i b = (
+  i.plane,
+  (
+    says m,
+    ap payload_of i.elements ∙ b.spelled,
+    λ result gives. (brought_arrives s d m x b).1 result
+        (subst (λ (c : ℕ). ArrivalGives s c m.number (says m) result) i.context (subst (λ (k : ℕ). ArrivalGives s t.context k (says m) result) i.number gives)),
+  ),
+)

@@ -1,3 +1,4 @@
+pub mod Growing
 pub mod Carrying
 pub mod Arriving
 pub mod EventSteps

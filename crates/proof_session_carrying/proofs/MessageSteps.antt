@@ -1,72 +1,59 @@
 -- What sessions carry once an event of point to point happened.
-use Rattle.std.proofs.Common.{◌≡◌, List, [], ◌∷◌, refl, sym, ap, subst}
+use Rattle.std.proofs.Common.{◌≡◌, ℕ, List, [], ◌∷◌, sym, subst}
 use Rattle.datagram.specs.Spelling.{FrameText}
 use Rattle.proof_engine_view.specs.Standing as standing
-use Rattle.proof_engine_view.specs.Transfers.{Announcements, announcements_of}
-use Rattle.proof_group_network.proofs.SessionParts.{all_accepted, message_handed, still_is_quiet}
-use Rattle.proof_group_network.specs.Carried.{AreAllParts, Sessions, frames_out, notices_out}
-use Rattle.proof_group_network.specs.Network.{GroupNetwork, NoticeLink, notify_all}
-use Rattle.proof_group_network.specs.Notices.{Notice}
+use Rattle.proof_engine_view.specs.Transfers.{Announcements}
+use Rattle.proof_group_network.proofs.SessionParts.{message_handed, messages_accepted, still_is_quiet}
+use Rattle.proof_group_network.specs.Carried.{AreAllParts, Sessions, frames_carried}
+use Rattle.proof_group_network.specs.Network.{GroupNetwork, NoticeLink}
 use Rattle.proof_links.specs.Links.{LinksOf, accept_all, handed_on}
 use Rattle.proof_pure_network.specs.Frames.{Frame}
 use Rattle.proof_pure_network.specs.Links.{Link}
-use Rattle.proof_session_carrying.proofs.Carrying.{handed_is_carried, out_is_carried, still_is_still}
-use Rattle.proof_session_carrying.specs.Carrying.{AreCarried, AreSent, announced_by}
+use Rattle.proof_session_carrying.proofs.Carrying.{as_it_is, handed_is_carried, out_is_carried, still_is_still}
+use Rattle.proof_session_carrying.specs.Announced.{Announced, all_announced, transfers_as}
+use Rattle.proof_session_carrying.specs.Carrying.{AreAllBrought, AreCarried, AreSent, Saying}
 use Rattle.proof_session_carrying.specs.EventLaws.{AreJoined}
-use Rattle.proof_session_carrying.specs.MessageLaws.{MessagesAreCarried, OthersAreCarried, QueueCallsAreCarried, StillTextsAreQuiet, frames_carried}
+use Rattle.proof_session_carrying.specs.MessageLaws.{MessagesAreCarried, OthersAreCarried, QueueCallsAreCarried, StillTextsAreQuiet}
 use Rattle.vocabulary.specs.declared.endpoint.Endpoint.{Endpoint}
 
--- messages are no notices
-all_frames : (out : List (Endpoint × Frame)) → frames_out (frames_carried out) ≡ out
-all_frames [] = refl
-all_frames ((d, f) ∷ out) = ap (λ (xs : List (Endpoint × Frame)). (d, f) ∷ xs) (all_frames out)
-
-no_notices : (out : List (Endpoint × Frame)) → notices_out (frames_carried out) ≡ []
-no_notices [] = refl
-no_notices ((d, f) ∷ out) = no_notices out
+-- what was announced to and from e, where notices have this serial
+abbrev as_transfers : (told : Endpoint → Endpoint → List Announced) → Endpoint → (serial : ℕ) → Announcements
+as_transfers told e serial = record { to = λ d. transfers_as serial (told e d); from = λ s. transfers_as serial (told s e) }
 
 -- texts that stand for frames stand for what sessions carry of them
-sent_frames : (a : Announcements) (e : Endpoint) (texts : List (Endpoint × FrameText)) (out : List (Endpoint × Frame)) → standing.AreSent a texts out → AreSent a e texts (frames_carried out)
-sent_frames a e [] [] s = tt
-sent_frames a e [] (x ∷ xs) s = absurd s
-sent_frames a e (t ∷ ts) [] s = absurd s
-sent_frames a e ((y, text) ∷ ts) ((d, f) ∷ xs) s = (s.0, s.1, sent_frames a e ts xs s.2)
+sent_frames : (told : Endpoint → Endpoint → List Announced) (said : Saying) (e : Endpoint) (texts : List (Endpoint × FrameText)) (out : List (Endpoint × Frame)) → ((serial : ℕ) → standing.AreSent (as_transfers told e serial) texts out) →
+    AreSent told said e texts (frames_carried out)
+sent_frames told said e [] [] s = tt
+sent_frames told said e [] (x ∷ xs) s = absurd (s 0)
+sent_frames told said e (t ∷ ts) [] s = absurd (s 0)
+sent_frames told said e ((y, text) ∷ ts) ((d, f) ∷ xs) s = ((s 0).0, (λ serial. (s serial).1), sent_frames told said e ts xs (λ serial. (s serial).2))
 
-frames_joined : (links : Endpoint → Endpoint → Link) (notices : Endpoint → Endpoint → NoticeLink) (texts : LinksOf FrameText) (sessions : Sessions) (e : Endpoint) (out : List (Endpoint × Frame)) (gone : List (Endpoint × FrameText)) →
-    AreAllParts sessions links notices → AreCarried links texts sessions → standing.AreSent (announcements_of (accept_all links e out) e) gone out →
-    AreAllParts (accept_all sessions e (frames_carried out)) (accept_all links e out) notices × AreCarried (accept_all links e out) (accept_all texts e gone) (accept_all sessions e (frames_carried out))
-frames_joined links notices texts sessions e out gone parts alike s = (
-  subst (λ (xs : List (Endpoint × Frame)). AreAllParts (accept_all sessions e (frames_carried out)) (accept_all links e xs) notices) (all_frames out)
-      (subst (λ (ns : List (Endpoint × Notice)). AreAllParts (accept_all sessions e (frames_carried out)) (accept_all links e (frames_out (frames_carried out))) (notify_all notices e ns)) (no_notices out)
-      (all_accepted sessions links notices e (frames_carried out) parts)),
-  subst (λ (xs : List (Endpoint × Frame)). AreCarried (accept_all links e xs) (accept_all texts e gone) (accept_all sessions e (frames_carried out))) (all_frames out)
-      (out_is_carried links texts sessions e gone (frames_carried out) alike
-      (subst (λ (xs : List (Endpoint × Frame)). AreSent (announcements_of (accept_all links e xs) e) e gone (frames_carried out)) (sym (all_frames out))
-      (sent_frames (announcements_of (accept_all links e out) e) e gone out s))),
-)
-
-joined_as : (after : GroupNetwork) (links : Endpoint → Endpoint → Link) (notices : Endpoint → Endpoint → NoticeLink) (texts : LinksOf FrameText) (sessions : Sessions) → after.net.link ≡ links → after.notices ≡ notices →
-    AreAllParts sessions links notices × AreCarried links texts sessions → AreJoined after texts sessions
-joined_as after links notices texts sessions a b j =
+-- the links of the network that comes of it are these
+joined_as : (after : GroupNetwork) (links : Endpoint → Endpoint → Link) (notices : Endpoint → Endpoint → NoticeLink) (said : Saying) (texts : LinksOf FrameText) (sessions : Sessions) → after.net.link ≡ links → after.notices ≡ notices →
+    AreAllParts sessions links notices → AreCarried said texts sessions → AreAllBrought said notices → AreJoined after said texts sessions
+joined_as after links notices said texts sessions a b parts alike brought =
     record {
-      parts = subst (λ (ls : Endpoint → Endpoint → Link). AreAllParts sessions ls after.notices) (sym a) (subst (λ (ns : Endpoint → Endpoint → NoticeLink). AreAllParts sessions links ns) (sym b) j.0);
-      alike = subst (λ (ls : Endpoint → Endpoint → Link). AreCarried ls texts sessions) (sym a) j.1;
+      parts = subst (λ (ls : Endpoint → Endpoint → Link). AreAllParts sessions ls after.notices) (sym a) (subst (λ (ns : Endpoint → Endpoint → NoticeLink). AreAllParts sessions links ns) (sym b) parts);
+      alike = alike;
+      brought = subst (λ (ns : Endpoint → Endpoint → NoticeLink). AreAllBrought said ns) (sym b) brought;
     }
 
 pub queue_calls_are_carried : QueueCallsAreCarried
-queue_calls_are_carried w after texts sessions e core m entries out gone j h s =
-    joined_as after (accept_all w.net.link e out) w.notices (accept_all texts e gone) (accept_all sessions e (frames_carried out)) h.messages_are h.notices_are
-    (frames_joined w.net.link w.notices texts sessions e out gone j.parts j.alike s)
+queue_calls_are_carried w after said texts sessions e core m entries out gone j h s =
+    joined_as after (accept_all w.net.link e out) w.notices said (accept_all texts e gone) (accept_all sessions e (frames_carried out)) h.messages_are h.notices_are
+    (messages_accepted sessions w.net.link w.notices e out j.parts)
+    (out_is_carried said said texts sessions e gone (frames_carried out) j.alike (as_it_is said) (sent_frames (all_announced (accept_all sessions e (frames_carried out))) said e gone out s)) j.brought
 
 pub messages_are_carried : MessagesAreCarried
-messages_are_carried w after texts sessions x e core m entries out gone f j next h s =
-    joined_as after (accept_all (handed_on w.net.link x e) e out) w.notices (accept_all (handed_on texts x e) e gone) (accept_all (handed_on sessions x e) e (frames_carried out)) h.messages_are h.notices_are
-    (frames_joined (handed_on w.net.link x e) w.notices (handed_on texts x e) (handed_on sessions x e) e out gone
-    (message_handed sessions w.net.link w.notices x e f j.parts next).1 (handed_is_carried w.net.link texts sessions x e j.alike).1 s)
+messages_are_carried w after said texts sessions x e core m entries out gone f j next h s =
+    joined_as after (accept_all (handed_on w.net.link x e) e out) w.notices said (accept_all (handed_on texts x e) e gone) (accept_all (handed_on sessions x e) e (frames_carried out)) h.messages_are h.notices_are
+    (messages_accepted (handed_on sessions x e) (handed_on w.net.link x e) w.notices e out (message_handed sessions w.net.link w.notices x e f j.parts next).1)
+    (out_is_carried said said (handed_on texts x e) (handed_on sessions x e) e gone (frames_carried out) (handed_is_carried said texts sessions x e j.alike) (as_it_is said)
+    (sent_frames (all_announced (accept_all (handed_on sessions x e) e (frames_carried out))) said e gone out s)) j.brought
 
 pub others_are_carried : OthersAreCarried
-others_are_carried w after texts sessions e core m entries j h = joined_as after w.net.link w.notices texts sessions h.messages_are h.notices_are (j.parts, j.alike)
+others_are_carried w after said texts sessions e core m entries j h = joined_as after w.net.link w.notices said texts sessions h.messages_are h.notices_are j.parts j.alike j.brought
 
 pub still_texts_are_quiet : StillTextsAreQuiet
-still_texts_are_quiet w texts sessions j still =
-    still_is_quiet sessions w j.parts (λ s d a b c e. still_is_still (announced_by w.net.link s d) (announced_by w.net.link d s) s d (texts s d) (sessions s d) (j.alike s d) (still s d a b c e))
+still_texts_are_quiet w said texts sessions j still =
+    still_is_quiet sessions w j.parts (λ s d a b c e. still_is_still (all_announced sessions s d) (all_announced sessions d s) (said s d) (texts s d) (sessions s d) (j.alike s d) (still s d a b c e))

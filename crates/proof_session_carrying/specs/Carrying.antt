@@ -1,68 +1,144 @@
 -- For what of the network's sessions the texts of the engines' sessions stand.
-use Rattle.std.specs.Prelude.{◌≡◌, List, [], ◌∷◌, Some}
+use Rattle.std.specs.Prelude.{◌≡◌, ℕ, suc, ◌*◌, ◌<◌, List, [], ◌∷◌, ◌++◌, ◌&&◌, Some, drop, if◌then◌else◌, length, slice_get}
 use Rattle.collective_notes.specs.Messages.{says}
 use Rattle.collective_notes.specs.declared.message.Message.{Message}
-use Rattle.datagram.specs.Spelling.{EagerFrame, EagerText, FrameText}
+use Rattle.datagram.specs.Spelling.{ClearFrame, DataFrame, DataText, EagerFrame, EagerText, FrameText, RequestFrame, RequestText}
+use Rattle.datagram.specs.declared.kinds.Clearance.TheVariants.{Send}
 use Rattle.datagram.specs.declared.kinds.Plane.TheVariants.{Collective}
 use Rattle.payload.specs.Reading.{payload_of}
+use Rattle.payload.specs.Spelling.{spelling}
 use Rattle.proof_collective_steps.specs.Counterparts.{IsSaid}
 use Rattle.proof_collective_steps.specs.Sending.{IsReadable}
 use Rattle.proof_engine_view.specs.Standing.{StandsFor}
-use Rattle.proof_engine_view.specs.Transfers.{Announcements, Transfer, announced_in}
-use Rattle.proof_group_network.specs.Carried.{Carried, OfMessages, OfNotices, Session, Sessions}
+use Rattle.proof_group_network.specs.Carried.{Announces, Answers, BringsPart, Carried, OfMessages, OfNotices, Sessions}
+use Rattle.proof_group_network.specs.Network.{NoticeLink}
 use Rattle.proof_group_network.specs.Notices.{Notice}
 use Rattle.proof_links.specs.Links.{LinkOf, LinksOf}
-use Rattle.proof_pure_network.specs.Links.{Link}
+use Rattle.proof_session_carrying.specs.Announced.{Announced, LargeNotice, all_announced, transfers_as}
+use Rattle.rendezvous.specs.Pieces.{first_piece, piece_bytes, piece_count}
+use Rattle.vocabulary.specs.Endpoints.{is_same}
+use Rattle.vocabulary.specs.Limits.{eager_limit}
 use Rattle.vocabulary.specs.declared.basic_type.BasicType.TheVariants.{Byte}
 use Rattle.vocabulary.specs.declared.endpoint.Endpoint.{Endpoint}
 
--- A text from s to d stands for a notice: it is an eager frame of collectives, of bytes, which are read as what a message of s to
--- d says; its context is that message's, its tag the number of the collective; and the message stands for the notice
-pub record IsNotice (s d : Endpoint) (text : FrameText) (x : Notice) : Type 0 where
-  pub eager : EagerText
-  pub frame_is : text ≡ EagerFrame eager
-  pub plane : eager.plane ≡ Collective
-  pub basic : eager.basic ≡ Byte
-  pub sent : Message
-  pub context : eager.context ≡ sent.context
-  pub number : eager.tag ≡ sent.number
-  pub payload : payload_of eager.elements ≡ Some (says sent)
-  pub said : IsSaid s sent (d, x)
-  pub alike : s.incarnation ≡ d.incarnation
-  pub readable : IsReadable sent.entered sent.given
+-- ---- the messages that notices are
 
--- A text from s to d stands for what a session carries, where `out` was announced from s to d, and `back` on the way back
-abbrev pub StandsForCarried : (out back : List Transfer) → (s d : Endpoint) → FrameText → Carried → Type 0
-StandsForCarried out back s d text (OfMessages f) = StandsFor out back text f
-StandsForCarried out back s d text (OfNotices x) = IsNotice s d text x
+-- A message of s to d stands for a notice; it can be read, and its bytes say what it says
+pub record IsBrought (s d : Endpoint) (m : Message) (x : Notice) : Type 0 where
+  pub said : IsSaid s m (d, x)
+  pub alike : s.incarnation ≡ d.incarnation
+  pub readable : IsReadable m.entered m.given
+  pub spelled : payload_of (spelling (says m)) ≡ Some (says m)
+
+-- messages of s to d, one for each notice
+abbrev pub AreBrought : (s d : Endpoint) → List Message → List Notice → Type 0
+AreBrought s d [] [] = Unit {0}
+AreBrought s d [] (x ∷ xs) = ⊥
+AreBrought s d (m ∷ ms) [] = ⊥
+AreBrought s d (m ∷ ms) (x ∷ xs) = IsBrought s d m x × AreBrought s d ms xs
+
+-- the messages of collectives from each endpoint to each
+abbrev pub Saying : Type 0
+Saying = Endpoint → Endpoint → List Message
+
+-- one for each notice that links of notices accepted
+abbrev pub AreAllBrought : Saying → (Endpoint → Endpoint → NoticeLink) → Type 0
+AreAllBrought said notices = (s d : Endpoint) → AreBrought s d (said s d) (notices s d).accepted
+
+-- e sends one more to its target
+abbrev pub say : Saying → (e : Endpoint) → Message → Saying
+say said e m s d = if is_same s e && is_same d m.target then said e m.target ++ m ∷ [] else said s d
+
+-- several, in their order
+abbrev pub say_all : Saying → (e : Endpoint) → List Message → Saying
+say_all said e [] = said
+say_all said e (m ∷ ms) = say_all (say said e m) e ms
+
+-- the bytes of a message
+abbrev pub bytes_of_message : Message → List ℕ
+bytes_of_message m = spelling (says m)
+
+-- ---- the texts that bring them
+
+-- an eager frame brings a message: it is of collectives, of bytes, which are the message's; its context is that of the message, its
+-- tag the number of the collective
+pub record IsEager (m : Message) (t : EagerText) : Type 0 where
+  pub plane : t.plane ≡ Collective
+  pub basic : t.basic ≡ Byte
+  pub context : t.context ≡ m.context
+  pub number : t.tag ≡ m.number
+  pub elements : t.elements ≡ bytes_of_message m
+
+-- an RTS announces a message: so many bytes, more than a frame takes, for its context, under the number of the collective
+pub record IsRequest (m : Message) (t : RequestText) : Type 0 where
+  pub plane : t.plane ≡ Collective
+  pub basic : t.basic ≡ Byte
+  pub context : t.context ≡ m.context
+  pub number : t.tag ≡ m.number
+  pub count : t.count ≡ length (bytes_of_message m)
+  pub large : eager_limit < length (bytes_of_message m)
+
+-- a DATA frame brings a piece of a message, under the number of the transfer that announced the notice i
+pub record IsPiece (out : List Announced) (i part : ℕ) (m : Message) (t : DataText) : Type 0 where
+  pub announced : slice_get out t.transfer ≡ Some (LargeNotice i)
+  pub place : t.offset ≡ part * piece_bytes
+  pub bytes : t.bytes ≡ first_piece piece_bytes (drop (part * piece_bytes) (bytes_of_message m))
+
+-- a text makes the notice i whole: it brings its message, or the last piece of it
+abbrev pub MakesWhole : (out : List Announced) → (i : ℕ) → Message → FrameText → Type 0
+MakesWhole out i m (EagerFrame t) = IsEager m t
+MakesWhole out i m (DataFrame t) = (part : ℕ) × (suc part ≡ piece_count piece_bytes (bytes_of_message m)) × IsPiece out i part m t
+MakesWhole out i m _ = ⊥
+
+-- a text announces it, under a number that is its own
+abbrev pub MakesKnown : (out : List Announced) → (i : ℕ) → Message → FrameText → Type 0
+MakesKnown out i m (RequestFrame t) = (slice_get out t.transfer ≡ Some (LargeNotice i)) × IsRequest m t
+MakesKnown out i m _ = ⊥
+
+-- a text brings a piece of it, but not the last one
+abbrev pub MakesPart : (out : List Announced) → (i part : ℕ) → Message → FrameText → Type 0
+MakesPart out i part m (DataFrame t) = (suc part < piece_count piece_bytes (bytes_of_message m)) × IsPiece out i part m t
+MakesPart out i part m _ = ⊥
+
+-- a text asks for the notice i of the other direction, by the number under which it was announced there
+abbrev pub AsksFor : (back : List Announced) → (i : ℕ) → FrameText → Type 0
+AsksFor back i (ClearFrame t) = (slice_get back t.transfer ≡ Some (LargeNotice i)) × (t.clearance ≡ Send)
+AsksFor back i _ = ⊥
+
+-- ---- what a text stands for
+
+-- A text stands for what a session carries, where `out` was announced in its direction, `back` on the way back, and `said` are the
+-- messages of its notices. For a frame of messages it stands whatever serials notices have: so no number that it bears is a notice's
+abbrev pub StandsForCarried : (out back : List Announced) → (said : List Message) → FrameText → Carried → Type 0
+StandsForCarried out back said text (OfMessages f) = (serial : ℕ) → StandsFor (transfers_as serial out) (transfers_as serial back) text f
+StandsForCarried out back said text (OfNotices i) = (m : Message) × (slice_get said i ≡ Some m) × MakesWhole out i m text
+StandsForCarried out back said text (Announces i) = (m : Message) × (slice_get said i ≡ Some m) × MakesKnown out i m text
+StandsForCarried out back said text (Answers i) = AsksFor back i text
+StandsForCarried out back said text (BringsPart i part) = (m : Message) × (slice_get said i ≡ Some m) × MakesPart out i part m text
 
 -- each text for what is at its place
-abbrev pub StandFor : (out back : List Transfer) → (s d : Endpoint) → List FrameText → List Carried → Type 0
-StandFor out back s d [] [] = Unit {0}
-StandFor out back s d [] (x ∷ xs) = ⊥
-StandFor out back s d (text ∷ texts) [] = ⊥
-StandFor out back s d (text ∷ texts) (x ∷ xs) = StandsForCarried out back s d text x × StandFor out back s d texts xs
+abbrev pub StandFor : (out back : List Announced) → (said : List Message) → List FrameText → List Carried → Type 0
+StandFor out back said [] [] = Unit {0}
+StandFor out back said [] (x ∷ xs) = ⊥
+StandFor out back said (text ∷ texts) [] = ⊥
+StandFor out back said (text ∷ texts) (x ∷ xs) = StandsForCarried out back said text x × StandFor out back said texts xs
 
 -- a link of the engines' sessions carries what a session of the network carries, and handed as much of it up
-pub record IsCarried (out back : List Transfer) (s d : Endpoint) (texts : LinkOf FrameText) (session : Session) : Type 0 where
-  pub accepted : StandFor out back s d texts.accepted session.accepted
+pub record IsCarried (out back : List Announced) (said : List Message) (texts : LinkOf FrameText) (session : LinkOf Carried) : Type 0 where
+  pub accepted : StandFor out back said texts.accepted session.accepted
   pub handed : texts.handed ≡ session.handed
 
 -- so does each, where this was announced from endpoint to endpoint
-abbrev pub AreCarriedUnder : (told : Endpoint → Endpoint → List Transfer) → LinksOf FrameText → Sessions → Type 0
-AreCarriedUnder told texts sessions = (s d : Endpoint) → IsCarried (told s d) (told d s) s d (texts s d) (sessions s d)
+abbrev pub AreCarriedUnder : (told : Endpoint → Endpoint → List Announced) → Saying → LinksOf FrameText → Sessions → Type 0
+AreCarriedUnder told said texts sessions = (s d : Endpoint) → IsCarried (told s d) (told d s) (said s d) (texts s d) (sessions s d)
 
--- what links of messages announced
-abbrev pub announced_by : (Endpoint → Endpoint → Link) → Endpoint → Endpoint → List Transfer
-announced_by messages s d = announced_in (messages s d).accepted
-
--- each under the numbers that the network's links of messages give
-abbrev pub AreCarried : (Endpoint → Endpoint → Link) → LinksOf FrameText → Sessions → Type 0
-AreCarried messages texts sessions = AreCarriedUnder (announced_by messages) texts sessions
+-- each under the numbers that the sessions themselves give
+abbrev pub AreCarried : Saying → LinksOf FrameText → Sessions → Type 0
+AreCarried said texts sessions = AreCarriedUnder (all_announced sessions) said texts sessions
 
 -- each text that goes out at e goes where what it stands for goes
-abbrev pub AreSent : Announcements → (e : Endpoint) → List (Endpoint × FrameText) → List (Endpoint × Carried) → Type 0
-AreSent a e [] [] = Unit {0}
-AreSent a e [] (x ∷ xs) = ⊥
-AreSent a e (t ∷ ts) [] = ⊥
-AreSent a e ((y, text) ∷ ts) ((d, x) ∷ xs) = (y ≡ d) × StandsForCarried (a.to d) (a.from d) e d text x × AreSent a e ts xs
+abbrev pub AreSent : (told : Endpoint → Endpoint → List Announced) → Saying → (e : Endpoint) → List (Endpoint × FrameText) → List (Endpoint × Carried) → Type 0
+AreSent told said e [] [] = Unit {0}
+AreSent told said e [] (x ∷ xs) = ⊥
+AreSent told said e (t ∷ ts) [] = ⊥
+AreSent told said e ((y, text) ∷ ts) ((d, x) ∷ xs) = (y ≡ d) × StandsForCarried (told e d) (told d e) (said e d) text x × AreSent told said e ts xs

@@ -1,3 +1,4 @@
+pub mod Announced
 pub mod Carrying
 pub mod CarryLaws
 pub mod EventLaws

@@ -1,4 +1,4 @@
-use Rattle.proof_session_carrying.proofs.Arriving.{notices_arrive}
+use Rattle.proof_session_carrying.proofs.Arriving.{brought_arrives, notices_arrive}
 use Rattle.proof_session_carrying.proofs.Carrying.{handed_is_carried, next_stands, out_is_carried, still_is_still}
 use Rattle.proof_session_carrying.proofs.law.sessions_carry.Goals as goal
 
@@ -16,3 +16,6 @@ returns-clause-still c = still_is_still
 
 pub returns-clause-arrive : goal.returns-clause-arrive
 returns-clause-arrive c = notices_arrive
+
+pub returns-clause-messages : goal.returns-clause-messages
+returns-clause-messages c = brought_arrives
