@@ -1,24 +1,26 @@
 -- What entering a collective gives.
 use Rattle.std.proofs.Common.{◌≡◌, ℕ, Option, Some, None, refl, sym, ap, subst, ◌∙◌, inl, inr}
 use Rattle.collective_notes.specs.declared.entry.Entry.{Entry}
+use Rattle.collective_transfers.specs.State as payloads
 use Rattle.collectives.specs.State.{State}
 use Rattle.collective_steps.specs.declared.step.Ending.{Ending}
 use Rattle.context_agreement.specs.Communicators.{ContextsState}
 use Rattle.rank_calls.specs.declared.refused.Refused.{Refused}
 use Rattle.rank_calls.specs.declared.refused.Refused.TheVariants as refusals
+use Rattle.rank_core.specs.CoreState.{CoreState}
 use Rattle.sessions.specs.SessionsState.{SessionsState}
-use Rattle.engine.specs.Calls.{EnteringGives, IsEntered, IsRefused, LacksRoom, WhyRefused, reply_on_entry}
-use Rattle.engine.specs.EngineState.{EngineState}
+use Rattle.engine_parts.specs.Calls.{EnteringGives, IsEntered, IsRefused, LacksRoom, WhyRefused, reply_on_entry}
+use Rattle.engine_parts.specs.EngineState.{EngineState}
 use Rattle.engine.specs.Entering.{Goes, WhyNot}
-use Rattle.engine.specs.Faults.{fault_of}
-use Rattle.engine.specs.declared.call.Call.{Call}
-use Rattle.engine.specs.declared.call.Call.TheVariants as calls
-use Rattle.engine.specs.declared.reply.Reply.{Reply}
-use Rattle.engine.specs.declared.reply.Reply.TheVariants as replies
+use Rattle.engine_parts.specs.Faults.{fault_of}
+use Rattle.engine_parts.specs.declared.call.Call.{Call}
+use Rattle.engine_parts.specs.declared.call.Call.TheVariants as calls
+use Rattle.engine_parts.specs.declared.reply.Reply.{Reply}
+use Rattle.engine_parts.specs.declared.reply.Reply.TheVariants as replies
 
--- the engine with other groups and sessions
-abbrev pub moved : EngineState → State → ContextsState → SessionsState → EngineState
-moved e t k links = record { core = e.core; groups = record { collective = t; contexts = k }; ended = e.ended; sessions = links }
+-- the engine with another core, other groups, payloads and sessions
+abbrev pub moved : EngineState → State → ContextsState → CoreState → payloads.State → SessionsState → EngineState
+moved e t k d q links = record { core = d; groups = record { collective = t; contexts = k }; ended = e.ended; payloads = q; sessions = links }
 
 -- a rule or limit refuses a call
 pub refused_by : (e : EngineState) (call : Call) (why : Refused) → fault_of e call ≡ Some why → IsRefused e call why call e
@@ -37,7 +39,7 @@ refused_for e new call why free same lacks = record {
 }
 
 -- why a rank doesn't enter
-pub lacks_room : (e : EngineState) (place : ℕ) (x : Entry) (why : Refused) → WhyNot e.groups.collective e.groups.contexts e.sessions place x why →
+pub lacks_room : (e : EngineState) (place : ℕ) (x : Entry) (why : Refused) → WhyNot e.groups.collective e.groups.contexts e.core.transfers.numbers e.sessions place x why →
     LacksRoom e (calls.Enter (Some place) x) why
 lacks_room e place x refusals.OutOfMemory not = inl refl
 lacks_room e place x refusals.Limit not = inr (refl, (not.step, not.prepared, not.limit))
@@ -63,10 +65,10 @@ lacks_room e place x refusals.BadFrame not = absurd not
 lacks_room e place x refusals.OutOfWindow not = absurd not
 lacks_room e place x refusals.ClockBack not = absurd not
 
-is_entered : (e : EngineState) (t : State) (k : ContextsState) (links : SessionsState) (place : ℕ) (x : Entry) (ending : Option Ending) →
-    fault_of e (calls.Enter (Some place) x) ≡ None → Goes e.groups.collective e.groups.contexts e.sessions place x ending t k links →
-    IsEntered e (Some place) x (reply_on_entry ending) (moved e t k links)
-is_entered e t k links place x ending free goes = record {
+is_entered : (e : EngineState) (t : State) (k : ContextsState) (d : CoreState) (q : payloads.State) (links : SessionsState) (place : ℕ) (x : Entry) (ending : Option Ending) →
+    fault_of e (calls.Enter (Some place) x) ≡ None → Goes e.groups.collective e.groups.contexts e.core e.payloads e.sessions place x ending t k d q links →
+    IsEntered e (Some place) x (reply_on_entry ending) (moved e t k d q links)
+is_entered e t k d q links place x ending free goes = record {
   allowed = free;
   place = place;
   named = refl;
@@ -77,32 +79,33 @@ is_entered e t k links place x ending free goes = record {
   whole = goes.whole;
   goes = goes.goes;
   sessions = goes.sent;
-  core = refl;
+  core = goes.counted;
+  payloads = goes.kept;
   ended = refl;
 }
 
 -- a rank enters
-pub entered : (e : EngineState) (t : State) (k : ContextsState) (links : SessionsState) (place : ℕ) (x : Entry) (ending : Option Ending) →
-    fault_of e (calls.Enter (Some place) x) ≡ None → Goes e.groups.collective e.groups.contexts e.sessions place x ending t k links →
-    EnteringGives e (Some place) x (reply_on_entry ending) (moved e t k links)
-entered e t k links place x None free goes = is_entered e t k links place x None free goes
-entered e t k links place x (Some o) free goes = is_entered e t k links place x (Some o) free goes
+pub entered : (e : EngineState) (t : State) (k : ContextsState) (d : CoreState) (q : payloads.State) (links : SessionsState) (place : ℕ) (x : Entry) (ending : Option Ending) →
+    fault_of e (calls.Enter (Some place) x) ≡ None → Goes e.groups.collective e.groups.contexts e.core e.payloads e.sessions place x ending t k d q links →
+    EnteringGives e (Some place) x (reply_on_entry ending) (moved e t k d q links)
+entered e t k d q links place x None free goes = is_entered e t k d q links place x None free goes
+entered e t k d q links place x (Some o) free goes = is_entered e t k d q links place x (Some o) free goes
 
 -- the same, told of the parts of the engine
-pub entered_at : (e now new : EngineState) (t : State) (k : ContextsState) (links : SessionsState) (comm : Option ℕ) (place : ℕ) (x : Entry) (ending : Option Ending)
+pub entered_at : (e now new : EngineState) (t : State) (k : ContextsState) (d : CoreState) (q : payloads.State) (links : SessionsState) (comm : Option ℕ) (place : ℕ) (x : Entry) (ending : Option Ending)
     (r reply : Reply) → e ≡ now → comm ≡ Some place → reply ≡ r → r ≡ reply_on_entry ending → fault_of now (calls.Enter comm x) ≡ None →
-    Goes e.groups.collective e.groups.contexts e.sessions place x ending t k links → new ≡ moved e t k links → EnteringGives now comm x reply new
-entered_at e now new t k links comm place x ending r reply same named back is free goes moves =
+    Goes e.groups.collective e.groups.contexts e.core e.payloads e.sessions place x ending t k d q links → new ≡ moved e t k d q links → EnteringGives now comm x reply new
+entered_at e now new t k d q links comm place x ending r reply same named back is free goes moves =
     subst (λ (s : EngineState). fault_of s (calls.Enter comm x) ≡ None → EnteringGives s comm x reply new) same
     (subst (λ (o : Option ℕ). fault_of e (calls.Enter o x) ≡ None → EnteringGives e o x reply new) (sym named)
     (λ allowed.
     subst (λ (a : Reply). EnteringGives e (Some place) x a new) (sym (back ∙ is))
-    (subst (λ (s : EngineState). EnteringGives e (Some place) x (reply_on_entry ending) s) (sym moves) (entered e t k links place x ending allowed goes)))) free
+    (subst (λ (s : EngineState). EnteringGives e (Some place) x (reply_on_entry ending) s) (sym moves) (entered e t k d q links place x ending allowed goes)))) free
 
 -- or it is refused, and what was handed in comes back
 pub stays_out : (e now new : EngineState) (comm : Option ℕ) (place : ℕ) (x y : Entry) (why : Refused) (reply : Reply) → e ≡ now → comm ≡ Some place →
     reply ≡ replies.Refused why (calls.Enter (Some place) y) → y ≡ x → fault_of now (calls.Enter comm x) ≡ None →
-    WhyNot e.groups.collective e.groups.contexts e.sessions place x why → new ≡ e → EnteringGives now comm x reply new
+    WhyNot e.groups.collective e.groups.contexts e.core.transfers.numbers e.sessions place x why → new ≡ e → EnteringGives now comm x reply new
 stays_out e now new comm place x y why reply same named back handed free not stays =
     subst (λ (a : Reply). EnteringGives now comm x a new)
     (sym (back ∙ ap (λ (z : Entry). replies.Refused why (calls.Enter (Some place) z)) handed ∙ ap (λ (o : Option ℕ). replies.Refused why (calls.Enter o x)) (sym named)))

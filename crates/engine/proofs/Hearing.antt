@@ -2,11 +2,15 @@
 use Rattle.std.proofs.Common.{◌≡◌, ◌<◌, ℕ, List, [], ◌∷◌, length, max, Option, Some, None, Result, Ok, Err, Bool, true, false, refl, sym, ap, subst, ◌∙◌, arith, inl, inr}
 use Rattle.std.proofs.lemmas.Grind.{common_steps}
 use Rattle.std.proofs.lemmas.List.{get_or-set_same}
-use Rattle.std.specs.Prelude.{OnOk, slice_index}
+use Rattle.std.specs.Prelude.{IfErr, OnErr, OnOk, slice_index}
 use Rattle.vocabulary.specs.declared.endpoint.Endpoint.{Endpoint}
 use Rattle.datagram.specs.declared.datagram.Header.{Header}
 use Rattle.datagram.specs.declared.refused.Refused as reading
-use Rattle.datagram.specs.Spelling.{BodyText, EagerText, FrameBody, AckBody, ResetBody, DatagramText}
+use Rattle.collective_transfers.specs.Payloads.{Whole}
+use Rattle.collective_steps.specs.declared.step.Ending.{Ending}
+use Rattle.collective_transfers.specs.State as payloads
+use Rattle.collective_transfers.specs.State.{is_due, whole_with}
+use Rattle.datagram.specs.Spelling.{BodyText, DataText, EagerText, FrameBody, AckBody, ResetBody, DatagramText}
 use Rattle.datagram.specs.Reading.{datagram_of}
 use Rattle.incarnation.specs.declared.judgement.Judgement.{Judgement}
 use Rattle.incarnation.specs.declared.judgement.Judgement.TheVariants.{Current, Learn}
@@ -15,6 +19,7 @@ use Rattle.incarnation.specs.declared.refused.Refused.TheVariants as judgings
 use Rattle.incarnation.specs.Judging.{judgement}
 use Rattle.rank_calls.specs.declared.refused.Refused.{Refused}
 use Rattle.rank_calls.specs.declared.refused.Refused.TheVariants as refusals
+use Rattle.rank_core.specs.CoreState.{CoreState}
 use Rattle.sessions.specs.declared.refused.Refused as lower
 use Rattle.sessions.specs.declared.refused.Refused.TheVariants as lowers
 use Rattle.sessions.specs.declared.heard.Unheard.{Unheard}
@@ -23,19 +28,32 @@ use Rattle.sessions.specs.SessionsState.{SessionsState, knowledge}
 use Rattle.sessions.specs.Heard.{WordText, HeardText, heard_by, heard_in, heard_of, said, session_met, stale, word_of}
 use Rattle.sessions.specs.Events as links
 use Rattle.sessions.specs.Events.{Sending, TurnedAway, after_send, after_sends, taught_known}
-use Rattle.engine.specs.EngineState.{EngineState}
-use Rattle.engine.specs.Refusals.{of_sessions}
+use Rattle.engine_parts.specs.EngineState.{EngineState, GroupsState}
+use Rattle.engine_parts.specs.Refusals.{of_sessions}
 use Rattle.engine.specs.Datagrams.{
   DatagramGives,
   HeardGives,
   HeardGivesBy,
   HearingGives,
+  NoticeText,
+  OfAnnouncement,
+  OfAnswer,
+  OfMessage,
+  OfPiece,
+  PieceGivesBy,
   RefusedDatagramLeaves,
   SourceIsKnown,
+  WhyNoPiece,
+  WhyNoPieceBy,
+  WhyUnnoticed,
+  answer_to,
+  data_for,
   notice_in,
+  numbers_met,
   replies,
+  whole_in,
 }
-use Rattle.engine.specs.Frames.{step_sendings}
+use Rattle.engine_parts.specs.Frames.{step_sendings}
 
 -- ---- at which incarnation the source is known then
 
@@ -99,9 +117,21 @@ record IsCarried (old : SessionsState) (h : HeardText) (new : SessionsState) : T
   frames : List Sending
   carried : new ≡ links.after_event old (Some h) frames
 
-carried_by : (n : Option EagerText) (old new : EngineState) (h : HeardText) (x : Unit {0}) → HeardGivesBy n old h (Ok x) new → IsCarried old.sessions h new.sessions
+piece_carried : (due : Bool) (w : Option Whole) (old new : EngineState) (h : HeardText) (t : DataText) (x : Unit {0}) → PieceGivesBy due w old h t (Ok x) new →
+    IsCarried old.sessions h new.sessions
+piece_carried true None old new h t x gives = record { frames = []; carried = ap (λ (e : EngineState). e.sessions) gives.1 }
+piece_carried true (Some w) old new h t x gives =
+    record { frames = step_sendings old.sessions.place (numbers_met old.core h) gives.ready.step.messages; carried = gives.sessions }
+piece_carried false w old new h t x gives = absurd gives
+
+carried_by : (n : Option NoticeText) (old new : EngineState) (h : HeardText) (x : Unit {0}) → HeardGivesBy n old h (Ok x) new → IsCarried old.sessions h new.sessions
 carried_by None old new h x gives = record { frames = replies old.core h; carried = ap (λ (e : EngineState). e.sessions) gives.1 }
-carried_by (Some t) old new h x gives = record { frames = step_sendings old.sessions.place gives.ready.step.messages; carried = gives.sessions }
+carried_by (Some (OfMessage t)) old new h x gives =
+    record { frames = step_sendings old.sessions.place (numbers_met old.core h) gives.ready.step.messages; carried = gives.sessions }
+carried_by (Some (OfAnnouncement t)) old new h x gives = record { frames = answer_to h t ∷ []; carried = ap (λ (e : EngineState). e.sessions) gives.1 }
+carried_by (Some (OfAnswer t)) old new h x gives = record { frames = data_for old.payloads h t; carried = ap (λ (e : EngineState). e.sessions) gives.1 }
+carried_by (Some (OfPiece t)) old new h x gives =
+    piece_carried (is_due old.payloads h.source.rank t.transfer t.offset t.bytes) (whole_with old.payloads h.source.rank t.transfer t.bytes) old new h t x gives
 
 -- the source of what was taken in is known at the incarnation in its header
 pub heard_is_known : (old new : EngineState) (bytes : List ℕ) (h : HeardText) (result : Result (Unit {0}) Refused) →
@@ -111,7 +141,7 @@ unfolding heard_of
 heard_is_known old new bytes h (Err e) each heard gives = tt
 heard_is_known old new bytes h (Ok x) each heard gives = λ d is.
     let by : heard_by (judgement (knowledge old.sessions) d.header) old.sessions d ≡ Ok h = sym (ap (heard_in old.sessions) is) ∙ heard in
-    let goes : IsCarried old.sessions h new.sessions = carried_by (notice_in h.word) old new h x gives in
+    let goes : IsCarried old.sessions h new.sessions = carried_by (notice_in h.lesson old.payloads h.source.rank h.word) old new h x gives in
     ap (λ (s : SessionsState). slice_index s.known d.header.source.rank) goes.carried
     ∙ ap (λ (known : List ℕ). slice_index known d.header.source.rank) (known_sends (links.after_heard old.sessions (Some h)) goes.frames)
     ∙ subst (λ (r : Result HeardText Unheard). Knows r old.sessions d.header.source) by
@@ -204,14 +234,22 @@ turned_away_leaves old new (Some source) refused e tells is (inl away) =
 turned_away_leaves old new (Some source) refused e tells is (inr away) = left_as_it_was (of_sessions e) old new (kept old new is away.1)
 
 -- what is heard and refused changes nothing
-unheard_leaves : (n : Option EagerText) (old new : EngineState) (h : HeardText) (e : Refused) → HeardGivesBy n old h (Err e) new → new ≡ old
+piece_leaves : (due : Bool) (w : Option Whole) (old new : EngineState) (h : HeardText) (t : DataText) (e : Refused) → PieceGivesBy due w old h t (Err e) new → new ≡ old
+piece_leaves true w old new h t e gives = gives.1
+piece_leaves false w old new h t e gives = gives.1
+
+unheard_leaves : (n : Option NoticeText) (old new : EngineState) (h : HeardText) (e : Refused) → HeardGivesBy n old h (Err e) new → new ≡ old
 unheard_leaves None old new h e gives = gives.2
-unheard_leaves (Some t) old new h e gives = gives.1
+unheard_leaves (Some (OfMessage t)) old new h e gives = gives.1
+unheard_leaves (Some (OfAnnouncement t)) old new h e gives = gives.1
+unheard_leaves (Some (OfAnswer t)) old new h e gives = gives.1
+unheard_leaves (Some (OfPiece t)) old new h e gives =
+    piece_leaves (is_due old.payloads h.source.rank t.transfer t.offset t.bytes) (whole_with old.payloads h.source.rank t.transfer t.bytes) old new h t e gives
 
 hearing_leaves : (heard : Result HeardText Unheard) (old new : EngineState) (result : Result (Unit {0}) Refused) → ResetsTell heard →
     HearingGives heard old result new → RefusedDatagramLeaves result old new
 hearing_leaves (Ok h) old new (Ok x) tells gives = tt
-hearing_leaves (Ok h) old new (Err e) tells gives = left_as_it_was e old new (unheard_leaves (notice_in h.word) old new h e gives)
+hearing_leaves (Ok h) old new (Err e) tells gives = left_as_it_was e old new (unheard_leaves (notice_in h.lesson old.payloads h.source.rank h.word) old new h e gives)
 hearing_leaves (Err u) old new result tells gives =
     subst (λ (r : Result (Unit {0}) Refused). RefusedDatagramLeaves r old new) (sym gives.1)
     (turned_away_leaves old new u.reset u.refused gives.0 tells gives.2 gives.3)
@@ -227,3 +265,87 @@ refusal_leaves old new bytes result gives = hearing_leaves (heard_of old.session
 pub turned_away : (e : EngineState) (t : SessionsState) (u : Unheard) (why : lower.Refused) → TurnedAway u.reset u.refused e.sessions why t →
     HearingGives (Err u) e (Err (of_sessions why)) (record e { sessions = t })
 turned_away e t u why away = (why, refl, refl, away)
+
+-- ---- refusals, whatever is kept until it is handed out
+
+-- the engine of these parts
+abbrev pub parts_of : CoreState → GroupsState → Option Ending → payloads.State → SessionsState → EngineState
+parts_of c g ended p s = record { core = c; groups = g; ended = ended; payloads = p; sessions = s }
+
+-- why a message isn't taken says nothing of what is kept
+for_any : (c : CoreState) (g : GroupsState) (a b : Option Ending) (p : payloads.State) (s : SessionsState) (h : HeardText) (w : Whole) (e : Refused) →
+    WhyUnnoticed (parts_of c g a p s) h w e → WhyUnnoticed (parts_of c g b p s) h w e
+for_any c g a b p s h w refusals.BadFrame why = why
+for_any c g a b p s h w refusals.Limit why = why
+for_any c g a b p s h w refusals.OutOfMemory why = why
+for_any c g a b p s h w refusals.Count why = absurd why
+for_any c g a b p s h w refusals.WrongType why = absurd why
+for_any c g a b p s h w refusals.Tag why = absurd why
+for_any c g a b p s h w refusals.Communicator why = absurd why
+for_any c g a b p s h w refusals.Rank why = absurd why
+for_any c g a b p s h w refusals.Request why = absurd why
+for_any c g a b p s h w refusals.Root why = absurd why
+for_any c g a b p s h w refusals.Operation why = absurd why
+for_any c g a b p s h w refusals.Replaced why = absurd why
+for_any c g a b p s h w refusals.Short why = absurd why
+for_any c g a b p s h w refusals.Magic why = absurd why
+for_any c g a b p s h w refusals.Version why = absurd why
+for_any c g a b p s h w refusals.Kind why = absurd why
+for_any c g a b p s h w refusals.Length why = absurd why
+for_any c g a b p s h w refusals.ForeignJob why = absurd why
+for_any c g a b p s h w refusals.NotForMe why = absurd why
+for_any c g a b p s h w refusals.StaleSource why = absurd why
+for_any c g a b p s h w refusals.StaleTarget why = absurd why
+for_any c g a b p s h w refusals.OutOfWindow why = absurd why
+for_any c g a b p s h w refusals.ClockBack why = absurd why
+
+-- parts that are the same make the same engine
+same_parts : (c d : CoreState) (g k : GroupsState) (o : Option Ending) (p q : payloads.State) (s x : SessionsState) → d ≡ c →
+    k.collective ≡ g.collective → k.contexts ≡ g.contexts → q ≡ p → x ≡ s → parts_of d k o q x ≡ parts_of c g o p s
+same_parts c d g k o p q s x core collective contexts kept links = λ i. record {
+  core = core i;
+  groups = record { collective = collective i; contexts = contexts i };
+  ended = o;
+  payloads = kept i;
+  sessions = links i;
+}
+
+-- a message of a collective that is refused
+pub message_refused : {A : Type 0} (r : Result A Refused) (n : Option NoticeText) (h : HeardText) (t : EagerText) (w : Whole) (c d : CoreState)
+    (g k : GroupsState) (p q : payloads.State) (s x : SessionsState) → n ≡ Some (OfMessage t) → w ≡ whole_in t →
+    IfErr r (WhyUnnoticed (parts_of c g None p s) h w) → OnErr r (d ≡ c) → OnErr r (k.collective ≡ g.collective) → OnErr r (k.contexts ≡ g.contexts) →
+    OnErr r (q ≡ p) → OnErr r (x ≡ s) →
+    IfErr r (λ e. (before : Option Ending) → HeardGivesBy n (parts_of c g before p s) h (Err e) (parts_of d k before q x))
+message_refused (Ok y) n h t w c d g k p q s x is says why core collective contexts kept links = tt
+message_refused (Err e) n h t w c d g k p q s x is says why core collective contexts kept links = λ before.
+    subst (λ (m : Option NoticeText). HeardGivesBy m (parts_of c g before p s) h (Err e) (parts_of d k before q x)) (sym is) (
+      for_any c g None before p s h (whole_in t) e (subst (λ (v : Whole). WhyUnnoticed (parts_of c g None p s) h v e) says why),
+      same_parts c d g k before p q s x core collective contexts kept links,
+    )
+
+-- why data aren't taken says nothing of what is kept
+data_for_any : (due : Bool) (v : Option Whole) (c : CoreState) (g : GroupsState) (a b : Option Ending) (p : payloads.State) (s : SessionsState) (h : HeardText)
+    (e : Refused) → WhyNoPieceBy due v (parts_of c g a p s) h e → WhyNoPieceBy due v (parts_of c g b p s) h e
+data_for_any false v c g a b p s h e why = why
+data_for_any true None c g a b p s h e why = why
+data_for_any true (Some w) c g a b p s h e (inl why) = inl why
+data_for_any true (Some w) c g a b p s h e (inr why) = inr (for_any c g a b p s h w e why)
+
+-- data that are refused
+not_taken : (due : Bool) (v : Option Whole) (old new : EngineState) (h : HeardText) (t : DataText) (e : Refused) → WhyNoPieceBy due v old h e → new ≡ old →
+    PieceGivesBy due v old h t (Err e) new
+not_taken true v old new h t e why same = (why, same)
+not_taken false v old new h t e why same = (why, same)
+
+-- the same of a payload that comes
+pub piece_refused : {A : Type 0} (r : Result A Refused) (n : Option NoticeText) (h : HeardText) (t : DataText) (c d : CoreState) (g k : GroupsState)
+    (p q : payloads.State) (s x : SessionsState) → n ≡ Some (OfPiece t) → IfErr r (WhyNoPiece (parts_of c g None p s) h t) → OnErr r (d ≡ c) →
+    OnErr r (k.collective ≡ g.collective) → OnErr r (k.contexts ≡ g.contexts) → OnErr r (q ≡ p) → OnErr r (x ≡ s) →
+    IfErr r (λ e. (before : Option Ending) → HeardGivesBy n (parts_of c g before p s) h (Err e) (parts_of d k before q x))
+piece_refused (Ok y) n h t c d g k p q s x is why core collective contexts kept links = tt
+piece_refused (Err e) n h t c d g k p q s x is why core collective contexts kept links = λ before.
+    let due = is_due p h.source.rank t.transfer t.offset t.bytes in
+    let whole = whole_with p h.source.rank t.transfer t.bytes in
+    subst (λ (m : Option NoticeText). HeardGivesBy m (parts_of c g before p s) h (Err e) (parts_of d k before q x)) (sym is)
+    (not_taken due whole (parts_of c g before p s) (parts_of d k before q x) h t e (data_for_any due whole c g None before p s h e why)
+    (same_parts c d g k before p q s x core collective contexts kept links))

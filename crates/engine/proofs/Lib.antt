@@ -1,10 +1,6 @@
-pub mod Limits
-pub mod Clear
-pub mod Asks
-pub mod Answering
 pub mod Entered
 pub mod Ruled
-pub mod Stepping
 pub mod Taken
 pub mod Replies
+pub mod Announced
 pub mod Hearing

@@ -30,7 +30,7 @@ use Rattle.sessions.specs.declared.refused.Refused.TheVariants as lowers
 use Rattle.sessions.specs.Refusals as lowest
 use Rattle.sessions.specs.Events.{AreFor, CanSend, Sending, most_answers, sendings}
 use Rattle.sessions.specs.Heard.{Acknowledges, Hands, HeardText, Nothing, Repeats, WordText}
-use Rattle.engine.specs.Frames.{outgoing_of, sending_of}
+use Rattle.engine_parts.specs.Frames.{outgoing_of, sending_of}
 use Rattle.engine.specs.Datagrams.{frame_in, news_of, replies}
 
 -- ---- to whom they go
@@ -39,7 +39,7 @@ use Rattle.engine.specs.Datagrams.{frame_in, news_of, replies}
 abbrev pub AreFramesFor : ℕ → List FrameFor → Type 0
 AreFramesFor rank fs = AllByRecursion (λ f. f.rank ≡ rank) (map sending_of fs)
 
-data_are_for : (rank transfer : ℕ) (ps : List (ℕ × List ℕ)) → AreFramesFor rank (data_frames rank transfer ps)
+pub data_are_for : (rank transfer : ℕ) (ps : List (ℕ × List ℕ)) → AreFramesFor rank (data_frames rank transfer ps)
 data_are_for rank transfer [] = tt
 data_are_for rank transfer (p ∷ ps) = (refl, data_are_for rank transfer ps)
 
@@ -73,7 +73,7 @@ replies_are_for c h count is =
 
 -- ---- the sessions can send them
 
-can_send : (size : ℕ) (place : Place) (fs : List FrameFor) → size ≡ place.size → AllByRecursion (CanGo size) fs →
+pub can_send : (size : ℕ) (place : Place) (fs : List FrameFor) → size ≡ place.size → AllByRecursion (CanGo size) fs →
     All (CanSend place) (map sending_of fs)
 can_send size place [] same go = All-nil (CanSend place)
 can_send size place (f ∷ fs) same go =

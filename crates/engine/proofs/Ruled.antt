@@ -18,10 +18,10 @@ use Rattle.perfect_groups.specs.Faults.{asks_of_none, fault_by, has_replaced, is
 use Rattle.perfect_groups.specs.Membership.{Membership}
 use Rattle.rank_calls.specs.declared.refused.Refused.{Refused}
 use Rattle.rank_calls.specs.declared.refused.Refused.TheVariants as refusals
-use Rattle.engine.specs.EngineState.{EngineState, member_of}
-use Rattle.engine.specs.Faults.{broken, fault_of, is_busy}
-use Rattle.engine.specs.Refusals.{first_fault, of_entry_rule, of_rule}
-use Rattle.engine.specs.declared.call.Call.TheVariants as calls
+use Rattle.engine_parts.specs.EngineState.{EngineState, member_of}
+use Rattle.engine_parts.specs.Faults.{broken, fault_of, is_busy}
+use Rattle.engine_parts.specs.Refusals.{first_fault, of_entry_rule, of_rule}
+use Rattle.engine_parts.specs.declared.call.Call.TheVariants as calls
 
 -- the refusal with a number
 abbrev refusal_of : ℕ → Refused

@@ -1,41 +1,42 @@
 -- What taking a message of a collective gives.
-use Rattle.std.proofs.Common.{◌≡◌, Option, Some, None, Ok, refl, sym, ap, subst, ◌∙◌, inl, inr}
+use Rattle.std.proofs.Common.{◌≡◌, ℕ, Bool, true, false, List, Option, Some, None, Ok, refl, sym, ap, subst, ◌∙◌, inl, inr}
+use Rattle.std.specs.Prelude.{if◌then◌else◌}
 use Rattle.collective_notes.specs.Arrivals.{ArrivalGives}
 use Rattle.collective_notes.specs.declared.note.Note.{Note}
 use Rattle.collective_notes.specs.declared.address.Address.{Address}
 use Rattle.collective_notes.specs.declared.refused.Refused as noted
 use Rattle.collective_notes.specs.declared.refused.Refused.TheVariants as notes
+use Rattle.collective_notes.specs.declared.message.Message.{Message}
+use Rattle.collective_transfers.specs.Payloads.{Announced, Whole}
+use Rattle.collective_transfers.specs.State as payloads
+use Rattle.collective_transfers.specs.State.{after_announcing, is_due}
 use Rattle.collectives.specs.Calls.{IsReady, MessageRefused, met, with_note}
 use Rattle.collectives.specs.State.{State, after_step}
 use Rattle.collective_steps.specs.Steps.{contexts_after, ending_of}
 use Rattle.collectives.specs.declared.collective.ReadyMessage.{ReadyMessage}
 use Rattle.collective_steps.specs.declared.step.Ending.{Ending}
 use Rattle.context_agreement.specs.Communicators.{ContextsState}
-use Rattle.datagram.specs.Spelling.{EagerText}
 use Rattle.payload.specs.Reading.{payload_of}
 use Rattle.payload.specs.Spelling.{PartFits, PayloadText}
 use Rattle.rank_calls.specs.declared.refused.Refused.{Refused}
 use Rattle.rank_calls.specs.declared.refused.Refused.TheVariants as refusals
-use Rattle.rank_core.specs.CoreState.{CoreState}
+use Rattle.rank_core.specs.CoreState.{CoreState, with_numbers}
 use Rattle.rank_core.specs.Hearing.{after_news}
+use Rattle.rendezvous.specs.declared.transfers.Numbers.{Numbers}
 use Rattle.sessions.specs.Events.{after_event}
 use Rattle.sessions.specs.Heard.{HeardText}
 use Rattle.sessions.specs.SessionsState.{SessionsState}
 use Rattle.vocabulary.specs.declared.endpoint.Endpoint.{Endpoint}
-use Rattle.engine.specs.Datagrams.{IsNoticed, WhyUnnoticed, address_of, ended_by, lesson_alone, lesson_in, met_by}
-use Rattle.engine.specs.EngineState.{EngineState, or_before}
-use Rattle.engine.specs.Frames.{AreWhole, step_limit, step_sendings}
-use Rattle.engine.specs.Refusals.{of_collectives}
-use Rattle.engine.specs.Steps.{StepStops, ending_met}
+use Rattle.engine.specs.Datagrams.{IsNoticed, WhyUnnoticed, address_of, ended_by, lesson_alone, lesson_in, met_by, numbers_met, payloads_met}
+use Rattle.engine_parts.specs.EngineState.{EngineState, or_before}
+use Rattle.engine_parts.specs.Frames.{AreWhole, step_limit, step_numbers, step_payloads, step_sendings}
+use Rattle.engine_parts.specs.Refusals.{of_collectives}
+use Rattle.engine_parts.specs.Steps.{StepStops, ending_met}
 
 -- of three endings, the first that there is
 first_of_three : (a b c : Option Ending) → or_before (or_before a b) c ≡ or_before a (or_before b c)
 first_of_three None b c = refl
 first_of_three (Some o) b c = refl
-
-ended_so : (old : EngineState) (lesson : Option Endpoint) → ending_met old.groups.collective old.groups.contexts lesson ≡ ended_by old.groups lesson
-ended_so old None = refl
-ended_so old (Some source) = refl
 
 -- what the communicators keep in between, and what they answer
 pub record IsTakenIn (old : EngineState) (lesson : Option Endpoint) (ready : ReadyMessage) (s1 s2 s3 : State) (k1 k2 k3 : ContextsState)
@@ -50,48 +51,71 @@ pub record IsTakenIn (old : EngineState) (lesson : Option Endpoint) (ready : Rea
   pub leaves : left ≡ ending_of k2 ready.step.outcome
   pub ends : ending ≡ or_before left replaced
 
-pub noticed : (old : EngineState) (h : HeardText) (t : EagerText) (lesson : Option Endpoint) (p : PayloadText) (ready : ReadyMessage)
-    (s1 s2 s3 : State) (k1 k2 k3 : ContextsState) (replaced left ending : Option Ending) (c d : CoreState) (links : SessionsState) → lesson ≡ lesson_in h →
-    payload_of t.elements ≡ Some p → IsReady (met old.groups.collective old.groups.contexts lesson) old.groups.contexts (address_of h.source t) p ready →
-    AreWhole ready.step.messages → step_limit old.sessions (Some h) ready.step.messages ≡ None →
-    links ≡ after_event old.sessions (Some h) (step_sendings old.sessions.place ready.step.messages) → c ≡ old.core → d ≡ after_news c (lesson_alone h) →
-    IsTakenIn old lesson ready s1 s2 s3 k1 k2 k3 replaced left ending →
-    IsNoticed old h t (record { core = d; groups = record { collective = s3; contexts = k3 }; ended = or_before ending old.ended; sessions = links })
-noticed old h t lesson p ready s1 s2 s3 k1 k2 k3 replaced left ending c d links taught read is whole goes sent kept core take =
+-- what becomes of the core, the numbers of transfers and the payloads, and what is sent
+pub record IsCounted (old : EngineState) (h : HeardText) (lesson : Option Endpoint) (ms : List Message) (c d e : CoreState) (ns n2 : List Numbers)
+    (ps : List Announced) (q0 q1 q2 : payloads.State) (links : SessionsState) : Type 0 where
+  pub kept : c ≡ old.core
+  pub taken : d ≡ after_news c (lesson_alone h)
+  pub counted : e ≡ with_numbers d n2
+  pub numbers : ns ≡ numbers_met c h
+  pub next : n2 ≡ step_numbers ns ms
+  pub goes : step_limit old.sessions ns (Some h) ms ≡ None
+  pub sent : links ≡ after_event old.sessions (Some h) (step_sendings old.sessions.place ns ms)
+  pub announced : ps ≡ step_payloads ns ms
+  pub same : q0 ≡ old.payloads
+  pub left : q1 ≡ payloads_met q0 lesson
+  pub added : q2 ≡ after_announcing q1 ps
+
+pub noticed : (old : EngineState) (h : HeardText) (w : Whole) (lesson : Option Endpoint) (p : PayloadText) (ready : ReadyMessage)
+    (s1 s2 s3 : State) (k1 k2 k3 : ContextsState) (replaced left ending : Option Ending) (c d e : CoreState) (ns n2 : List Numbers) (ps : List Announced)
+    (q0 q1 q2 : payloads.State) (links : SessionsState) → lesson ≡ lesson_in h → payload_of w.bytes ≡ Some p →
+    IsReady (met old.groups.collective old.groups.contexts lesson) old.groups.contexts (address_of h.source w) p ready → AreWhole ready.step.messages →
+    IsCounted old h lesson ready.step.messages c d e ns n2 ps q0 q1 q2 links → IsTakenIn old lesson ready s1 s2 s3 k1 k2 k3 replaced left ending →
+    IsNoticed old (payloads_met old.payloads (lesson_in h)) h w
+    (record { core = e; groups = record { collective = s3; contexts = k3 }; ended = or_before ending old.ended; payloads = q2; sessions = links })
+noticed old h w lesson p ready s1 s2 s3 k1 k2 k3 replaced left ending c d e ns n2 ps q0 q1 q2 links taught read is whole count take =
+    let ms = ready.step.messages in
     let same : k2 ≡ old.groups.contexts = take.same ∙ take.held in
     let learnt : s2 ≡ met_by old h =
     take.learnt ∙ ap (λ (s : State). met s k1 lesson) take.kept ∙ ap (λ (k : ContextsState). met old.groups.collective k lesson) take.held
     ∙ ap (met old.groups.collective old.groups.contexts) taught in
     let replaces : replaced ≡ ended_by old.groups (lesson_in h) =
     take.replaces ∙ ap (λ (s : State). ending_met s k1 lesson) take.kept ∙ ap (λ (k : ContextsState). ending_met old.groups.collective k lesson) take.held
-    ∙ ended_so old lesson ∙ ap (ended_by old.groups) taught in
+    ∙ ap (ended_by old.groups) taught in
     let leaves : left ≡ ending_of old.groups.contexts ready.step.outcome = take.leaves ∙ ap (λ (k : ContextsState). ending_of k ready.step.outcome) same in
+    let first : ns ≡ numbers_met old.core h = count.numbers ∙ ap (λ (x : CoreState). numbers_met x h) count.kept in
+    let core : d ≡ after_news old.core (lesson_alone h) = count.taken ∙ ap (λ (x : CoreState). after_news x (lesson_alone h)) count.kept in
+    let rest : q1 ≡ payloads_met old.payloads (lesson_in h) =
+    count.left ∙ ap (λ (q : payloads.State). payloads_met q lesson) count.same ∙ ap (payloads_met old.payloads) taught in
     record {
       payload = p;
       read = read;
       ready = ready;
-      is_ready = subst (λ (l : Option Endpoint). IsReady (met old.groups.collective old.groups.contexts l) old.groups.contexts (address_of h.source t) p ready) taught is;
+      is_ready = subst (λ (l : Option Endpoint). IsReady (met old.groups.collective old.groups.contexts l) old.groups.contexts (address_of h.source w) p ready) taught is;
       whole = whole;
-      goes = goes;
-      core = core ∙ ap (λ (x : CoreState). after_news x (lesson_alone h)) kept;
+      goes = subst (λ (n : List Numbers). step_limit old.sessions n (Some h) ms ≡ None) first count.goes;
+      core = count.counted ∙ ap (λ (x : CoreState). with_numbers x n2) core
+          ∙ ap (λ (n : List Numbers). with_numbers (after_news old.core (lesson_alone h)) n) (count.next ∙ ap (λ (n : List Numbers). step_numbers n ms) first);
       collective = take.taken ∙ ap (λ (s : State). after_step (with_note s ready.note) ready.step.outcome) learnt;
       contexts = take.got ∙ ap (λ (k : ContextsState). contexts_after k ready.step.drawn ready.step.outcome) same;
-      ended = ap (λ (e : Option Ending). or_before e old.ended) take.ends ∙ first_of_three left replaced old.ended
-          ∙ ap (λ (e : Option Ending). or_before e (or_before replaced old.ended)) leaves
-          ∙ ap (λ (e : Option Ending). or_before (ending_of old.groups.contexts ready.step.outcome) (or_before e old.ended)) replaces;
-      sessions = sent;
+      ended = ap (λ (o : Option Ending). or_before o old.ended) take.ends ∙ first_of_three left replaced old.ended
+          ∙ ap (λ (o : Option Ending). or_before o (or_before replaced old.ended)) leaves
+          ∙ ap (λ (o : Option Ending). or_before (ending_of old.groups.contexts ready.step.outcome) (or_before o old.ended)) replaces;
+      payloads = count.added ∙ ap (λ (q : payloads.State). after_announcing q ps) rest
+          ∙ ap (λ (l : List Announced). after_announcing (payloads_met old.payloads (lesson_in h)) l) (count.announced ∙ ap (λ (n : List Numbers). step_payloads n ms) first);
+      sessions = count.sent ∙ ap (λ (n : List Numbers). after_event old.sessions (Some h) (step_sendings old.sessions.place n ms)) first;
     }
 
 -- ---- why it isn't taken
 
 -- it can't be made ready
-pub unready : (old : EngineState) (h : HeardText) (t : EagerText) (lesson : Option Endpoint) (p : PayloadText) (why : noted.Refused) → lesson ≡ lesson_in h →
-    payload_of t.elements ≡ Some p → MessageRefused (met old.groups.collective old.groups.contexts lesson) old.groups.contexts (address_of h.source t) p why →
-    WhyUnnoticed old h t (of_collectives why)
-unready old h t lesson p why taught read is =
-    go why (subst (λ (l : Option Endpoint). MessageRefused (met old.groups.collective old.groups.contexts l) old.groups.contexts (address_of h.source t) p why) taught is)
+pub unready : (old : EngineState) (h : HeardText) (w : Whole) (lesson : Option Endpoint) (p : PayloadText) (why : noted.Refused) → lesson ≡ lesson_in h →
+    payload_of w.bytes ≡ Some p → MessageRefused (met old.groups.collective old.groups.contexts lesson) old.groups.contexts (address_of h.source w) p why →
+    WhyUnnoticed old h w (of_collectives why)
+unready old h w lesson p why taught read is =
+    go why (subst (λ (l : Option Endpoint). MessageRefused (met old.groups.collective old.groups.contexts l) old.groups.contexts (address_of h.source w) p why) taught is)
   where
-    go : (r : noted.Refused) → MessageRefused (met_by old h) old.groups.contexts (address_of h.source t) p r → WhyUnnoticed old h t (of_collectives r)
+    go : (r : noted.Refused) → MessageRefused (met_by old h) old.groups.contexts (address_of h.source w) p r → WhyUnnoticed old h w (of_collectives r)
     go notes.BadFrame m = inr (p, read, m)
     go notes.Limit m = (p, read, inl m)
     go notes.OutOfMemory m = (p, read, m)
@@ -108,23 +132,24 @@ ready_fits : (s : State) (k : ContextsState) (a : Address) (p : PayloadText) (re
 ready_fits s k a p ready is = arrival_fits a p is.0 is.1
 
 -- for want of memory, once it is ready
-pub forgotten : (old : EngineState) (h : HeardText) (t : EagerText) (lesson : Option Endpoint) (p : PayloadText) (ready : ReadyMessage) (why : Refused) →
-    payload_of t.elements ≡ Some p → IsReady (met old.groups.collective old.groups.contexts lesson) old.groups.contexts (address_of h.source t) p ready →
-    why ≡ refusals.OutOfMemory → WhyUnnoticed old h t why
-forgotten old h t lesson p ready why read made is =
-    subst (λ (r : Refused). WhyUnnoticed old h t r) (sym is)
-    (p, read, ready_fits (met old.groups.collective old.groups.contexts lesson) old.groups.contexts (address_of h.source t) p ready made)
+pub forgotten : (old : EngineState) (h : HeardText) (w : Whole) (lesson : Option Endpoint) (p : PayloadText) (ready : ReadyMessage) (why : Refused) →
+    payload_of w.bytes ≡ Some p → IsReady (met old.groups.collective old.groups.contexts lesson) old.groups.contexts (address_of h.source w) p ready →
+    why ≡ refusals.OutOfMemory → WhyUnnoticed old h w why
+forgotten old h w lesson p ready why read made is =
+    subst (λ (r : Refused). WhyUnnoticed old h w r) (sym is)
+    (p, read, ready_fits (met old.groups.collective old.groups.contexts lesson) old.groups.contexts (address_of h.source w) p ready made)
 
 -- its step is stopped
-pub stopped : (old : EngineState) (h : HeardText) (t : EagerText) (lesson : Option Endpoint) (p : PayloadText) (ready : ReadyMessage) (why : Refused) → lesson ≡ lesson_in h →
-    payload_of t.elements ≡ Some p → IsReady (met old.groups.collective old.groups.contexts lesson) old.groups.contexts (address_of h.source t) p ready →
-    StepStops (step_limit old.sessions (Some h) ready.step.messages) why → WhyUnnoticed old h t why
-stopped old h t lesson p ready why taught read is stops =
-    go why stops (subst (λ (l : Option Endpoint). IsReady (met old.groups.collective old.groups.contexts l) old.groups.contexts (address_of h.source t) p ready) taught is)
+pub stopped : (old : EngineState) (h : HeardText) (w : Whole) (lesson : Option Endpoint) (p : PayloadText) (ready : ReadyMessage) (ns : List Numbers) (why : Refused) → lesson ≡ lesson_in h →
+    payload_of w.bytes ≡ Some p → IsReady (met old.groups.collective old.groups.contexts lesson) old.groups.contexts (address_of h.source w) p ready →
+    ns ≡ numbers_met old.core h → StepStops (step_limit old.sessions ns (Some h) ready.step.messages) why → WhyUnnoticed old h w why
+stopped old h w lesson p ready ns why taught read is first stops =
+    go why (subst (λ (n : List Numbers). StepStops (step_limit old.sessions n (Some h) ready.step.messages) why) first stops)
+    (subst (λ (l : Option Endpoint). IsReady (met old.groups.collective old.groups.contexts l) old.groups.contexts (address_of h.source w) p ready) taught is)
   where
-    go : (r : Refused) → StepStops (step_limit old.sessions (Some h) ready.step.messages) r → IsReady (met_by old h) old.groups.contexts (address_of h.source t) p ready →
-        WhyUnnoticed old h t r
-    go refusals.OutOfMemory s i = (p, read, ready_fits (met_by old h) old.groups.contexts (address_of h.source t) p ready i)
+    go : (r : Refused) → StepStops (step_limit old.sessions (numbers_met old.core h) (Some h) ready.step.messages) r → IsReady (met_by old h) old.groups.contexts (address_of h.source w) p ready →
+        WhyUnnoticed old h w r
+    go refusals.OutOfMemory s i = (p, read, ready_fits (met_by old h) old.groups.contexts (address_of h.source w) p ready i)
     go refusals.Limit s i = (p, read, inr (ready, i, s))
     go refusals.Count s i = absurd s
     go refusals.WrongType s i = absurd s
@@ -147,3 +172,18 @@ stopped old h t lesson p ready why taught read is stops =
     go refusals.BadFrame s i = absurd s
     go refusals.OutOfWindow s i = absurd s
     go refusals.ClockBack s i = absurd s
+
+-- ---- the last piece of a payload
+
+-- with no lesson there is nobody who teaches
+no_lesson : (h : HeardText) → h.lesson ≡ false → lesson_in h ≡ None
+no_lesson h on = ap (λ (b : Bool). if b then Some h.source else None) on
+
+-- what comes in pieces stays while a message is taken in without a lesson
+pub still_due : (old new : EngineState) (h : HeardText) (w : Whole) (rank transfer offset : ℕ) (bytes : List ℕ) → h.lesson ≡ false →
+    IsNoticed old (payloads_met old.payloads (lesson_in h)) h w new → is_due old.payloads rank transfer offset bytes ≡ true →
+    is_due new.payloads rank transfer offset bytes ≡ true
+still_due old new h w rank transfer offset bytes on is due =
+    ap (λ (s : payloads.State). is_due s rank transfer offset bytes) is.payloads
+    ∙ ap (λ (l : Option Endpoint). is_due (payloads_met old.payloads l) rank transfer offset bytes) (no_lesson h on)
+    ∙ due

@@ -1,32 +1,45 @@
 -- What a datagram does to the engine: what is heard in it, all of its parts take in.
-use Rattle.std.specs.Prelude.{◌≡◌, ◌⊎◌, ℕ, Bool, true, false, List, Option, Some, None, Result, Ok, Err, if◌then◌else◌, map, slice_index}
+use Rattle.std.specs.Prelude.{◌≡◌, ◌⊎◌, ℕ, Bool, true, false, is_some, List, [], ◌∷◌, Option, Some, None, Result, Ok, Err, if◌then◌else◌, map, slice_index}
 use Rattle.collective_notes.specs.declared.address.Address.{Address}
 use Rattle.collective_notes.specs.declared.refused.Refused.TheVariants as notes
-use Rattle.collectives.specs.Calls.{IsReady, MessageRefused, lesson_ending, met, with_note}
+use Rattle.collective_transfers.specs.Payloads.{Announced, Coming, Whole}
+use Rattle.collective_transfers.specs.State as payloads
+use Rattle.collective_transfers.specs.State.{after_announcing, after_answer, after_begin, after_data, after_drop, announced_to, coming_from, is_due, whole_with}
+use Rattle.collectives.specs.Calls.{IsReady, MessageRefused, met, with_note}
 use Rattle.collectives.specs.State.{State, after_step}
 use Rattle.collective_steps.specs.Steps.{contexts_after, ending_of}
 use Rattle.collectives.specs.declared.collective.ReadyMessage.{ReadyMessage}
 use Rattle.collective_steps.specs.declared.step.Ending.{Ending}
 use Rattle.datagram.specs.Reading.{datagram_of}
-use Rattle.datagram.specs.Spelling.{ClearFrame, DataFrame, DatagramText, EagerFrame, EagerText, FrameText, RequestFrame}
+use Rattle.datagram.specs.Spelling.{ClearFrame, ClearText, DataFrame, DataText, DatagramText, EagerFrame, EagerText, FrameText, RequestFrame, RequestText, clear_text, data_text, eager_text, request_text}
+use Rattle.datagram.specs.declared.kinds.Clearance.{Clearance}
+use Rattle.datagram.specs.declared.kinds.Clearance.TheVariants.{Drop, Send}
 use Rattle.datagram.specs.declared.kinds.Plane.{Plane}
 use Rattle.datagram.specs.declared.kinds.Plane.TheVariants as planes
 use Rattle.payload.specs.Reading.{payload_of}
 use Rattle.payload.specs.Spelling.{PartFits, PayloadText}
-use Rattle.rank_calls.specs.Hearing.{NewsText}
+use Rattle.rank_calls.specs.Hearing.{NewsText, bad_unless, data_frames, transfers_met}
 use Rattle.rank_calls.specs.Refusals.{IsRefusal}
 use Rattle.rank_calls.specs.declared.refused.Refused.{Refused}
 use Rattle.rank_calls.specs.declared.refused.Refused.TheVariants as refusals
-use Rattle.rank_core.specs.CoreState.{CoreState}
+use Rattle.rank_core.specs.CoreState.{CoreState, with_numbers}
 use Rattle.rank_core.specs.Hearing.{after_news, news_fault, news_frames}
+use Rattle.rendezvous.specs.Pieces.{pieces_of}
+use Rattle.rendezvous.specs.State.{is_next, with_announced}
+use Rattle.rendezvous.specs.declared.transfers.Numbers.{Numbers}
 use Rattle.sessions.specs.Events.{Sending, TurnedAway, after_event, event_limit}
 use Rattle.sessions.specs.Heard.{Acknowledges, Hands, HeardText, Nothing, Repeats, WordText, heard_of}
+use Rattle.sessions.specs.SessionsState.{SessionsState}
 use Rattle.sessions.specs.declared.heard.Unheard.{Unheard}
 use Rattle.sessions.specs.declared.refused.Refused as lower
 use Rattle.vocabulary.specs.declared.endpoint.Endpoint.{Endpoint}
-use Rattle.engine.specs.EngineState.{EngineState, GroupsState, or_before}
-use Rattle.engine.specs.Frames.{AreWhole, sending_of, step_limit, step_sendings}
-use Rattle.engine.specs.Refusals.{fault_of_sessions, first_fault, of_sessions}
+use Rattle.engine.specs.declared.notices.Received.{Received}
+use Rattle.engine.specs.declared.noticing.Notice.{Notice}
+use Rattle.engine.specs.declared.noticing.Notice.TheVariants as notices
+use Rattle.engine_parts.specs.EngineState.{EngineState, GroupsState, or_before}
+use Rattle.engine_parts.specs.Frames.{AreWhole, sending_of, step_limit, step_numbers, step_payloads, step_sendings}
+use Rattle.engine_parts.specs.Refusals.{fault_of_sessions, first_fault, of_sessions}
+use Rattle.engine_parts.specs.Steps.{ending_met}
 
 -- WHAT IS HEARD
 
@@ -70,8 +83,12 @@ groups_met g lesson = record g { collective = met g.collective g.contexts lesson
 
 -- with what the present collective ends by the lesson, where it does
 abbrev pub ended_by : GroupsState → Option Endpoint → Option Ending
-ended_by g None = None
-ended_by g (Some source) = lesson_ending g.collective g.contexts source.rank source.incarnation
+ended_by g lesson = ending_met g.collective g.contexts lesson
+
+-- what is left of payloads of collectives once the lesson is learnt, if there is one
+abbrev pub payloads_met : payloads.State → Option Endpoint → payloads.State
+payloads_met p None = p
+payloads_met p (Some source) = after_drop p source.rank
 
 -- all parts once they took it in
 abbrev pub after_heard : EngineState → HeardText → EngineState
@@ -79,6 +96,7 @@ after_heard e h = record {
   core = after_news e.core (news_of h);
   groups = groups_met e.groups (lesson_in h);
   ended = or_before (ended_by e.groups (lesson_in h)) e.ended;
+  payloads = payloads_met e.payloads (lesson_in h);
   sessions = after_event e.sessions (Some h) (replies e.core h);
 }
 
@@ -90,9 +108,13 @@ NewsGives old h (Err e) new = (says_nothing h.lesson h.word ≡ false) × IsRefu
 
 -- ---- messages of collectives
 
--- of which collective it is, and who sent it
-abbrev pub address_of : Endpoint → EagerText → Address
-address_of s t = record { sender = s; context = t.context; number = t.tag }
+-- the payload that stands in a frame
+abbrev pub whole_in : EagerText → Whole
+whole_in t = record { context = t.context; number = t.tag; bytes = t.elements }
+
+-- of which collective a payload is, and who sent it
+abbrev pub address_of : Endpoint → Whole → Address
+address_of s w = record { sender = s; context = w.context; number = w.number }
 
 -- the same without the frame: what of it concerns the core
 abbrev pub lesson_alone : HeardText → NewsText
@@ -102,74 +124,224 @@ lesson_alone h = record { source = h.source; lesson = h.lesson; frame = None }
 abbrev pub met_by : EngineState → HeardText → State
 met_by e h = met e.groups.collective e.groups.contexts (lesson_in h)
 
--- A message of a collective is taken in: it is read, the rank does of itself what follows, and the others are told
-pub record IsNoticed (old : EngineState) (h : HeardText) (t : EagerText) (new : EngineState) : Type 0 where
+-- the numbers of the sessions' transfers then: with a lesson those of its session start anew
+abbrev pub numbers_met : CoreState → HeardText → List Numbers
+numbers_met c h = (transfers_met h.lesson c.transfers h.source.rank).numbers
+
+-- A message of a collective is taken in: it is read, the rank does of itself what follows, and the others are told; what is too
+-- long for a frame is announced to them, and kept behind these payloads
+pub record IsNoticed (old : EngineState) (before : payloads.State) (h : HeardText) (w : Whole) (new : EngineState) : Type 0 where
   pub payload : PayloadText
-  pub read : payload_of t.elements ≡ Some payload
+  pub read : payload_of w.bytes ≡ Some payload
   pub ready : ReadyMessage
-  pub is_ready : IsReady (met_by old h) old.groups.contexts (address_of h.source t) payload ready
+  pub is_ready : IsReady (met_by old h) old.groups.contexts (address_of h.source w) payload ready
   pub whole : AreWhole ready.step.messages
-  pub goes : step_limit old.sessions (Some h) ready.step.messages ≡ None
-  pub core : new.core ≡ after_news old.core (lesson_alone h)
+  pub goes : step_limit old.sessions (numbers_met old.core h) (Some h) ready.step.messages ≡ None
+  pub core : new.core ≡ with_numbers (after_news old.core (lesson_alone h)) (step_numbers (numbers_met old.core h) ready.step.messages)
   pub collective : new.groups.collective ≡ after_step (with_note (met_by old h) ready.note) ready.step.outcome
   pub contexts : new.groups.contexts ≡ contexts_after old.groups.contexts ready.step.drawn ready.step.outcome
   pub ended :
       new.ended ≡ or_before (ending_of old.groups.contexts ready.step.outcome) (or_before (ended_by old.groups (lesson_in h)) old.ended)
-  pub sessions : new.sessions ≡ after_event old.sessions (Some h) (step_sendings old.sessions.place ready.step.messages)
+  pub payloads : new.payloads ≡ after_announcing before (step_payloads (numbers_met old.core h) ready.step.messages)
+  pub sessions : new.sessions ≡ after_event old.sessions (Some h) (step_sendings old.sessions.place (numbers_met old.core h) ready.step.messages)
 
 -- the step that a message would bring meets a limit by what it sends
-abbrev pub IsStepStopped : EngineState → HeardText → EagerText → PayloadText → Type 0
-IsStepStopped old h t p =
-    (ready : ReadyMessage) × IsReady (met_by old h) old.groups.contexts (address_of h.source t) p ready
-    × (step_limit old.sessions (Some h) ready.step.messages ≡ Some refusals.Limit)
+abbrev pub IsStepStopped : EngineState → HeardText → Whole → PayloadText → Type 0
+IsStepStopped old h w p =
+    (ready : ReadyMessage) × IsReady (met_by old h) old.groups.contexts (address_of h.source w) p ready
+    × (step_limit old.sessions (numbers_met old.core h) (Some h) ready.step.messages ≡ Some refusals.Limit)
 
 -- Why a message of a collective is refused: it can't be read, or what it carries doesn't fit its record (30); what the rank would
 -- then get can't be held or given, or a frame can't go (13); or, where its part fits, for want of memory
-abbrev pub WhyUnnoticed : EngineState → HeardText → EagerText → Refused → Type 0
-WhyUnnoticed old h t refusals.BadFrame =
-    (payload_of t.elements ≡ None)
-    ⊎ ((p : PayloadText) × (payload_of t.elements ≡ Some p)
-    × MessageRefused (met_by old h) old.groups.contexts (address_of h.source t) p notes.BadFrame)
-WhyUnnoticed old h t refusals.Limit =
-    (p : PayloadText) × (payload_of t.elements ≡ Some p)
-    × (MessageRefused (met_by old h) old.groups.contexts (address_of h.source t) p notes.Limit ⊎ IsStepStopped old h t p)
-WhyUnnoticed old h t refusals.OutOfMemory = (p : PayloadText) × (payload_of t.elements ≡ Some p) × PartFits p.record_is p.part
-WhyUnnoticed old h t _ = ⊥
+abbrev pub WhyUnnoticed : EngineState → HeardText → Whole → Refused → Type 0
+WhyUnnoticed old h w refusals.BadFrame =
+    (payload_of w.bytes ≡ None)
+    ⊎ ((p : PayloadText) × (payload_of w.bytes ≡ Some p)
+    × MessageRefused (met_by old h) old.groups.contexts (address_of h.source w) p notes.BadFrame)
+WhyUnnoticed old h w refusals.Limit =
+    (p : PayloadText) × (payload_of w.bytes ≡ Some p)
+    × (MessageRefused (met_by old h) old.groups.contexts (address_of h.source w) p notes.Limit ⊎ IsStepStopped old h w p)
+WhyUnnoticed old h w refusals.OutOfMemory = (p : PayloadText) × (payload_of w.bytes ≡ Some p) × PartFits p.record_is p.part
+WhyUnnoticed old h w _ = ⊥
 
 -- a message of a collective is taken in, or refused with nothing changed
 abbrev pub NoticeGives : EngineState → HeardText → EagerText → Result (Unit {0}) Refused → EngineState → Type 0
-NoticeGives old h t (Ok x) new = IsNoticed old h t new
-NoticeGives old h t (Err e) new = WhyUnnoticed old h t e × (new ≡ old)
+NoticeGives old h t (Ok x) new = IsNoticed old (payloads_met old.payloads (lesson_in h)) h (whole_in t) new
+NoticeGives old h t (Err e) new = WhyUnnoticed old h (whole_in t) e × (new ≡ old)
 
--- ---- either
+-- ---- payloads of collectives that are announced to the rank
+
+-- the answer: 'send', whether or not the rank has entered the collective, or has left it (our own)
+abbrev pub answer_to : HeardText → RequestText → Sending
+answer_to h t = record { rank = h.source.rank; frame = ClearFrame (record { clearance = Send; transfer = t.transfer }) }
+
+-- what comes from then on
+abbrev pub coming_by : HeardText → RequestText → Coming
+coming_by h t = record { source = h.source.rank; transfer = t.transfer; context = t.context; number = t.tag; total = t.count; bytes = [] }
+
+-- the first rule or limit that it meets: 30 where its number isn't the next one of its session, and 13
+abbrev pub announcement_fault : CoreState → SessionsState → HeardText → RequestText → Option Refused
+announcement_fault c s h t =
+    first_fault (bad_unless (is_next (numbers_met c h) h.source.rank t.transfer))
+    (fault_of_sessions (event_limit s (Some h) (answer_to h t ∷ [])))
+
+-- it is counted and answered, and its payload begins to come
+abbrev pub after_announcement : EngineState → HeardText → RequestText → EngineState
+after_announcement e h t = record {
+  core = with_numbers (after_news e.core (lesson_alone h)) (with_announced (numbers_met e.core h) h.source.rank);
+  groups = groups_met e.groups (lesson_in h);
+  ended = or_before (ended_by e.groups (lesson_in h)) e.ended;
+  payloads = after_begin (payloads_met e.payloads (lesson_in h)) (coming_by h t);
+  sessions = after_event e.sessions (Some h) (answer_to h t ∷ []);
+}
+
+-- so it is, or a rule, a limit or want of memory refused it, and nothing changed
+abbrev pub AnnouncementGives : EngineState → HeardText → RequestText → Result (Unit {0}) Refused → EngineState → Type 0
+AnnouncementGives old h t (Ok x) new = (announcement_fault old.core old.sessions h t ≡ None) × (new ≡ after_announcement old h t)
+AnnouncementGives old h t (Err e) new = IsRefusal (announcement_fault old.core old.sessions h t) e × (new ≡ old)
+
+-- ---- payloads of collectives that the rank announced
+
+-- the data of a payload of these bytes, all of them in order
+abbrev pub data_sent : (rank transfer : ℕ) → List ℕ → List Sending
+data_sent rank transfer bytes = map sending_of (data_frames rank transfer (pieces_of bytes))
+
+-- the same of one that was announced, where one was
+abbrev pub data_of : (rank transfer : ℕ) → Option Announced → List Sending
+data_of rank transfer None = []
+data_of rank transfer (Some a) = data_sent rank transfer a.bytes
+
+-- the data that an answer asks for
+abbrev pub data_for : payloads.State → HeardText → ClearText → List Sending
+data_for p h t = data_of h.source.rank t.transfer (announced_to p h.source.rank t.transfer)
+
+-- a payload of a collective is always wanted: an answer that says otherwise is refused (our own)
+abbrev pub unwanted : Clearance → Option Refused
+unwanted Send = None
+unwanted Drop = Some refusals.BadFrame
+
+-- the first rule or limit that an answer meets: 30, 13
+abbrev pub answer_fault : payloads.State → SessionsState → HeardText → ClearText → Option Refused
+answer_fault p s h t = first_fault (unwanted t.clearance) (fault_of_sessions (event_limit s (Some h) (data_for p h t)))
+
+-- the data go out, and the payload isn't kept any more
+abbrev pub after_answered : EngineState → HeardText → ClearText → EngineState
+after_answered e h t = record e {
+  payloads = after_answer e.payloads h.source.rank t.transfer;
+  sessions = after_event e.sessions (Some h) (data_for e.payloads h t);
+}
+
+-- so it is, or a rule, a limit or want of memory refused it, and nothing changed
+abbrev pub AnswerGives : EngineState → HeardText → ClearText → Result (Unit {0}) Refused → EngineState → Type 0
+AnswerGives old h t (Ok x) new = (answer_fault old.payloads old.sessions h t ≡ None) × (new ≡ after_answered old h t)
+AnswerGives old h t (Err e) new = IsRefusal (answer_fault old.payloads old.sessions h t) e × (new ≡ old)
+
+-- ---- payloads of collectives that come in pieces
+
+-- the payloads once the piece has come
+abbrev pub payloads_grown : EngineState → HeardText → DataText → payloads.State
+payloads_grown e h t = after_data e.payloads h.source.rank t.transfer t.bytes
+
+-- the next piece is taken in: it stands behind those that came before. With the last one the message is taken in, as one is that stands
+-- in a frame
+abbrev pub IsPieceTaken : Option Whole → EngineState → HeardText → DataText → EngineState → Type 0
+IsPieceTaken None old h t new =
+    (fault_of_sessions (event_limit old.sessions (Some h) []) ≡ None)
+    × (new ≡ record old { payloads = payloads_grown old h t; sessions = after_event old.sessions (Some h) [] })
+IsPieceTaken (Some w) old h t new = IsNoticed old (payloads_grown old h t) h w new
+
+-- why a piece that is due is refused: for a limit or want of memory; with the last one as the message is
+abbrev pub WhyNotTaken : Option Whole → EngineState → HeardText → Refused → Type 0
+WhyNotTaken None old h e = IsRefusal (fault_of_sessions (event_limit old.sessions (Some h) [])) e
+WhyNotTaken (Some w) old h e = (e ≡ refusals.OutOfMemory) ⊎ WhyUnnoticed old h w e
+
+-- why data are refused, which are due or not: others are refused with 30
+abbrev pub WhyNoPieceBy : (due : Bool) → Option Whole → EngineState → HeardText → Refused → Type 0
+WhyNoPieceBy true w old h e = WhyNotTaken w old h e
+WhyNoPieceBy false w old h e = e ≡ refusals.BadFrame
+
+-- the same of data of a payload
+abbrev pub WhyNoPiece : EngineState → HeardText → DataText → Refused → Type 0
+WhyNoPiece old h t e =
+    WhyNoPieceBy (is_due old.payloads h.source.rank t.transfer t.offset t.bytes) (whole_with old.payloads h.source.rank t.transfer t.bytes) old h e
+
+-- where they are due, they are taken in, or refused with nothing changed
+abbrev pub PieceGivesBy : (due : Bool) → Option Whole → EngineState → HeardText → DataText → Result (Unit {0}) Refused → EngineState → Type 0
+PieceGivesBy true w old h t (Ok x) new = IsPieceTaken w old h t new
+PieceGivesBy true w old h t (Err e) new = WhyNoPieceBy true w old h e × (new ≡ old)
+PieceGivesBy false w old h t (Ok x) new = ⊥
+PieceGivesBy false w old h t (Err e) new = WhyNoPieceBy false w old h e × (new ≡ old)
+
+-- data of a payload that comes are taken in, or refused with nothing changed
+abbrev pub PieceGives : EngineState → HeardText → DataText → Result (Unit {0}) Refused → EngineState → Type 0
+PieceGives old h t result new =
+    PieceGivesBy (is_due old.payloads h.source.rank t.transfer t.offset t.bytes) (whole_with old.payloads h.source.rank t.transfer t.bytes) old h t result new
+
+-- ---- any of them
+
+-- what concerns a collective: a message, an announcement, an answer, or data
+pub data NoticeText : Type 0 where
+  OfMessage : EagerText → NoticeText
+  OfAnnouncement : RequestText → NoticeText
+  OfAnswer : ClearText → NoticeText
+  OfPiece : DataText → NoticeText
 
 -- the message of a collective that stands in an eager frame, if it is one
-abbrev pub notice_on : Plane → EagerText → Option EagerText
+abbrev pub notice_on : Plane → EagerText → Option NoticeText
 notice_on planes.PointToPoint t = None
-notice_on planes.Collective t = Some t
+notice_on planes.Collective t = Some (OfMessage t)
 
--- the message of a collective that a frame brings
-abbrev pub notice_of_frame : FrameText → Option EagerText
-notice_of_frame (EagerFrame t) = notice_on t.plane t
-notice_of_frame (RequestFrame t) = None
-notice_of_frame (ClearFrame t) = None
-notice_of_frame (DataFrame t) = None
+-- the payload of a collective that is announced, if it is one
+abbrev pub announcement_on : Plane → RequestText → Option NoticeText
+announcement_on planes.PointToPoint t = None
+announcement_on planes.Collective t = Some (OfAnnouncement t)
 
--- the message of a collective that is handed up
-abbrev pub notice_in : WordText → Option EagerText
-notice_in (Acknowledges n) = None
-notice_in Repeats = None
-notice_in (Hands f) = notice_of_frame f
-notice_in Nothing = None
+-- whether the transfer to the rank that has this number is of a collective: with a lesson the session starts anew, and none is
+abbrev pub is_to_collective : (lesson : Bool) → payloads.State → (rank transfer : ℕ) → Bool
+is_to_collective true p rank transfer = false
+is_to_collective false p rank transfer = is_some (announced_to p rank transfer)
 
--- what is heard is a message of a collective, or anything else
-abbrev pub HeardGivesBy : Option EagerText → EngineState → HeardText → Result (Unit {0}) Refused → EngineState → Type 0
+-- the same of a transfer from the rank
+abbrev pub is_from_collective : (lesson : Bool) → payloads.State → (rank transfer : ℕ) → Bool
+is_from_collective true p rank transfer = false
+is_from_collective false p rank transfer = is_some (coming_from p rank transfer)
+
+-- what of a frame concerns a collective. Answers and data say nothing of it: the number of their transfer tells
+abbrev pub notice_of_frame : (lesson : Bool) → payloads.State → (rank : ℕ) → FrameText → Option NoticeText
+notice_of_frame lesson p rank (EagerFrame t) = notice_on t.plane t
+notice_of_frame lesson p rank (RequestFrame t) = announcement_on t.plane t
+notice_of_frame lesson p rank (ClearFrame t) = if is_to_collective lesson p rank t.transfer then Some (OfAnswer t) else None
+notice_of_frame lesson p rank (DataFrame t) = if is_from_collective lesson p rank t.transfer then Some (OfPiece t) else None
+
+-- what of a word does
+abbrev pub notice_in : (lesson : Bool) → payloads.State → (rank : ℕ) → WordText → Option NoticeText
+notice_in lesson p rank (Acknowledges n) = None
+notice_in lesson p rank Repeats = None
+notice_in lesson p rank (Hands f) = notice_of_frame lesson p rank f
+notice_in lesson p rank Nothing = None
+
+-- the payload that a value of the program holds
+abbrev pub received : Received → Whole
+received r = record { context = r.context; number = r.number; bytes = r.bytes.now }
+
+-- what a value of the program says
+abbrev pub notice_text : Notice → NoticeText
+notice_text (notices.Message m) = OfMessage (eager_text m)
+notice_text (notices.Announcement r) = OfAnnouncement (request_text r)
+notice_text (notices.Answer a) = OfAnswer (clear_text a)
+notice_text (notices.Piece p) = OfPiece (data_text p)
+
+-- what is heard concerns a collective, or is anything else
+abbrev pub HeardGivesBy : Option NoticeText → EngineState → HeardText → Result (Unit {0}) Refused → EngineState → Type 0
 HeardGivesBy None old h result new = NewsGives old h result new
-HeardGivesBy (Some t) old h result new = NoticeGives old h t result new
+HeardGivesBy (Some (OfMessage t)) old h result new = NoticeGives old h t result new
+HeardGivesBy (Some (OfAnnouncement t)) old h result new = AnnouncementGives old h t result new
+HeardGivesBy (Some (OfAnswer t)) old h result new = AnswerGives old h t result new
+HeardGivesBy (Some (OfPiece t)) old h result new = PieceGives old h t result new
 
 -- what is heard is taken in or refused
 abbrev pub HeardGives : EngineState → HeardText → Result (Unit {0}) Refused → EngineState → Type 0
-HeardGives old h result new = HeardGivesBy (notice_in h.word) old h result new
+HeardGives old h result new = HeardGivesBy (notice_in h.lesson old.payloads h.source.rank h.word) old h result new
 
 -- WHAT ISN'T HEARD
 

@@ -1,12 +1,4 @@
-pub mod Refusals
 pub mod Places
-pub mod EngineState
-pub mod Frames
-pub mod Steps
-pub mod Routing
-pub mod Faults
-pub mod Asks
-pub mod Calls
 pub mod Entering
 pub mod Datagrams
 pub mod Ticks

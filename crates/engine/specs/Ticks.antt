@@ -3,8 +3,8 @@ use Rattle.std.specs.Prelude.{◌≡◌, ℕ, Option, None, Result, Ok, Err}
 use Rattle.rank_calls.specs.declared.refused.Refused.{Refused}
 use Rattle.rank_calls.specs.Refusals.{IsRefusal}
 use Rattle.sessions.specs.Ticks as lower
-use Rattle.engine.specs.EngineState.{EngineState}
-use Rattle.engine.specs.Refusals.{fault_of_sessions}
+use Rattle.engine_parts.specs.EngineState.{EngineState}
+use Rattle.engine_parts.specs.Refusals.{fault_of_sessions}
 
 -- the clock never goes back
 abbrev pub clock_fault : EngineState → ℕ → Option Refused

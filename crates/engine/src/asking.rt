@@ -2,15 +2,13 @@
 
 ghost use Rattle.std.specs.Prelude.{◌≡◌, IfErr, IfOk, OnErr};
 ghost use Rattle.communicators.specs.Questions.{fact_text};
-ghost use Rattle.engine.specs.Calls.{AskingGives, BringsRanks, fact_said};
-ghost use Rattle.engine.specs.Faults.{fault_of};
-ghost use Rattle.engine.specs.declared.call.Call.TheVariants as calls;
+ghost use Rattle.engine_parts.specs.Calls.{AskingGives, BringsRanks, fact_said};
+ghost use Rattle.engine_parts.specs.Faults.{fault_of};
+ghost use Rattle.engine_parts.specs.declared.call.Call.TheVariants as calls;
 
-use crate::call::Call;
 use crate::engine::Engine;
-use crate::refusals::of_rule;
-use crate::reply::{Fact, Reply};
 use communicators::Question;
+use engine_parts::{Call, Fact, Reply, of_rule};
 use rank_core::Refused;
 use std::alloc::Global;
 

@@ -1,151 +1,19 @@
 //! How an engine answers calls.
 
-ghost use Rattle.std.specs.Prelude.{◌≡◌, ◌≤◌, ◌<◌, ◌+◌, ◌*◌, length, Option, IfErr, IfOk, OnErr, OnOk, None};
-ghost use Rattle.collective_steps.specs.declared.step.Ending.{Ending};
-ghost use Rattle.rank_calls.specs.Calls.{NeedsMemory};
-ghost use Rattle.rank_core.specs.Calls.{CanAnswer, call_frame};
-ghost use Rattle.engine.specs.Asks.{AnswerGives, AskGives, CanAsk, CanAskBy, IsAsked, IsClear, IsOnRequests, call_named, engine_of, groups_of};
-ghost use Rattle.engine.specs.Calls.{CallGives, CoreGives, RefusedLeaves};
-ghost use Rattle.engine.specs.Faults.{fault_of};
-ghost use Rattle.engine.specs.Frames.{after_frame};
-ghost use Rattle.engine.specs.declared.call.Call as engine_calls;
-ghost use Rattle.engine.specs.declared.call.Call.TheVariants as calls;
+ghost use Rattle.std.specs.Prelude.{◌≡◌, ◌≤◌, ◌+◌, ◌*◌, length, None};
+ghost use Rattle.engine_parts.specs.Asks.{AskGives, CanAskBy, IsOnRequests, call_named};
+ghost use Rattle.engine_parts.specs.Calls.{CallGives, CoreGives, RefusedLeaves};
+ghost use Rattle.engine_parts.specs.Faults.{fault_of};
+ghost use Rattle.engine_parts.specs.declared.call.Call as engine_calls;
+ghost use Rattle.engine_parts.specs.declared.call.Call.TheVariants as calls;
 ghost use Rattle.vocabulary.specs.declared.envelope.Source.TheVariants.{Null};
 
-use crate::asked::{Asked, told, with_members};
-use crate::call::{Call, Receive, Send};
 use crate::engine::Engine;
-use crate::judging::{Judged, ask_on_requests, ask_to_receive, ask_to_send, judgement};
-use crate::reply::Reply;
-use communicators::Communicators;
-use rank_core::{Core, Handed, Prepared, Refused};
-use sessions::{Outgoing, Sessions};
-use std::alloc::Global;
-
-/// Sends the frame of what the core is asked, if it has one, which meets no limit: it is lent from the call, or from what was
-/// made ready.
-#[tactic(auto, using(crate::proofs::Limits::frame_needs))]
-fn send_frame(
-    core: &Core,
-    sessions: &mut Sessions,
-    call: &rank_core::Call,
-    prepared: &Prepared,
-) -> Result<(), Refused>
-    requires clear { IsClear core.now.state sessions.old call.now }
-    requires ready { CanAnswer core.now call.now prepared.now }
-    requires place { core.now.state.place ≡ sessions.old.place }
-    ensures sent { OnOk result (sessions.new ≡ after_frame sessions.old (call_frame core.now.state call.now)) }
-    ensures unchanged { OnErr result (sessions.new ≡ sessions.old) }
-    ensures err { IfErr result (λ e. e ≡ Refused.OutOfMemory) }
-    ensures need { OnErr result (NeedsMemory call.now) }
-    ensures few { length sessions.new.out ≤ length sessions.old.out + 1 }
-    ensures placed { sessions.new.place ≡ sessions.old.place }
-{
-    let Some(addressed) = core.frame_of(call, prepared) else {
-        return Ok(());
-    };
-    let outgoing = Outgoing {
-        target: addressed.rank,
-        frame: addressed.frame,
-    };
-    match sessions.carry_out(None, &[outgoing]) {
-        Ok(()) => Ok(()),
-        Err(_) => Err(Refused::OutOfMemory),
-    }
-}
-
-/// Makes way in the core and the sessions for what breaks no rule and meets no limit: what it needs is made ready, and its
-/// frame, if it has one, is sent.
-fn make_way(
-    core: &mut Core,
-    sessions: &mut Sessions,
-    call: &rank_core::Call,
-) -> Result<Prepared, Refused>
-    requires clear { IsClear core.old.state sessions.old call.now }
-    requires place { core.old.state.place ≡ sessions.old.place }
-    ensures sent { OnOk result (sessions.new ≡ after_frame sessions.old (call_frame core.old.state call.now)) }
-    ensures unchanged { OnErr result (sessions.new ≡ sessions.old) }
-    ensures room { IfOk result (λ prepared. CanAnswer core.new call.now prepared) }
-    ensures err { IfErr result (λ e. e ≡ Refused.OutOfMemory) }
-    ensures need { OnErr result (NeedsMemory call.now) }
-    ensures kept { core.new.state ≡ core.old.state }
-    ensures few { length sessions.new.out ≤ length sessions.old.out + 1 }
-    ensures placed { sessions.new.place ≡ sessions.old.place }
-{
-    let prepared = core.prepare(call)?;
-    match send_frame(core, sessions, call, &prepared) {
-        Ok(()) => Ok(prepared),
-        Err(refused) => Err(refused),
-    }
-}
-
-/// The core's answer to what breaks no rule and meets no limit; or it comes back for want of memory.
-#[tactic(auto, using(crate::proofs::Answering::answer_given))]
-fn answer(core: &mut Core, sessions: &mut Sessions, call: rank_core::Call) -> rank_core::Reply
-    requires clear { IsClear core.old.state sessions.old call }
-    requires place { core.old.state.place ≡ sessions.old.place }
-    ensures exact { AnswerGives core.old.state sessions.old call result core.new.state sessions.new }
-    ensures few { length sessions.new.out ≤ length sessions.old.out + 1 }
-    ensures placed { sessions.new.place ≡ sessions.old.place }
-    ensures core_placed { core.new.state.place ≡ core.old.state.place }
-{
-    match make_way(core, sessions, &call) {
-        Ok(prepared) => core.answer(call, prepared),
-        Err(refused) => rank_core::Reply::Refused(refused, call),
-    }
-}
-
-/// The engine's answer to a call by which the core is asked this.
-#[tactic(auto, using(crate::proofs::Clear::clear_same))]
-fn answer_asked(
-    alloc: Global,
-    core: &mut Core,
-    communicators: &Communicators,
-    sessions: &mut Sessions,
-    asked: Asked,
-) -> Reply
-    requires can { CanAsk core.old.state (groups_of communicators.now) sessions.old asked }
-    requires place { core.old.state.place ≡ sessions.old.place }
-    ensures exact { (ended : Option Ending) (call : engine_calls.Call) →
-        IsAsked (engine_of core.old.state (groups_of communicators.now) ended sessions.old) call asked →
-        CoreGives (engine_of core.old.state (groups_of communicators.now) ended sessions.old) call result
-        (engine_of core.new.state (groups_of communicators.now) ended sessions.new) }
-    ensures few { length sessions.new.out ≤ length sessions.old.out + 1 }
-    ensures placed { sessions.new.place ≡ sessions.old.place }
-    ensures core_placed { core.new.state.place ≡ core.old.state.place }
-{
-    match with_members(alloc, communicators, asked) {
-        Ok(asked) => {
-            let Asked { comm, named, call } = asked;
-            told(comm, named, answer(core, sessions, call))
-        }
-        Err(asked) => Reply::Refused(Refused::OutOfMemory, asked.into_call()),
-    }
-}
-
-/// The engine's answer to a call by which the core is asked this, unless it was refused.
-fn answer_unless_refused(
-    alloc: Global,
-    core: &mut Core,
-    communicators: &Communicators,
-    sessions: &mut Sessions,
-    asked: Result<Asked, Handed<Call>>,
-) -> Reply
-    requires can { CanAskBy core.old.state (groups_of communicators.now) sessions.old asked }
-    requires place { core.old.state.place ≡ sessions.old.place }
-    ensures exact { (ended : Option Ending) (call : engine_calls.Call) →
-        AskGives (engine_of core.old.state (groups_of communicators.now) ended sessions.old) call asked →
-        CoreGives (engine_of core.old.state (groups_of communicators.now) ended sessions.old) call result
-        (engine_of core.new.state (groups_of communicators.now) ended sessions.new) }
-    ensures few { length sessions.new.out ≤ length sessions.old.out + 1 }
-    ensures placed { sessions.new.place ≡ sessions.old.place }
-    ensures core_placed { core.new.state.place ≡ core.old.state.place }
-{
-    match asked {
-        Ok(asked) => answer_asked(alloc, core, communicators, sessions, asked),
-        Err(handed) => Reply::Refused(handed.refused, handed.value),
-    }
-}
+use engine_parts::{
+    Asked, Call, Judged, Receive, Reply, Send, answer_unless_refused, ask_on_requests,
+    ask_to_receive, ask_to_send, judgement,
+};
+use rank_core::Handed;
 
 impl Engine {
     /// What the core is to be asked by a send, unless it is refused by now.
@@ -171,7 +39,7 @@ impl Engine {
     }
 
     /// Answers a call by which the core is asked this, unless it was refused.
-    #[tactic(auto, using(crate::proofs::Asks::can_ask))]
+    #[tactic(auto, using(engine_parts::proofs::Asks::can_ask))]
     fn reply_to(&mut self, asked: Result<Asked, Handed<Call>>) -> Reply
         requires { CanAskBy self.old.core self.old.groups self.old.sessions asked }
         ensures exact { (call : engine_calls.Call) → AskGives self.old call asked → CoreGives self.old call result self.new }
@@ -226,7 +94,7 @@ impl Engine {
     }
 
     /// The first rule or limit of a call on requests.
-    #[tactic(auto, using(crate::proofs::Asks::judged_fault, crate::proofs::Asks::judged_back))]
+    #[tactic(auto, using(engine_parts::proofs::Asks::judged_fault, engine_parts::proofs::Asks::judged_back))]
     fn judge_on_requests(&self, call: rank_core::Call) -> Judged
         requires { IsOnRequests call }
         ensures fault { result.fault ≡ fault_of self.now (call_named None Null call) }
@@ -238,7 +106,7 @@ impl Engine {
     /// The first rule or limit that a call would be refused by now, of 6, 4, 2, 1, 3, 5, 7, 9, 11 and 13: see `call`; and the call as it
     /// was handed in. It takes no memory; a call that meets none is refused for want of memory (14), and a collective also where
     /// what the rank then does of itself meets a limit (13).
-    #[tactic(auto, using(crate::proofs::Asks::judged_fault, crate::proofs::Asks::judged_back))]
+    #[tactic(auto, using(engine_parts::proofs::Asks::judged_fault, engine_parts::proofs::Asks::judged_back))]
     pub fn judge(&self, call: Call) -> Judged
         ensures fault { result.fault ≡ fault_of self.now call }
         ensures back { result.call ≡ call }
@@ -279,7 +147,7 @@ impl Engine {
     /// finished once that rank answers. A receive that takes a message which was announced answers it: its data are to come
     /// where the receive has their type and places for them, and else it has ended without them. A collective is entered, and
     /// the other members are told; where it has not ended by that, the rank is blocked in it (5.1).
-    #[tactic(auto, using(crate::proofs::Answering::few_by_one))]
+    #[tactic(auto, using(engine_parts::proofs::Answering::few_by_one))]
     pub fn call(&mut self, call: Call) -> Reply
         ensures exact { CallGives self.old call result self.new }
         ensures unchanged { RefusedLeaves result self.old self.new }

@@ -1,24 +1,28 @@
 //! How an engine takes datagrams in.
 
-ghost use Rattle.std.specs.Prelude.{◌≡◌, ◌≤◌, ◌<◌, ◌+◌, ◌*◌, length, map, option_map, IfErr, IfOk, None, Ok, Err, OnErr, OnOk, Option, Some};
+ghost use Rattle.std.specs.Prelude.{◌≡◌, ◌≤◌, ◌<◌, ◌+◌, ◌*◌, length, map, IfErr, IfOk, None, Ok, Err, OnErr, OnOk, Option, Some};
 ghost use Rattle.collective_steps.specs.declared.step.Ending.{Ending};
 ghost use Rattle.datagram.specs.Spelling.{eager_text};
 ghost use Rattle.rank_calls.specs.Hearing.{frame_option, news_text};
 ghost use Rattle.rank_core.specs.Hearing.{CanTake, news_fault};
 ghost use Rattle.sessions.specs.Heard.{heard_text, word_text, CanHear, WordFits};
 ghost use Rattle.sessions.specs.Events.{after_event, event_limit};
-ghost use Rattle.engine.specs.EngineState.{or_before};
-ghost use Rattle.engine.specs.Frames.{outgoing_of};
-ghost use Rattle.engine.specs.Refusals.{fault_of_sessions};
-ghost use Rattle.engine.specs.Steps.{engine_of};
-ghost use Rattle.engine.specs.Datagrams.{DatagramGives, HeardGives, NewsGives, SourceIsKnown, RefusedDatagramLeaves, frame_in, news_of, notice_in, replies, says_nothing};
+ghost use Rattle.engine_parts.specs.EngineState.{or_before};
+ghost use Rattle.engine_parts.specs.Frames.{outgoing_of};
+ghost use Rattle.engine_parts.specs.Refusals.{fault_of_sessions};
+ghost use Rattle.engine_parts.specs.Steps.{engine_held};
+ghost use Rattle.engine.specs.Datagrams.{DatagramGives, HeardGives, NewsGives, SourceIsKnown, RefusedDatagramLeaves, frame_in, news_of, received, replies, says_nothing, whole_in};
 
+use crate::announcing::{take_announcement, take_answer};
+use crate::coming::take_piece;
 use crate::engine::Engine;
-use crate::notices::{learn, lesson_in, or_before, take_message};
-use crate::refusals::of_sessions;
+use crate::notices::{Received, forget, learn, lesson_in, or_before, take_message};
+use crate::noticing::{Notice, notice_in};
+use collective_transfers::CollectiveTransfers;
 use collectives::Ending;
 use communicators::Communicators;
-use datagram::{Eager, Frame, Plane};
+use datagram::{Eager, Frame};
+use engine_parts::of_sessions;
 use rank_core::{Addressed, Core, News, Ready, Refused};
 use sessions::{Heard, Outgoing, Sessions, Word};
 use std::alloc::Global;
@@ -32,19 +36,6 @@ fn frame_in<'a>(word: Word<'a>) -> Option<Frame<'a>>
         Word::Acknowledges(_) => None,
         Word::Repeats => None,
         Word::Nothing => None,
-    }
-}
-
-/// The message of a collective that is handed up, if one is.
-fn notice_in<'a>(word: Word<'a>) -> Option<Eager<'a>>
-    ensures { option_map eager_text result ≡ notice_in (word_text word.entry) }
-{
-    let Word::Hands(Frame::Eager(message)) = word else {
-        return None;
-    };
-    match message.plane {
-        Plane::Collective => Some(message),
-        Plane::PointToPoint => None,
     }
 }
 
@@ -132,21 +123,22 @@ fn limit_of_heard(core: &Core, sessions: &Sessions, heard: Heard<'_>) -> Option<
     }
 }
 
-/// All parts take in what is heard and is no message of a collective, or refuse it. Answered is with what a collective
-/// ends by it.
+/// All parts take in what is heard and concerns no collective, or refuse it. Answered is with what a collective ends by it, by
+/// a lesson.
 fn take_news(
     core: &mut Core,
     communicators: &mut Communicators,
+    payloads: &mut CollectiveTransfers,
     sessions: &mut Sessions,
     heard: Heard<'_>,
 ) -> Result<Option<Ending>, Refused>
     requires can { CanHear sessions.old (Some (heard_text heard)) }
     requires fits { WordFits (word_text heard.word) }
     requires place { core.old.state.place ≡ sessions.old.place }
-    ensures ok { IfOk result (λ ending. (before : Option Ending) → NewsGives (engine_of core.old communicators.old before sessions.old)
-        (heard_text heard.entry) (Ok tt) (engine_of core.new communicators.new (or_before ending before) sessions.new)) }
-    ensures err { IfErr result (λ e. (before : Option Ending) → NewsGives (engine_of core.old communicators.old before sessions.old)
-        (heard_text heard.entry) (Err e) (engine_of core.new communicators.new before sessions.new)) }
+    ensures ok { IfOk result (λ ending. (before : Option Ending) → NewsGives (engine_held core.old communicators.old before payloads.old.state sessions.old)
+        (heard_text heard.entry) (Ok tt) (engine_held core.new communicators.new (or_before ending before) payloads.new.state sessions.new)) }
+    ensures err { IfErr result (λ e. (before : Option Ending) → NewsGives (engine_held core.old communicators.old before payloads.old.state sessions.old)
+        (heard_text heard.entry) (Err e) (engine_held core.new communicators.new before payloads.new.state sessions.new)) }
     ensures few { length sessions.new.out ≤ length sessions.old.out + 65 }
     ensures placed { sessions.new.place ≡ sessions.old.place }
     ensures core_placed { core.new.state.place ≡ core.old.state.place }
@@ -164,7 +156,20 @@ fn take_news(
     let ready = core.prepare_news(news)?;
     carry_out(core, sessions, heard, &ready)?;
     core.take_news(news, ready);
-    Ok(learn(communicators, lesson_in(heard)))
+    let lesson = lesson_in(heard);
+    forget(payloads, lesson);
+    Ok(learn(communicators, lesson))
+}
+
+/// The payload of a collective that stands in a frame.
+fn received_in(message: Eager<'_>) -> Received<'_>
+    ensures { received result ≡ whole_in (eager_text message.entry) }
+{
+    Received {
+        context: message.context,
+        number: message.tag,
+        bytes: message.elements,
+    }
 }
 
 /// All parts take in what is heard, or refuse it. Answered is with what a collective ends by it.
@@ -172,6 +177,7 @@ fn hear(
     alloc: Global,
     core: &mut Core,
     communicators: &mut Communicators,
+    payloads: &mut CollectiveTransfers,
     sessions: &mut Sessions,
     heard: Heard<'_>,
 ) -> Result<Option<Ending>, Refused>
@@ -179,17 +185,49 @@ fn hear(
     requires fits { WordFits (word_text heard.word) }
     requires there { heard.source.rank < sessions.old.place.size }
     requires place { core.old.state.place ≡ sessions.old.place }
-    ensures ok { IfOk result (λ ending. (before : Option Ending) → HeardGives (engine_of core.old communicators.old before sessions.old)
-        (heard_text heard.entry) (Ok tt) (engine_of core.new communicators.new (or_before ending before) sessions.new)) }
-    ensures err { IfErr result (λ e. (before : Option Ending) → HeardGives (engine_of core.old communicators.old before sessions.old)
-        (heard_text heard.entry) (Err e) (engine_of core.new communicators.new before sessions.new)) }
+    ensures ok { IfOk result (λ ending. (before : Option Ending) → HeardGives (engine_held core.old communicators.old before payloads.old.state sessions.old)
+        (heard_text heard.entry) (Ok tt) (engine_held core.new communicators.new (or_before ending before) payloads.new.state sessions.new)) }
+    ensures err { IfErr result (λ e. (before : Option Ending) → HeardGives (engine_held core.old communicators.old before payloads.old.state sessions.old)
+        (heard_text heard.entry) (Err e) (engine_held core.new communicators.new before payloads.new.state sessions.new)) }
     ensures few { length sessions.new.out ≤ length sessions.old.out + 65 * sessions.old.place.size }
     ensures placed { sessions.new.place ≡ sessions.old.place }
     ensures core_placed { core.new.state.place ≡ core.old.state.place }
 {
-    match notice_in(heard.word) {
-        Some(message) => take_message(alloc, core, communicators, sessions, heard, message),
-        None => take_news(core, communicators, sessions, heard),
+    match notice_in(payloads, heard) {
+        Some(Notice::Message(message)) => take_message(
+            alloc,
+            core,
+            communicators,
+            payloads,
+            sessions,
+            heard,
+            received_in(message),
+        ),
+        Some(Notice::Announcement(request)) => take_announcement(
+            alloc,
+            core,
+            communicators,
+            payloads,
+            sessions,
+            heard,
+            request,
+        ),
+        Some(Notice::Answer(answer)) => {
+            match take_answer(alloc, payloads, sessions, heard, answer) {
+                Ok(()) => Ok(None),
+                Err(refused) => Err(refused),
+            }
+        }
+        Some(Notice::Piece(piece)) => take_piece(
+            alloc,
+            core,
+            communicators,
+            payloads,
+            sessions,
+            heard,
+            piece,
+        ),
+        None => take_news(core, communicators, payloads, sessions, heard),
     }
 }
 
@@ -208,6 +246,7 @@ impl Engine {
             self.alloc,
             &mut self.core,
             &mut self.communicators,
+            &mut self.payloads,
             &mut self.sessions,
             heard,
         )?;
@@ -223,11 +262,17 @@ impl Engine {
     /// of its source), 29 (for a former incarnation of this rank: where the datagram is no reset itself, one reset goes
     /// out to its source), 31 (a number outside the window), 30 (a message of a collective that can't be read,
     /// or carries what doesn't fit its record; an announcement under another number than the next of its session; an answer
-    /// to a transfer that is not offered; data that are not due), 13 and 14. A refusal changes nothing, but for that reset;
+    /// to a transfer that is not offered, or 'drop' to a payload of a collective, which no engine answers; data that are not
+    /// due), 13 and 14. With the last data of a payload 14 may come first, for the copy that is read. A refusal changes nothing, but for that reset;
     /// without memory for the reset it is 14.
     ///
     /// A message of a collective is kept until the rank has entered that collective; then, or where it has, the rank does of
     /// itself all that follows, the others are told, and a rank that is thereby through leaves.
+    ///
+    /// A payload of a collective of more than 1,024 bytes is announced first. The announcement is answered at once, whether or not
+    /// the rank has entered the collective or left it; its data go out on the answer, in frames of 1,024 bytes, at most 1,024
+    /// of them, and with the last of them the message is taken in. Answers and data are told from those of point to point by
+    /// their transfer number, which both kinds share.
     ///
     /// An announcement of a large message that a receive waits for is answered: its data are to come where the receive
     /// has their type and places for them, and else the message is used up without them. Data that are asked for go out

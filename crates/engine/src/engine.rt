@@ -5,14 +5,14 @@ ghost use Rattle.rank_calls.specs.Refusals.{IsRefusal};
 ghost use Rattle.sessions.specs.Peers.{IsIdlePeer};
 ghost use Rattle.sessions.specs.SessionsState.{SessionGives};
 ghost use Rattle.engine.specs.Places.{place_fault};
-ghost use Rattle.engine.specs.EngineState.{completion_by, completion_of, opening, without_completion, without_out};
+ghost use Rattle.engine_parts.specs.EngineState.{completion_by, completion_of, opening, without_completion, without_out};
 ghost use Rattle.engine.specs.Ticks.{TickGives};
 
-use crate::refusals::{of_collectives, of_sessions};
-use crate::reply::Completion;
+use collective_transfers::CollectiveTransfers;
 use collectives::Ending;
 use communicators::Communicators;
 use datagram::Bytes;
+use engine_parts::{Completion, of_collectives, of_sessions};
 use incarnation::Place;
 use rank_core::{Core, Refused};
 use requests::Answer;
@@ -31,13 +31,15 @@ pub struct Engine {
     pub(crate) communicators: Communicators,
     /// With what the collective ended that it was blocked in, until that is handed out.
     pub(crate) ended: Option<Ending>,
+    /// The payloads of collectives that it announced, and those that come to it in pieces.
+    pub(crate) payloads: CollectiveTransfers,
     /// Its sessions with the other ranks.
     pub(crate) sessions: Sessions,
 }
 
 impl Model for Engine {
     ghost use Rattle.std.specs.Prelude.{◌≡◌};
-    ghost use Rattle.engine.specs.EngineState.{EngineState};
+    ghost use Rattle.engine_parts.specs.EngineState.{EngineState};
 
     ghost Value = { EngineState };
 
@@ -45,6 +47,7 @@ impl Model for Engine {
       core = e.core.state;
       groups = record { collective = e.communicators.collective.state; contexts = e.communicators.contexts.state };
       ended = e.ended;
+      payloads = e.payloads.state;
       sessions = e.sessions;
     } };
 
@@ -83,6 +86,7 @@ impl Engine {
                 core,
                 communicators,
                 ended: None,
+                payloads: CollectiveTransfers::new(alloc),
                 sessions,
             }),
             Err(refused) => Err(of_collectives(refused)),

@@ -2,20 +2,18 @@
 
 ghost use Rattle.std.specs.Prelude.{◌≡◌, ◌≤◌, ◌+◌, ◌*◌, None, OnErr, IfErr, IfOk, length, false};
 ghost use Rattle.collectives.specs.Calls.{entry_rule, limit_at};
-ghost use Rattle.engine.specs.Calls.{EnteringGives, RefusedLeaves, reply_on_entry};
+ghost use Rattle.engine_parts.specs.Calls.{EnteringGives, RefusedLeaves, reply_on_entry};
 ghost use Rattle.engine.specs.Entering.{Goes, WhyNot};
-ghost use Rattle.engine.specs.Faults.{fault_of};
-ghost use Rattle.engine.specs.declared.call.Call.TheVariants as calls;
+ghost use Rattle.engine_parts.specs.Faults.{fault_of};
+ghost use Rattle.engine_parts.specs.declared.call.Call.TheVariants as calls;
 
-use crate::call::Call;
 use crate::engine::Engine;
-use crate::frames::send_step;
-use crate::refusals::{of_collectives, of_rule};
-use crate::reply::Reply;
 use collective_notes::Entry;
+use collective_transfers::CollectiveTransfers;
 use collectives::Ending;
 use communicators::{Communicators, RefusedEntry, entries_are_allowed};
-use rank_core::{Handed, Refused};
+use engine_parts::{Call, Reply, of_collectives, of_rule, send_step};
+use rank_core::{Core, Handed, Refused};
 use sessions::Sessions;
 use std::alloc::Global;
 
@@ -24,22 +22,36 @@ use std::alloc::Global;
 /// what was handed in comes back.
 fn go_in(
     alloc: Global,
+    core: &mut Core,
     communicators: &mut Communicators,
+    payloads: &mut CollectiveTransfers,
     sessions: &mut Sessions,
     place: usize,
     entry: Entry,
 ) -> Result<Option<Ending>, Handed<Entry>>
     requires rule { entry_rule communicators.old.collective.state communicators.old.contexts.state place ≡ None }
     requires limit { limit_at communicators.old.collective.state communicators.old.contexts.state place entry ≡ false }
-    ensures ok { IfOk result (λ ending. Goes communicators.old.collective.state communicators.old.contexts.state sessions.old place entry ending communicators.new.collective.state communicators.new.contexts.state sessions.new) }
-    ensures err { IfErr result (λ back. WhyNot communicators.old.collective.state communicators.old.contexts.state sessions.old place entry back.refused) }
+    ensures ok { IfOk result (λ ending. Goes communicators.old.collective.state communicators.old.contexts.state core.old.state payloads.old.state sessions.old place entry ending communicators.new.collective.state communicators.new.contexts.state core.new.state payloads.new.state sessions.new) }
+    ensures err { IfErr result (λ back. WhyNot communicators.old.collective.state communicators.old.contexts.state core.old.state.transfers.numbers sessions.old place entry back.refused) }
     ensures handed { IfErr result (λ back. back.value ≡ entry) }
     ensures collective { OnErr result (communicators.new.collective.state ≡ communicators.old.collective.state) }
     ensures contexts { OnErr result (communicators.new.contexts.state ≡ communicators.old.contexts.state) }
+    ensures core { OnErr result (core.new.state ≡ core.old.state) }
+    ensures payloads { OnErr result (payloads.new.state ≡ payloads.old.state) }
     ensures sessions { OnErr result (sessions.new ≡ sessions.old) }
     ensures few { length sessions.new.out ≤ length sessions.old.out + 64 * sessions.old.place.size }
     ensures placed { sessions.new.place ≡ sessions.old.place }
+    ensures core_placed { core.new.state.place ≡ core.old.state.place }
 {
+    let mut numbers = match core.numbers() {
+        Ok(numbers) => numbers,
+        Err(refused) => {
+            return Err(Handed {
+                refused,
+                value: entry,
+            });
+        }
+    };
     let ready = match communicators.prepare_entry(place, entry) {
         Ok(ready) => ready,
         Err(RefusedEntry { entry, refused }) => {
@@ -49,8 +61,19 @@ fn go_in(
             });
         }
     };
-    match send_step(alloc, sessions, None, ready.messages()) {
-        Ok(()) => Ok(communicators.enter(ready)),
+    match send_step(
+        alloc,
+        payloads,
+        sessions,
+        None,
+        ready.messages(),
+        &mut numbers,
+    ) {
+        Ok(announced) => {
+            core.set_numbers(numbers);
+            payloads.announce(announced);
+            Ok(communicators.enter(ready))
+        }
         Err(refused) => Err(Handed {
             refused,
             value: ready.into_entry(),
@@ -102,7 +125,9 @@ impl Engine {
         };
         match go_in(
             self.alloc,
+            &mut self.core,
             &mut self.communicators,
+            &mut self.payloads,
             &mut self.sessions,
             place,
             entry,

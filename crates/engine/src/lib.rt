@@ -4,36 +4,32 @@
 //! handed in, and gives replies, completions and datagrams. Each of these events is handled whole or refused, and a
 //! refusal changes nothing, but for the reset that answers a datagram for a former incarnation of the rank.
 //!
-//! It has three parts: a core, which knows requests and messages, by contexts and ranks of `world`; communicators, which
-//! know their groups and contexts, and collectives; and sessions, which know bytes, numbers and time. An event goes
+//! It has four parts: a core, which knows requests and messages, by contexts and ranks of `world`; communicators, which
+//! know their groups and contexts, and collectives; the payloads of collectives that are too long for a frame, which it
+//! announced or which come to it in pieces; and sessions, which know bytes, numbers and time. An event goes
 //! through all of them: each finds the rule or limit that it breaks, then the core and the communicators make room and name
 //! the frames that they call for, then the sessions carry it out and send those frames, or find no memory, and then the
 //! others do their part, which cannot fail.
 #![tactic(auto)]
 
-mod asked;
+mod announcing;
 mod asking;
-mod call;
 mod calls;
+mod coming;
 mod datagrams;
 mod engine;
 mod entering;
-mod frames;
-mod judging;
 mod notices;
-mod refusals;
-mod reply;
+mod noticing;
 
-pub use call::{Call, Receive, Send};
 pub use collectives::Ending;
 pub use communicators::{Block, Comparison, Entry, Question};
 pub use datatypes::{Buffer, Layout};
 pub use engine::Engine;
+pub use engine_parts::{Call, Completion, Fact, Judged, Receive, Reply, Send};
 pub use incarnation::Place;
-pub use judging::Judged;
 pub use payload::{Choice, Elements, Operation, Rooted};
 pub use rank_core::{Handed, Refused};
-pub use reply::{Completion, Fact, Reply};
 pub use requests::{Answer, Outcome, Outcomes, Places, Region, Request, RequestList};
 pub use sessions::{MOST_RANKS, Peer, Session};
 pub use vocabulary::{Source, Status};

@@ -3,23 +3,22 @@
 ghost use Rattle.std.specs.Prelude.{◌≡◌, ◌≤◌, ◌+◌, ◌*◌, length, IfErr, IfOk, None, OnErr, Option, Some};
 ghost use Rattle.collectives.specs.Calls.{met};
 ghost use Rattle.collective_steps.specs.declared.step.Ending.{Ending};
-ghost use Rattle.datagram.specs.Spelling.{eager_text};
 ghost use Rattle.payload.specs.Reading.{payload_of};
 ghost use Rattle.payload.specs.Spelling.{payload_text};
 ghost use Rattle.sessions.specs.Heard.{CanHear, heard_text};
 ghost use Rattle.sessions.specs.Events.{most_answers};
-ghost use Rattle.engine.specs.Datagrams.{IsNoticed, WhyUnnoticed, lesson_in};
-ghost use Rattle.engine.specs.EngineState.{or_before};
-ghost use Rattle.engine.specs.Steps.{ending_met, engine_of};
+ghost use Rattle.engine.specs.Datagrams.{IsNoticed, WhyUnnoticed, lesson_in, numbers_met, payloads_met, received};
+ghost use Rattle.engine_parts.specs.EngineState.{or_before};
+ghost use Rattle.engine_parts.specs.Steps.{ending_met, engine_held};
 
-use crate::frames::send_step;
-use crate::refusals::of_collectives;
 use collective_notes::Address;
+use collective_transfers::CollectiveTransfers;
 use collectives::Ending;
 use communicators::Communicators;
-use datagram::Eager;
+use engine_parts::{of_collectives, send_step};
 use payload::{Payload, read_payload};
 use rank_core::{Core, News, Refused};
+use rendezvous::{Numbers, start_anew};
 use sessions::{Heard, Sessions};
 use std::alloc::Global;
 use vocabulary::Endpoint;
@@ -48,6 +47,31 @@ pub(crate) fn learn(communicators: &mut Communicators, lesson: Option<Endpoint>)
     }
 }
 
+/// Of the payloads of collectives is left what a lesson leaves, if there is one.
+pub(crate) fn forget(payloads: &mut CollectiveTransfers, lesson: Option<Endpoint>)
+    ensures state { payloads.new.state ≡ payloads_met payloads.old.state lesson }
+    ensures announced { payloads.old.more_announced ≤ payloads.new.more_announced }
+    ensures coming { payloads.old.more_coming ≤ payloads.new.more_coming }
+{
+    if let Some(source) = lesson {
+        payloads.drop_from(source.rank);
+    }
+}
+
+/// The numbers of the sessions' transfers, copied, once a lesson is learnt, if there is one; or want of memory (14).
+pub(crate) fn numbers_met(core: &Core, heard: Heard<'_>) -> Result<Vec<Numbers>, Refused>
+    ensures ok { IfOk result (λ numbers. numbers.items ≡ numbers_met core.now.state (heard_text heard.entry)) }
+    ensures width { IfOk result (λ numbers. length numbers.items ≡ core.now.state.place.size) }
+    ensures err { IfErr result (λ e. e ≡ Refused.OutOfMemory) }
+{
+    let mut numbers = core.numbers()?;
+    if !heard.lesson {
+        return Ok(numbers);
+    }
+    start_anew(&mut numbers, heard.source.rank);
+    Ok(numbers)
+}
+
 /// An ending, or one that came before.
 pub(crate) fn or_before(ending: Option<Ending>, before: Option<Ending>) -> Option<Ending>
     ensures { result ≡ or_before ending before }
@@ -69,6 +93,17 @@ fn read(bytes: &[u8]) -> Result<Payload<'_>, Refused>
     }
 }
 
+/// A payload of a collective that has come, in a frame or in pieces.
+#[derive(Clone, Copy, Debug)]
+pub struct Received<'a> {
+    /// The context of the communicator.
+    pub context: u64,
+    /// The number of the collective on the communicator.
+    pub number: u32,
+    /// Its bytes.
+    pub bytes: &'a [u8],
+}
+
 /// Takes in a message of a collective: it is read and made ready with all that follows, the others are told, and only then
 /// the lesson is learnt and the message taken. Answered is with what a collective ends by it. Refused is 30, 13 and 14; then
 /// nothing changes.
@@ -76,27 +111,30 @@ pub(crate) fn take_message(
     alloc: Global,
     core: &mut Core,
     communicators: &mut Communicators,
+    payloads: &mut CollectiveTransfers,
     sessions: &mut Sessions,
     heard: Heard<'_>,
-    message: Eager<'_>,
+    message: Received<'_>,
 ) -> Result<Option<Ending>, Refused>
     requires can { CanHear sessions.old (Some (heard_text heard)) }
-    ensures ok { IfOk result (λ ending. (before : Option Ending) → IsNoticed (engine_of core.old communicators.old before sessions.old)
-        (heard_text heard.entry) (eager_text message.entry) (engine_of core.new communicators.new (or_before ending before) sessions.new)) }
-    ensures err { IfErr result (WhyUnnoticed (engine_of core.old communicators.old None sessions.old) (heard_text heard.entry) (eager_text message.entry)) }
+    ensures ok { IfOk result (λ ending. (before : Option Ending) → IsNoticed (engine_held core.old communicators.old before payloads.old.state sessions.old)
+        (payloads_met payloads.old.state (lesson_in (heard_text heard.entry)))
+        (heard_text heard.entry) (received message.entry) (engine_held core.new communicators.new (or_before ending before) payloads.new.state sessions.new)) }
+    ensures err { IfErr result (WhyUnnoticed (engine_held core.old communicators.old None payloads.old.state sessions.old) (heard_text heard.entry) (received message.entry)) }
     ensures core { OnErr result (core.new.state ≡ core.old.state) }
     ensures collective { OnErr result (communicators.new.collective.state ≡ communicators.old.collective.state) }
     ensures contexts { OnErr result (communicators.new.contexts.state ≡ communicators.old.contexts.state) }
+    ensures payloads { OnErr result (payloads.new.state ≡ payloads.old.state) }
     ensures sessions { OnErr result (sessions.new ≡ sessions.old) }
     ensures few { length sessions.new.out ≤ length sessions.old.out + (most_answers (Some (heard_text heard.entry)) + 64 * sessions.old.place.size) }
     ensures placed { sessions.new.place ≡ sessions.old.place }
     ensures core_placed { core.new.state.place ≡ core.old.state.place }
 {
-    let payload = read(message.elements)?;
+    let payload = read(message.bytes)?;
     let address = Address {
         sender: heard.source,
         context: message.context,
-        number: message.tag,
+        number: message.number,
     };
     let lesson = lesson_in(heard);
     let ready = match communicators.prepare_message(lesson, address, payload) {
@@ -109,8 +147,19 @@ pub(crate) fn take_message(
         frame: None,
     };
     let prepared = core.prepare_news(news)?;
-    send_step(alloc, sessions, Some(heard), ready.messages())?;
+    let mut numbers = numbers_met(core, heard)?;
+    let announced = send_step(
+        alloc,
+        payloads,
+        sessions,
+        Some(heard),
+        ready.messages(),
+        &mut numbers,
+    )?;
     core.take_news(news, prepared);
+    core.set_numbers(numbers);
+    forget(payloads, lesson);
+    payloads.announce(announced);
     let replaced = learn(communicators, lesson);
     let left = communicators.on_message(ready);
     Ok(or_before(left, replaced))

@@ -219,8 +219,8 @@ fn each_collective_gives_its_elements(rt: HostRuntime) {
 }
 
 /// What a rank is told on what breaks a rule: a scatter of another type, of another number of elements, a block of 1,048,561
-/// bytes, a root that isn't there, an operation that isn't defined on the type, and 1,009 bytes that a member would have to be told.
-fn refused(alloc: Global, zero: &mut Engine) -> Option<[Told; 6]> {
+/// bytes, a root that isn't there, and an operation that isn't defined on the type.
+fn refused(alloc: Global, zero: &mut Engine) -> Option<[Told; 5]> {
     let other = Buffer::new(alloc, BasicType::Int8);
     Some([
         enter(zero, scatter(Some(other))),
@@ -231,7 +231,6 @@ fn refused(alloc: Global, zero: &mut Engine) -> Option<[Told; 6]> {
             zero,
             Entry::Allreduce(Operation::Affine, block(alloc, 1, 4)?),
         ),
-        enter(zero, Entry::Bcast(0, block(alloc, 1, 1009)?)),
     ])
 }
 
@@ -246,7 +245,6 @@ fn a_refused_entry_comes_back(rt: HostRuntime) {
             Told::Refused(1, Some(1_048_561)),
             Told::Refused(7, Some(4)),
             Told::Refused(9, Some(4)),
-            Told::Refused(13, Some(1009)),
         ])
     );
 }

@@ -1,6 +1,8 @@
-//! Worked rows of one rank and of two.
+//! Worked rows of one rank, of two and of three.
 #![tactic(auto)]
 
+#[cfg(test)]
+mod announced_tests;
 #[cfg(test)]
 mod collective_tests;
 #[cfg(test)]

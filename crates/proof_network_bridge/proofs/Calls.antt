@@ -3,13 +3,13 @@ use Rattle.std.proofs.Common.{◌≡◌, ℕ, List, ◌++◌, Option, Some, subs
 use Rattle.std.specs.Prelude.{slice_get}
 use Rattle.collective_notes.specs.declared.entry.Entry as collectives
 use Rattle.communicators.specs.declared.question.Question.{Question}
-use Rattle.engine.specs.Calls.{AskingGives, CallGives, CoreGives, IsAnswered, IsEntered, IsTaken, IsTold}
-use Rattle.engine.specs.EngineState.{EngineState, completion_of}
-use Rattle.engine.specs.declared.call.Call.{Call}
-use Rattle.engine.specs.declared.call.Call.TheVariants as calls
-use Rattle.engine.specs.declared.reply.Fact.{Fact}
-use Rattle.engine.specs.declared.reply.Reply.{Reply}
-use Rattle.engine.specs.declared.reply.Reply.TheVariants as replies
+use Rattle.engine_parts.specs.Calls.{AskingGives, CallGives, CoreGives, IsAnswered, IsEntered, IsTaken, IsTold}
+use Rattle.engine_parts.specs.EngineState.{EngineState, completion_of}
+use Rattle.engine_parts.specs.declared.call.Call.{Call}
+use Rattle.engine_parts.specs.declared.call.Call.TheVariants as calls
+use Rattle.engine_parts.specs.declared.reply.Fact.{Fact}
+use Rattle.engine_parts.specs.declared.reply.Reply.{Reply}
+use Rattle.engine_parts.specs.declared.reply.Reply.TheVariants as replies
 use Rattle.perfect_groups.specs.Events.{Entry}
 use Rattle.proof_network_bridge.proofs.Reasons.{IsAnsweredWith, answered, asked, entered}
 use Rattle.proof_network_bridge.specs.Following.{CallsFollow, LeavesFollowed}

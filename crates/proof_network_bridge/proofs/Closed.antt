@@ -25,13 +25,18 @@ use Rattle.proof_link_truth.proofs.Ticks.{ticks_are_true}
 use Rattle.proof_session_carrying.proofs.EventSteps.{entries_are_carried}
 use Rattle.proof_session_carrying.proofs.MessageSteps.{others_are_carried, queue_calls_are_carried, still_texts_are_quiet}
 use Rattle.proof_network_bridge.specs.Following.{CallsFollow, DatagramsFollow, FollowingIsRun, OpeningFollows, RefusalsFollow, RestartsFollow, TicksFollow}
+use Rattle.proof_network_bridge.proofs.Announcing as announcing
+use Rattle.proof_network_bridge.proofs.Answering as answering
 use Rattle.proof_network_bridge.proofs.Calls as calls
 use Rattle.proof_network_bridge.proofs.Calls.{CoreCallsFollow, EntriesFollow, QuestionsFollow}
 use Rattle.proof_network_bridge.proofs.CoreCalls as core_calls
 use Rattle.proof_network_bridge.proofs.Datagrams as datagrams
+use Rattle.proof_network_bridge.proofs.Datagrams.{HeardFollow}
 use Rattle.proof_network_bridge.proofs.Entering as entering
 use Rattle.proof_network_bridge.proofs.Machine as machine
+use Rattle.proof_network_bridge.proofs.Noticed as noticed
 use Rattle.proof_network_bridge.proofs.Opening as opening
+use Rattle.proof_network_bridge.proofs.PieceHeard as pieces
 use Rattle.proof_network_bridge.proofs.Questions as questions
 use Rattle.proof_network_bridge.proofs.Reasons.{refused_reason, taken_faultless}
 use Rattle.proof_network_bridge.proofs.Unanswered as unanswered
@@ -63,8 +68,17 @@ news_follow =
       pieces = pieces_are_taken outcomes_agree;
     })
 
+-- and so is what concerns collectives
+heard_follow : HeardFollow
+heard_follow = record {
+  notices = noticed.notice_follows news_follow hearing_is_true events_are_true;
+  announcements = announcing.announcement_follows news_follow hearing_is_true events_are_true;
+  answers = answering.answer_follows news_follow hearing_is_true events_are_true;
+  pieces = pieces.piece_follows news_follow hearing_is_true events_are_true;
+}
+
 pub datagrams_follow : DatagramsFollow
-datagrams_follow = datagrams.datagrams_follow news_follow hearing_is_true events_are_true
+datagrams_follow = datagrams.datagrams_follow news_follow hearing_is_true events_are_true heard_follow
 
 pub refusals_follow : RefusalsFollow
 refusals_follow = unanswered.refusals_follow rest_is_true refusals_are_true

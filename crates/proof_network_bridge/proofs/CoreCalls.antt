@@ -3,20 +3,21 @@ use Rattle.std.proofs.Common.{◌≡◌, ℕ, ◌<◌, Bool, ◌||◌, List, [],
 use Rattle.std.specs.List.{AllByRecursion}
 use Rattle.std.proofs.lemmas.Option.{same_Some}
 use Rattle.collective_steps.specs.declared.step.Ending.{Ending}
+use Rattle.collective_transfers.specs.State as payloads
 use Rattle.communicators.specs.Routes.{RouteText, route_on}
 use Rattle.datagram.specs.Spelling.{FrameText}
-use Rattle.engine.specs.EngineState.{EngineState, GroupsState, completion_by, completion_of, member_of}
-use Rattle.engine.specs.Faults.{broken, fault_of, free_fault, group_limit, is_busy, is_replaced, on_route, receive_rules, routed_limit, send_rules}
-use Rattle.engine.specs.Frames.{after_frame, frame_limit, sending_of, sendings_of}
-use Rattle.engine.specs.Refusals.{first_fault}
-use Rattle.engine.specs.Routing.{core_call, core_reply, receive_by, route_at, send_by}
-use Rattle.engine.specs.declared.call.Call.{Call}
-use Rattle.engine.specs.declared.call.Call.TheVariants as calls
-use Rattle.engine.specs.declared.call.Receive.{Receive}
-use Rattle.engine.specs.declared.call.Send.{Send}
-use Rattle.engine.specs.declared.reply.Completion.{Completion}
-use Rattle.engine.specs.declared.reply.Reply.{Reply}
-use Rattle.engine.specs.declared.reply.Reply.TheVariants as replies
+use Rattle.engine_parts.specs.EngineState.{EngineState, GroupsState, completion_by, completion_of, member_of}
+use Rattle.engine_parts.specs.Faults.{broken, fault_of, free_fault, group_limit, is_busy, is_replaced, on_route, receive_rules, routed_limit, send_rules}
+use Rattle.engine_parts.specs.Frames.{after_frame, frame_limit, sending_of, sendings_of}
+use Rattle.engine_parts.specs.Refusals.{first_fault}
+use Rattle.engine_parts.specs.Routing.{core_call, core_reply, receive_by, route_at, send_by}
+use Rattle.engine_parts.specs.declared.call.Call.{Call}
+use Rattle.engine_parts.specs.declared.call.Call.TheVariants as calls
+use Rattle.engine_parts.specs.declared.call.Receive.{Receive}
+use Rattle.engine_parts.specs.declared.call.Send.{Send}
+use Rattle.engine_parts.specs.declared.reply.Completion.{Completion}
+use Rattle.engine_parts.specs.declared.reply.Reply.{Reply}
+use Rattle.engine_parts.specs.declared.reply.Reply.TheVariants as replies
 use Rattle.incarnation.specs.declared.place.Place.{Place}
 use Rattle.perfect_groups.specs.Calls as machine
 use Rattle.perfect_groups.specs.Calls.{OfRequests, held_at, queue_call, queue_reply, reply_at_once}
@@ -36,7 +37,8 @@ use Rattle.proof_engine_view.proofs.Growing.{sent_more}
 use Rattle.proof_engine_view.specs.Seen as in_queues
 use Rattle.proof_engine_view.specs.Shown.{IsShown}
 use Rattle.proof_engine_view.specs.Standing.{AreSent, CanLeave, all_gone}
-use Rattle.proof_engine_view.specs.Transfers.{Announcements, after_out, announcements_of}
+use Rattle.proof_engine_view.specs.Transfers.{Announcements, after_out}
+use Rattle.proof_group_network.specs.Carried.{Sessions, frames_carried}
 use Rattle.proof_group_network.specs.Happened.{IsAfter, QueueCallsHappen, reply_of}
 use Rattle.proof_group_network.specs.Network.{Ask, GroupNetwork, happens}
 use Rattle.proof_link_truth.specs.Events.{EventsAreTrue, LeavesTrue, MaySendAll, all_addressed}
@@ -50,7 +52,8 @@ use Rattle.proof_pure_network.specs.Held.{blank}
 use Rattle.proof_pure_network.specs.Links.{accept_all}
 use Rattle.proof_pure_network.specs.Network.{here}
 use Rattle.proof_session_carrying.specs.EventLaws.{AreJoined}
-use Rattle.proof_session_carrying.specs.MessageLaws.{QueueCallsAreCarried, frames_carried}
+use Rattle.proof_session_carrying.specs.Announced.{announcements_in}
+use Rattle.proof_session_carrying.specs.MessageLaws.{FramesAreSent, QueueCallsAreCarried}
 use Rattle.rank_calls.specs.Frames.{FrameFor, as_list}
 use Rattle.rank_calls.specs.Hearing.{first_of}
 use Rattle.rank_calls.specs.declared.call.Call as core_asks
@@ -68,13 +71,15 @@ use Rattle.sessions.specs.SessionsState.{SessionsState}
 use Rattle.vocabulary.specs.declared.endpoint.Endpoint.{Endpoint}
 use Rattle.proof_network_bridge.specs.Joined.{IsClean, IsHeldBy, network_after, sessions_in}
 use Rattle.proof_network_bridge.specs.Following.{LeavesFollowed}
+use Rattle.proof_network_bridge.specs.Payloads.{ArePayloads}
 use Rattle.proof_network_bridge.specs.Seen.{call_seen, told_call, told_completion}
 use Rattle.proof_network_bridge.proofs.Calls.{CoreCallsFollow}
 use Rattle.proof_network_bridge.proofs.Carrying.{all_same, may_send}
-use Rattle.proof_network_bridge.proofs.Followed.{IsHeldAs, followed_after}
+use Rattle.proof_network_bridge.proofs.Followed.{IsHeldUnder, followed_after}
 use Rattle.proof_network_bridge.proofs.Halves.{Keeps, neither_fault, no_limit}
 use Rattle.proof_network_bridge.proofs.Machine.{TakenIsFaultless}
 use Rattle.proof_network_bridge.proofs.Members.{held_same, named_same}
+use Rattle.proof_network_bridge.proofs.Payloads.{payloads_grow, said_same}
 use Rattle.proof_network_bridge.proofs.Routed.{core_fault}
 use Rattle.proof_network_bridge.proofs.Worlds.{after_grows, is_at, only_out, place_is, shown_out}
 
@@ -260,7 +265,7 @@ pub core_calls_follow : CallsAreShown → EventsAreTrue → QueueCallsHappen →
 core_calls_follow shows truth happen carried taken n r engines datagrams history old mid call reply f there is gives answer =
     subst (λ (es : List Entry). LeavesFollowed n engines datagrams r mid (history ++ es)) entries_are
     (followed_after n r engines datagrams history _ mid (Ask r (call_seen call)) (core_settled (called own core q).core) (accept_all w.net.link own out) (w.member own) w.notices
-    (carriers.accept_all f.joined.texts own texts) (carriers.accept_all f.joined.sessions own (frames_carried out)) f after between (only_out w.net.link own out) leaves held)
+    f.joined.said (carriers.accept_all f.joined.texts own texts) sessions f after between (only_out f.joined.sessions own (frames_carried out)) leaves held (said_same f.joined.said) kept)
   where
     w : GroupNetwork
     w = network_after n f.happenings
@@ -283,13 +288,16 @@ core_calls_follow shows truth happen carried taken n r engines datagrams history
     out : List (Endpoint × Frame)
     out = (called own core q).out
 
-    a : Announcements
-    a = announcements_of w.net.link own
+    a : ℕ → Announcements
+    a serial = announcements_in serial f.joined.sessions own
+
+    sessions : Sessions
+    sessions = carriers.accept_all f.joined.sessions own (frames_carried out)
 
     texts : List (Endpoint × FrameText)
     texts = all_addressed known (sendings_of frame)
 
-    at_own : IsHeldBy w r old
+    at_own : IsHeldBy w f.joined.sessions r old
     at_own = f.joined.held r old there
 
     place : (r < n) × (old.sessions.place ≡ place_of n own)
@@ -298,11 +306,11 @@ core_calls_follow shows truth happen carried taken n r engines datagrams history
     free : IsAllowed old answer.asked
     free = allowed old call answer.asked answer.allowed answer.routed
 
-    shown : IsCalled a old.core known core answer.asked answer.answer mid.core
-    shown = shows a old.core mid.core known core answer.asked answer.answer at_own.queues answer.within free.core answer.core
+    shown : (serial : ℕ) → IsCalled (a serial) old.core known core answer.asked answer.answer mid.core
+    shown serial = shows (a serial) old.core mid.core known core answer.asked answer.answer (at_own.queues serial) answer.within free.core answer.core
 
-    c : IsCalledAt a (place_of n own) old.core known core answer.asked answer.answer mid.core
-    c = called_at a (place_of n own) old.core known core answer.asked answer.answer mid.core (at_own.placed ∙ place.1) shown
+    c : (serial : ℕ) → IsCalledAt (a serial) (place_of n own) old.core known core answer.asked answer.answer mid.core
+    c serial = called_at (a serial) (place_of n own) old.core known core answer.asked answer.answer mid.core (at_own.placed ∙ place.1) (shown serial)
 
     -- the network takes the call
     queued : queue_call (w.member own).membership (call_seen call) ≡ Some q
@@ -315,16 +323,19 @@ core_calls_follow shows truth happen carried taken n r engines datagrams history
     -- the sessions do just what is done where a frame is sent and nothing is heard
     sent : LeavesTrue n (sessions_in engines) datagrams r (after_event old.sessions None (sendings_of frame)) (carriers.accept_all f.joined.texts own texts) w.net.current
     sent = truth n r (sessions_in engines) datagrams f.joined.texts w.net.current old.sessions None (sendings_of frame) f.joined.links (is_at n r engines datagrams w old f.joined there) tt
-        (subst (λ (ss : List Sending). MaySendAll n own.rank ss) (sym (listed frame)) (may_send n own (as_list frame) c.leaves)) (frame_free old.sessions frame free.frame)
+        (subst (λ (ss : List Sending). MaySendAll n own.rank ss) (sym (listed frame)) (may_send n own (as_list frame) (c 0).leaves)) (frame_free old.sessions frame free.frame)
 
     leaves : LeavesTrue n (sessions_in engines) datagrams r mid.sessions (carriers.accept_all f.joined.texts own texts) w.net.current
     leaves = subst (λ (s : SessionsState). LeavesTrue n (sessions_in engines) datagrams r s (carriers.accept_all f.joined.texts own texts) w.net.current) (sym (answer.sessions ∙ frame_event old.sessions frame)) sent
 
     -- what the sessions send stands for what the network's core gives
-    between : AreJoined (happens n w (Ask r (call_seen call))) (carriers.accept_all f.joined.texts own texts) (carriers.accept_all f.joined.sessions own (frames_carried out))
-    between = carried w (happens n w (Ask r (call_seen call))) f.joined.texts f.joined.sessions own _ (w.member own) _ out texts f.joined.between after
-        (sent_more (after_out a out) (announcements_of (accept_all w.net.link own out) own) texts out (after_grows w.net.link own out)
-        (subst (λ (ts : List (Endpoint × FrameText)). AreSent (after_out a out) ts out) (sym (ap (all_addressed known) (listed frame) ∙ all_same known (as_list frame))) c.sends))
+    between : AreJoined (happens n w (Ask r (call_seen call))) f.joined.said (carriers.accept_all f.joined.texts own texts) (carriers.accept_all f.joined.sessions own (frames_carried out))
+    between = carried w (happens n w (Ask r (call_seen call))) f.joined.said f.joined.texts f.joined.sessions own _ (w.member own) _ out texts f.joined.between after stand
+      where
+        stand : FramesAreSent f.joined.sessions own texts out
+        stand serial =
+            sent_more (after_out (a serial) out) (announcements_in serial sessions own) texts out (after_grows serial f.joined.sessions own out)
+            (subst (λ (ts : List (Endpoint × FrameText)). AreSent (after_out (a serial) out) ts out) (sym (ap (all_addressed known) (listed frame) ∙ all_same known (as_list frame))) (c serial).sends)
 
     known_is : mid.sessions.known ≡ known
     known_is = ap (λ (s : SessionsState). s.known) answer.sessions ∙ (frame_keeps old.sessions frame).known
@@ -332,25 +343,32 @@ core_calls_follow shows truth happen carried taken n r engines datagrams history
     stands : mid.sessions.place ≡ old.sessions.place
     stands = ap (λ (s : SessionsState). s.place) answer.sessions ∙ (frame_keeps old.sessions frame).place
 
-    held : IsHeldAs (announcements_of (accept_all w.net.link own out) own) own mid (core_settled (called own core q).core) (w.member own)
-    held = record {
-      queues = shown_out w.net.link own out mid.core mid.sessions.known (core_settled (called own core q).core)
-          (subst (λ (k : List ℕ). IsShown (after_out a out) mid.core k (core_settled (called own core q).core)) (sym known_is) c.shown);
+    held : IsHeldUnder sessions own mid (core_settled (called own core q).core) (w.member own)
+    held serial = record {
+      queues = shown_out serial f.joined.sessions own out mid.core mid.sessions.known (core_settled (called own core q).core)
+          (subst (λ (k : List ℕ). IsShown (after_out (a serial) out) mid.core k (core_settled (called own core q).core)) (sym known_is) (c serial).shown);
       groups = subst (λ (g : GroupsState). collectives.IsShown own g.collective g.contexts (w.member own) None) (sym answer.groups) at_own.groups;
-      placed = shown.place ∙ at_own.placed ∙ sym stands;
+      placed = (shown 0).place ∙ at_own.placed ∙ sym stands;
     }
+
+    -- what it keeps of payloads stays
+    kept : ArePayloads sessions f.joined.said own mid.sessions.known mid.payloads
+    kept =
+        payloads_grow f.joined.sessions sessions f.joined.said f.joined.said own mid.sessions.known mid.payloads (only_out f.joined.sessions own (frames_carried out)).grow (said_same f.joined.said)
+        (subst (λ (k : List ℕ). ArePayloads f.joined.sessions f.joined.said own k mid.payloads) (sym known_is)
+        (subst (λ (p : payloads.State). ArePayloads f.joined.sessions f.joined.said own known p) (sym answer.payloads) (f.joined.payloads r old there)))
 
     clean : IsClean old
     clean = f.joined.clean r old there
 
     none : completion_of mid ≡ None
-    none = ap (λ (o : Option Ending). completion_by o mid.core.completion) (answer.ended ∙ clean.ended) ∙ ap (completion_by None) (shown.completion ∙ clean.completion)
+    none = ap (λ (o : Option Ending). completion_by o mid.core.completion) (answer.ended ∙ clean.ended) ∙ ap (completion_by None) ((shown 0).completion ∙ clean.completion)
 
     entries_are : told_of own (Some (call_seen call, reply_of w r (call_seen call))) (ready_by None (core_ready (called own core q).core))
         ≡ told_call old.sessions.place.endpoint call (Some reply) ++ told_completion old.sessions.place.endpoint (completion_of mid)
     entries_are =
         ap (λ (o : Option machine.Reply). told_of own (Some (call_seen call, o)) (ready_by None (core_ready (called own core q).core))) (answered_at_once own (view blank core) (w.member own).membership (call_seen call) q queued)
-        ∙ told_same own q call reply answer.asked answer.answer (immediate_reply (view blank core) q) (core_ready (called own core q).core) answer.told c.tells
+        ∙ told_same own q call reply answer.asked answer.answer (immediate_reply (view blank core) q) (core_ready (called own core q).core) answer.told (c 0).tells
         ∙ ap (λ (p : Place). told_call p.endpoint call (Some reply)) (sym place.1)
         ∙ sym (append-nil (told_call old.sessions.place.endpoint call (Some reply)))
         ∙ ap (λ (o : Option Completion). told_call old.sessions.place.endpoint call (Some reply) ++ told_completion old.sessions.place.endpoint o) (sym none)

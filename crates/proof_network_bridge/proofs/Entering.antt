@@ -11,6 +11,7 @@ use Rattle.collective_notes.specs.Notes.{member_at}
 use Rattle.collective_notes.specs.declared.entry.Entry.{Entry}
 use Rattle.collective_notes.specs.declared.message.Message.{Message}
 use Rattle.collective_notes.specs.declared.refused.Refused as notes
+use Rattle.collective_transfers.specs.State as payloads
 use Rattle.collectives.specs.Calls.{context_of, entry_fault, inside_of, limit_at, or_limit}
 use Rattle.collectives.specs.State.{State, members_incarnation}
 use Rattle.collective_steps.specs.Steps.{ranks_at, ranks_of}
@@ -22,13 +23,13 @@ use Rattle.communicators.specs.Rules.{Allows, known_by, limit_in, no_requests, o
 use Rattle.context_agreement.specs.Communicators.{ContextsState}
 use Rattle.context_agreement.specs.declared.communicator.Communicator as held
 use Rattle.datagram.specs.Spelling.{FrameText}
-use Rattle.engine.specs.Calls.{reply_on_entry}
-use Rattle.engine.specs.EngineState.{EngineState, completion_by, completion_of, member_of}
-use Rattle.engine.specs.Faults.{broken, entry_rules, fault_of, is_busy}
-use Rattle.engine.specs.Frames.{sending_of_message, step_sendings}
-use Rattle.engine.specs.Refusals.{of_entry_rule}
-use Rattle.engine.specs.declared.call.Call.TheVariants as calls
-use Rattle.engine.specs.declared.reply.Reply.{Reply}
+use Rattle.engine_parts.specs.Calls.{reply_on_entry}
+use Rattle.engine_parts.specs.EngineState.{EngineState, completion_by, completion_of, member_of}
+use Rattle.engine_parts.specs.Faults.{broken, entry_rules, fault_of, is_busy}
+use Rattle.engine_parts.specs.Frames.{all_can_go, step_sendings}
+use Rattle.engine_parts.specs.Refusals.{of_entry_rule}
+use Rattle.engine_parts.specs.declared.call.Call.TheVariants as calls
+use Rattle.engine_parts.specs.declared.reply.Reply.{Reply}
 use Rattle.incarnation.specs.declared.place.Place.{Place}
 use Rattle.perfect_groups.specs.Calls.{Enter, held_at}
 use Rattle.perfect_groups.specs.Communicators.{Communicator}
@@ -38,30 +39,35 @@ use Rattle.perfect_groups.specs.Faults.{fault_by, has_replaced, is_replaced, is_
 use Rattle.proof_collective_steps.specs.RankLaws.{EntriesOfRanksFollow, Follows}
 use Rattle.proof_collective_steps.specs.Shown.{ending_is}
 use Rattle.proof_engine_view.specs.Shown.{IsShown}
-use Rattle.proof_engine_view.specs.Transfers.{announcements_of}
 use Rattle.proof_group_network.specs.Network.{Ask, GroupNetwork, happens, notify_all}
-use Rattle.proof_link_truth.specs.Events.{EventsAreTrue, LeavesTrue, all_addressed}
+use Rattle.proof_link_truth.specs.Events.{EventsAreTrue, LeavesTrue}
 use Rattle.proof_link_truth.specs.Wire.{place_of}
 use Rattle.proof_links.specs.Links.{accept_all}
 use Rattle.proof_pure_network.specs.Network.{here}
-use Rattle.proof_session_carrying.specs.EventLaws.{Bring, EntriesAreCarried}
+use Rattle.proof_session_carrying.specs.Announced.{announcements_in}
+use Rattle.proof_session_carrying.specs.Carrying.{say_all}
+use Rattle.proof_session_carrying.specs.EventLaws.{Bring, EntriesAreCarried, all_carried}
+use Rattle.proof_group_network.specs.Carried.{Sessions}
 use Rattle.rank_calls.specs.declared.refused.Refused.{Refused}
 use Rattle.rank_calls.specs.declared.refused.Refused.TheVariants as refusals
-use Rattle.rank_core.specs.CoreState.{CoreState}
+use Rattle.rank_core.specs.CoreState.{CoreState, with_numbers}
+use Rattle.rendezvous.specs.declared.transfers.Numbers.{Numbers}
 use Rattle.requests.specs.declared.answer.Answer.{Answer}
 use Rattle.sessions.specs.SessionsState.{SessionsState}
 use Rattle.vocabulary.specs.declared.endpoint.Endpoint.{Endpoint}
 use Rattle.proof_network_bridge.specs.Following.{LeavesFollowed}
 use Rattle.proof_network_bridge.specs.Joined.{IsClean, network_after, sessions_in}
+use Rattle.proof_network_bridge.specs.Payloads.{ArePayloads}
 use Rattle.proof_network_bridge.specs.Seen.{told_call, told_completion}
 use Rattle.proof_network_bridge.proofs.Calls.{EntriesFollow}
 use Rattle.proof_network_bridge.proofs.Followed as followed
-use Rattle.proof_network_bridge.proofs.Followed.{IsHeldAs, followed_after}
+use Rattle.proof_network_bridge.proofs.Followed.{IsHeldUnder, followed_after}
 use Rattle.proof_network_bridge.proofs.Reasons.{allowed_faultless}
 use Rattle.proof_network_bridge.proofs.Halves.{Keeps, neither_fault, sends_keep}
-use Rattle.proof_network_bridge.proofs.Sending.{IsKnown, are_within, bring, step_is_true}
-use Rattle.proof_network_bridge.proofs.StepTargets.{AreMembers, entry_goes}
-use Rattle.proof_network_bridge.proofs.Worlds.{is_at, only_same, place_is}
+use Rattle.proof_network_bridge.proofs.Sending.{AreBounded, IsKnown, are_within, bring, meets_none, step_is_true}
+use Rattle.proof_network_bridge.proofs.Sent.{IsSending, IsStepSent, as_many, numbers_bounded_by, step_sent, texts_gone}
+use Rattle.proof_network_bridge.proofs.StepTargets.{AreMembers, GoTo, entry_goes}
+use Rattle.proof_network_bridge.proofs.Worlds.{is_at, only_out, place_is}
 
 -- ---- what entering breaks
 
@@ -187,9 +193,9 @@ no_completion e None (Some a) p q = absurd cc
 pub entries_follow : EntriesOfRanksFollow → EntriesAreCarried → EventsAreTrue → EntriesFollow
 entries_follow ranks carried truth n r engines datagrams history old mid comm x reply f there entered =
     subst (λ (es : List seen.Entry). LeavesFollowed n engines datagrams r mid (history ++ es)) told
-    (followed_after n r engines datagrams history _ mid (Ask r (Enter (Some place) (call_of x))) (w.net.core e) w.net.link fo.member (notify_all w.notices e fo.out) _ _ f fo.happened
-    (carried n w (happens n w (Ask r (Enter (Some place) (call_of x)))) f.joined.texts f.joined.sessions e (w.net.core e) mid.groups.collective mid.groups.contexts sent _ gone f.joined.between fo brought)
-    (only_same w.net.link e) leaves held_as)
+    (followed_after n r engines datagrams history _ mid (Ask r (Enter (Some place) (call_of x))) (w.net.core e) w.net.link fo.member (notify_all w.notices e fo.out) _ _ sessions f fo.happened
+    (carried n w (happens n w (Ask r (Enter (Some place) (call_of x)))) f.joined.said f.joined.texts f.joined.sessions e (w.net.core e) mid.groups.collective mid.groups.contexts sent _ gone f.joined.between fo brought stepped.numbered)
+    (only_out f.joined.sessions e (all_carried w.notices e fo.out gone)) leaves held_as stepped.grows kept)
   where
     w : GroupNetwork
     w = network_after n f.happenings
@@ -209,8 +215,8 @@ entries_follow ranks carried truth n r engines datagrams history old mid comm x 
     sent : List Message
     sent = entered.step.messages
 
-    shown : IsHeldAs (announcements_of w.net.link e) e old (w.net.core e) (w.member e)
-    shown = followed.held_at n r engines datagrams w old f.joined there
+    shown : IsHeldUnder f.joined.sessions e old (w.net.core e) (w.member e)
+    shown serial = followed.held_at n r engines datagrams w old f.joined there serial
 
     stands : (r < n) × (old.sessions.place ≡ place_of n e)
     stands = place_is n r engines datagrams w old f.joined there
@@ -224,33 +230,64 @@ entries_follow ranks carried truth n r engines datagrams history old mid comm x 
     fo : Follows n w (happens n w (Ask r (Enter (Some place) (call_of x)))) e (w.net.core e) w.net.link w.notices mid.groups.collective mid.groups.contexts sent
         (told_of e (Some (Enter (Some place) (call_of x), None)) (ready_by (option_map ending_is entered.ending) None))
     fo =
-        ranks n r f.happenings place (call_of x) x s h (entered.ending, entered.step) mid.groups.collective mid.groups.contexts (few n f.few) stands.0 refl shown.groups
+        ranks n r f.happenings place (call_of x) x s h (entered.ending, entered.step) mid.groups.collective mid.groups.contexts (few n f.few) stands.0 refl (shown 0).groups
         (allowed_faultless n r engines datagrams history old (calls.Enter (Some place) x) f there fine).none (no_entry_fault old place x allowed) entered.enters (are_within sent entered.whole)
       where
         few : (n : ℕ) → n ≤ 256 → n ≤ 65536
         few n le = omega (arith, le)
 
+    ns : List Numbers
+    ns = old.core.transfers.numbers
+
     gone : List (Endpoint × FrameText)
-    gone = all_addressed old.sessions.known (map sending_of_message sent)
+    gone = texts_gone old.sessions.known ns sent
+
+    goes_to : GoTo (IsKnown old.sessions.known) sent
+    goes_to = entry_goes (IsKnown old.sessions.known) s.own (inside_of s h place x) h s.kept entered.step (members_known old place x allowed) entered.enters.0
 
     brought : Bring sent gone
-    brought = bring old.sessions.known sent entered.whole (entry_goes (IsKnown old.sessions.known) s.own (inside_of s h place x) h s.kept entered.step (members_known old place x allowed) entered.enters.0)
+    brought = bring old.sessions.known ns sent entered.whole goes_to
+
+    -- what the engine holds before it sends
+    started : IsSending n e old.sessions.known (w.net.core e) f.joined.sessions f.joined.said w.notices (with_numbers old.core ns) old.payloads
+    started = record {
+      placed = (shown 0).placed ∙ stands.1;
+      shown = λ serial. (shown serial).queues;
+      many = λ d. as_many e d (f.joined.said e d) (w.notices e d).accepted (f.joined.between.brought e d);
+      kept = f.joined.payloads r old there;
+    }
+
+    can : all_can_go (place_of n e) ns sent ≡ true
+    can = subst (λ (p : Place). all_can_go p ns sent ≡ true) stands.1 (meets_none old.sessions ns None sent entered.goes).can
+
+    stepped : IsStepSent n e old.sessions.known (w.net.core e) f.joined.sessions f.joined.said w.notices ns old.core old.payloads sent fo.out
+    stepped = step_sent n e old.sessions.known (w.net.core e) f.joined.sessions f.joined.said w.notices ns old.core old.payloads sent fo.out started can fo.sendable goes_to fo.said
+
+    bounded : AreBounded n ns
+    bounded = numbers_bounded_by n e old.sessions.known (w.net.core e) f.joined.sessions f.joined.said w.notices ns old.core old.payloads started
 
     leaves : LeavesTrue n (sessions_in engines) datagrams r mid.sessions (accept_all f.joined.texts e gone) w.net.current
     leaves =
         subst (λ (t : SessionsState). LeavesTrue n (sessions_in engines) datagrams r t (accept_all f.joined.texts e gone) w.net.current) (sym entered.sessions)
-        (step_is_true truth n r (sessions_in engines) datagrams f.joined.texts w.net.current old.sessions None sent f.joined.links (is_at n r engines datagrams w old f.joined there) tt stands.1 fo.sendable entered.whole entered.goes)
+        (step_is_true truth n r (sessions_in engines) datagrams f.joined.texts w.net.current old.sessions None ns sent f.joined.links (is_at n r engines datagrams w old f.joined there) tt stands.1 bounded fo.sendable entered.whole entered.goes)
 
     keeps : Keeps old.sessions mid.sessions
-    keeps = subst (λ (t : SessionsState). Keeps old.sessions t) (sym entered.sessions) (sends_keep old.sessions (step_sendings old.sessions.place sent))
+    keeps = subst (λ (t : SessionsState). Keeps old.sessions t) (sym entered.sessions) (sends_keep old.sessions (step_sendings old.sessions.place ns sent))
 
-    held_as : IsHeldAs (announcements_of w.net.link e) e mid (w.net.core e) fo.member
-    held_as = record {
-      queues = subst (λ (known : List ℕ). IsShown (announcements_of w.net.link e) mid.core known (w.net.core e)) (sym keeps.known)
-          (subst (λ (c : CoreState). IsShown (announcements_of w.net.link e) c old.sessions.known (w.net.core e)) (sym entered.core) shown.queues);
+    sessions : Sessions
+    sessions = accept_all f.joined.sessions e (all_carried w.notices e fo.out gone)
+
+    held_as : IsHeldUnder sessions e mid (w.net.core e) fo.member
+    held_as serial = record {
+      queues = subst (λ (known : List ℕ). IsShown (announcements_in serial sessions e) mid.core known (w.net.core e)) (sym keeps.known)
+          (subst (λ (c : CoreState). IsShown (announcements_in serial sessions e) c old.sessions.known (w.net.core e)) (sym entered.core) (stepped.after.shown serial));
       groups = fo.shown;
-      placed = ap (λ (c : CoreState). c.place) entered.core ∙ (shown.placed ∙ sym keeps.place);
+      placed = ap (λ (c : CoreState). c.place) entered.core ∙ ((shown 0).placed ∙ sym keeps.place);
     }
+
+    kept : ArePayloads sessions (say_all f.joined.said e sent) e mid.sessions.known mid.payloads
+    kept = subst (λ (known : List ℕ). ArePayloads sessions (say_all f.joined.said e sent) e known mid.payloads) (sym keeps.known)
+        (subst (λ (p : payloads.State). ArePayloads sessions (say_all f.joined.said e sent) e old.sessions.known p) (sym entered.payloads) stepped.after.kept)
 
     told : told_of e (Some (Enter (Some place) (call_of x), None)) (ready_by (option_map ending_is entered.ending) None)
         ≡ told_call old.sessions.place.endpoint (calls.Enter comm x) (Some reply) ++ told_completion old.sessions.place.endpoint (completion_of mid)

@@ -1,14 +1,15 @@
 -- A world that follows the pure network with communicators follows it after an event at one rank.
 use Rattle.std.proofs.Common.{◌≡◌, ℕ, ◌<◌, false, List, [], ◌∷◌, ◌++◌, Option, Some, None, refl, sym, ap, subst, ◌∙◌, inl, inr, append-nil}
 use Rattle.std.specs.Prelude.{slice_get, slice_set}
+use Rattle.collective_transfers.specs.State as payloads
 use Rattle.datagram.specs.Spelling.{FrameText}
-use Rattle.engine.specs.EngineState.{EngineState, GroupsState, completion_by, completion_of, emptied}
-use Rattle.engine.specs.declared.reply.Completion.{Completion}
+use Rattle.engine_parts.specs.EngineState.{EngineState, GroupsState, completion_by, completion_of, emptied}
+use Rattle.engine_parts.specs.declared.reply.Completion.{Completion}
 use Rattle.collective_steps.specs.declared.step.Ending.{Ending}
 use Rattle.perfect_groups.specs.Events.{Entry}
 use Rattle.proof_collective_steps.specs.Shown as groups
 use Rattle.proof_engine_view.specs.Shown.{IsShown}
-use Rattle.proof_engine_view.specs.Transfers.{Announcements, announcements_of}
+use Rattle.proof_engine_view.specs.Transfers.{Announcements}
 use Rattle.proof_group_network.specs.Carried.{Sessions}
 use Rattle.proof_group_network.specs.Happened.{IsAfter}
 use Rattle.proof_group_network.specs.Network.{GroupNetwork, Happening, NoticeLink, happens, new_group_network}
@@ -19,13 +20,17 @@ use Rattle.proof_links.specs.Links.{LinksOf}
 use Rattle.proof_pure_network.specs.Core.{Core}
 use Rattle.proof_pure_network.specs.Links.{Link}
 use Rattle.proof_pure_network.specs.Network.{here}
+use Rattle.proof_session_carrying.specs.Announced.{announcements_in}
+use Rattle.proof_session_carrying.specs.Carrying.{Saying}
 use Rattle.proof_session_carrying.specs.EventLaws.{AreJoined}
 use Rattle.rank_core.specs.CoreState.{CoreState}
 use Rattle.vocabulary.specs.Endpoints.{is_same}
 use Rattle.vocabulary.specs.declared.endpoint.Endpoint.{Endpoint}
 use Rattle.proof_network_bridge.specs.Following.{LeavesFollowed}
 use Rattle.proof_network_bridge.specs.Joined.{IsClean, IsFollowed, IsHeldBy, IsJoined, network_after, sessions_in}
+use Rattle.proof_network_bridge.specs.Payloads.{ArePayloads, SaidGrows}
 use Rattle.proof_network_bridge.specs.Seen.{told_completion}
+use Rattle.proof_network_bridge.proofs.Payloads.{payloads_grow}
 use Rattle.proof_network_bridge.proofs.Halves.{leaves_engines}
 use Rattle.proof_network_bridge.proofs.Worlds.{OnlyFrom, later_apart, ranks_apart, run_push, set_cases, shown_more}
 
@@ -37,14 +42,18 @@ pub record IsHeldAs (a : Announcements) (own : Endpoint) (e : EngineState) (core
   pub groups : groups.IsShown own e.groups.collective e.groups.contexts m None
   pub placed : e.core.place ≡ e.sessions.place
 
+-- under the numbers that sessions give, whatever serials notices have there
+abbrev pub IsHeldUnder : Sessions → (own : Endpoint) → EngineState → Core → Member → Type 0
+IsHeldUnder sessions own e core m = (serial : ℕ) → IsHeldAs (announcements_in serial sessions own) own e core m
+
 -- the engine at a rank does
-pub held_at : (n r : ℕ) (engines : List EngineState) (datagrams : List (ℕ × List ℕ)) (w : GroupNetwork) (e : EngineState) → IsJoined n engines datagrams w → slice_get engines r ≡ Some e →
-    IsHeldAs (announcements_of w.net.link (here w.net r)) (here w.net r) e (w.net.core (here w.net r)) (w.member (here w.net r))
-held_at n r engines datagrams w e j there = let h : IsHeldBy w r e = j.held r e there in record { queues = h.queues; groups = h.groups; placed = h.placed }
+pub held_at : (n r : ℕ) (engines : List EngineState) (datagrams : List (ℕ × List ℕ)) (w : GroupNetwork) (e : EngineState) → (j : IsJoined n engines datagrams w) → slice_get engines r ≡ Some e →
+    IsHeldUnder j.sessions (here w.net r) e (w.net.core (here w.net r)) (w.member (here w.net r))
+held_at n r engines datagrams w e j there serial = let h : IsHeldBy w j.sessions r e = j.held r e there in record { queues = h.queues serial; groups = h.groups; placed = h.placed }
 
 -- what is held is held by the network
-held_by : (w : GroupNetwork) (r : ℕ) (e : EngineState) → IsHeldAs (announcements_of w.net.link (here w.net r)) (here w.net r) e (w.net.core (here w.net r)) (w.member (here w.net r)) → IsHeldBy w r e
-held_by w r e h = record { queues = h.queues; groups = h.groups; placed = h.placed }
+pub held_by : (w : GroupNetwork) (sessions : Sessions) (r : ℕ) (e : EngineState) → IsHeldUnder sessions (here w.net r) e (w.net.core (here w.net r)) (w.member (here w.net r)) → IsHeldBy w sessions r e
+held_by w sessions r e h = record { queues = λ serial. (h serial).queues; groups = (h 0).groups; placed = (h 0).placed }
 
 -- what is emitted and answered belongs to neither
 held_emptied : (a : Announcements) (own : Endpoint) (e : EngineState) (core : Core) (m : Member) → IsHeldAs a own e core m → IsHeldAs a own (emptied e) core m
@@ -72,77 +81,87 @@ pub clean_emptied : (e : EngineState) → IsClean (emptied e)
 clean_emptied e = record { out = refl; completion = refl; ended = refl }
 
 -- another engine holds what it held, whatever goes out elsewhere
-held_more : (own x : Endpoint) (old new : Endpoint → Endpoint → Link) (e : EngineState) (core : Core) (m : Member) → OnlyFrom own old new → is_same x own ≡ false → IsHeldAs (announcements_of old x) x e core m →
-    IsHeldAs (announcements_of new x) x e core m
-held_more own x old new e core m o apart h = record { queues = shown_more own x old new e.core e.sessions.known core o apart h.queues; groups = h.groups; placed = h.placed }
+held_more : (own x : Endpoint) (old new : Sessions) (e : EngineState) (core : Core) (m : Member) → OnlyFrom own old new → is_same x own ≡ false → IsHeldUnder old x e core m → IsHeldUnder new x e core m
+held_more own x old new e core m o apart h serial =
+    record { queues = shown_more serial own x old new e.core e.sessions.known core o apart (h serial).queues; groups = (h serial).groups; placed = (h serial).placed }
 
 -- ---- the world after an event at r
 
 -- it is joined to the network after what happened there
 pub joined_after : (n r : ℕ) (engines : List EngineState) (datagrams datagrams' : List (ℕ × List ℕ)) (w after : GroupNetwork) (new : EngineState) (core : Core)
-    (messages : Endpoint → Endpoint → Link) (m : Member) (notices : Endpoint → Endpoint → NoticeLink) (entries : List Entry) (texts : LinksOf FrameText) (sessions : Sessions) →
-    IsJoined n engines datagrams w → IsAfter w after (here w.net r) core messages m notices entries → AreJoined after texts sessions → OnlyFrom (here w.net r) w.net.link messages →
-    AreTrue n (sessions_in (slice_set engines r new)) datagrams' texts w.net.current → IsHeldAs (announcements_of messages (here w.net r)) (here w.net r) new core m → IsClean new →
+    (messages : Endpoint → Endpoint → Link) (m : Member) (notices : Endpoint → Endpoint → NoticeLink) (entries : List Entry) (said : Saying) (texts : LinksOf FrameText) (sessions : Sessions) →
+    (j : IsJoined n engines datagrams w) → IsAfter w after (here w.net r) core messages m notices entries → AreJoined after said texts sessions → OnlyFrom (here w.net r) j.sessions sessions →
+    AreTrue n (sessions_in (slice_set engines r new)) datagrams' texts w.net.current → IsHeldUnder sessions (here w.net r) new core m →
+    SaidGrows j.said said → ArePayloads sessions said (here w.net r) new.sessions.known new.payloads → IsClean new →
     IsJoined n (slice_set engines r new) datagrams' after
-joined_after n r engines datagrams datagrams' w after new core messages m notices entries texts sessions j a between only truth held clean =
+joined_after n r engines datagrams datagrams' w after new core messages m notices entries said texts sessions j a between only truth held grows kept clean =
     record {
       texts = texts;
       links = subst (λ (current : ℕ → ℕ). AreTrue n (sessions_in (slice_set engines r new)) datagrams' texts current) (sym a.current_is) truth;
       sessions = sessions;
+      said = said;
       between = between;
-      held = λ x e is. held_by after x e (each x e is);
+      held = λ x e is. held_by after sessions x e (each x e is);
       clean = λ x e is. elim (set_cases engines r new x e is) [
         | inl p ↦ subst IsClean (sym p.1) clean
         | inr p ↦ j.clean x e p.1
       ];
+      payloads = λ x e is.
+          subst (λ (current : ℕ → ℕ). ArePayloads sessions said (record { rank = x; incarnation = current x }) e.sessions.known e.payloads) (sym a.current_is)
+          (elim (set_cases engines r new x e is) [
+            | inl p ↦ subst (λ (y : ℕ). ArePayloads sessions said (here w.net y) e.sessions.known e.payloads) (sym p.0) (subst (λ (g : EngineState). ArePayloads sessions said (here w.net r) g.sessions.known g.payloads) (sym p.1) kept)
+            | inr p ↦ payloads_grow j.sessions sessions j.said said (here w.net x) e.sessions.known e.payloads only.grow grows (j.payloads x e p.1)
+          ]);
       unborn = λ d later.
           let before : w.net.current d.rank < d.incarnation = subst (λ (current : ℕ → ℕ). current d.rank < d.incarnation) a.current_is later in
           a.cores d (later_apart w.net d r before) ∙ j.unborn d before;
     }
   where
     -- at the endpoint where it was
-    at_own : IsHeldAs (announcements_of messages (here w.net r)) (here w.net r) new (after.net.core (here w.net r)) (after.member (here w.net r))
+    at_own : IsHeldUnder sessions (here w.net r) new (after.net.core (here w.net r)) (after.member (here w.net r))
     at_own =
-        subst (λ (k : Core). IsHeldAs (announcements_of messages (here w.net r)) (here w.net r) new k (after.member (here w.net r))) (sym a.core_is)
-        (subst (λ (y : Member). IsHeldAs (announcements_of messages (here w.net r)) (here w.net r) new core y) (sym a.member_is) held)
+        subst (λ (k : Core). IsHeldUnder sessions (here w.net r) new k (after.member (here w.net r))) (sym a.core_is)
+        (subst (λ (y : Member). IsHeldUnder sessions (here w.net r) new core y) (sym a.member_is) held)
 
     -- and elsewhere
-    at_other : (x : ℕ) (e : EngineState) → (x ≡ r → ⊥) → slice_get engines x ≡ Some e →
-        IsHeldAs (announcements_of messages (here w.net x)) (here w.net x) e (after.net.core (here w.net x)) (after.member (here w.net x))
+    at_other : (x : ℕ) (e : EngineState) → (x ≡ r → ⊥) → slice_get engines x ≡ Some e → IsHeldUnder sessions (here w.net x) e (after.net.core (here w.net x)) (after.member (here w.net x))
     at_other x e apart there =
-        subst (λ (k : Core). IsHeldAs (announcements_of messages (here w.net x)) (here w.net x) e k (after.member (here w.net x))) (sym (a.cores (here w.net x) (ranks_apart w.net x r apart)))
-        (subst (λ (y : Member). IsHeldAs (announcements_of messages (here w.net x)) (here w.net x) e (w.net.core (here w.net x)) y) (sym (a.members (here w.net x) (ranks_apart w.net x r apart)))
-        (held_more (here w.net r) (here w.net x) w.net.link messages e (w.net.core (here w.net x)) (w.member (here w.net x)) only (ranks_apart w.net x r apart) (held_at n x engines datagrams w e j there)))
+        subst (λ (k : Core). IsHeldUnder sessions (here w.net x) e k (after.member (here w.net x))) (sym (a.cores (here w.net x) (ranks_apart w.net x r apart)))
+        (subst (λ (y : Member). IsHeldUnder sessions (here w.net x) e (w.net.core (here w.net x)) y) (sym (a.members (here w.net x) (ranks_apart w.net x r apart)))
+        (held_more (here w.net r) (here w.net x) j.sessions sessions e (w.net.core (here w.net x)) (w.member (here w.net x)) only (ranks_apart w.net x r apart) (held_at n x engines datagrams w e j there)))
 
-    each : (x : ℕ) (e : EngineState) → slice_get (slice_set engines r new) x ≡ Some e →
-        IsHeldAs (announcements_of after.net.link (here after.net x)) (here after.net x) e (after.net.core (here after.net x)) (after.member (here after.net x))
+    each : (x : ℕ) (e : EngineState) → slice_get (slice_set engines r new) x ≡ Some e → IsHeldUnder sessions (here after.net x) e (after.net.core (here after.net x)) (after.member (here after.net x))
     each x e is =
-        subst (λ (ls : Endpoint → Endpoint → Link). IsHeldAs (announcements_of ls (here after.net x)) (here after.net x) e (after.net.core (here after.net x)) (after.member (here after.net x))) (sym a.messages_are)
-        (subst (λ (current : ℕ → ℕ). IsHeldAs (announcements_of messages (record { rank = x; incarnation = current x })) (record { rank = x; incarnation = current x }) e (after.net.core (record { rank = x; incarnation = current x })) (after.member (record { rank = x; incarnation = current x }))) (sym a.current_is)
+        subst (λ (current : ℕ → ℕ). IsHeldUnder sessions (record { rank = x; incarnation = current x }) e (after.net.core (record { rank = x; incarnation = current x })) (after.member (record { rank = x; incarnation = current x }))) (sym a.current_is)
         (elim (set_cases engines r new x e is) [
-          | inl p ↦ subst (λ (y : ℕ). IsHeldAs (announcements_of messages (here w.net y)) (here w.net y) e (after.net.core (here w.net y)) (after.member (here w.net y))) (sym p.0)
-              (subst (λ (g : EngineState). IsHeldAs (announcements_of messages (here w.net r)) (here w.net r) g (after.net.core (here w.net r)) (after.member (here w.net r))) (sym p.1) at_own)
+          | inl p ↦ subst (λ (y : ℕ). IsHeldUnder sessions (here w.net y) e (after.net.core (here w.net y)) (after.member (here w.net y))) (sym p.0)
+              (subst (λ (g : EngineState). IsHeldUnder sessions (here w.net r) g (after.net.core (here w.net r)) (after.member (here w.net r))) (sym p.1) at_own)
           | inr p ↦ at_other x e p.0 p.1
-        ]))
+        ])
 
 -- an event that is nothing to the network
 joined_still : (n r : ℕ) (engines : List EngineState) (datagrams datagrams' : List (ℕ × List ℕ)) (w : GroupNetwork) (new : EngineState) →
     (j : IsJoined n engines datagrams w) → AreTrue n (sessions_in (slice_set engines r new)) datagrams' j.texts w.net.current →
-    IsHeldAs (announcements_of w.net.link (here w.net r)) (here w.net r) new (w.net.core (here w.net r)) (w.member (here w.net r)) → IsClean new →
+    IsHeldUnder j.sessions (here w.net r) new (w.net.core (here w.net r)) (w.member (here w.net r)) → ArePayloads j.sessions j.said (here w.net r) new.sessions.known new.payloads → IsClean new →
     IsJoined n (slice_set engines r new) datagrams' w
-joined_still n r engines datagrams datagrams' w new j truth held clean =
+joined_still n r engines datagrams datagrams' w new j truth held kept clean =
     record {
       texts = j.texts;
       links = truth;
       sessions = j.sessions;
+      said = j.said;
       between = j.between;
       held = λ x e is. elim (set_cases engines r new x e is) [
-        | inl p ↦ subst (λ (y : ℕ). IsHeldBy w y e) (sym p.0) (subst (λ (g : EngineState). IsHeldBy w r g) (sym p.1) (held_by w r new held))
+        | inl p ↦ subst (λ (y : ℕ). IsHeldBy w j.sessions y e) (sym p.0) (subst (λ (g : EngineState). IsHeldBy w j.sessions r g) (sym p.1) (held_by w j.sessions r new held))
         | inr p ↦ j.held x e p.1
       ];
       clean = λ x e is. elim (set_cases engines r new x e is) [
         | inl p ↦ subst IsClean (sym p.1) clean
         | inr p ↦ j.clean x e p.1
+      ];
+      payloads = λ x e is. elim (set_cases engines r new x e is) [
+        | inl p ↦ subst (λ (y : ℕ). ArePayloads j.sessions j.said (here w.net y) e.sessions.known e.payloads) (sym p.0) (subst (λ (g : EngineState). ArePayloads j.sessions j.said (here w.net r) g.sessions.known g.payloads) (sym p.1) kept)
+        | inr p ↦ j.payloads x e p.1
       ];
       unborn = j.unborn;
     }
@@ -151,13 +170,14 @@ joined_still n r engines datagrams datagrams' w new j truth held clean =
 
 -- a happening more
 pub followed_after : (n r : ℕ) (engines : List EngineState) (datagrams : List (ℕ × List ℕ)) (history entries : List Entry) (mid : EngineState) (h : Happening) (core : Core)
-    (messages : Endpoint → Endpoint → Link) (m : Member) (notices : Endpoint → Endpoint → NoticeLink) (texts : LinksOf FrameText) (sessions : Sessions) (f : IsFollowed n engines datagrams history) →
+    (messages : Endpoint → Endpoint → Link) (m : Member) (notices : Endpoint → Endpoint → NoticeLink) (said : Saying) (texts : LinksOf FrameText) (sessions : Sessions) (f : IsFollowed n engines datagrams history) →
     IsAfter (network_after n f.happenings) (happens n (network_after n f.happenings) h) (here (network_after n f.happenings).net r) core messages m notices entries →
-    AreJoined (happens n (network_after n f.happenings) h) texts sessions → OnlyFrom (here (network_after n f.happenings).net r) (network_after n f.happenings).net.link messages →
+    AreJoined (happens n (network_after n f.happenings) h) said texts sessions → OnlyFrom (here (network_after n f.happenings).net r) f.joined.sessions sessions →
     LeavesTrue n (sessions_in engines) datagrams r mid.sessions texts (network_after n f.happenings).net.current →
-    IsHeldAs (announcements_of messages (here (network_after n f.happenings).net r)) (here (network_after n f.happenings).net r) mid core m →
+    IsHeldUnder sessions (here (network_after n f.happenings).net r) mid core m →
+    SaidGrows f.joined.said said → ArePayloads sessions said (here (network_after n f.happenings).net r) mid.sessions.known mid.payloads →
     LeavesFollowed n engines datagrams r mid (history ++ entries)
-followed_after n r engines datagrams history entries mid h core messages m notices texts sessions f a between only truth held =
+followed_after n r engines datagrams history entries mid h core messages m notices said texts sessions f a between only truth held grows kept =
     let w : GroupNetwork = network_after n f.happenings in
     let own : Endpoint = here w.net r in
     let pushed : network_after n (f.happenings ++ h ∷ []) ≡ happens n w h = run_push n f.happenings h (new_group_network n) in
@@ -165,8 +185,8 @@ followed_after n r engines datagrams history entries mid h core messages m notic
       happenings = f.happenings ++ h ∷ [];
       few = f.few;
       joined = subst (λ (after : GroupNetwork). IsJoined n (slice_set engines r (emptied mid)) (datagrams ++ mid.sessions.out) after) (sym pushed)
-          (joined_after n r engines datagrams (datagrams ++ mid.sessions.out) w (happens n w h) (emptied mid) core messages m notices entries texts sessions f.joined a between only
-          (leaves_engines n r engines datagrams mid texts w.net.current truth) (held_emptied (announcements_of messages own) own mid core m held) (clean_emptied mid));
+          (joined_after n r engines datagrams (datagrams ++ mid.sessions.out) w (happens n w h) (emptied mid) core messages m notices entries said texts sessions f.joined a between only
+          (leaves_engines n r engines datagrams mid texts w.net.current truth) (λ serial. held_emptied (announcements_in serial sessions own) own mid core m (held serial)) grows kept (clean_emptied mid));
       seen = ap (λ (after : GroupNetwork). after.history) pushed ∙ a.seen ∙ ap (λ (es : List Entry). es ++ entries) f.seen;
     }
 
@@ -175,6 +195,7 @@ pub record IsBeside (old new : EngineState) : Type 0 where
   pub core : new.core ≡ old.core
   pub groups : new.groups ≡ old.groups
   pub ended : new.ended ≡ old.ended
+  pub payloads : new.payloads ≡ old.payloads
   pub known : new.sessions.known ≡ old.sessions.known
   pub place : new.sessions.place ≡ old.sessions.place
 
@@ -186,6 +207,11 @@ held_beside a own old new core m b h = record {
   placed = ap (λ (c : CoreState). c.place) b.core ∙ h.placed ∙ sym b.place;
 }
 
+-- and the payloads that it keeps
+payloads_beside : (sessions : Sessions) (said : Saying) (own : Endpoint) (old new : EngineState) → IsBeside old new → ArePayloads sessions said own old.sessions.known old.payloads → ArePayloads sessions said own new.sessions.known new.payloads
+payloads_beside sessions said own old new b h =
+    subst (λ (known : List ℕ). ArePayloads sessions said own known new.payloads) (sym b.known) (subst (λ (p : payloads.State). ArePayloads sessions said own old.sessions.known p) (sym b.payloads) h)
+
 -- nothing happens to the network
 pub followed_still : (n r : ℕ) (engines : List EngineState) (datagrams : List (ℕ × List ℕ)) (history : List Entry) (old mid : EngineState) (f : IsFollowed n engines datagrams history) →
     slice_get engines r ≡ Some old → IsBeside old mid →
@@ -193,12 +219,13 @@ pub followed_still : (n r : ℕ) (engines : List EngineState) (datagrams : List 
 followed_still n r engines datagrams history old mid f there beside truth =
     let w : GroupNetwork = network_after n f.happenings in
     let own : Endpoint = here w.net r in
-    let a : Announcements = announcements_of w.net.link own in
     record {
       happenings = f.happenings;
       few = f.few;
       joined = joined_still n r engines datagrams (datagrams ++ mid.sessions.out) w (emptied mid) f.joined (leaves_engines n r engines datagrams mid f.joined.texts w.net.current truth)
-          (held_emptied a own mid (w.net.core own) (w.member own) (held_beside a own old mid (w.net.core own) (w.member own) beside (held_at n r engines datagrams w old f.joined there))) (clean_emptied mid);
+          (λ serial. held_emptied (announcements_in serial f.joined.sessions own) own mid (w.net.core own) (w.member own)
+          (held_beside (announcements_in serial f.joined.sessions own) own old mid (w.net.core own) (w.member own) beside (held_at n r engines datagrams w old f.joined there serial)))
+          (payloads_beside f.joined.sessions f.joined.said own old mid beside (f.joined.payloads r old there)) (clean_emptied mid);
       seen = f.seen;
     }
 

@@ -7,8 +7,8 @@ use Rattle.rank_calls.specs.declared.refused.Refused.{Refused}
 use Rattle.sessions.specs.declared.refused.Refused as lower
 use Rattle.sessions.specs.Events.{Sending, TurnedAway, after_send, after_sends}
 use Rattle.sessions.specs.SessionsState.{SessionsState}
-use Rattle.engine.specs.EngineState.{EngineState, emptied}
-use Rattle.engine.specs.Refusals.{fault_of_sessions, first_fault}
+use Rattle.engine_parts.specs.EngineState.{EngineState, emptied}
+use Rattle.engine_parts.specs.Refusals.{fault_of_sessions, first_fault}
 use Rattle.vocabulary.specs.declared.endpoint.Endpoint.{Endpoint}
 use Rattle.proof_link_truth.specs.Events.{LeavesTrue}
 use Rattle.proof_link_truth.specs.Links.{Links}

@@ -6,8 +6,8 @@ use Rattle.collectives.specs.Calls as collective_calls
 use Rattle.collectives.specs.State.{State}
 use Rattle.collective_steps.specs.declared.step.Ending.{Ending}
 use Rattle.datagram.specs.Spelling.{FrameText}
-use Rattle.engine.specs.Datagrams.{ended_by, groups_met}
-use Rattle.engine.specs.EngineState.{EngineState, GroupsState, completion_by, completion_of, or_before}
+use Rattle.engine.specs.Datagrams.{ended_by, groups_met, payloads_met}
+use Rattle.engine_parts.specs.EngineState.{EngineState, GroupsState, completion_by, completion_of, or_before}
 use Rattle.incarnation.specs.declared.place.Place.{Place}
 use Rattle.perfect_groups.specs.Events.{ended_with, ready_by, told_of}
 use Rattle.perfect_groups.specs.Membership as membership
@@ -29,7 +29,8 @@ use Rattle.proof_engine_steps.specs.Steps.{IsFromOther, IsHeard, heard_by_core}
 use Rattle.proof_engine_view.specs.Frames.{known_after}
 use Rattle.proof_engine_view.specs.Seen as in_queues
 use Rattle.proof_engine_view.specs.Shown.{IsShown}
-use Rattle.proof_engine_view.specs.Transfers.{Announcements, after_out, announcements_of}
+use Rattle.proof_engine_view.specs.Transfers.{Announcements, after_out}
+use Rattle.proof_group_network.specs.Carried.{Sessions}
 use Rattle.proof_group_network.specs.Happened.{IsWord}
 use Rattle.proof_group_network.specs.Network.{GroupNetwork, member_settled}
 use Rattle.proof_group_network.specs.NoticesStand.{heard_member}
@@ -66,7 +67,7 @@ lesson_fresh false known incarnation same = omega (arith, same)
 pub is_word : (n r : ℕ) (engines : List EngineState) (datagrams : List (ℕ × List ℕ)) (w : GroupNetwork) (old : EngineState) (s : Endpoint) (lesson : Bool) → IsJoined n engines datagrams w →
     slice_get engines r ≡ Some old → below.IsHeard n r w.net.current old.sessions.known s lesson → IsWord n r w s
 is_word n r engines datagrams w old s lesson j there h =
-    let known : (w.net.core (here w.net r)).known s.rank ≡ slice_index old.sessions.known s.rank = (j.held r old there).queues.known_alike s.rank in
+    let known : (w.net.core (here w.net r)).known s.rank ≡ slice_index old.sessions.known s.rank = ((j.held r old there).queues 0).known_alike s.rank in
     let fresh = lesson_fresh lesson (slice_index old.sessions.known s.rank) s.incarnation h.incarnation in
     record { there = (place_is n r engines datagrams w old j there).0; apart = h.apart; begun = h.begun; fresh = omega (arith, known, fresh) }
 
@@ -90,10 +91,10 @@ abbrev pub taught : Endpoint → (lesson : Bool) → Option Endpoint
 taught s lesson = if lesson then Some s else None
 
 -- the lesson that the network's rank learns is the one that the engine's learns
-pub lesson_same : (n r : ℕ) (w : GroupNetwork) (old : EngineState) (s : Endpoint) (lesson : Bool) → IsHeldBy w r old → below.IsHeard n r w.net.current old.sessions.known s lesson → lesson_at w r s ≡ taught s lesson
-lesson_same n r w old s lesson held h =
+pub lesson_same : (n r : ℕ) (w : GroupNetwork) (sessions : Sessions) (old : EngineState) (s : Endpoint) (lesson : Bool) → IsHeldBy w sessions r old → below.IsHeard n r w.net.current old.sessions.known s lesson → lesson_at w r s ≡ taught s lesson
+lesson_same n r w sessions old s lesson held h =
     ap (λ (b : Bool). if b then Some s else None)
-    (ap (λ (k : ℕ). nat_lt k s.incarnation) (held.queues.known_alike s.rank) ∙ lesson_is lesson (slice_index old.sessions.known s.rank) s.incarnation h.incarnation)
+    (ap (λ (k : ℕ). nat_lt k s.incarnation) ((held.queues 0).known_alike s.rank) ∙ lesson_is lesson (slice_index old.sessions.known s.rank) s.incarnation h.incarnation)
 
 -- an ending that comes first
 or_before_none : (o before : Option Ending) → before ≡ None → or_before o before ≡ o
@@ -128,6 +129,7 @@ after old s lesson t b = record {
   core = after_news old.core (news s lesson b);
   groups = groups_met old.groups (taught s lesson);
   ended = or_before (ended_by old.groups (taught s lesson)) old.ended;
+  payloads = payloads_met old.payloads (taught s lesson);
   sessions = t;
 }
 
@@ -144,19 +146,19 @@ queues_after a old core s lesson known b x h is =
     subst (λ (k : List ℕ). IsShown (after_out a (heard_by_core core s x).out) (after_news old.core (news s lesson b)) k (core_settled (heard_by_core core s x).core)) (sym is) h.shown
 
 -- and of groups what its member holds
-pub groups_after : (r : ℕ) (w : GroupNetwork) (old : EngineState) (s : Endpoint) (lesson : Bool) → IsHeldBy w r old → lesson_at w r s ≡ taught s lesson →
+pub groups_after : (r : ℕ) (w : GroupNetwork) (sessions : Sessions) (old : EngineState) (s : Endpoint) (lesson : Bool) → IsHeldBy w sessions r old → lesson_at w r s ≡ taught s lesson →
     collectives.IsShown (here w.net r) (groups_met old.groups (taught s lesson)).collective old.groups.contexts (member_settled (heard_member w r s)) None
-groups_after r w old s lesson held same =
+groups_after r w sessions old s lesson held same =
     subst (λ (o : Option Endpoint). collectives.IsShown (here w.net r) (collective_calls.met old.groups.collective old.groups.contexts o) old.groups.contexts (member_settled (heard_member w r s)) None) same
     (lessons_of_ranks_follow w r s old.groups.collective old.groups.contexts held.groups).0
 
 -- what is seen of it
-pub told_after : (r : ℕ) (w : GroupNetwork) (old : EngineState) (s : Endpoint) (lesson : Bool) (t : SessionsState) (b : Option FrameText) (x : Option Frame) →
-    IsHeldBy w r old → old.ended ≡ None → lesson_at w r s ≡ taught s lesson → old.sessions.place.endpoint ≡ here w.net r →
-    IsHeard (announcements_of w.net.link (here w.net r)) old.core old.sessions.known (w.net.core (here w.net r)) (news s lesson b) x →
+pub told_after : (r : ℕ) (w : GroupNetwork) (sessions : Sessions) (a : Announcements) (old : EngineState) (s : Endpoint) (lesson : Bool) (t : SessionsState) (b : Option FrameText) (x : Option Frame) →
+    IsHeldBy w sessions r old → old.ended ≡ None → lesson_at w r s ≡ taught s lesson → old.sessions.place.endpoint ≡ here w.net r →
+    IsHeard a old.core old.sessions.known (w.net.core (here w.net r)) (news s lesson b) x →
     told_of (here w.net r) None (ready_by (ended_with (heard_member w r s).membership.present) (core_ready (heard_by_core (w.net.core (here w.net r)) s x).core))
     ≡ told_completion old.sessions.place.endpoint (completion_of (after old s lesson t b))
-told_after r w old s lesson t b x held free same stands h =
+told_after r w sessions a old s lesson t b x held free same stands h =
     ap (λ (o : Option membership.Ending). told_of own None (ready_by o ready)) (ended_is own old.groups.contexts (lesson_ends old.groups.collective old.groups.contexts (lesson_at w r s)) heard_state.present (heard_member w r s).membership.present heard.present)
     ∙ told_alike own (lesson_ends old.groups.collective old.groups.contexts (lesson_at w r s)) ready completion tells
     ∙ ap (λ (o : Option Ending). told_completion own (completion_by o completion)) (ap (lesson_ends old.groups.collective old.groups.contexts) same ∙ sym (ended_alike old.groups (taught s lesson) old.ended free))

@@ -1,5 +1,6 @@
 pub mod Halves
 pub mod Worlds
+pub mod Payloads
 pub mod Followed
 pub mod Opening
 pub mod Unanswered
@@ -15,12 +16,19 @@ pub mod Questions
 pub mod ByRank
 pub mod StepTargets
 pub mod Sending
+pub mod Sent
 pub mod Entering
+pub mod OfMessages
 pub mod Words
 pub mod Heard
 pub mod KnownMembers
 pub mod KnownTargets
 pub mod Noticed
+pub mod Carried
+pub mod Announcing
+pub mod Answering
+pub mod Pieces
+pub mod PieceHeard
 pub mod Datagrams
 pub mod WorldCalls
 pub mod WorldRuns

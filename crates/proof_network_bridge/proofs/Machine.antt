@@ -2,11 +2,11 @@
 use Rattle.std.proofs.Common.{◌≡◌, ℕ, zero, suc, ◌<◌, ◌≤◌, List, [], ◌∷◌, Option, Some, None, map, sym, ap, subst, ◌∙◌, inl, inr, arith, append-nil}
 use Rattle.std.specs.Prelude.{slice_get, slice_index}
 use Rattle.std.proofs.lemmas.Option.{same_Some}
-use Rattle.engine.specs.Calls.{CallGives, IsTaken}
-use Rattle.engine.specs.EngineState.{EngineState, member_of}
-use Rattle.engine.specs.declared.call.Call.{Call}
-use Rattle.engine.specs.declared.reply.Reply.{Reply}
-use Rattle.engine.specs.declared.reply.Reply.TheVariants as replies
+use Rattle.engine_parts.specs.Calls.{CallGives, IsTaken}
+use Rattle.engine_parts.specs.EngineState.{EngineState, member_of}
+use Rattle.engine_parts.specs.declared.call.Call.{Call}
+use Rattle.engine_parts.specs.declared.reply.Reply.{Reply}
+use Rattle.engine_parts.specs.declared.reply.Reply.TheVariants as replies
 use Rattle.incarnation.specs.declared.place.Place.{Place}
 use Rattle.perfect_groups.specs.Calls as machine_calls
 use Rattle.perfect_groups.specs.Calls.{held_at}
@@ -22,7 +22,7 @@ use Rattle.perfect_groups.specs.Soundness.{IsAmong, IsReal}
 use Rattle.proof_collective_steps.specs.Counterparts.{communicator_of}
 use Rattle.proof_engine_steps.specs.Refused.{IsReason}
 use Rattle.proof_engine_view.specs.Shown.{IsShown}
-use Rattle.proof_engine_view.specs.Transfers.{announcements_of}
+use Rattle.proof_session_carrying.specs.Announced.{announcements_in}
 use Rattle.proof_group_network.proofs.NetworkRest.{is_run_of_groups}
 use Rattle.proof_group_network.specs.Network.{GroupNetwork, IsRunOfGroups, NoticesAreHanded}
 use Rattle.proof_link_truth.specs.Events.{IdleIsStill, Knows}
@@ -68,15 +68,15 @@ knows_too : (n : ℕ) (engines : List EngineState) (datagrams : List (ℕ × Lis
     s.incarnation ≡ w.net.current s.rank → (w.net.core s).known d.rank ≡ d.incarnation → Knows (sessions_in engines) s.rank d
 knows_too n engines datagrams w s d j current knows t there =
     let o : IsOf engines s.rank t = engine_there engines s.rank t there in
-    let shown : IsShown (announcements_of w.net.link s) o.engine.core o.engine.sessions.known (w.net.core s) =
-    subst (λ (i : ℕ). IsShown (announcements_of w.net.link (at s.rank i)) o.engine.core o.engine.sessions.known (w.net.core (at s.rank i))) (sym current) (j.held s.rank o.engine o.there).queues in
+    let shown : IsShown (announcements_in 0 j.sessions s) o.engine.core o.engine.sessions.known (w.net.core s) =
+    subst (λ (i : ℕ). IsShown (announcements_in 0 j.sessions (at s.rank i)) o.engine.core o.engine.sessions.known (w.net.core (at s.rank i))) (sym current) ((j.held s.rank o.engine o.there).queues 0) in
     ap (λ (x : SessionsState). slice_index x.known d.rank) (sym o.sessions_are) ∙ sym (shown.known_alike d.rank) ∙ knows
 
 -- where sessions are quiet, so is the network
 still : IdleIsStill → StillTextsAreQuiet → (n : ℕ) (engines : List EngineState) (datagrams : List (ℕ × List ℕ)) (w : GroupNetwork) → IsJoined n engines datagrams w → AreQuiet (sessions_in engines) →
     IsQuiet w.net × NoticesAreHanded w
 still idle texts n engines datagrams w j quiet =
-    texts w j.texts j.sessions j.between (λ s d s_is d_is d_knows s_knows.
+    texts w j.said j.texts j.sessions j.between (λ s d s_is d_is d_knows s_knows.
     idle n (sessions_in engines) datagrams j.texts w.net.current j.links quiet s d s_is d_is
     (knows_too n engines datagrams w s d j s_is s_knows) (knows_too n engines datagrams w d s j d_is d_knows))
 
@@ -133,7 +133,7 @@ following_is_run idle texts one refused taken n engines datagrams history f =
       now = λ r e there. m.current r ∙ sym (ap (λ (x : Endpoint). x.incarnation) (endpoint_is n r engines datagrams w e f.joined there));
       knows = λ r e there x.
           m.knows e.sessions.place.endpoint x ∙ ap (λ (y : Endpoint). (w.net.core y).known x) (endpoint_is n r engines datagrams w e f.joined there)
-          ∙ (f.joined.held r e there).queues.known_alike x;
+          ∙ ((f.joined.held r e there).queues 0).known_alike x;
       refuses = λ r e mid call back why there gives.
           subst (λ (o : Option ℕ). IsReason o why) (sym (faults r e there (call_meant e.core call))) (refused n r engines datagrams history e mid call back why f there gives);
       takes = λ r e mid call reply there is gives.

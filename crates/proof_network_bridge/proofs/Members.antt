@@ -4,8 +4,8 @@ use Rattle.std.specs.List.{AllByRecursion}
 use Rattle.collective_notes.specs.declared.entry.Inside.{Inside}
 use Rattle.communicators.specs.Members.{present_of}
 use Rattle.context_agreement.specs.Communicators.{ContextsState}
-use Rattle.engine.specs.EngineState.{EngineState, GroupsState, member_of}
-use Rattle.engine.specs.Faults.{is_busy}
+use Rattle.engine_parts.specs.EngineState.{EngineState, GroupsState, member_of}
+use Rattle.engine_parts.specs.Faults.{is_busy}
 use Rattle.perfect_groups.specs.Calls.{held_at}
 use Rattle.perfect_groups.specs.Communicators.{Communicator}
 use Rattle.perfect_groups.specs.Faults.{is_blocked, is_within}

@@ -2,11 +2,11 @@
 use Rattle.std.proofs.Common.{◌≡◌, ◌<◌, List, ◌++◌, Option, Some, None, option_map, refl, sym, ap, subst, ◌∙◌, append-nil}
 use Rattle.collective_steps.specs.declared.step.Ending.{Ending}
 use Rattle.communicators.specs.Questions.{question_of}
-use Rattle.engine.specs.Calls.{fact_said}
-use Rattle.engine.specs.EngineState.{EngineState, completion_by, completion_of, member_of}
-use Rattle.engine.specs.declared.call.Call.TheVariants as calls
-use Rattle.engine.specs.declared.reply.Completion.{Completion}
-use Rattle.engine.specs.declared.reply.Reply.TheVariants as replies
+use Rattle.engine_parts.specs.Calls.{fact_said}
+use Rattle.engine_parts.specs.EngineState.{EngineState, completion_by, completion_of, member_of}
+use Rattle.engine_parts.specs.declared.call.Call.TheVariants as calls
+use Rattle.engine_parts.specs.declared.reply.Completion.{Completion}
+use Rattle.engine_parts.specs.declared.reply.Reply.TheVariants as replies
 use Rattle.incarnation.specs.declared.place.Place.{Place}
 use Rattle.perfect_groups.specs.Calls as machine
 use Rattle.perfect_groups.specs.Calls.{Inquire, OfFact, fact_of, held_at}
@@ -28,6 +28,7 @@ use Rattle.proof_network_bridge.proofs.Followed as followed
 use Rattle.proof_network_bridge.proofs.Followed.{followed_after}
 use Rattle.proof_network_bridge.proofs.Machine.{TakenIsFaultless}
 use Rattle.proof_network_bridge.proofs.Members.{held_same, named_same}
+use Rattle.proof_network_bridge.proofs.Payloads.{said_same}
 use Rattle.proof_network_bridge.proofs.Worlds.{is_at, only_same, place_is}
 
 -- a question is answered by what is held
@@ -47,10 +48,10 @@ pub questions_follow : RestIsTrue → QuestionsHappen → OthersAreCarried → T
 questions_follow rest happen carried taken n r engines datagrams history old mid comm q fact f there told =
     subst (λ (e : EngineState). LeavesCalled n engines datagrams r history old e (calls.Ask comm q) (replies.Fact fact)) (sym told.unchanged)
     (subst (λ (es : List Entry). LeavesFollowed n engines datagrams r old (history ++ es)) entries_are
-    (followed_after n r engines datagrams history _ old (Ask r (Inquire comm (question_of q))) (w.net.core own) w.net.link (w.member own) w.notices f.joined.texts f.joined.sessions f after
-    (carried w (happens n w (Ask r (Inquire comm (question_of q)))) f.joined.texts f.joined.sessions own (w.net.core own) (w.member own) _ f.joined.between after) (only_same w.net.link own)
+    (followed_after n r engines datagrams history _ old (Ask r (Inquire comm (question_of q))) (w.net.core own) w.net.link (w.member own) w.notices f.joined.said f.joined.texts f.joined.sessions f after
+    (carried w (happens n w (Ask r (Inquire comm (question_of q)))) f.joined.said f.joined.texts f.joined.sessions own (w.net.core own) (w.member own) _ f.joined.between after) (only_same f.joined.sessions own)
     (rest n r (sessions_in engines) datagrams f.joined.texts w.net.current old.sessions f.joined.links (is_at n r engines datagrams w old f.joined there))
-    (followed.held_at n r engines datagrams w old f.joined there)))
+    (followed.held_at n r engines datagrams w old f.joined there) (said_same f.joined.said) (f.joined.payloads r old there)))
   where
     w : GroupNetwork
     w = network_after n f.happenings
@@ -58,7 +59,7 @@ questions_follow rest happen carried taken n r engines datagrams history old mid
     own : Endpoint
     own = here w.net r
 
-    at_own : IsHeldBy w r old
+    at_own : IsHeldBy w f.joined.sessions r old
     at_own = f.joined.held r old there
 
     place : (r < n) × (old.sessions.place ≡ place_of n own)

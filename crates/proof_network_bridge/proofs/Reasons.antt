@@ -3,22 +3,23 @@ use Rattle.std.proofs.Common.{◌≡◌, ℕ, Bool, true, false, ◌||◌, List,
 use Rattle.std.specs.Prelude.{slice_get}
 use Rattle.collective_notes.specs.declared.entry.Entry as collective
 use Rattle.communicators.specs.declared.question.Question.{Question}
-use Rattle.engine.specs.Calls.{AskingGives, CallGives, CoreGives, EnteringGives, IsAnswered, IsEntered, IsRefused, IsTaken, IsTold, WhyRefused}
-use Rattle.engine.specs.EngineState.{EngineState, member_of}
-use Rattle.engine.specs.Faults.{broken, fault_of, free_fault, is_busy}
-use Rattle.engine.specs.Refusals.{first_fault}
-use Rattle.engine.specs.declared.call.Call.{Call}
-use Rattle.engine.specs.declared.call.Call.TheVariants as calls
-use Rattle.engine.specs.declared.reply.Fact.{Fact}
-use Rattle.engine.specs.declared.reply.Reply.{Reply}
-use Rattle.engine.specs.declared.reply.Reply.TheVariants as replies
+use Rattle.engine_parts.specs.Calls.{AskingGives, CallGives, CoreGives, EnteringGives, IsAnswered, IsEntered, IsRefused, IsTaken, IsTold, WhyRefused}
+use Rattle.engine_parts.specs.EngineState.{EngineState, member_of}
+use Rattle.engine_parts.specs.Faults.{broken, fault_of, free_fault, is_busy}
+use Rattle.engine_parts.specs.Refusals.{first_fault}
+use Rattle.engine_parts.specs.declared.call.Call.{Call}
+use Rattle.engine_parts.specs.declared.call.Call.TheVariants as calls
+use Rattle.engine_parts.specs.declared.reply.Fact.{Fact}
+use Rattle.engine_parts.specs.declared.reply.Reply.{Reply}
+use Rattle.engine_parts.specs.declared.reply.Reply.TheVariants as replies
 use Rattle.incarnation.specs.declared.place.Place.{Place}
 use Rattle.perfect_groups.specs.Calls as machine
 use Rattle.perfect_groups.specs.Events.{Entry}
 use Rattle.perfect_groups.specs.Faults.{fault, fault_by, is_within}
 use Rattle.perfect_queues.specs.Refusals.{standing}
 use Rattle.proof_engine_steps.specs.Refused.{IsReason}
-use Rattle.proof_engine_view.specs.Transfers.{Announcements, announcements_of}
+use Rattle.proof_engine_view.specs.Transfers.{Announcements}
+use Rattle.proof_session_carrying.specs.Announced.{announcements_in}
 use Rattle.proof_group_network.proofs.NoticesStand.{notices_stand}
 use Rattle.proof_group_network.specs.Network.{GroupNetwork}
 use Rattle.proof_group_network.specs.Notices.{Member}
@@ -166,10 +167,10 @@ refused_reason n r engines datagrams history e mid call back why f there gives =
     m = w.member own
 
     a : Announcements
-    a = announcements_of w.net.link own
+    a = announcements_in 0 f.joined.sessions own
 
     h : IsHeldAs a own e core m
-    h = held_at n r engines datagrams w e f.joined there
+    h = held_at n r engines datagrams w e f.joined there 0
 
     go : (b : Bool) → is_busy e ≡ b → WhyRefused (first_fault (broken b refusals.Request) (free_fault e call)) e call why →
         IsReason (fault own (view blank core) m.membership (call_meant e.core call)) why
@@ -196,10 +197,10 @@ allowed_faultless n r engines datagrams history e call f there fine = go (is_bus
     m = w.member own
 
     a : Announcements
-    a = announcements_of w.net.link own
+    a = announcements_in 0 f.joined.sessions own
 
     h : IsHeldAs a own e core m
-    h = held_at n r engines datagrams w e f.joined there
+    h = held_at n r engines datagrams w e f.joined there 0
 
     go : (b : Bool) → is_busy e ≡ b → first_fault (broken b refusals.Request) (free_fault e call) ≡ None → IsFaultless (fault own (view blank core) m.membership (call_seen call)) e.core call
     go true busy none = absurd cc

@@ -13,15 +13,15 @@ use Rattle.communicators.specs.Routes.{RouteText, route_on}
 use Rattle.communicators.specs.Rules.{known_by, limit_in, rule_in}
 use Rattle.communicators.specs.declared.question.Question.{Question}
 use Rattle.communicators.specs.declared.question.Question.TheVariants as questions
-use Rattle.engine.specs.Calls.{LacksRoom, WhyRefused}
-use Rattle.engine.specs.EngineState.{EngineState, member_of}
-use Rattle.engine.specs.Faults.{broken, free_fault, group_limit, is_replaced, on_route, receive_rules, routed_limit, send_rules}
-use Rattle.engine.specs.Refusals.{first_fault, of_entry_rule}
-use Rattle.engine.specs.Routing.{receive_by, send_by}
-use Rattle.engine.specs.declared.call.Call as engine
-use Rattle.engine.specs.declared.call.Call.TheVariants as calls
-use Rattle.engine.specs.declared.call.Receive.{Receive}
-use Rattle.engine.specs.declared.call.Send.{Send}
+use Rattle.engine_parts.specs.Calls.{LacksRoom, WhyRefused}
+use Rattle.engine_parts.specs.EngineState.{EngineState, member_of}
+use Rattle.engine_parts.specs.Faults.{broken, free_fault, group_limit, is_replaced, on_route, receive_rules, routed_limit, send_rules}
+use Rattle.engine_parts.specs.Refusals.{first_fault, of_entry_rule}
+use Rattle.engine_parts.specs.Routing.{receive_by, send_by}
+use Rattle.engine_parts.specs.declared.call.Call as engine
+use Rattle.engine_parts.specs.declared.call.Call.TheVariants as calls
+use Rattle.engine_parts.specs.declared.call.Receive.{Receive}
+use Rattle.engine_parts.specs.declared.call.Send.{Send}
 use Rattle.perfect_groups.specs.Calls.{Call, Cancel, Enter, Inquire, Irecv, Isend, Test, Wait, held_at, in_world, queue_call, receive_on}
 use Rattle.perfect_groups.specs.Collectives.{CollectiveCall, part_of}
 use Rattle.perfect_groups.specs.Communicators.{Communicator}

@@ -1,9 +1,9 @@
 -- The fault of a call with a route: the first of the queues' rules, and then of the communicator's.
 use Rattle.std.proofs.Common.{◌≡◌, ℕ, Bool, true, false, ◌||◌, arith, if◌then◌else◌, List, [], ◌∷◌, Option, Some, None, refl, sym, ap, ◌∙◌, inl, inr}
-use Rattle.engine.specs.EngineState.{EngineState, member_of}
-use Rattle.engine.specs.Faults.{group_limit, routed_limit}
-use Rattle.engine.specs.Frames.{frame_limit}
-use Rattle.engine.specs.Refusals.{fault_of_sessions, first_fault}
+use Rattle.engine_parts.specs.EngineState.{EngineState, member_of}
+use Rattle.engine_parts.specs.Faults.{group_limit, routed_limit}
+use Rattle.engine_parts.specs.Frames.{frame_limit}
+use Rattle.engine_parts.specs.Refusals.{fault_of_sessions, first_fault}
 use Rattle.communicators.specs.Rules.{known_by}
 use Rattle.perfect_groups.specs.Calls.{Call, queue_call}
 use Rattle.perfect_groups.specs.Faults.{fault, is_within, wrong_incarnation, wrong_rank}

@@ -1,9 +1,11 @@
 -- A world follows the pure network through what is nothing to the network: ticks, and datagrams that are refused.
-use Rattle.std.proofs.Common.{◌≡◌, ◌++◌, Option, Some, None, refl, sym, ap, subst}
+use Rattle.std.proofs.Common.{◌≡◌, ◌++◌, Bool, true, false, Option, Some, None, refl, sym, ap, subst}
 use Rattle.std.specs.Prelude.{Result, Ok, Err}
-use Rattle.datagram.specs.Spelling.{EagerText}
-use Rattle.engine.specs.Datagrams.{HeardGivesBy, HearingGives, notice_in}
-use Rattle.engine.specs.EngineState.{EngineState, completion_of}
+use Rattle.collective_transfers.specs.Payloads.{Whole}
+use Rattle.collective_transfers.specs.State.{is_due, whole_with}
+use Rattle.datagram.specs.Spelling.{DataText}
+use Rattle.engine.specs.Datagrams.{HeardGivesBy, HearingGives, NoticeText, OfAnnouncement, OfAnswer, OfMessage, OfPiece, PieceGivesBy, notice_in}
+use Rattle.engine_parts.specs.EngineState.{EngineState, completion_of}
 use Rattle.engine.specs.Ticks.{after_tick}
 use Rattle.proof_group_network.specs.Network.{GroupNetwork}
 use Rattle.proof_link_truth.specs.Events.{IsAt, RefusalsAreTrue, RestIsTrue, TicksAreTrue}
@@ -23,15 +25,24 @@ pub ticks_follow : TicksAreTrue → TicksFollow
 ticks_follow truth n r now engines datagrams history old mid f there gives =
     let w : GroupNetwork = network_after n f.happenings in
     subst (λ (e : EngineState). LeavesFollowed n engines datagrams r e (history ++ told_completion old.sessions.place.endpoint (completion_of e))) (sym gives.1)
-    (followed_unanswered n r engines datagrams history old (after_tick old now) f there (record { core = refl; groups = refl; ended = refl; known = refl; place = refl })
+    (followed_unanswered n r engines datagrams history old (after_tick old now) f there (record { core = refl; groups = refl; ended = refl; payloads = refl; known = refl; place = refl })
     (truth n r now (sessions_in engines) datagrams f.joined.texts w.net.current old.sessions f.joined.links (is_at n r engines datagrams w old f.joined there)))
 
 -- ---- a datagram that is refused
 
--- what was heard and is refused changes nothing, be it a message of a collective or anything else
-refused_leaves : (o : Option EagerText) (old mid : EngineState) (h : HeardText) (why : Refused) → HeardGivesBy o old h (Err why) mid → mid ≡ old
+-- a piece that is refused changes nothing
+piece_leaves : (due : Bool) (w : Option Whole) (old mid : EngineState) (h : HeardText) (t : DataText) (why : Refused) → PieceGivesBy due w old h t (Err why) mid → mid ≡ old
+piece_leaves true w old mid h t why gives = gives.1
+piece_leaves false w old mid h t why gives = gives.1
+
+-- what was heard and is refused changes nothing, be it of a collective or anything else
+refused_leaves : (o : Option NoticeText) (old mid : EngineState) (h : HeardText) (why : Refused) → HeardGivesBy o old h (Err why) mid → mid ≡ old
 refused_leaves None old mid h why gives = gives.2
-refused_leaves (Some t) old mid h why gives = gives.1
+refused_leaves (Some (OfMessage t)) old mid h why gives = gives.1
+refused_leaves (Some (OfAnnouncement t)) old mid h why gives = gives.1
+refused_leaves (Some (OfAnswer t)) old mid h why gives = gives.1
+refused_leaves (Some (OfPiece t)) old mid h why gives =
+    piece_leaves (is_due old.payloads h.source.rank t.transfer t.offset t.bytes) (whole_with old.payloads h.source.rank t.transfer t.bytes) old mid h t why gives
 
 pub refusals_follow : RestIsTrue → RefusalsAreTrue → RefusalsFollow
 refusals_follow rest refusals n r number bytes engines datagrams history old mid why f there emitted gives = go (heard_of old.sessions bytes) refl gives
@@ -44,11 +55,11 @@ refusals_follow rest refusals n r number bytes engines datagrams history old mid
 
     go : (o : Result HeardText Unheard) → heard_of old.sessions bytes ≡ o → HearingGives o old (Err why) mid → LeavesFollowed n engines datagrams r mid history
     go (Ok h) is g =
-        subst (λ (e : EngineState). LeavesFollowed n engines datagrams r e history) (sym (refused_leaves (notice_in h.word) old mid h why g))
-        (followed_still n r engines datagrams history old old f there (record { core = refl; groups = refl; ended = refl; known = refl; place = refl })
+        subst (λ (e : EngineState). LeavesFollowed n engines datagrams r e history) (sym (refused_leaves (notice_in h.lesson old.payloads h.source.rank h.word) old mid h why g))
+        (followed_still n r engines datagrams history old old f there (record { core = refl; groups = refl; ended = refl; payloads = refl; known = refl; place = refl })
         (rest n r (sessions_in engines) datagrams f.joined.texts w.net.current old.sessions f.joined.links here_is))
     go (Err u) is g =
         let keeps : Keeps old.sessions mid.sessions = away_keeps old.sessions mid.sessions u.reset u.refused g.0 g.3 in
-        let beside : IsBeside old mid = record { core = ap (λ (e : EngineState). e.core) g.2; groups = ap (λ (e : EngineState). e.groups) g.2; ended = ap (λ (e : EngineState). e.ended) g.2; known = keeps.known; place = keeps.place } in
+        let beside : IsBeside old mid = record { core = ap (λ (e : EngineState). e.core) g.2; groups = ap (λ (e : EngineState). e.groups) g.2; ended = ap (λ (e : EngineState). e.ended) g.2; payloads = ap (λ (e : EngineState). e.payloads) g.2; known = keeps.known; place = keeps.place } in
         followed_still n r engines datagrams history old mid f there beside
         (refusals n r number bytes (sessions_in engines) datagrams f.joined.texts w.net.current old.sessions mid.sessions u g.0 f.joined.links here_is emitted is g.3)

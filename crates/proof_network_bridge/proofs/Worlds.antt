@@ -1,24 +1,31 @@
 -- What stays of a world's links and ranks after an event at one of them.
-use Rattle.std.proofs.Common.{◌≡◌, ◌⊎◌, inl, inr, ℕ, zero, suc, ◌<◌, Bool, true, false, List, [], ◌∷◌, ◌++◌, Some, if◌then◌else◌, refl, sym, ap, ◌∙◌, arith, append-nil}
-use Rattle.std.specs.Prelude.{slice_get, slice_set, ◌==◌}
-use Rattle.std.proofs.lemmas.Bool.{eqb-false}
+use Rattle.std.proofs.Common.{◌≡◌, ◌⊎◌, inl, inr, ℕ, zero, suc, ◌<◌, Bool, true, false, ◌&&◌, List, [], ◌∷◌, ◌++◌, Some, if◌then◌else◌, refl, sym, ap, subst, ◌∙◌, arith, append-nil}
+use Rattle.std.specs.Prelude.{slice_get, slice_index, slice_set, ◌==◌, nat_lt, not}
+use Rattle.std.proofs.lemmas.Bool.{and_parts, eqb-false, ltb-true, ne_eqb}
+use Rattle.std.proofs.lemmas.List.{append_assoc, map-append}
 use Rattle.std.proofs.lemmas.Option.{same_Some, slice_get_within}
 use Rattle.vocabulary.specs.Endpoints.{is_same}
 use Rattle.perfect_queues.specs.State.{with_number}
 use Rattle.vocabulary.specs.declared.endpoint.Endpoint.{Endpoint}
 use Rattle.perfect_queues.proofs.EndpointLemmas.{same_eq}
 use Rattle.rank_core.specs.CoreState.{CoreState}
-use Rattle.engine.specs.EngineState.{EngineState}
+use Rattle.engine_parts.specs.EngineState.{EngineState}
 use Rattle.proof_pure_network.specs.Core.{Core}
-use Rattle.proof_pure_network.specs.Announced.{LinksGrow}
-use Rattle.proof_pure_network.specs.Frames.{Frame}
-use Rattle.proof_pure_network.specs.Links.{Link, accept_all, handed_on}
-use Rattle.proof_pure_network.proofs.Announced.{accepted_out, hand_accepted}
-use Rattle.proof_pure_network.proofs.LinksGrow.{grow_both, handed_grows, out_grows}
-use Rattle.proof_pure_network.proofs.Tokens as below_frames
-use Rattle.proof_pure_network.proofs.Tokens.{link_else}
-use Rattle.proof_engine_view.specs.Transfers.{AnnouncementsGrow, after_out, announced_in, announcements_of, frames_to}
-use Rattle.proof_engine_view.proofs.Growing.{announced_append, announced_grow}
+use Rattle.proof_pure_network.specs.Announced.{Begins}
+use Rattle.proof_pure_network.specs.Frames.{Cts, Data, Eager, Frame, Rts}
+use Rattle.proof_engine_view.specs.Transfers.{AnnouncementsGrow, Transfer, after_out, frames_to}
+use Rattle.proof_engine_view.specs.Transfers.{announced_in as frames_announced}
+use Rattle.proof_engine_view.proofs.Growing.{announced_append as frames_append}
+use Rattle.proof_group_network.proofs.SessionParts.{same_accepted}
+use Rattle.proof_group_network.specs.Carried.{Carried, OfMessages, Session, Sessions, frames_carried}
+use Rattle.proof_links.specs.Links.{accept, accept_all, handed_on}
+use Rattle.proof_session_carrying.proofs.Carrying.{accepted_begins}
+use Rattle.proof_session_carrying.proofs.Growing.{announced_append, announced_grow, at_here, same_begins, transfers_grow}
+use Rattle.collective_notes.specs.declared.message.Message.{Message}
+use Rattle.datagram.specs.Spelling.{FrameText}
+use Rattle.proof_link_truth.specs.Sessions.{SessionsTell, is_pair}
+use Rattle.proof_session_carrying.specs.Carrying.{StandFor}
+use Rattle.proof_session_carrying.specs.Announced.{Announced, all_announced, announced_in, announcements_in, transfer_as, transfers_as}
 use Rattle.proof_engine_steps.proofs.UnderWay.{others_may_announce}
 use Rattle.proof_pure_network.specs.Network.{Network, here}
 use Rattle.proof_engine_view.specs.Shown.{IsShown}
@@ -73,79 +80,156 @@ pub is_at : (n r : ℕ) (engines : List EngineState) (datagrams : List (ℕ × L
     IsAt (sessions_in engines) r old.sessions
 is_at n r engines datagrams w old j there = record { there = sessions_there engines r old there; out = (j.clean r old there).out }
 
--- links that took in more from one endpoint alone
-pub record OnlyFrom (own : Endpoint) (old new : Endpoint → Endpoint → Link) : Type 0 where
-  pub grow : LinksGrow old new
+-- ---- what was accepted nowhere
+
+-- where no text was accepted, nothing was
+nothing_stands : (out back : List Announced) (said : List Message) (texts : List FrameText) (xs : List Carried) → StandFor out back said texts xs → texts ≡ [] → xs ≡ []
+nothing_stands out back said [] [] stand none = refl
+nothing_stands out back said [] (x ∷ xs) stand none = absurd stand
+nothing_stands out back said (t ∷ ts) xs stand none = absurd cc
+
+-- so nothing was announced
+pub none_announced : (n : ℕ) (engines : List EngineState) (datagrams : List (ℕ × List ℕ)) (w : GroupNetwork) → (j : IsJoined n engines datagrams w) → (serial : ℕ) (own d : Endpoint) → (j.texts own d).accepted ≡ [] →
+    (announcements_in serial j.sessions own).to d ≡ []
+none_announced n engines datagrams w j serial own d none =
+    ap (λ (xs : List Carried). transfers_as serial (announced_in xs))
+    (nothing_stands (all_announced j.sessions own d) (all_announced j.sessions d own) (j.said own d) (j.texts own d).accepted (j.sessions own d).accepted (j.between.alike own d).accepted none)
+
+-- a rank sent nothing to an endpoint that it doesn't know yet
+pub none_untold : (n r : ℕ) (engines : List EngineState) (datagrams : List (ℕ × List ℕ)) (w : GroupNetwork) (e : EngineState) → (j : IsJoined n engines datagrams w) → slice_get engines r ≡ Some e → (d : Endpoint) →
+    slice_index e.sessions.known d.rank < d.incarnation → (j.texts (here w.net r) d).accepted ≡ []
+none_untold n r engines datagrams w e j there d late = go (is_pair n (here w.net r) d) refl
+  where
+    tells : SessionsTell n w.net.current r e.sessions j.texts
+    tells = j.links.tells r e.sessions (sessions_there engines r e there)
+
+    go : (t : Bool) → is_pair n (here w.net r) d ≡ t → (j.texts (here w.net r) d).accepted ≡ []
+    go false is = j.links.strangers (here w.net r) d is
+    go true is =
+        let p = and_parts (not (r == d.rank)) (nat_lt r n && nat_lt d.rank n) is in
+        (tells.peers d.rank (ltb-true d.rank n (and_parts (nat_lt r n) (nat_lt d.rank n) p.1).1) (other (r == d.rank) refl p.0)).no_accepted d.incarnation late
+      where
+        other : (t : Bool) → (r == d.rank) ≡ t → not t ≡ true → (d.rank == r) ≡ false
+        other true h apart = absurd cc
+        other false h apart = ne_eqb d.rank r (λ same. eqb-false r d.rank h (sym same))
+
+-- ---- what goes on
+
+-- sessions that took in more from one endpoint alone
+pub record OnlyFrom (own : Endpoint) (old new : Sessions) : Type 0 where
+  pub grow : (s d : Endpoint) → Begins (old s d).accepted (new s d).accepted
   pub others : (s d : Endpoint) → is_same s own ≡ false → (new s d).accepted ≡ (old s d).accepted
 
--- what another core holds is under the numbers that the new links give
-pub shown_more : (own x : Endpoint) (old new : Endpoint → Endpoint → Link) (c : CoreState) (known : List ℕ) (core : Core) → OnlyFrom own old new → is_same x own ≡ false → IsShown (announcements_of old x) c known core →
-    IsShown (announcements_of new x) c known core
-shown_more own x old new c known core o apart h =
-    others_may_announce (announcements_of old x) (announcements_of new x) c known core h
-    (record {
-      to = λ d. announced_grow (old x d).accepted (new x d).accepted (o.grow.accepted x d);
-      from = λ s. announced_grow (old s x).accepted (new s x).accepted (o.grow.accepted s x);
-    })
-    (λ d. ap announced_in (o.others x d apart))
-
--- what goes out at e after the next frame was handed up to it
-pub only_out : (links : Endpoint → Endpoint → Link) (e : Endpoint) (out : List (Endpoint × Frame)) → OnlyFrom e links (accept_all links e out)
-only_out links e out = record { grow = out_grows links e out; others = λ s d apart. ap (λ (l : Link). l.accepted) (link_else links e s d out apart) }
-
--- and what goes nowhere
-pub only_same : (links : Endpoint → Endpoint → Link) (e : Endpoint) → OnlyFrom e links links
-only_same links e = only_out links e []
-
-pub only_handed : (links : Endpoint → Endpoint → Link) (s e : Endpoint) (out : List (Endpoint × Frame)) → OnlyFrom e links (accept_all (handed_on links s e) e out)
-only_handed links s e out =
+-- what was announced there stays so
+announcements_grow : (serial : ℕ) (old new : Sessions) (x : Endpoint) → ((s d : Endpoint) → Begins (old s d).accepted (new s d).accepted) → AnnouncementsGrow (announcements_in serial old x) (announcements_in serial new x)
+announcements_grow serial old new x grow =
     record {
-      grow = grow_both links (handed_on links s e) (accept_all (handed_on links s e) e out) (handed_grows links s e) (out_grows (handed_on links s e) e out);
-      others = λ x d apart. ap (λ (l : Link). l.accepted) (link_else (handed_on links s e) e x d out apart) ∙ hand_accepted links s e x d;
+      to = λ d. transfers_grow serial (all_announced old x d) (all_announced new x d) (announced_grow (old x d).accepted (new x d).accepted (grow x d));
+      from = λ s. transfers_grow serial (all_announced old s x) (all_announced new s x) (announced_grow (old s x).accepted (new s x).accepted (grow s x));
     }
 
--- frames of the one definition are those of the other
-frames_same : (d : Endpoint) (out : List (Endpoint × Frame)) → below_frames.frames_to d out ≡ frames_to d out
-frames_same d [] = refl
-frames_same d (x ∷ xs) = go (is_same d x.0) (frames_same d xs)
-  where
-    go : (t : Bool) → below_frames.frames_to d xs ≡ frames_to d xs → (if t then x.1 ∷ below_frames.frames_to d xs else below_frames.frames_to d xs) ≡ (if t then x.1 ∷ frames_to d xs else frames_to d xs)
-    go true rest = ap (λ (fs : List Frame). x.1 ∷ fs) rest
-    go false rest = rest
+-- what another core holds is under the numbers that the new sessions give
+pub shown_more : (serial : ℕ) (own x : Endpoint) (old new : Sessions) (c : CoreState) (known : List ℕ) (core : Core) → OnlyFrom own old new → is_same x own ≡ false → IsShown (announcements_in serial old x) c known core →
+    IsShown (announcements_in serial new x) c known core
+shown_more serial own x old new c known core o apart h =
+    others_may_announce (announcements_in serial old x) (announcements_in serial new x) c known core h (announcements_grow serial old new x o.grow)
+    (λ d. ap (λ (xs : List Carried). transfers_as serial (announced_in xs)) (o.others x d apart))
 
--- what was announced once frames went out is what the links announce then
-pub announced_after : (links : Endpoint → Endpoint → Link) (e : Endpoint) (out : List (Endpoint × Frame)) (d : Endpoint) →
-    (announcements_of (accept_all links e out) e).to d ≡ (after_out (announcements_of links e) out).to d
-announced_after links e out d =
-    ap announced_in (accepted_out links e d out ∙ ap (λ (fs : List Frame). (links e d).accepted ++ fs) (frames_same d out)) ∙ announced_append (links e d).accepted (frames_to d out)
+-- what goes out at e goes out nowhere else
+else_kept : (sessions : Sessions) (e : Endpoint) (out : List (Endpoint × Carried)) (s d : Endpoint) → is_same s e ≡ false → (accept_all sessions e out s d).accepted ≡ (sessions s d).accepted
+else_kept sessions e [] s d apart = refl
+else_kept sessions e ((y, c) ∷ out) s d apart = else_kept (accept sessions e (y, c)) e out s d apart ∙ go (is_same s e) apart
+  where
+    go : (t : Bool) → t ≡ false → (if t && is_same d y then record (sessions e y) { accepted = (sessions e y).accepted ++ c ∷ [] } else sessions s d).accepted ≡ (sessions s d).accepted
+    go true h = absurd cc
+    go false h = refl
+
+-- what goes out at e
+pub only_out : (sessions : Sessions) (e : Endpoint) (out : List (Endpoint × Carried)) → OnlyFrom e sessions (accept_all sessions e out)
+only_out sessions e out = record { grow = accepted_begins sessions e out; others = λ s d apart. else_kept sessions e out s d apart }
+
+-- and what goes nowhere
+pub only_same : (sessions : Sessions) (e : Endpoint) → OnlyFrom e sessions sessions
+only_same sessions e = only_out sessions e []
+
+-- and what goes out after the next was handed up to e
+pub only_handed : (sessions : Sessions) (s e : Endpoint) (out : List (Endpoint × Carried)) → OnlyFrom e sessions (accept_all (handed_on sessions s e) e out)
+only_handed sessions s e out =
+    record {
+      grow = λ x d. subst (λ (xs : List Carried). Begins xs (accept_all (handed_on sessions s e) e out x d).accepted) (same_accepted sessions s e x d) (accepted_begins (handed_on sessions s e) e out x d);
+      others = λ x d apart. else_kept (handed_on sessions s e) e out x d apart ∙ same_accepted sessions s e x d;
+    }
+
+-- what one frame more announces
+one_announced : (serial : ℕ) (xs : List Carried) (f : Frame) → transfers_as serial (announced_in (xs ++ OfMessages f ∷ [])) ≡ transfers_as serial (announced_in xs) ++ frames_announced (f ∷ [])
+one_announced serial xs f =
+    ap (transfers_as serial) (announced_append xs (OfMessages f ∷ [])) ∙ map-append (transfer_as serial) (announced_in xs) (announced_in (OfMessages f ∷ []))
+    ∙ ap (λ (ts : List Transfer). transfers_as serial (announced_in xs) ++ ts) (alone f)
+  where
+    alone : (g : Frame) → transfers_as serial (announced_in (OfMessages g ∷ [])) ≡ frames_announced (g ∷ [])
+    alone (Eager c tag basic values) = refl
+    alone (Rts c tag basic k count) = refl
+    alone (Cts k wanted) = refl
+    alone (Data k offset values) = refl
+
+-- what was announced once frames went out is what the sessions announce then
+pub announced_after : (serial : ℕ) (sessions : Sessions) (e : Endpoint) (out : List (Endpoint × Frame)) (d : Endpoint) →
+    (announcements_in serial (accept_all sessions e (frames_carried out)) e).to d ≡ (after_out (announcements_in serial sessions e) out).to d
+announced_after serial sessions e [] d = sym (append-nil (transfers_as serial (all_announced sessions e d)))
+announced_after serial sessions e ((y, f) ∷ out) d =
+    announced_after serial (accept sessions e (y, OfMessages f)) e out d ∙ go (is_same d y) refl
+  where
+    before : List Transfer
+    before = transfers_as serial (all_announced sessions e d)
+
+    go : (t : Bool) → is_same d y ≡ t →
+        transfers_as serial (all_announced (accept sessions e (y, OfMessages f)) e d) ++ frames_announced (frames_to d out) ≡ before ++ frames_announced (if t then f ∷ frames_to d out else frames_to d out)
+    go true is =
+        ap (λ (xs : List Carried). transfers_as serial (announced_in xs) ++ frames_announced (frames_to d out)) (taken is)
+        ∙ ap (λ (ts : List Transfer). ts ++ frames_announced (frames_to d out)) (one_announced serial (sessions e d).accepted f)
+        ∙ append_assoc before (frames_announced (f ∷ [])) (frames_announced (frames_to d out))
+        ∙ ap (λ (ts : List Transfer). before ++ ts) (sym (frames_append (f ∷ []) (frames_to d out)))
+      where
+        taken : is_same d y ≡ true → (accept sessions e (y, OfMessages f) e d).accepted ≡ (sessions e d).accepted ++ OfMessages f ∷ []
+        taken there =
+            ap (λ (z : Endpoint). (accept sessions e (y, OfMessages f) e z).accepted) (same_eq d y there)
+            ∙ ap (λ (l : Session). l.accepted) (at_here e y (record (sessions e y) { accepted = (sessions e y).accepted ++ OfMessages f ∷ [] }) (sessions e y))
+            ∙ ap (λ (z : Endpoint). (sessions e z).accepted ++ OfMessages f ∷ []) (sym (same_eq d y there))
+    go false is =
+        ap (λ (xs : List Carried). transfers_as serial (announced_in xs) ++ frames_announced (frames_to d out)) (left (is_same e e) (is_same d y) is)
+      where
+        left : (a b : Bool) → b ≡ false → (if a && b then record (sessions e y) { accepted = (sessions e y).accepted ++ OfMessages f ∷ [] } else sessions e d).accepted ≡ (sessions e d).accepted
+        left true true h = absurd cc
+        left true false h = refl
+        left false b h = refl
 
 -- so it grew from the one to the other
-pub after_grows : (links : Endpoint → Endpoint → Link) (e : Endpoint) (out : List (Endpoint × Frame)) → AnnouncementsGrow (after_out (announcements_of links e) out) (announcements_of (accept_all links e out) e)
-after_grows links e out =
+pub after_grows : (serial : ℕ) (sessions : Sessions) (e : Endpoint) (out : List (Endpoint × Frame)) → AnnouncementsGrow (after_out (announcements_in serial sessions e) out) (announcements_in serial (accept_all sessions e (frames_carried out)) e)
+after_grows serial sessions e out =
     record {
-      to = λ d. ([], append-nil ((after_out (announcements_of links e) out).to d) ∙ sym (announced_after links e out d));
-      from = λ s. announced_grow (links s e).accepted (accept_all links e out s e).accepted ((out_grows links e out).accepted s e);
+      to = λ d. same_begins ((after_out (announcements_in serial sessions e) out).to d) ((announcements_in serial (accept_all sessions e (frames_carried out)) e).to d) (sym (announced_after serial sessions e out d));
+      from = (announcements_grow serial sessions (accept_all sessions e (frames_carried out)) e (accepted_begins sessions e (frames_carried out))).from;
     }
 
 -- what is held under the former is held under the latter
-pub shown_out : (links : Endpoint → Endpoint → Link) (own : Endpoint) (out : List (Endpoint × Frame)) (c : CoreState) (known : List ℕ) (core : Core) → IsShown (after_out (announcements_of links own) out) c known core →
-    IsShown (announcements_of (accept_all links own out) own) c known core
-shown_out links own out c known core h =
-    others_may_announce (after_out (announcements_of links own) out) (announcements_of (accept_all links own out) own) c known core h (after_grows links own out) (λ d. announced_after links own out d)
+pub shown_out : (serial : ℕ) (sessions : Sessions) (own : Endpoint) (out : List (Endpoint × Frame)) (c : CoreState) (known : List ℕ) (core : Core) → IsShown (after_out (announcements_in serial sessions own) out) c known core →
+    IsShown (announcements_in serial (accept_all sessions own (frames_carried out)) own) c known core
+shown_out serial sessions own out c known core h =
+    others_may_announce (after_out (announcements_in serial sessions own) out) (announcements_in serial (accept_all sessions own (frames_carried out)) own) c known core h (after_grows serial sessions own out)
+    (λ d. announced_after serial sessions own out d)
 
 -- the same, after the next frame was handed up to it
-pub handed_to_same : (links : Endpoint → Endpoint → Link) (s e : Endpoint) (out : List (Endpoint × Frame)) (d : Endpoint) →
-    (announcements_of (accept_all (handed_on links s e) e out) e).to d ≡ (after_out (announcements_of links e) out).to d
-handed_to_same links s e out d =
-    announced_after (handed_on links s e) e out d ∙ ap (λ (fs : List Frame). announced_in fs ++ announced_in (frames_to d out)) (hand_accepted links s e e d)
+pub handed_to_same : (serial : ℕ) (sessions : Sessions) (s e : Endpoint) (out : List (Endpoint × Frame)) (d : Endpoint) →
+    (announcements_in serial (accept_all (handed_on sessions s e) e (frames_carried out)) e).to d ≡ (after_out (announcements_in serial sessions e) out).to d
+handed_to_same serial sessions s e out d =
+    announced_after serial (handed_on sessions s e) e out d ∙ ap (λ (xs : List Carried). transfers_as serial (announced_in xs) ++ frames_announced (frames_to d out)) (same_accepted sessions s e e d)
 
-pub handed_grow_out : (links : Endpoint → Endpoint → Link) (s e : Endpoint) (out : List (Endpoint × Frame)) →
-    AnnouncementsGrow (after_out (announcements_of links e) out) (announcements_of (accept_all (handed_on links s e) e out) e)
-handed_grow_out links s e out =
+pub handed_grow_out : (serial : ℕ) (sessions : Sessions) (s e : Endpoint) (out : List (Endpoint × Frame)) →
+    AnnouncementsGrow (after_out (announcements_in serial sessions e) out) (announcements_in serial (accept_all (handed_on sessions s e) e (frames_carried out)) e)
+handed_grow_out serial sessions s e out =
     record {
-      to = λ d. ([], append-nil ((after_out (announcements_of links e) out).to d) ∙ sym (handed_to_same links s e out d));
-      from = λ x. announced_grow (links x e).accepted (accept_all (handed_on links s e) e out x e).accepted
-          ((grow_both links (handed_on links s e) (accept_all (handed_on links s e) e out) (handed_grows links s e) (out_grows (handed_on links s e) e out)).accepted x e);
+      to = λ d. same_begins ((after_out (announcements_in serial sessions e) out).to d) ((announcements_in serial (accept_all (handed_on sessions s e) e (frames_carried out)) e).to d) (sym (handed_to_same serial sessions s e out d));
+      from = (announcements_grow serial sessions (accept_all (handed_on sessions s e) e (frames_carried out)) e (only_handed sessions s e (frames_carried out)).grow).from;
     }
 
 -- ---- a restart

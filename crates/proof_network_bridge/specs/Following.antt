@@ -3,13 +3,13 @@ use Rattle.std.specs.Prelude.{◌≡◌, ℕ, suc, ◌<◌, ◌≤◌, List, [],
 use Rattle.incarnation.specs.declared.place.Place.{Place}
 use Rattle.rank_calls.specs.declared.refused.Refused.{Refused}
 use Rattle.rank_core.specs.CoreState.{CoreState}
-use Rattle.engine.specs.Calls.{CallGives, IsTaken}
+use Rattle.engine_parts.specs.Calls.{CallGives, IsTaken}
 use Rattle.engine.specs.Datagrams.{DatagramGives}
-use Rattle.engine.specs.EngineState.{EngineState, completion_of, emptied, member_of, opening}
+use Rattle.engine_parts.specs.EngineState.{EngineState, completion_of, emptied, member_of, opening}
 use Rattle.engine.specs.Ticks.{TickGives}
-use Rattle.engine.specs.declared.call.Call.{Call}
-use Rattle.engine.specs.declared.reply.Reply.{Reply}
-use Rattle.engine.specs.declared.reply.Reply.TheVariants as replies
+use Rattle.engine_parts.specs.declared.call.Call.{Call}
+use Rattle.engine_parts.specs.declared.reply.Reply.{Reply}
+use Rattle.engine_parts.specs.declared.reply.Reply.TheVariants as replies
 use Rattle.perfect_groups.specs.Calls as machine_calls
 use Rattle.perfect_groups.specs.Calls.{held_at}
 use Rattle.perfect_groups.specs.Communicators.{Communicator}

@@ -1,11 +1,10 @@
 -- What joins a world of engines to the pure network with communicators.
 use Rattle.std.specs.Prelude.{◌≡◌, ℕ, zero, suc, ◌<◌, ◌≤◌, List, [], ◌∷◌, map, Some, None, slice_get}
 use Rattle.datagram.specs.Spelling.{FrameText}
-use Rattle.engine.specs.EngineState.{EngineState, opening}
+use Rattle.engine_parts.specs.EngineState.{EngineState, opening}
 use Rattle.perfect_groups.specs.Events.{Entry}
 use Rattle.proof_collective_steps.specs.Shown as collectives
 use Rattle.proof_engine_view.specs.Shown.{IsShown}
-use Rattle.proof_engine_view.specs.Transfers.{announcements_of}
 use Rattle.proof_group_network.specs.Carried.{Sessions}
 use Rattle.proof_group_network.specs.Network.{GroupNetwork, Happening, new_group_network, run}
 use Rattle.proof_link_truth.specs.Truth.{AreTrue}
@@ -13,7 +12,10 @@ use Rattle.proof_link_truth.specs.Wire.{at, place_of}
 use Rattle.proof_links.specs.Links.{LinksOf}
 use Rattle.proof_pure_network.specs.Core.{new_core}
 use Rattle.proof_pure_network.specs.Network.{here}
+use Rattle.proof_session_carrying.specs.Announced.{announcements_in}
+use Rattle.proof_session_carrying.specs.Carrying.{Saying}
 use Rattle.proof_session_carrying.specs.EventLaws.{AreJoined}
+use Rattle.proof_network_bridge.specs.Payloads.{ArePayloads}
 use Rattle.sessions.specs.SessionsState.{SessionsState}
 use Rattle.vocabulary.specs.declared.endpoint.Endpoint.{Endpoint}
 
@@ -33,22 +35,25 @@ pub record IsClean (e : EngineState) : Type 0 where
   pub ended : e.ended ≡ None
 
 -- An engine holds what the core and the member of its rank's current endpoint hold: of point to point with what its sessions know,
--- under the numbers that the links of messages give
-pub record IsHeldBy (w : GroupNetwork) (r : ℕ) (e : EngineState) : Type 0 where
-  pub queues : IsShown (announcements_of w.net.link (here w.net r)) e.core e.sessions.known (w.net.core (here w.net r))
+-- under the numbers that these sessions give, whatever serials notices have there
+pub record IsHeldBy (w : GroupNetwork) (sessions : Sessions) (r : ℕ) (e : EngineState) : Type 0 where
+  pub queues : (serial : ℕ) → IsShown (announcements_in serial sessions (here w.net r)) e.core e.sessions.known (w.net.core (here w.net r))
   pub groups : collectives.IsShown (here w.net r) e.groups.collective e.groups.contexts (w.member (here w.net r)) None
   -- all parts of an engine stand at one place
   pub placed : e.core.place ≡ e.sessions.place
 
 -- Sessions and datagrams tell of the texts that links carry; those stand for what the network's sessions carry, frames of messages
--- and messages of collectives; and each engine holds what its rank's current endpoint holds
+-- and these messages of collectives; and each engine holds what its rank's current endpoint holds
 pub record IsJoined (n : ℕ) (engines : List EngineState) (datagrams : List (ℕ × List ℕ)) (w : GroupNetwork) : Type 0 where
   pub texts : LinksOf FrameText
   pub links : AreTrue n (sessions_in engines) datagrams texts w.net.current
   pub sessions : Sessions
-  pub between : AreJoined w texts sessions
-  pub held : (r : ℕ) (e : EngineState) → slice_get engines r ≡ Some e → IsHeldBy w r e
+  pub said : Saying
+  pub between : AreJoined w said texts sessions
+  pub held : (r : ℕ) (e : EngineState) → slice_get engines r ≡ Some e → IsHeldBy w sessions r e
   pub clean : (r : ℕ) (e : EngineState) → slice_get engines r ≡ Some e → IsClean e
+  -- the payloads of collectives that an engine keeps are notices of its sessions
+  pub payloads : (r : ℕ) (e : EngineState) → slice_get engines r ≡ Some e → ArePayloads sessions said (here w.net r) e.sessions.known e.payloads
   -- endpoints that are to come have done nothing
   pub unborn : (d : Endpoint) → w.net.current d.rank < d.incarnation → w.net.core d ≡ new_core d
 

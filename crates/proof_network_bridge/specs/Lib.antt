@@ -1,4 +1,5 @@
 pub mod OnWorld
 pub mod Seen
+pub mod Payloads
 pub mod Joined
 pub mod Following

@@ -3,13 +3,13 @@ use Rattle.std.specs.Prelude.{ℕ, List, [], ◌∷◌, Option, Some, None}
 use Rattle.vocabulary.specs.declared.endpoint.Endpoint.{Endpoint}
 use Rattle.communicators.specs.Members.{call_of}
 use Rattle.communicators.specs.Questions.{question_of}
-use Rattle.engine.specs.Calls.{fact_said}
-use Rattle.engine.specs.declared.call.Call as engine
-use Rattle.engine.specs.declared.call.Call.TheVariants as calls
-use Rattle.engine.specs.declared.reply.Completion.{Completion}
-use Rattle.engine.specs.declared.reply.Completion.TheVariants as completions
-use Rattle.engine.specs.declared.reply.Reply as engine_replies
-use Rattle.engine.specs.declared.reply.Reply.TheVariants as replies
+use Rattle.engine_parts.specs.Calls.{fact_said}
+use Rattle.engine_parts.specs.declared.call.Call as engine
+use Rattle.engine_parts.specs.declared.call.Call.TheVariants as calls
+use Rattle.engine_parts.specs.declared.reply.Completion.{Completion}
+use Rattle.engine_parts.specs.declared.reply.Completion.TheVariants as completions
+use Rattle.engine_parts.specs.declared.reply.Reply as engine_replies
+use Rattle.engine_parts.specs.declared.reply.Reply.TheVariants as replies
 use Rattle.perfect_groups.specs.Calls.{ByCollective, ByRequests, Call, Cancel, Enter, Inquire, Irecv, Isend, OfCollective, OfFact, OfRequests, Test, Wait}
 use Rattle.perfect_groups.specs.Events.{Called, Completed, Entry}
 use Rattle.perfect_queues.specs.Calls as queues

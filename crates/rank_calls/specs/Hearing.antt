@@ -56,7 +56,7 @@ HeardFits (Some f) = FrameFits f
 
 -- THE RULE
 
--- for now no message of a collective operation is taken
+-- no message of a collective operation is the core's: whoever holds collectives takes those in before
 abbrev pub plane_fault : Plane → Option Refused
 plane_fault Collective = Some refusals.BadFrame
 plane_fault PointToPoint = None

@@ -10,6 +10,7 @@ use Rattle.match_queues.specs.declared.envelope.Body.{Body}
 use Rattle.match_queues.specs.declared.envelope.Body.TheVariants.{Announced, Whole}
 use Rattle.rendezvous.specs.declared.offer.Offer.{Offer}
 use Rattle.rendezvous.specs.State as transfers
+use Rattle.rendezvous.specs.declared.transfers.Numbers.{Numbers}
 use Rattle.requests.specs.declared.table.Entry.{Entry}
 use Rattle.requests.specs.declared.answer.Answer.{Answer}
 use Rattle.requests.specs.declared.awaited.Awaited.{Awaited}
@@ -45,6 +46,12 @@ pub record IsKept (p : Place) (q : State) (t : transfers.State) : Type 0 where
   pub width : length t.numbers ≡ p.size
   pub answerable : AllByRecursion (λ m. IsAnswerable p.size m m.body) q.unexpected
   pub offers : AllByRecursion (IsOfferFor p.size) t.offers
+
+-- THE NUMBERS OF TRANSFERS
+
+-- the same core, once its sessions' transfers have these numbers, by rank: transfers were counted whose data stand elsewhere
+abbrev pub with_numbers : CoreState → List Numbers → CoreState
+with_numbers c ns = record c { transfers = record c.transfers { numbers = ns } }
 
 -- a core at its start: nothing is pending
 abbrev pub opening : Place → CoreState

@@ -7,6 +7,7 @@
 
 mod answering;
 mod answers_to_news;
+mod counting;
 mod faults;
 mod hearing;
 mod preparing;

@@ -28,7 +28,7 @@ fn is_among(keys: &[usize], wanted: usize) -> bool
 impl Core {
     /// Whether the rank's next announcement has this number: with a lesson its session starts anew, from 0.
     #[tactic(auto, using(crate::proofs::Endings::first_is_next))]
-    fn is_next(&self, rank: u16, lesson: bool, transfer: u32) -> bool
+    pub fn is_next(&self, rank: u16, lesson: bool, transfer: u32) -> bool
         ensures { result ≡ is_next (transfers_met lesson self.now.state.transfers rank).numbers rank transfer }
     {
         if lesson {
@@ -78,7 +78,7 @@ impl Core {
         }
     }
 
-    /// The rule that news break: 30 (for now a message of a collective operation; an announcement under another number than
+    /// The rule that news break: 30 (a message of a collective operation, which isn't the core's; an announcement under another number than
     /// the next; an answer to a transfer that is not offered; data that are not due). With a lesson the session with the
     /// rank starts anew, and no transfer of the former one is left. It takes no memory.
     pub fn fault_of_news(&self, news: News<'_>) -> Option<Refused>

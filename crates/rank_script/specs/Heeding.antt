@@ -12,12 +12,12 @@ use Rattle.answer_texts.specs.Communicators.{comparison_text, members_text, posi
 use Rattle.collective_steps.specs.declared.step.Ending.{Ending}
 use Rattle.collective_steps.specs.declared.step.Ending.TheVariants as endings
 use Rattle.communicators.specs.declared.question.Question.TheVariants as questions
-use Rattle.engine.specs.declared.call.Call.{Call}
-use Rattle.engine.specs.declared.call.Call.TheVariants as calls
-use Rattle.engine.specs.declared.reply.Fact.{Fact}
-use Rattle.engine.specs.declared.reply.Fact.TheVariants as facts
-use Rattle.engine.specs.declared.reply.Reply.{Reply}
-use Rattle.engine.specs.declared.reply.Reply.TheVariants as replies
+use Rattle.engine_parts.specs.declared.call.Call.{Call}
+use Rattle.engine_parts.specs.declared.call.Call.TheVariants as calls
+use Rattle.engine_parts.specs.declared.reply.Fact.{Fact}
+use Rattle.engine_parts.specs.declared.reply.Fact.TheVariants as facts
+use Rattle.engine_parts.specs.declared.reply.Reply.{Reply}
+use Rattle.engine_parts.specs.declared.reply.Reply.TheVariants as replies
 use Rattle.statements.specs.declared.action.Requested.{Requested}
 use Rattle.statements.specs.declared.action.Requested.TheVariants as requested
 use Rattle.statement_calls.specs.declared.awaited.Doing.{Doing}

@@ -1,6 +1,6 @@
 -- What a script does next.
 use Rattle.std.specs.Prelude.{◌≡◌, ◌⊎◌, ℕ, List, [], ◌∷◌, Option, Some, None}
-use Rattle.engine.specs.declared.reply.Reply.{Reply}
+use Rattle.engine_parts.specs.declared.reply.Reply.{Reply}
 use Rattle.script_files.specs.declared.script.Line.{Line}
 use Rattle.script_files.specs.declared.script.RankLine.{RankLine}
 use Rattle.script_files.specs.Selections.{lines_for}

@@ -1,8 +1,8 @@
 -- A message that comes in pieces.
-use Rattle.std.specs.Prelude.{◌≡◌, ℕ, ◌==◌, ◌&&◌, ◌*◌, ◌-◌, ◌≤◌, ◌%◌, nat_lt, min, Bool, List, [], ◌++◌, length}
+use Rattle.std.specs.Prelude.{◌≡◌, ℕ, ◌==◌, ◌&&◌, ◌*◌, ◌≤◌, ◌%◌, Bool, List, [], ◌++◌, length}
 use Rattle.vocabulary.specs.declared.basic_type.BasicType.{BasicType}
 use Rattle.vocabulary.specs.BasicTypes.{size_of}
-use Rattle.rendezvous.specs.Pieces.{piece_bytes}
+use Rattle.rendezvous.specs.Pieces.{due_of, is_next_piece}
 
 -- whose message it is and under which number, the key of the request that waits for it, the type of its elements, how many
 -- bytes were announced, and those that have come
@@ -37,11 +37,11 @@ is_from source transfer c = (c.source == source) && (c.transfer == transfer)
 
 -- how many bytes the next piece has
 abbrev pub due_bytes : Collecting → ℕ
-due_bytes c = min (c.total - length c.bytes) piece_bytes
+due_bytes c = due_of c.total (length c.bytes)
 
--- whether these bytes from this place on are the next piece; no piece is empty
+-- whether these bytes from this place on are its next piece
 abbrev pub takes : Collecting → (offset : ℕ) → List ℕ → Bool
-takes c offset piece = nat_lt 0 (length piece) && (offset == length c.bytes) && (length piece == due_bytes c)
+takes c offset piece = is_next_piece c.total (length c.bytes) offset piece
 
 -- with one more piece
 abbrev pub with_piece : Collecting → List ℕ → Collecting

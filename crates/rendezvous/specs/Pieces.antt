@@ -1,5 +1,5 @@
 -- The pieces in which data go: 1,024 bytes each, and the last one what is left (our own).
-use Rattle.std.specs.Prelude.{ℕ, ◌+◌, ◌*◌, ◌/◌, ◌%◌, min, List, map, length, take, drop}
+use Rattle.std.specs.Prelude.{ℕ, ◌+◌, ◌*◌, ◌-◌, ◌/◌, ◌%◌, ◌==◌, ◌&&◌, nat_lt, min, Bool, List, map, length, take, drop}
 use Rattle.std.specs.List.{range_with_len}
 use Rattle.vocabulary.specs.Limits.{eager_limit}
 
@@ -26,3 +26,11 @@ piece_bytes = eager_limit
 -- the pieces, in order
 abbrev pub pieces_of : List ℕ → List (ℕ × List ℕ)
 pieces_of bytes = pieces_by piece_bytes bytes
+
+-- how many bytes the next piece has, where so many of all bytes have come
+abbrev pub due_of : (total have : ℕ) → ℕ
+due_of total have = min (total - have) piece_bytes
+
+-- whether these bytes from this place on are the next piece, where so many of all bytes have come; no piece is empty
+abbrev pub is_next_piece : (total have offset : ℕ) → List ℕ → Bool
+is_next_piece total have offset piece = nat_lt 0 (length piece) && (offset == have) && (length piece == due_of total have)

@@ -5,10 +5,11 @@ ghost use Rattle.vocabulary.specs.BasicTypes.{size_of};
 ghost use Rattle.rendezvous.specs.Collecting.{Collecting, beginning, is_from, takes, is_whole, with_piece};
 ghost use Rattle.rendezvous.specs.Collected.{collected_of};
 
+use crate::piece::is_next_piece;
 use datatypes::Buffer;
 use std::alloc::Global;
 use std::marker::Model;
-use vocabulary::{BasicType, EAGER_LIMIT, OutOfMemory};
+use vocabulary::{BasicType, OutOfMemory};
 
 /// A message for which this rank asked, and of whose data so much has come.
 #[derive(Debug, Drop)]
@@ -104,8 +105,7 @@ impl Collection {
     pub fn takes(&self, offset: u32, bytes: &[u8]) -> bool
         ensures { result ≡ takes self.now offset bytes.now }
     {
-        let due = (self.total - self.bytes.len()).min(EAGER_LIMIT);
-        !bytes.is_empty() && offset as usize == self.bytes.len() && bytes.len() == due
+        is_next_piece(self.total, self.bytes.len(), offset, bytes)
     }
 
     /// Whether all data have come.

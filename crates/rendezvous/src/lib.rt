@@ -18,6 +18,6 @@ pub use laws::{
     transfers_are_whole_or_nothing,
 };
 pub use offer::Offer;
-pub use piece::{Piece, piece_count, pieces};
-pub use transfers::{Numbers, Transfers};
+pub use piece::{Piece, count_of, is_next_piece, piece_count, pieces, pieces_of};
+pub use transfers::{Numbers, Transfers, announce, begin, is_full_to, start_anew};
 pub use vocabulary::OutOfMemory;

@@ -3,7 +3,7 @@
 ghost use Rattle.std.specs.Prelude.{◌≡◌, ◌*◌, ◌^◌, ◌<◌, ◌≤◌, IfOk, IfSome, None, length, map};
 ghost use Rattle.vocabulary.specs.BasicTypes.{size_of};
 ghost use Rattle.datatypes.specs.Contents.{bytes_of};
-ghost use Rattle.rendezvous.specs.Pieces.{piece_at, pieces_of, piece_count, piece_bytes};
+ghost use Rattle.rendezvous.specs.Pieces.{is_next_piece, piece_at, pieces_of, piece_count, piece_bytes};
 
 use datatypes::Buffer;
 use std::alloc::Global;
@@ -33,8 +33,9 @@ fn piece_at(contents: &[u8], number: usize) -> Option<Piece<'_>>
     Some(Piece { offset, bytes })
 }
 
-/// The pieces of these bytes, in order.
-fn cut(alloc: Global, contents: &[u8]) -> Result<Vec<Piece<'_>>, OutOfMemory>
+/// These bytes in pieces of 1,024 bytes, in order, the last one of 1 to 1,024 bytes; they are lent. It fails for want of
+/// memory; more than 4 GiB, which no message has, count as that.
+pub fn pieces_of(alloc: Global, contents: &[u8]) -> Result<Vec<Piece<'_>>, OutOfMemory>
     ensures { IfOk result (λ pieces. map (λ p. (p.offset, p.bytes.now)) pieces.items ≡ pieces_of contents.now) }
 {
     let count = contents.len().div_ceil(EAGER_LIMIT);
@@ -56,13 +57,30 @@ pub fn pieces(alloc: Global, elements: &Buffer) -> Result<Vec<Piece<'_>>, OutOfM
     ensures { IfOk result (λ pieces. map (λ p. (p.offset, p.bytes.now)) pieces.items
         ≡ pieces_of (bytes_of (size_of elements.now.basic) elements.now.values)) }
 {
-    cut(alloc, elements.as_bytes())
+    pieces_of(alloc, elements.as_bytes())
+}
+
+/// In how many pieces these bytes go. It takes no memory.
+#[tactic(auto, using(crate::proofs::PieceLaws::count_is))]
+pub fn count_of(contents: &[u8]) -> usize
+    ensures { result ≡ length (pieces_of contents.now) }
+{
+    contents.len().div_ceil(EAGER_LIMIT)
 }
 
 /// In how many pieces the data of these elements go. It takes no memory.
-#[tactic(auto, using(crate::proofs::PieceLaws::count_is))]
 pub fn piece_count(elements: &Buffer) -> usize
     ensures { result ≡ length (pieces_of (bytes_of (size_of elements.now.basic) elements.now.values)) }
 {
-    elements.as_bytes().len().div_ceil(EAGER_LIMIT)
+    count_of(elements.as_bytes())
+}
+
+/// Whether these bytes from this place on are the next piece of a message, where so many of all its bytes have come: they
+/// stand where these end, and are as many as are due.
+pub fn is_next_piece(total: usize, have: usize, offset: u32, bytes: &[u8]) -> bool
+    requires { have ≤ total }
+    ensures { result ≡ is_next_piece total have offset bytes.now }
+{
+    let due = (total - have).min(EAGER_LIMIT);
+    !bytes.is_empty() && offset as usize == have && bytes.len() == due
 }

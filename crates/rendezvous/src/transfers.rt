@@ -43,8 +43,18 @@ impl Model for Transfers {
     } };
 }
 
+/// Whether no number is left for a transfer to the rank, or there is no such rank.
+pub fn is_full_to(numbers: &[Numbers], rank: u16) -> bool
+    ensures { result ≡ is_full_to numbers.now rank }
+{
+    match numbers.get(usize::from(rank)) {
+        Some(session) => session.begun == u32::MAX,
+        None => true,
+    }
+}
+
 /// One more transfer to the rank begins; its number is answered.
-fn begin(numbers: &mut Vec<Numbers>, rank: u16) -> u32
+pub fn begin(numbers: &mut Vec<Numbers>, rank: u16) -> u32
     requires { is_full_to numbers.old.items rank ≡ false }
     ensures number { result ≡ next_to numbers.old.items rank }
     ensures counted { numbers.new.items ≡ with_begun numbers.old.items rank }
@@ -56,7 +66,7 @@ fn begin(numbers: &mut Vec<Numbers>, rank: u16) -> u32
 }
 
 /// The transfer from the rank that has this number, which is its next one, is announced.
-fn announce(numbers: &mut Vec<Numbers>, rank: u16, transfer: u32)
+pub fn announce(numbers: &mut Vec<Numbers>, rank: u16, transfer: u32)
     requires { is_next numbers.old.items rank transfer ≡ true }
     ensures { numbers.new.items ≡ with_announced numbers.old.items rank }
 {
@@ -65,7 +75,7 @@ fn announce(numbers: &mut Vec<Numbers>, rank: u16, transfer: u32)
 }
 
 /// No transfer of the session with the rank has begun, in either direction.
-fn start_anew(numbers: &mut Vec<Numbers>, rank: u16)
+pub fn start_anew(numbers: &mut Vec<Numbers>, rank: u16)
     ensures { numbers.new.items ≡ slice_set numbers.old.items rank fresh }
 {
     if usize::from(rank) < numbers.len() {
@@ -234,10 +244,22 @@ impl Transfers {
     pub fn is_full_to(&self, rank: u16) -> bool
         ensures { result ≡ is_full_to self.now.state.numbers rank }
     {
-        match self.numbers.get(usize::from(rank)) {
-            Some(session) => session.begun == u32::MAX,
-            None => true,
-        }
+        is_full_to(&self.numbers, rank)
+    }
+
+    /// The numbers of the sessions, by rank.
+    pub fn numbers(&self) -> &[Numbers]
+        ensures { result.now ≡ self.now.state.numbers }
+    {
+        &self.numbers
+    }
+
+    /// The sessions have these numbers from now on, by rank: transfers were counted whose data stand elsewhere. Whoever sets them
+    /// answers for them: the laws on all calls in `laws` leave this one out.
+    pub fn set_numbers(&mut self, numbers: Vec<Numbers>)
+        ensures { self.new ≡ record self.old { state = record self.old.state { numbers = numbers.items } } }
+    {
+        self.numbers = numbers;
     }
 
     /// The number that the next transfer to the rank gets; 0 of a rank that isn't there.

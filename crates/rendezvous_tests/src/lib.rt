@@ -2,4 +2,6 @@
 #![tactic(auto)]
 
 #[cfg(test)]
+mod payload_tests;
+#[cfg(test)]
 mod transfers_tests;

@@ -380,6 +380,16 @@ fn faulty_lines_answer_their_number(rt: HostRuntime) {
         ("world 2\nstray 0 4F\n", 2),
         ("world 2\n0 buf a uint8 256\n", 2),
         ("world 2\n0 isend q world 1 7 a as int32 1\n", 2),
+        ("world 2\n0 count l\n", 2),
+        ("world 2\n0 irecv q world 1 x a\nrestart\n", 2),
+    ] {
+        assert_eq!(rt; faulty_line(rt.alloc(), text), Some(line), "{text}");
+    }
+}
+
+#[test]
+fn faulty_collectives_answer_their_number(rt: HostRuntime) {
+    for (text, line) in [
         ("world 2\n0 barrier\n", 2),
         ("world 2\n0 barrier null\n", 2),
         ("world 2\n0 barrier world self\n", 2),
@@ -401,6 +411,14 @@ fn faulty_lines_answer_their_number(rt: HostRuntime) {
         ("world 2\n0 allreduce world a b\n", 2),
         ("world 2\n0 allreduce world 0 sum a b\n", 2),
         ("world 2\n0 allreduce world null a b\n", 2),
+    ] {
+        assert_eq!(rt; faulty_line(rt.alloc(), text), Some(line), "{text}");
+    }
+}
+
+#[test]
+fn faulty_communicators_answer_their_number(rt: HostRuntime) {
+    for (text, line) in [
         ("world 2\n0 dup d world self\n", 2),
         ("world 2\n0 dup world self\n", 2),
         ("world 2\n0 dup d null\n", 2),
@@ -414,8 +432,6 @@ fn faulty_lines_answer_their_number(rt: HostRuntime) {
         ("world 2\n0 who\n", 2),
         ("world 2\n0 members world world\n", 2),
         ("world 2\n0 compare world\n", 2),
-        ("world 2\n0 count l\n", 2),
-        ("world 2\n0 irecv q world 1 x a\nrestart\n", 2),
     ] {
         assert_eq!(rt; faulty_line(rt.alloc(), text), Some(line), "{text}");
     }

@@ -2,12 +2,12 @@
 use Rattle.std.proofs.Common.{◌≡◌, ℕ, ◌⊎◌, inl, inr, List, [], Option, Some, None, refl, sym, ap, subst, ◌∙◌}
 use Rattle.std.specs.Prelude.{Err, slice_get}
 use Rattle.std.proofs.lemmas.Option.{same_Some}
-use Rattle.engine.specs.Calls.{CallGives, IsRefused, LacksRoom, WhyRefused}
-use Rattle.engine.specs.EngineState.{EngineState}
-use Rattle.engine.specs.Faults.{fault_of}
-use Rattle.engine.specs.declared.call.Call.{Call}
-use Rattle.engine.specs.declared.call.Call.TheVariants as calls
-use Rattle.engine.specs.declared.reply.Reply.TheVariants as replies
+use Rattle.engine_parts.specs.Calls.{CallGives, IsRefused, LacksRoom, WhyRefused}
+use Rattle.engine_parts.specs.EngineState.{EngineState}
+use Rattle.engine_parts.specs.Faults.{fault_of}
+use Rattle.engine_parts.specs.declared.call.Call.{Call}
+use Rattle.engine_parts.specs.declared.call.Call.TheVariants as calls
+use Rattle.engine_parts.specs.declared.reply.Reply.TheVariants as replies
 use Rattle.rank_calls.specs.Refusals.{IsRefusal}
 use Rattle.rank_calls.specs.declared.refused.Refused as lower
 use Rattle.rank_calls.specs.declared.refused.Refused.TheVariants as lowers

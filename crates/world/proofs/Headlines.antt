@@ -3,7 +3,7 @@ use Rattle.std.proofs.Common.{◌≡◌, ℕ, ◌≤◌, List, length, ap, subst
 use Rattle.std.specs.Prelude.{slice_index}
 use Rattle.std.proofs.lemmas.Option.{slice_get_within}
 use Rattle.vocabulary.specs.declared.endpoint.Endpoint.{Endpoint}
-use Rattle.engine.specs.EngineState.{EngineState}
+use Rattle.engine_parts.specs.EngineState.{EngineState}
 use Rattle.sessions.specs.Peers.{peer_at}
 use Rattle.incarnation.specs.declared.place.Place.{Place}
 use Rattle.proof_pure_network.specs.Network.{Network}

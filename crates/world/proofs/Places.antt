@@ -3,7 +3,7 @@ use Rattle.std.proofs.Common.{◌≡◌, ℕ, ◌<◌, ◌≤◌, Bool, true, fa
 use Rattle.std.specs.Prelude.{slice_get, ◌==◌, if◌then◌else◌}
 use Rattle.std.proofs.lemmas.Bool.{eqb-false}
 use Rattle.perfect_groups.specs.Events as machine
-use Rattle.engine.specs.EngineState.{EngineState}
+use Rattle.engine_parts.specs.EngineState.{EngineState}
 use Rattle.rank_calls.specs.declared.refused.Refused.TheVariants as lowers
 use Rattle.incarnation.specs.declared.place.Place.{Place}
 use Rattle.proof_network_bridge.proofs.Halves.{sessions_there}

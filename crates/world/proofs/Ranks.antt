@@ -4,7 +4,7 @@ use Rattle.std.specs.Prelude.{Err, All, slice_get, slice_set}
 use Rattle.std.proofs.lemmas.List.{length-set, set-get_or}
 use Rattle.std.proofs.lemmas.List.Elements.{All-set}
 use Rattle.std.proofs.lemmas.Option.{get_or_from_slice_get, slice_get_within}
-use Rattle.engine.specs.EngineState.{EngineState}
+use Rattle.engine_parts.specs.EngineState.{EngineState}
 use Rattle.world.specs.Faults.{target_of}
 use Rattle.world.specs.Steps.{DeliveryRuns, EventRuns, Gave, RanAt, Refusal}
 use Rattle.world.specs.WorldState.{ArePlaced, IsReady, IsWorld, StandsIn}

@@ -5,9 +5,10 @@ use Rattle.std.proofs.lemmas.Bool.{both_ways}
 use Rattle.std.proofs.lemmas.Option.{same_Some}
 use Rattle.perfect_groups.specs.Events as machine
 use Rattle.vocabulary.specs.declared.endpoint.Endpoint.{Endpoint}
-use Rattle.datagram.specs.Spelling.{EagerText}
-use Rattle.engine.specs.Datagrams.{HeardGivesBy, HearingGives, notice_in}
-use Rattle.engine.specs.EngineState.{EngineState, emptied, without_completion, without_out}
+use Rattle.collective_transfers.specs.Payloads.{Whole}
+use Rattle.collective_transfers.specs.State.{is_due, whole_with}
+use Rattle.engine.specs.Datagrams.{HeardGivesBy, HearingGives, NoticeText, OfAnnouncement, OfAnswer, OfMessage, OfPiece, PieceGivesBy, notice_in}
+use Rattle.engine_parts.specs.EngineState.{EngineState, emptied, without_completion, without_out}
 use Rattle.collective_steps.specs.declared.step.Ending.{Ending}
 use Rattle.sessions.specs.declared.heard.Unheard.{Unheard}
 use Rattle.sessions.specs.declared.refused.Refused as lower
@@ -55,12 +56,22 @@ turned_keeps old new (Some source) refused e alone (inl away) = out_alone old ne
 turned_keeps old new (Some source) refused e alone (inr away) = out_alone old new old.sessions.out alone away.1
 
 -- what is heard and refused changes nothing, whether it is a message of a collective or anything else
-heard_keeps : (notice : Option EagerText) (h : HeardText) (old new : EngineState) (why : Refused) → HeardGivesBy notice old h (Err why) new → OnlyOut old new
+heard_keeps : (notice : Option NoticeText) (h : HeardText) (old new : EngineState) (why : Refused) → HeardGivesBy notice old h (Err why) new → OnlyOut old new
 heard_keeps None h old new why g = same_out old new g.2
-heard_keeps (Some t) h old new why g = same_out old new g.1
+heard_keeps (Some (OfMessage t)) h old new why g = same_out old new g.1
+heard_keeps (Some (OfAnnouncement t)) h old new why g = same_out old new g.1
+heard_keeps (Some (OfAnswer t)) h old new why g = same_out old new g.1
+heard_keeps (Some (OfPiece t)) h old new why g = piece (is_due old.payloads h.source.rank t.transfer t.offset t.bytes) g
+  where
+    whole : Option Whole
+    whole = whole_with old.payloads h.source.rank t.transfer t.bytes
+
+    piece : (due : Bool) → PieceGivesBy due whole old h t (Err why) new → OnlyOut old new
+    piece true g = same_out old new g.1
+    piece false g = same_out old new g.1
 
 hearing_keeps : (heard : Result HeardText Unheard) (old new : EngineState) (why : Refused) → HearingGives heard old (Err why) new → OnlyOut old new
-hearing_keeps (Ok h) old new why g = heard_keeps (notice_in h.word) h old new why g
+hearing_keeps (Ok h) old new why g = heard_keeps (notice_in h.lesson old.payloads h.source.rank h.word) h old new why g
 hearing_keeps (Err u) old new why g = turned_keeps old new u.reset u.refused g.0 g.2 g.3
 
 datagram_keeps : (old new : EngineState) (bytes : List ℕ) (why : Refused) → RefusesDatagram old bytes why new → OnlyOut old new

@@ -5,10 +5,10 @@ use Rattle.std.proofs.lemmas.Grind.{flat_map-append}
 use Rattle.std.proofs.lemmas.List.{length-set}
 use Rattle.std.proofs.lemmas.Option.{same_Some}
 use Rattle.vocabulary.specs.declared.endpoint.Endpoint.{Endpoint}
-use Rattle.engine.specs.EngineState.{EngineState, completion_of, emptied, opening}
-use Rattle.engine.specs.declared.call.Call.{Call}
-use Rattle.engine.specs.declared.reply.Completion.{Completion}
-use Rattle.engine.specs.declared.reply.Reply.{Reply}
+use Rattle.engine_parts.specs.EngineState.{EngineState, completion_of, emptied, opening}
+use Rattle.engine_parts.specs.declared.call.Call.{Call}
+use Rattle.engine_parts.specs.declared.reply.Completion.{Completion}
+use Rattle.engine_parts.specs.declared.reply.Reply.{Reply}
 use Rattle.perfect_groups.specs.Events as machine
 use Rattle.proof_network_bridge.specs.Seen.{told_call, told_completion}
 use Rattle.proof_network_bridge.specs.Following.{LeavesFollowed, next_place}

@@ -20,9 +20,9 @@ use Rattle.sessions.specs.Refusals as sessions_refusals
 use Rattle.sessions.specs.SessionsState.{SessionsState, knowledge}
 use Rattle.sessions.specs.declared.refused.Refused as sessions
 use Rattle.sessions.specs.declared.refused.Refused.TheVariants as sessions_refused
-use Rattle.engine.specs.Refusals.{of_sessions}
+use Rattle.engine_parts.specs.Refusals.{of_sessions}
 use Rattle.engine.specs.Datagrams.{HearingGives}
-use Rattle.engine.specs.EngineState.{EngineState}
+use Rattle.engine_parts.specs.EngineState.{EngineState}
 use Rattle.rank_calls.specs.Refusals.{of_datagram}
 use Rattle.rank_calls.specs.declared.refused.Refused as lower
 use Rattle.rank_calls.specs.declared.refused.Refused.TheVariants as lowers

@@ -3,14 +3,14 @@ use Rattle.std.specs.Prelude.{◌≡◌, ℕ, ◌⊎◌, false, List, [], ◌∷
 use Rattle.vocabulary.specs.declared.endpoint.Endpoint.{Endpoint}
 use Rattle.vocabulary.specs.Endpoints.{last_incarnation}
 use Rattle.incarnation.specs.declared.place.Place.{Place}
-use Rattle.engine.specs.Calls.{CallGives, IsStepLimited, IsTaken}
-use Rattle.engine.specs.EngineState.{EngineState, completion_of, emptied, opening}
-use Rattle.engine.specs.Faults.{fault_of}
-use Rattle.engine.specs.declared.call.Call.{Call}
-use Rattle.engine.specs.declared.call.Call.TheVariants as calls
-use Rattle.engine.specs.declared.reply.Completion.{Completion}
-use Rattle.engine.specs.declared.reply.Reply.{Reply}
-use Rattle.engine.specs.declared.reply.Reply.TheVariants as replies
+use Rattle.engine_parts.specs.Calls.{CallGives, IsStepLimited, IsTaken}
+use Rattle.engine_parts.specs.EngineState.{EngineState, completion_of, emptied, opening}
+use Rattle.engine_parts.specs.Faults.{fault_of}
+use Rattle.engine_parts.specs.declared.call.Call.{Call}
+use Rattle.engine_parts.specs.declared.call.Call.TheVariants as calls
+use Rattle.engine_parts.specs.declared.reply.Completion.{Completion}
+use Rattle.engine_parts.specs.declared.reply.Reply.{Reply}
+use Rattle.engine_parts.specs.declared.reply.Reply.TheVariants as replies
 use Rattle.rank_calls.specs.Refusals.{IsRefusal}
 use Rattle.rank_calls.specs.declared.refused.Refused as lower
 use Rattle.rank_calls.specs.declared.refused.Refused.TheVariants as lowers

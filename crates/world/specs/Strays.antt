@@ -4,7 +4,7 @@ use Rattle.datagram.specs.declared.refused.Refused as lowest
 use Rattle.datagram.specs.Spelling.{DatagramText}
 use Rattle.datagram.specs.Reading.{datagram_of, number_at}
 use Rattle.engine.specs.Datagrams.{DatagramGives}
-use Rattle.engine.specs.EngineState.{EngineState}
+use Rattle.engine_parts.specs.EngineState.{EngineState}
 use Rattle.rank_calls.specs.declared.refused.Refused as lower
 use Rattle.rank_calls.specs.declared.refused.Refused.TheVariants as engines
 use Rattle.rank_calls.specs.Refusals.{of_datagram}

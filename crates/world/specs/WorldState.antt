@@ -1,6 +1,6 @@
 -- A world: its engines, every datagram that they emitted, and what happened.
 use Rattle.std.specs.Prelude.{◌≡◌, ℕ, ◌*◌, ◌+◌, ◌<◌, ◌≤◌, Bool, ◌||◌, ◌==◌, nat_lt, List, [], length, All, Some, slice_get}
-use Rattle.engine.specs.EngineState.{EngineState}
+use Rattle.engine_parts.specs.EngineState.{EngineState}
 use Rattle.proof_network_bridge.specs.Joined.{IsClean, opening_engines}
 use Rattle.world.specs.declared.event.Entry.{Entry}
 

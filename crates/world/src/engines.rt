@@ -2,7 +2,7 @@
 
 ghost use Rattle.std.specs.Prelude.{◌≡◌, ◌≤◌, ◌<◌, ◌*◌, length, option_map, Option, Some, None, IfOk, IfErr, OnErr, slice_get, vec_len};
 ghost use Rattle.rank_calls.specs.declared.refused.Refused.TheVariants as lowers;
-ghost use Rattle.engine.specs.EngineState.{opening};
+ghost use Rattle.engine_parts.specs.EngineState.{opening};
 ghost use Rattle.proof_network_bridge.specs.Joined.{opening_engines};
 ghost use Rattle.proof_link_truth.specs.Wire.{at, place_of};
 ghost use Rattle.world.specs.Faults.{target_of, bytes_fault, event_fault};

@@ -1,8 +1,8 @@
 //! What one event does to one engine.
 
 ghost use Rattle.std.specs.Prelude.{◌≡◌, ◌≤◌, ◌+◌, ◌*◌, [], length, is_some, IfOk, IfErr, IsTrue};
-ghost use Rattle.engine.specs.EngineState.{completion_of, emptied};
-ghost use Rattle.engine.specs.Faults.{fault_of};
+ghost use Rattle.engine_parts.specs.EngineState.{completion_of, emptied};
+ghost use Rattle.engine_parts.specs.Faults.{fault_of};
 ghost use Rattle.world.specs.Faults.{target_of};
 ghost use Rattle.world.specs.WorldState.{IsReady};
 ghost use Rattle.world.specs.Steps.{CallRuns, DatagramRuns, TickRuns, RestartRuns, EventRuns, asked_fault, emitted, restart_fault};

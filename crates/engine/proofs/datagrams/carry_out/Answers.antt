@@ -5,8 +5,8 @@ use Rattle.rank_calls.specs.Hearing.{CanGo, NewsText}
 use Rattle.rank_core.specs.Hearing.{news_frames}
 use Rattle.sessions.specs.Events.{Sending, after_event, event_limit, sendings}
 use Rattle.sessions.specs.Heard.{heard_text}
-use Rattle.engine.specs.Frames.{outgoing_of}
-use Rattle.engine.specs.Refusals.{of_sessions}
+use Rattle.engine_parts.specs.Frames.{outgoing_of}
+use Rattle.engine_parts.specs.Refusals.{of_sessions}
 use Rattle.engine.proofs.Replies.{few_go_out, only_memory, outgoing_can_go, outgoing_says}
 use Rattle.engine.proofs.datagrams.carry_out.Goals as goal
 

@@ -4,7 +4,7 @@ use Rattle.rank_calls.specs.Hearing.{NewsText}
 use Rattle.rank_core.specs.Hearing.{news_frames}
 use Rattle.sessions.specs.Heard.{heard_text}
 use Rattle.engine.specs.Datagrams.{replies}
-use Rattle.engine.specs.Refusals.{fault_of_sessions}
+use Rattle.engine_parts.specs.Refusals.{fault_of_sessions}
 use Rattle.engine.proofs.Replies.{replies_are_for}
 use Rattle.engine.proofs.datagrams.limit_of_heard.Goals as goal
 

@@ -1,7 +1,7 @@
 use Rattle.std.proofs.Common.{None}
 use Rattle.vocabulary.specs.declared.envelope.Source.TheVariants.{Null}
-use Rattle.engine.proofs.Answering.{core_leaves}
-use Rattle.engine.specs.Asks.{call_named}
+use Rattle.engine_parts.proofs.Answering.{core_leaves}
+use Rattle.engine_parts.specs.Asks.{call_named}
 use Rattle.engine.proofs.engine.Engine.call_on_requests.Goals as goal
 
 pub returns-clause-unchanged : goal.returns-clause-unchanged

@@ -3,8 +3,8 @@ use Rattle.rank_calls.specs.declared.refused.Refused.{Refused}
 use Rattle.sessions.specs.Heard.{heard_text}
 use Rattle.engine.proofs.Hearing.{heard_is_known, refusal_leaves, turned_away}
 use Rattle.engine.specs.Datagrams.{HeardGives}
-use Rattle.engine.specs.EngineState.{EngineState}
-use Rattle.engine.specs.Steps.{engine_of}
+use Rattle.engine_parts.specs.EngineState.{EngineState}
+use Rattle.engine_parts.specs.Steps.{engine_held}
 use Rattle.engine.proofs.engine.Engine.on_datagram.Goals as goal
 
 pub returns-in-Ok-clause-exact : goal.returns-in-Ok-clause-exact
@@ -16,12 +16,12 @@ pub returns-in-Err-clause-exact : goal.returns-in-Err-clause-exact
 returns-in-Err-clause-exact c =
     let i = c.self.inside in
     rw (← c.self.view_is, c.of_sessions.ensures, c.in-Err.ensures.exact)
-    (turned_away (engine_of i.core i.communicators i.ended i.sessions) c.turn_away.new.self c.in-Err.unheard c.turn_away.result c.turn_away.ensures.exact)
+    (turned_away (engine_held i.core i.communicators i.ended i.payloads.state i.sessions) c.turn_away.new.self c.in-Err.unheard c.turn_away.result c.turn_away.ensures.exact)
 
 pub returns-in-Ok-clause-known : goal.returns-in-Ok-clause-known
 returns-in-Ok-clause-known c =
     let i = c.self.inside in
-    heard_is_known (engine_of i.core i.communicators i.ended i.sessions) c.take_heard.new.self c.args.bytes.now (heard_text c.in-Ok.heard) c.take_heard.result
+    heard_is_known (engine_held i.core i.communicators i.ended i.payloads.state i.sessions) c.take_heard.new.self c.args.bytes.now (heard_text c.in-Ok.heard) c.take_heard.result
     c.place-place.ensures.known c.in-Ok.ensures.exact
     (subst (λ (e : EngineState). HeardGives e (heard_text c.in-Ok.heard) c.take_heard.result c.take_heard.new.self) (sym c.self.view_is) c.take_heard.ensures.exact)
 

@@ -1,0 +1,59 @@
+-- A payload that was announced, and one that comes in pieces.
+use Rattle.std.specs.Prelude.{◌≡◌, ℕ, ◌==◌, ◌&&◌, ◌≤◌, Bool, List, [], ◌++◌, length}
+use Rattle.rendezvous.specs.Pieces.{is_next_piece}
+use Rattle.collective_transfers.specs.declared.payloads.WholePayload.{WholePayload}
+
+-- a payload that this rank announced: the rank to which it goes, the number of its transfer in the session with that, and its bytes
+pub record Announced : Type 0 where
+  pub target : ℕ
+  pub transfer : ℕ
+  pub bytes : List ℕ
+
+-- a payload that comes: from which rank, and under which number of a transfer; the context and the number of its collective; how
+-- many bytes were announced, and those that have come
+pub record Coming : Type 0 where
+  pub source : ℕ
+  pub transfer : ℕ
+  pub context : ℕ
+  pub number : ℕ
+  pub total : ℕ
+  pub bytes : List ℕ
+
+-- no more bytes came than were announced, and there is room for all of them
+pub record IsBounded (total : ℕ) (bytes : List ℕ) (capacity : ℕ) : Type 0 where
+  pub within : length bytes ≤ total
+  pub room : total ≤ capacity
+
+-- a payload all of whose bytes have come: the context and the number of its collective, and the bytes
+pub record Whole : Type 0 where
+  pub context : ℕ
+  pub number : ℕ
+  pub bytes : List ℕ
+
+-- whether a payload is the transfer to a rank that has this number
+abbrev pub is_to : (target transfer : ℕ) → Announced → Bool
+is_to target transfer a = (a.target == target) && (a.transfer == transfer)
+
+-- whether it is the transfer from a rank that has this number
+abbrev pub is_from : (source transfer : ℕ) → Coming → Bool
+is_from source transfer c = (c.source == source) && (c.transfer == transfer)
+
+-- whether these bytes from this place on are its next piece
+abbrev pub takes : Coming → (offset : ℕ) → List ℕ → Bool
+takes c offset piece = is_next_piece c.total (length c.bytes) offset piece
+
+-- with one more piece
+abbrev pub with_piece : Coming → List ℕ → Coming
+with_piece c piece = record c { bytes = c.bytes ++ piece }
+
+-- whether all bytes have come
+abbrev pub is_whole : Coming → Bool
+is_whole c = length c.bytes == c.total
+
+-- what it is then
+abbrev pub whole_of : Coming → Whole
+whole_of c = record { context = c.context; number = c.number; bytes = c.bytes }
+
+-- what a value of the program says
+abbrev pub whole_text : WholePayload → Whole
+whole_text w = record { context = w.context; number = w.number; bytes = w.bytes.items }

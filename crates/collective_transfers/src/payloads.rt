@@ -1,0 +1,197 @@
+//! A payload that was announced, one that comes in pieces, and one that has come.
+
+ghost use Rattle.std.specs.Prelude.{◌≡◌, ◌+◌, ◌≤◌, ◌++◌, [], length, IfOk};
+ghost use Rattle.vocabulary.specs.Limits.{send_limit};
+ghost use Rattle.collective_transfers.specs.Payloads.{is_from, is_to, is_whole, takes, whole_of, whole_text, with_piece};
+
+use rendezvous::is_next_piece;
+use std::alloc::Global;
+use std::marker::Model;
+use vocabulary::OutOfMemory;
+
+/// A payload that this rank announced, kept until its receiver asks for it.
+#[derive(Debug, Drop)]
+pub struct AnnouncedPayload {
+    target: u16,
+    transfer: u32,
+    bytes: Vec<u8>,
+}
+
+impl Model for AnnouncedPayload {
+    ghost use Rattle.std.specs.Prelude.{◌≤◌, length};
+    ghost use Rattle.vocabulary.specs.Limits.{send_limit};
+    ghost use Rattle.collective_transfers.specs.Payloads.{Announced};
+
+    ghost Value = { Announced };
+
+    ghost view = { λ p. record { target = p.target; transfer = p.transfer; bytes = p.bytes.items } };
+
+    ghost invariant = { λ p. length p.bytes.items ≤ send_limit };
+}
+
+impl AnnouncedPayload {
+    /// A payload of at most 1,048,576 bytes for a rank, under the number of its transfer.
+    pub fn new(target: u16, transfer: u32, bytes: Vec<u8>) -> Self
+        requires { length bytes.items ≤ send_limit }
+        ensures { result ≡ record { target = target; transfer = transfer; bytes = bytes.items } }
+    {
+        AnnouncedPayload {
+            target,
+            transfer,
+            bytes,
+        }
+    }
+
+    /// Whether it is the transfer to the rank that has this number.
+    pub fn is_to(&self, target: u16, transfer: u32) -> bool
+        ensures { result ≡ is_to target transfer self.now }
+    {
+        self.target == target && self.transfer == transfer
+    }
+
+    /// The rank to which it goes.
+    pub fn target(&self) -> u16
+        ensures { result ≡ self.now.target }
+    {
+        self.target
+    }
+
+    /// Its bytes: at most 1,048,576.
+    pub fn bytes(&self) -> &[u8]
+        ensures bytes { result.now ≡ self.now.bytes }
+        ensures limit { length self.now.bytes ≤ send_limit }
+    {
+        &self.bytes
+    }
+}
+
+/// A payload for which this rank asked, and of which so much has come.
+#[derive(Debug, Drop)]
+pub struct ComingPayload {
+    source: u16,
+    transfer: u32,
+    context: u64,
+    number: u32,
+    total: usize,
+    bytes: Vec<u8>,
+}
+
+impl Model for ComingPayload {
+    ghost use Rattle.std.specs.Prelude.{vec_capacity};
+    ghost use Rattle.collective_transfers.specs.Payloads.{Coming, IsBounded};
+
+    ghost Value = { Coming };
+
+    ghost view = { λ p. record {
+      source = p.source;
+      transfer = p.transfer;
+      context = p.context;
+      number = p.number;
+      total = p.total;
+      bytes = p.bytes.items;
+    } };
+
+    ghost invariant = { λ p. IsBounded p.total p.bytes.items (vec_capacity p.bytes) };
+}
+
+/// A payload that has come whole, and the collective that it is of.
+#[derive(Debug, Drop)]
+pub struct WholePayload {
+    /// The context of the communicator.
+    pub context: u64,
+    /// The number of the collective on the communicator.
+    pub number: u32,
+    /// Its bytes, of which the first 16 are the record of the collective.
+    pub bytes: Vec<u8>,
+}
+
+impl ComingPayload {
+    /// A payload of so many bytes that a rank announced, of which nothing has come: it is of the collective of this number on
+    /// the communicator of this context. The memory for all its bytes is taken now; it fails for want of memory alone.
+    pub fn new(
+        alloc: Global,
+        source: u16,
+        transfer: u32,
+        context: u64,
+        number: u32,
+        total: usize,
+    ) -> Result<Self, OutOfMemory>
+        ensures { IfOk result (λ payload. payload ≡ record { source = source; transfer = transfer; context = context; number = number; total = total; bytes = [] }) }
+    {
+        let Ok(bytes) = Vec::with_capacity(alloc, total) else {
+            return Err(OutOfMemory {});
+        };
+        Ok(ComingPayload {
+            source,
+            transfer,
+            context,
+            number,
+            total,
+            bytes,
+        })
+    }
+
+    /// The rank from which it comes.
+    pub fn source(&self) -> u16
+        ensures { result ≡ self.now.source }
+    {
+        self.source
+    }
+
+    /// Whether it is the transfer from the rank that has this number.
+    pub fn is_from(&self, source: u16, transfer: u32) -> bool
+        ensures { result ≡ is_from source transfer self.now }
+    {
+        self.source == source && self.transfer == transfer
+    }
+
+    /// Whether these bytes are the next piece: they stand where those that have come end, and are as many as are due.
+    pub fn takes(&self, offset: u32, bytes: &[u8]) -> bool
+        ensures { result ≡ takes self.now offset bytes.now }
+    {
+        is_next_piece(self.total, self.bytes.len(), offset, bytes)
+    }
+
+    /// Whether all its bytes have come once these have.
+    pub(crate) fn is_last(&self, bytes: &[u8]) -> bool
+        ensures { result ≡ is_whole (with_piece self.now bytes.now) }
+    {
+        bytes.len() == self.total - self.bytes.len()
+    }
+
+    /// Whether all its bytes have come.
+    pub fn is_whole(&self) -> bool
+        ensures { result ≡ is_whole self.now }
+    {
+        self.bytes.len() == self.total
+    }
+
+    /// Takes the next piece, for which there is room.
+    pub(crate) fn push(&mut self, bytes: &[u8])
+        requires { length self.old.bytes + length bytes.now ≤ self.old.total }
+        ensures { self.new ≡ with_piece self.old bytes.now }
+    {
+        self.bytes.extend_from_slice(bytes).unwrap();
+    }
+
+    /// What it is with one more piece; or want of memory.
+    pub(crate) fn whole_with(
+        &self,
+        alloc: Global,
+        bytes: &[u8],
+    ) -> Result<WholePayload, OutOfMemory>
+        ensures { IfOk result (λ whole. whole_text whole ≡ whole_of (with_piece self.now bytes.now)) }
+    {
+        let Ok(mut all) = Vec::from_slice(alloc, &self.bytes) else {
+            return Err(OutOfMemory {});
+        };
+        match all.extend_from_slice(bytes) {
+            Ok(()) => Ok(WholePayload {
+                context: self.context,
+                number: self.number,
+                bytes: all,
+            }),
+            Err(_) => Err(OutOfMemory {}),
+        }
+    }
+}

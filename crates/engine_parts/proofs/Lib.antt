@@ -1,0 +1,5 @@
+pub mod Limits
+pub mod Clear
+pub mod Asks
+pub mod Answering
+pub mod Stepping

@@ -1,0 +1,8 @@
+pub mod Refusals
+pub mod EngineState
+pub mod Frames
+pub mod Steps
+pub mod Routing
+pub mod Faults
+pub mod Asks
+pub mod Calls

@@ -1,0 +1,310 @@
+-- An answer to a payload that a rank announced is followed: all its pieces go out.
+use Rattle.std.proofs.Common.{◌≡◌, ℕ, zero, suc, ◌+◌, ◌-◌, ◌^◌, ◌<◌, ◌≤◌, Bool, true, false, ◌==◌, List, [], ◌∷◌, ◌++◌, Option, Some, None, Ok, is_some, length, map, refl, sym, ap, subst, ◌∙◌, arith}
+use Rattle.std.specs.Prelude.{option_map, slice_get}
+use Rattle.std.specs.List.{AllByRecursion}
+use Rattle.std.proofs.lemmas.Bool.{and_parts, eqb-false, eqb-true}
+use Rattle.std.proofs.lemmas.Option.{same_Some, slice_get-map}
+use Rattle.collective_notes.specs.declared.message.Message.{Message}
+use Rattle.collective_transfers.specs.Payloads.{Announced, is_to}
+use Rattle.collective_transfers.specs.State as payloads
+use Rattle.collective_transfers.specs.State.{after_answer, announced_at, announced_to, place_to, without}
+use Rattle.datagram.specs.Spelling.{ClearFrame, ClearText, DataFrame, FrameText}
+use Rattle.engine.specs.Datagrams.{AnswerGives, after_answered, answer_fault, data_for, data_of, data_sent, ended_by, groups_met, is_to_collective, unwanted}
+use Rattle.engine_parts.specs.EngineState.{EngineState, completion_of, or_before}
+use Rattle.engine_parts.specs.Frames.{sending_of}
+use Rattle.engine_parts.specs.Refusals.{fault_of_sessions}
+use Rattle.incarnation.specs.declared.place.Place.{Place}
+use Rattle.perfect_groups.specs.Events.{Entry}
+use Rattle.proof_engine_steps.proofs.ListsApart.{Passes, position_passes}
+use Rattle.proof_engine_steps.proofs.Wholes.{at_place, removed}
+use Rattle.proof_engine_steps.specs.Steps.{NewsAreShown}
+use Rattle.proof_engine_view.specs.Frames.{endpoint_of, known_after}
+use Rattle.proof_engine_view.specs.Shown.{IsShown}
+use Rattle.proof_engine_view.specs.Standing.{CanLeave}
+use Rattle.proof_engine_view.specs.Transfers.{Transfer}
+use Rattle.proof_group_network.specs.Carried.{Announces, Answers, BringsPart, Carried, OfMessages, OfNotices, Sessions, in_parts, parts_from}
+use Rattle.proof_group_network.specs.Happened.{IsAfter}
+use Rattle.proof_group_network.specs.Network.{GroupNetwork, member_settled}
+use Rattle.proof_group_network.specs.NoticesStand.{heard_member}
+use Rattle.proof_group_network.specs.SessionLaws.{IsNext}
+use Rattle.proof_link_truth.specs.Events.{EventsAreTrue, HearingIsTrue, HearsTruth, IsFromDatagram, IsTrueWord, MaySendAll, all_addressed}
+use Rattle.proof_link_truth.specs.Wire.{place_of}
+use Rattle.proof_links.specs.Links.{LinksOf, accept_all, handed_on}
+use Rattle.proof_pure_network.specs.Core.{Core}
+use Rattle.proof_pure_network.specs.Frames.{Cts, Frame}
+use Rattle.proof_pure_network.specs.Network.{here}
+use Rattle.proof_session_carrying.proofs.Carrying.{next_stands}
+use Rattle.proof_session_carrying.proofs.EventSteps.{answers_are_carried}
+use Rattle.proof_session_carrying.specs.Announced as sessions_announced
+use Rattle.proof_session_carrying.specs.Announced.{LargeMessage, LargeNotice, all_announced, transfer_as, transfers_as}
+use Rattle.proof_session_carrying.specs.Carrying.{Saying, StandsForCarried, bytes_of_message}
+use Rattle.proof_session_carrying.specs.CarryLaws as carrying
+use Rattle.proof_session_carrying.specs.EventLaws.{AreJoined}
+use Rattle.rank_calls.specs.Hearing.{CanGo, data_frames}
+use Rattle.rank_core.proofs.Replies.{data_go}
+use Rattle.rank_core.specs.CoreState.{CoreState}
+use Rattle.rank_core.specs.Hearing.{after_hearing}
+use Rattle.rendezvous.specs.Pieces.{piece_bytes, piece_count, pieces_of}
+use Rattle.sessions.specs.Events.{Sending, after_event, event_limit}
+use Rattle.sessions.specs.Heard.{Hands, HeardText, WordText}
+use Rattle.sessions.specs.SessionsState.{known_endpoint}
+use Rattle.vocabulary.specs.Limits.{send_limit}
+use Rattle.vocabulary.specs.declared.endpoint.Endpoint.{Endpoint}
+use Rattle.proof_network_bridge.specs.Following.{LeavesFollowed}
+use Rattle.proof_network_bridge.specs.Joined.{IsFollowed, network_after, sessions_in}
+use Rattle.proof_network_bridge.specs.Payloads.{ArePayloads, IsAnnouncedPayload, IsLargeNotice}
+use Rattle.proof_network_bridge.specs.Seen.{told_completion}
+use Rattle.proof_network_bridge.proofs.Carried.{IsAlone, IsSilent, alone_follows, source_addressed}
+use Rattle.proof_network_bridge.proofs.Carrying.{may_send}
+use Rattle.proof_network_bridge.proofs.Halves.{neither_fault}
+use Rattle.proof_network_bridge.proofs.Heard.{taught}
+use Rattle.proof_network_bridge.proofs.Payloads.{payloads_grow, said_same}
+use Rattle.proof_network_bridge.proofs.Worlds.{is_at, only_handed}
+
+-- ---- the payload that is asked for
+
+-- a payload is kept that is the transfer of this number to the rank
+record IsKept (p : payloads.State) (rank transfer : ℕ) : Type 0 where
+  payload : Announced
+  found : announced_to p rank transfer ≡ Some payload
+  place : ℕ
+  there : slice_get p.announced place ≡ Some payload
+  target : payload.target ≡ rank
+  number : payload.transfer ≡ transfer
+
+is_kept : (p : payloads.State) (rank transfer : ℕ) → is_some (announced_to p rank transfer) ≡ true → IsKept p rank transfer
+is_kept p rank transfer is = go (place_to rank transfer p.announced) refl is
+  where
+    at : (i : ℕ) → place_to rank transfer p.announced ≡ Some i → Passes (is_to rank transfer) p.announced i → IsKept p rank transfer
+    at i e q =
+        let t = and_parts (q.element.target == rank) (q.element.transfer == transfer) q.passes in
+        record {
+          payload = q.element;
+          found = ap (announced_at p.announced) e ∙ q.there;
+          place = i;
+          there = q.there;
+          target = eqb-true q.element.target rank t.0;
+          number = eqb-true q.element.transfer transfer t.1;
+        }
+
+    go : (o : Option ℕ) → place_to rank transfer p.announced ≡ o → is_some (announced_at p.announced o) ≡ true → IsKept p rank transfer
+    go None e h = absurd cc
+    go (Some i) e h = at i e (position_passes (is_to rank transfer) p.announced i e)
+
+-- only without a lesson one is asked for
+record IsAsked (lesson : Bool) (p : payloads.State) (rank transfer : ℕ) : Type 0 where
+  plain : lesson ≡ false
+  kept : IsKept p rank transfer
+
+is_asked : (lesson : Bool) (p : payloads.State) (rank transfer : ℕ) → is_to_collective lesson p rank transfer ≡ true → IsAsked lesson p rank transfer
+is_asked true p rank transfer is = absurd cc
+is_asked false p rank transfer is = record { plain = refl; kept = is_kept p rank transfer is }
+
+-- the notice of the session with the endpoint that asks for it, which the payload is
+record IsAskedFor (sessions : Sessions) (said : Saying) (own s : Endpoint) (transfer : ℕ) (bytes : List ℕ) : Type 0 where
+  message : Message
+  notice : IsLargeNotice sessions said own s transfer message
+  bytes_are : bytes ≡ bytes_of_message message
+  short : length bytes ≤ send_limit
+
+is_asked_for : (sessions : Sessions) (said : Saying) (own s : Endpoint) (known : List ℕ) (p : payloads.State) (transfer : ℕ) → ArePayloads sessions said own known p → (k : IsKept p s.rank transfer) → endpoint_of known s.rank ≡ s →
+    IsAskedFor sessions said own s transfer k.payload.bytes
+is_asked_for sessions said own s known p transfer all k source =
+    record {
+      message = a.message;
+      notice = subst (λ (d : Endpoint). IsLargeNotice sessions said own d transfer a.message) source
+          (subst (λ (rank : ℕ). IsLargeNotice sessions said own (endpoint_of known rank) transfer a.message) k.target
+          (subst (λ (number : ℕ). IsLargeNotice sessions said own (endpoint_of known k.payload.target) number a.message) k.number a.notice));
+      bytes_are = a.bytes;
+      short = a.short;
+    }
+  where
+    a : IsAnnouncedPayload sessions said own known k.payload
+    a = at_place (IsAnnouncedPayload sessions said own known) p.announced k.place k.payload all.announced k.there
+
+-- ---- what is heard
+
+-- the serial in an answer
+abbrev answered_serial : Frame → ℕ
+answered_serial (Cts k wanted) = k
+answered_serial _ = 0
+
+-- the number of a notice
+abbrev notice_number : sessions_announced.Announced → ℕ
+notice_number (LargeMessage t) = 0
+notice_number (LargeNotice i) = i
+
+-- no answer to a message has the number of a notice: it would have any serial
+no_message : (back : List sessions_announced.Announced) (transfer i : ℕ) (t u : Transfer) (f : Frame) (a b : Bool) → slice_get back transfer ≡ Some (LargeNotice i) → slice_get (transfers_as 0 back) transfer ≡ Some t →
+    slice_get (transfers_as 1 back) transfer ≡ Some u → f ≡ Cts t.serial a → f ≡ Cts u.serial b → ⊥
+no_message back transfer i t u f a b named first second is_first is_second =
+    let zero_is : 0 ≡ t.serial = ap (λ (x : Transfer). x.serial) (same_Some (transfer_as 0 (LargeNotice i)) t (sym (as_transfer 0) ∙ first)) in
+    let one_is : 1 ≡ u.serial = ap (λ (x : Transfer). x.serial) (same_Some (transfer_as 1 (LargeNotice i)) u (sym (as_transfer 1) ∙ second)) in
+    let same : t.serial ≡ u.serial = ap answered_serial (sym is_first ∙ is_second) in
+    omega (arith, zero_is, one_is, same)
+  where
+    as_transfer : (serial : ℕ) → slice_get (transfers_as serial back) transfer ≡ Some (transfer_as serial (LargeNotice i))
+    as_transfer serial = slice_get-map (transfer_as serial) back transfer ∙ ap (λ (o : Option sessions_announced.Announced). option_map (transfer_as serial) o) named
+
+-- the answer that the session hands up next is to that notice
+is_of_answer : (w : GroupNetwork) (said : Saying) (texts : LinksOf FrameText) (sessions : Sessions) (own s : Endpoint) (t : ClearText) (i : ℕ) → AreJoined w said texts sessions →
+    slice_get (texts s own).accepted (texts s own).handed ≡ Some (ClearFrame t) → slice_get (all_announced sessions own s) t.transfer ≡ Some (LargeNotice i) → IsNext sessions s own (Answers i)
+is_of_answer w said texts sessions own s t i j next named = go next_is.carried next_is.there next_is.stands
+  where
+    next_is : carrying.IsNext (all_announced sessions s own) (all_announced sessions own s) (said s own) (sessions s own) (ClearFrame t)
+    next_is = next_stands (all_announced sessions s own) (all_announced sessions own s) (said s own) (texts s own) (sessions s own) (ClearFrame t) (j.alike s own) next
+
+    go : (x : Carried) → IsNext sessions s own x → StandsForCarried (all_announced sessions s own) (all_announced sessions own s) (said s own) (ClearFrame t) x → IsNext sessions s own (Answers i)
+    go (Answers k) at stands =
+        subst (λ (number : ℕ). IsNext sessions s own (Answers number)) (ap notice_number (same_Some (LargeNotice k) (LargeNotice i) (sym stands.0 ∙ named))) at
+    go (OfMessages f) at stands =
+        absurd (no_message (all_announced sessions own s) t.transfer i (stands 0).transfer (stands 1).transfer f _ _ named (stands 0).announced (stands 1).announced (stands 0).frame_is (stands 1).frame_is)
+    go (OfNotices k) at stands = absurd stands.2
+    go (Announces k) at stands = absurd stands.2
+    go (BringsPart k part) at stands = absurd stands.2
+
+-- ---- what goes out
+
+-- the data go to the endpoint at which the rank is known
+pieces_addressed : (known : List ℕ) (rank transfer : ℕ) (d : Endpoint) → known_endpoint known rank ≡ d → (ps : List (ℕ × List ℕ)) →
+    all_addressed known (map sending_of (data_frames rank transfer ps)) ≡ map (λ (p : ℕ × List ℕ). (d, DataFrame (record { transfer = transfer; offset = p.0; bytes = p.1 }))) ps
+pieces_addressed known rank transfer d is [] = refl
+pieces_addressed known rank transfer d is (p ∷ ps) =
+    ap (λ (e : Endpoint). (e, DataFrame (record { transfer = transfer; offset = p.0; bytes = p.1 })) ∷ all_addressed known (map sending_of (data_frames rank transfer ps))) is
+    ∙ ap (λ (ts : List (Endpoint × FrameText)). (d, DataFrame (record { transfer = transfer; offset = p.0; bytes = p.1 })) ∷ ts) (pieces_addressed known rank transfer d is ps)
+
+-- data that can go can leave for another rank
+can_leave : (p : Place) (rank number : ℕ) → (rank ≡ p.endpoint.rank → ⊥) → number < 2 ^ 32 → (ps : List (ℕ × List ℕ)) → AllByRecursion (CanGo p.size) (data_frames rank number ps) → AllByRecursion (CanLeave p) (data_frames rank number ps)
+can_leave p rank number apart width [] all = tt
+can_leave p rank number apart width (x ∷ xs) all =
+    let within : x.0 + 1024 ≤ 1048576 = all.0.fits.within in
+    let offset : x.0 < 2 ^ 32 = omega (arith, within) in
+    (record { there = all.0.there; apart = apart; fits = all.0.fits; width = record { transfer = width; offset = offset } }, can_leave p rank number apart width xs all.1)
+
+-- the parts of a notice announce nothing
+parts_silent : (d : Endpoint) (i part more : ℕ) → AllByRecursion IsSilent (map (λ (c : Carried). (d, c)) (parts_from i part more))
+parts_silent d i part zero = (λ rest. refl, tt)
+parts_silent d i part (suc more) = (λ rest. refl, parts_silent d i (suc part) more)
+
+-- ---- what is left
+
+-- the others stay what they are
+left : (sessions : Sessions) (said : Saying) (own : Endpoint) (known : List ℕ) (p : payloads.State) (rank transfer : ℕ) → ArePayloads sessions said own known p → ArePayloads sessions said own known (after_answer p rank transfer)
+left sessions said own known p rank transfer all = record { announced = go (place_to rank transfer p.announced); coming = all.coming }
+  where
+    go : (o : Option ℕ) → AllByRecursion (IsAnnouncedPayload sessions said own known) (without p.announced o)
+    go None = all.announced
+    go (Some i) = removed (IsAnnouncedPayload sessions said own known) p.announced i all.announced
+
+-- beside its payloads the engine is as the word alone leaves it
+stays : (old : EngineState) (h : HeardText) (t : ClearText) (sendings : List Sending) → h.lesson ≡ false → data_for old.payloads h t ≡ sendings → IsAlone old (after_answered old h t) h sendings
+stays old h t sendings plain are = record {
+  queues = λ a known core shown. subst (λ (c : CoreState). IsShown a c known core) core_is shown;
+  place = ap (λ (c : CoreState). c.place) (sym core_is);
+  completion = ap (λ (c : CoreState). c.completion) (sym core_is);
+  groups = sym (ap (λ (lesson : Bool). groups_met old.groups (taught h.source lesson)) plain);
+  ended = sym (ap (λ (lesson : Bool). or_before (ended_by old.groups (taught h.source lesson)) old.ended) plain);
+  sessions = ap (after_event old.sessions (Some h)) are;
+}
+  where
+    core_is : after_hearing h.lesson None old.core h.source ≡ old.core
+    core_is = ap (λ (lesson : Bool). after_hearing lesson None old.core h.source) plain
+
+-- ---- an answer
+
+-- it is followed
+taken_follows : NewsAreShown → HearingIsTrue → EventsAreTrue → (n r : ℕ) (engines : List EngineState) (datagrams : List (ℕ × List ℕ)) (history : List Entry) (old : EngineState) (h : HeardText) (t : ClearText) →
+    IsFollowed n engines datagrams history → slice_get engines r ≡ Some old → IsFromDatagram datagrams r old.sessions h → h.word ≡ Hands (ClearFrame t) → is_to_collective h.lesson old.payloads h.source.rank t.transfer ≡ true →
+    answer_fault old.payloads old.sessions h t ≡ None →
+    LeavesFollowed n engines datagrams r (after_answered old h t) (history ++ told_completion old.sessions.place.endpoint (completion_of (after_answered old h t)))
+taken_follows shows hearing events n r engines datagrams history old h t f there comes hands is fine =
+    alone_follows shows hearing events n r engines datagrams history old (after_answered old h t) h (ClearFrame t) sendings (in_parts s number more) f there comes hands (stays old h t sendings asked.plain sendings_are) may free
+    (parts_silent s number 0 more) carried kept
+  where
+    w : GroupNetwork
+    w = network_after n f.happenings
+
+    own : Endpoint
+    own = here w.net r
+
+    s : Endpoint
+    s = h.source
+
+    texts : LinksOf FrameText
+    texts = f.joined.texts
+
+    known : List ℕ
+    known = known_after h.lesson old.sessions.known s
+
+    truth : HearsTruth n r w.net.current old.sessions texts h
+    truth = hearing n r (sessions_in engines) datagrams texts w.net.current old.sessions h f.joined.links (is_at n r engines datagrams w old f.joined there) comes
+
+    says : IsTrueWord texts s own (Hands (ClearFrame t))
+    says = subst (λ (x : WordText). IsTrueWord texts s own x) hands truth.word
+
+    source : known_endpoint known s.rank ≡ s
+    source = source_addressed n r engines datagrams history old h f there truth.heard
+
+    asked : IsAsked h.lesson old.payloads s.rank t.transfer
+    asked = is_asked h.lesson old.payloads s.rank t.transfer is
+
+    before : ArePayloads f.joined.sessions f.joined.said own known old.payloads
+    before = subst (λ (lesson : Bool). ArePayloads f.joined.sessions f.joined.said own (known_after lesson old.sessions.known s) old.payloads) (sym asked.plain) (f.joined.payloads r old there)
+
+    p : IsAskedFor f.joined.sessions f.joined.said own s t.transfer asked.kept.payload.bytes
+    p = is_asked_for f.joined.sessions f.joined.said own s known old.payloads t.transfer before asked.kept source
+
+    number : ℕ
+    number = p.notice.number
+
+    bytes : List ℕ
+    bytes = bytes_of_message p.message
+
+    more : ℕ
+    more = piece_count piece_bytes bytes - 1
+
+    sendings : List Sending
+    sendings = data_sent s.rank t.transfer bytes
+
+    sendings_are : data_for old.payloads h t ≡ sendings
+    sendings_are = ap (data_of s.rank t.transfer) asked.kept.found ∙ ap (data_sent s.rank t.transfer) p.bytes_are
+
+    free : fault_of_sessions (event_limit old.sessions (Some h) sendings) ≡ None
+    free = subst (λ (fs : List Sending). fault_of_sessions (event_limit old.sessions (Some h) fs) ≡ None) sendings_are
+        (neither_fault (unwanted t.clearance) (fault_of_sessions (event_limit old.sessions (Some h) (data_for old.payloads h t))) fine).1
+
+    limit : length bytes ≤ 1048576
+    limit = subst (λ (bs : List ℕ). length bs ≤ 1048576) p.bytes_are p.short
+
+    may : MaySendAll n r sendings
+    may = may_send n own (data_frames s.rank t.transfer (pieces_of bytes))
+        (can_leave (place_of n own) s.rank t.transfer (eqb-false s.rank r truth.heard.apart) says.carried.width.transfer (pieces_of bytes) (data_go n s.rank t.transfer bytes truth.heard.there limit))
+
+    next : IsNext f.joined.sessions s own (Answers number)
+    next = is_of_answer w f.joined.said texts f.joined.sessions own s t number f.joined.between says.next p.notice.named
+
+    some : 0 < length bytes
+    some = omega (arith, p.notice.large)
+
+    carried : (after : GroupNetwork) (core : Core) (entries : List Entry) → IsAfter w after own core w.net.link (member_settled (heard_member w r s)) w.notices entries →
+        AreJoined after f.joined.said (accept_all (handed_on texts s own) own (all_addressed known sendings)) (accept_all (handed_on f.joined.sessions s own) own (in_parts s number more))
+    carried after core entries happened =
+        subst (λ (ts : List (Endpoint × FrameText)). AreJoined after f.joined.said (accept_all (handed_on texts s own) own ts) (accept_all (handed_on f.joined.sessions s own) own (in_parts s number more)))
+        (sym (pieces_addressed known s.rank t.transfer s source (pieces_of bytes)))
+        (answers_are_carried w after f.joined.said texts f.joined.sessions s own core (member_settled (heard_member w r s)) entries number t.transfer p.message f.joined.between next p.notice.named p.notice.there some happened)
+
+    sessions : Sessions
+    sessions = accept_all (handed_on f.joined.sessions s own) own (in_parts s number more)
+
+    kept : ArePayloads sessions f.joined.said own known (after_answer old.payloads s.rank t.transfer)
+    kept =
+        payloads_grow f.joined.sessions sessions f.joined.said f.joined.said own known (after_answer old.payloads s.rank t.transfer) (only_handed f.joined.sessions s own (in_parts s number more)).grow (said_same f.joined.said)
+        (left f.joined.sessions f.joined.said own known old.payloads s.rank t.transfer before)
+
+-- an answer to a payload of a collective that the rank announced is followed
+pub answer_follows : NewsAreShown → HearingIsTrue → EventsAreTrue → (n r : ℕ) (engines : List EngineState) (datagrams : List (ℕ × List ℕ)) (history : List Entry) (old mid : EngineState) (h : HeardText) (t : ClearText) →
+    IsFollowed n engines datagrams history → slice_get engines r ≡ Some old → IsFromDatagram datagrams r old.sessions h → h.word ≡ Hands (ClearFrame t) → is_to_collective h.lesson old.payloads h.source.rank t.transfer ≡ true →
+    AnswerGives old h t (Ok tt) mid → LeavesFollowed n engines datagrams r mid (history ++ told_completion old.sessions.place.endpoint (completion_of mid))
+answer_follows shows hearing events n r engines datagrams history old mid h t f there comes hands is gives =
+    subst (λ (e : EngineState). LeavesFollowed n engines datagrams r e (history ++ told_completion old.sessions.place.endpoint (completion_of e))) (sym gives.1)
+    (taken_follows shows hearing events n r engines datagrams history old h t f there comes hands is gives.0)
