@@ -11,8 +11,24 @@ ghost use Rattle.perfect_groups.specs.CallLaws.{
   WorldIsAsBefore,
   WorldIsOfFirstIncarnations,
 };
-ghost use Rattle.perfect_groups.specs.Collectives.{allreduce, part_of};
-ghost use Rattle.perfect_groups.specs.Examples.{falling_keys, four_choices, groups_made, three_maps, three_ranks, reduction_at};
+ghost use Rattle.perfect_groups.specs.Collectives.{allreduce, barrier, bcast, dup, gather, reduce, scatter, split};
+ghost use Rattle.perfect_groups.specs.Examples.{
+  affine_map,
+  allreduces,
+  barriers,
+  bcasts,
+  endings_of_three,
+  falling_keys,
+  four_choices,
+  gathers,
+  groups_made,
+  reduces,
+  scatters,
+  three_ranks,
+  waits_of_three,
+  with_nothing,
+  with_numbers,
+};
 ghost use Rattle.perfect_groups.specs.Laws.{
   AgreeingRecordsAreOne,
   AlikeNeverDiffer,
@@ -55,13 +71,32 @@ pub fn calls_hold_together()
     ensures world_is_of_first { WorldIsOfFirstIncarnations }
 {}
 
-/// States examples of what members leave with. Those of one colour are in the order of their keys, and in that of their old
-/// ranks where keys are equal; colours rise; who gives none is in no group (MPI 3.1, 6.4.2). A reduction is the left fold
-/// in rank order (5.9). It does nothing when it is called.
+/// States examples of whom members wait for and what they leave with. In a split, those of one colour are in the order of their
+/// keys, and in that of their old ranks where keys are equal; colours rise; who gives none is in no group (MPI 3.1, 6.4.2).
+///
+/// Three ranks enter each other kind, whose root, where it has one, isn't rank 0; a clause has one item for each rank. In a
+/// bcast and a scatter each waits for the root; in a gather and a reduce the root waits for all, and each other rank for itself
+/// alone; else all wait for all. A bcast gives the root's numbers to the others, and nothing to the root; a gather gives the root all
+/// blocks in rank order, and nothing to the others; a scatter gives each rank its own block; a reduce gives the root the left
+/// fold in rank order, and nothing to the others, an allreduce gives it to all; a barrier gives nobody anything (5.3 to 5.9).
+/// It does nothing when it is called.
 pub fn examples_come_out()
     ensures ties_keep_rank_order { groups_made (0 ∷ 1 ∷ 2 ∷ 3 ∷ []) four_choices ≡ (1 ∷ []) ∷ (0 ∷ 2 ∷ []) ∷ [] }
     ensures keys_rise { groups_made (0 ∷ 1 ∷ 2 ∷ []) falling_keys ≡ (2 ∷ 1 ∷ 0 ∷ []) ∷ [] }
-    ensures folds_in_rank_order { reduction_at 1 three_ranks three_maps ≡ Some (103079215143 ∷ []) }
+    ensures waits_in_bcast { waits_of_three bcast 1 ≡ (1 ∷ []) ∷ (1 ∷ []) ∷ (1 ∷ []) ∷ [] }
+    ensures waits_in_gather { waits_of_three gather 1 ≡ (0 ∷ []) ∷ three_ranks ∷ (2 ∷ []) ∷ [] }
+    ensures waits_in_scatter { waits_of_three scatter 1 ≡ (1 ∷ []) ∷ (1 ∷ []) ∷ (1 ∷ []) ∷ [] }
+    ensures waits_in_reduce { waits_of_three reduce 2 ≡ (0 ∷ []) ∷ (1 ∷ []) ∷ three_ranks ∷ [] }
+    ensures waits_in_barrier { waits_of_three barrier 0 ≡ three_ranks ∷ three_ranks ∷ three_ranks ∷ [] }
+    ensures waits_in_allreduce { waits_of_three allreduce 0 ≡ three_ranks ∷ three_ranks ∷ three_ranks ∷ [] }
+    ensures waits_in_dup { waits_of_three dup 0 ≡ three_ranks ∷ three_ranks ∷ three_ranks ∷ [] }
+    ensures waits_in_split { waits_of_three split 0 ≡ three_ranks ∷ three_ranks ∷ three_ranks ∷ [] }
+    ensures bcast_gives { endings_of_three bcasts ≡ with_numbers (4 ∷ 5 ∷ []) ∷ with_nothing ∷ with_numbers (4 ∷ 5 ∷ []) ∷ [] }
+    ensures gather_gives { endings_of_three gathers ≡ with_nothing ∷ with_numbers (8 ∷ 9 ∷ 4 ∷ 5 ∷ 6 ∷ 7 ∷ []) ∷ with_nothing ∷ [] }
+    ensures scatter_gives { endings_of_three scatters ≡ with_numbers (8 ∷ 9 ∷ []) ∷ with_numbers (4 ∷ 5 ∷ []) ∷ with_numbers (6 ∷ 7 ∷ []) ∷ [] }
+    ensures reduce_gives { endings_of_three reduces ≡ with_nothing ∷ with_nothing ∷ with_numbers (affine_map 24 39 ∷ []) ∷ [] }
+    ensures allreduce_gives { endings_of_three allreduces ≡ with_numbers (affine_map 24 39 ∷ []) ∷ with_numbers (affine_map 24 39 ∷ []) ∷ with_numbers (affine_map 24 39 ∷ []) ∷ [] }
+    ensures barrier_gives { endings_of_three barriers ≡ with_nothing ∷ with_nothing ∷ with_nothing ∷ [] }
 {}
 
 #[cfg(test)]
