@@ -22,12 +22,14 @@ ghost use Rattle.perfect_groups.specs.Examples.{
   four_choices,
   gathers,
   groups_made,
+  numbers,
+  one_map,
   reduces,
   scatters,
   three_ranks,
   waits_of_three,
+  with_elements,
   with_nothing,
-  with_numbers,
 };
 ghost use Rattle.perfect_groups.specs.Laws.{
   AgreeingRecordsAreOne,
@@ -91,11 +93,11 @@ pub fn examples_come_out()
     ensures waits_in_allreduce { waits_of_three allreduce 0 ≡ three_ranks ∷ three_ranks ∷ three_ranks ∷ [] }
     ensures waits_in_dup { waits_of_three dup 0 ≡ three_ranks ∷ three_ranks ∷ three_ranks ∷ [] }
     ensures waits_in_split { waits_of_three split 0 ≡ three_ranks ∷ three_ranks ∷ three_ranks ∷ [] }
-    ensures bcast_gives { endings_of_three bcasts ≡ with_numbers (4 ∷ 5 ∷ []) ∷ with_nothing ∷ with_numbers (4 ∷ 5 ∷ []) ∷ [] }
-    ensures gather_gives { endings_of_three gathers ≡ with_nothing ∷ with_numbers (8 ∷ 9 ∷ 4 ∷ 5 ∷ 6 ∷ 7 ∷ []) ∷ with_nothing ∷ [] }
-    ensures scatter_gives { endings_of_three scatters ≡ with_numbers (8 ∷ 9 ∷ []) ∷ with_numbers (4 ∷ 5 ∷ []) ∷ with_numbers (6 ∷ 7 ∷ []) ∷ [] }
-    ensures reduce_gives { endings_of_three reduces ≡ with_nothing ∷ with_nothing ∷ with_numbers (affine_map 24 39 ∷ []) ∷ [] }
-    ensures allreduce_gives { endings_of_three allreduces ≡ with_numbers (affine_map 24 39 ∷ []) ∷ with_numbers (affine_map 24 39 ∷ []) ∷ with_numbers (affine_map 24 39 ∷ []) ∷ [] }
+    ensures bcast_gives { endings_of_three bcasts ≡ with_elements (numbers (4 ∷ 5 ∷ [])) ∷ with_nothing ∷ with_elements (numbers (4 ∷ 5 ∷ [])) ∷ [] }
+    ensures gather_gives { endings_of_three gathers ≡ with_nothing ∷ with_elements (numbers (8 ∷ 9 ∷ 4 ∷ 5 ∷ 6 ∷ 7 ∷ [])) ∷ with_nothing ∷ [] }
+    ensures scatter_gives { endings_of_three scatters ≡ with_elements (numbers (8 ∷ 9 ∷ [])) ∷ with_elements (numbers (4 ∷ 5 ∷ [])) ∷ with_elements (numbers (6 ∷ 7 ∷ [])) ∷ [] }
+    ensures reduce_gives { endings_of_three reduces ≡ with_nothing ∷ with_nothing ∷ with_elements (one_map (affine_map 24 39)) ∷ [] }
+    ensures allreduce_gives { endings_of_three allreduces ≡ with_elements (one_map (affine_map 24 39)) ∷ with_elements (one_map (affine_map 24 39)) ∷ with_elements (one_map (affine_map 24 39)) ∷ [] }
     ensures barrier_gives { endings_of_three barriers ≡ with_nothing ∷ with_nothing ∷ with_nothing ∷ [] }
 {}
 

@@ -157,9 +157,11 @@ arrive e d target c k r (given.Elements FromRoot b) x n inc st w fits made = go 
     go (Some t) q =
         arrived e d target c k r (given.Elements FromRoot b) x n st (said.Elements FromRoot (record { basic = t.basic; values = values_of (size_of t.basic) (bytes_of (size_of b.basic) b.values) }))
         (ap (λ (o : Option Elements). option_map (λ e. said.Elements FromRoot (record { basic = e.basic; values = values_of (size_of e.basic) (bytes_of (size_of b.basic) b.values) })) o) q) made
-        (st.stands.1 ∙ ap (λ (vs : List ℕ). HasResult (record_of r) (Some vs))
-        (sym (values_back b.basic t.basic b.values (same_Some _ _ (sym (ap (λ (o : Option Elements). option_map (λ t. t.basic) o) q) ∙ st.stands.0)) w)))
+        (st.stands.1 ∙ (λ u. HasResult (record_of r) (Some (record { basic = sym of_type u; values = sym (values_back b.basic t.basic b.values of_type w) u }))))
         (as_said r b t q fits)
+      where
+        of_type : t.basic ≡ b.basic
+        of_type = same_Some _ _ (sym (ap (λ (o : Option Elements). option_map (λ t. t.basic) o) q) ∙ st.stands.0)
 arrive e d target c k r (given.Context number) x n inc st w fits made = arrived e d target c k r (given.Context number) x n st (said.Context number) refl made st.stands fits
 arrive e d target c k r (given.Choice a) x n inc st w fits made = arrived e d target c k r (given.Choice a) x n st (said.Choice a) refl made st.stands fits
 arrive e d target c k r given.NullCommunicator x n inc st w fits made = arrived e d target c k r given.NullCommunicator x n st said.NullCommunicator refl made st.stands fits

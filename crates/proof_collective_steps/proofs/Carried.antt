@@ -197,14 +197,14 @@ decides e s h m b place c inc k entries.Barrier at own ranks once hands ps d ste
     I = inside place c inc k entries.Barrier
 decides e s h m b place c inc k (entries.Bcast root x) at own ranks once hands ps d step q = decides_bcast e s h m b place c inc k root x at ranks ps d.0 d.1 d.2 step q
 decides e s h m b place c inc k (entries.Gather root x) at own ranks once hands ps d step q =
-    decides_inwards e s h m b I at ranks root (steps.gathered e I s.kept ranks x) (gathered ps) d.0 d.1 (gathered_by e I ranks s.kept root x ps refl d.0 d.2) step q
+    decides_inwards e s h m b I at ranks root (steps.gathered e I s.kept ranks x) (record { basic = x.basic; values = gathered ps }) d.0 d.1 (gathered_by e I ranks s.kept root x ps refl d.0 d.2) step q
   where
     I : Inside
     I = inside place c inc k (entries.Gather root x)
 decides e s h m b place c inc k (entries.Scatter r x) at own ranks once hands ps d step q =
     decides_scatter e s h m b place c inc k r x at own ranks once hands ps d.0 d.1 d.2 step q
 decides e s h m b place c inc k (entries.Reduce o root x) at own ranks once hands ps d step q =
-    decides_inwards e s h m b I at ranks root (steps.reduced e I s.kept ranks o x) (reduced (combined_by (Some (op_of o)) (Some x.basic)) ps) d.0 d.1
+    decides_inwards e s h m b I at ranks root (steps.reduced e I s.kept ranks o x) (record { basic = x.basic; values = reduced (combined_by (Some (op_of o)) (Some x.basic)) ps }) d.0 d.1
     (reduced_by e I ranks s.kept o root x ps hands refl d.0 d.2) step q
   where
     I : Inside
@@ -300,7 +300,7 @@ hears e s h m b i at own ranks r (said.Nothing FromRoot) w st res fits ag g o q 
 hears e s h m b i at own ranks r (said.Elements TowardsRoot c) w st res fits ag g o q = absurd cc
 hears e s h m b i at own ranks r (said.Elements FromRoot c) w st res fits ag g o q =
     subst (λ (v : Outcome). HeardLeaves e s h m i w v) (sym q)
-    (subst (λ (v : network.Said). HeardLeaves e s h m i v (outcomes.Leaves (Some c))) (sym st) (leaves e s h m b i at (Some c) (Some c.values) refl m.serial refl))
+    (subst (λ (v : network.Said). HeardLeaves e s h m i v (outcomes.Leaves (Some c))) (sym st) (leaves e s h m b i at (Some c) (Some c) refl m.serial refl))
 hears e s h m b i at own ranks r (said.Context number) w st res fits ag g o q =
     subst (λ (v : Outcome). HeardLeaves e s h m i w v) (sym q.2)
     (subst (λ (v : network.Said). HeardLeaves e s h m i v (outcomes.Gets X)) (sym st.1)

@@ -111,21 +111,21 @@ apart_said e i g f stands (r ∷ rs) = go (is_same (member_at i.incarnation r) e
 -- LEAVING WITH ELEMENTS
 
 -- a rank leaves with these elements or none
-pub leaves : (e : Endpoint) (s : State) (h : ContextsState) (m : Member) → IsShown e s h m None → (i : Inside) → s.present ≡ Some i → (o : Option Contents) (v : Option (List ℕ)) → v ≡ option_map (λ x. x.values) o → (n : ℕ) → n ≡ m.serial →
+pub leaves : (e : Endpoint) (s : State) (h : ContextsState) (m : Member) → IsShown e s h m None → (i : Inside) → s.present ≡ Some i → (o v : Option Contents) → v ≡ o → (n : ℕ) → n ≡ m.serial →
     IsShown e (after_step s (outcomes.Leaves o)) (contexts_after h 0 (outcomes.Leaves o))
     (record { membership = record m.membership { present = Some (Out (Left v)) }; serial = n; kept = network.without i.context i.number m.kept }) (ending_of h (outcomes.Leaves o))
 leaves e s h m b i at o v is n same =
     leaving e s h m b i at (record h { next_serial = h.next_serial + 0 }) n (record m.membership { present = Some (Out (Left v)) }) (endings.Left o) b.rank b.incarnation
-    (let z : h.next_serial ≡ h.next_serial + 0 = omega arith in same ∙ (b.serial ∙ z)) (omega (arith, b.two)) b.held (λ c. refl) (ap (λ (x : Option (List ℕ)). Some (Out (Left x))) is)
+    (let z : h.next_serial ≡ h.next_serial + 0 = omega arith in same ∙ (b.serial ∙ z)) (omega (arith, b.two)) b.held (λ c. refl) (ap (λ (x : Option Contents). Some (Out (Left x))) is)
 
 abbrev pub inside : (place context incarnation number : ℕ) → Entry → Inside
 inside place c inc k y = record { place = place; context = c; incarnation = inc; number = k; entry = y }
 
 -- what a member's effect is that leaves with this, and tells this
-abbrev pub left_and_told : Member → (c k : ℕ) → Option (List ℕ) → List (Endpoint × Notice) → MemberEffect
+abbrev pub left_and_told : Member → (c k : ℕ) → Option Contents → List (Endpoint × Notice) → MemberEffect
 left_and_told m c k v out = record { member = record { membership = record m.membership { present = Some (Out (Left v)) }; serial = m.serial + 0; kept = network.without c k m.kept }; out = out }
 
 -- a step that leaves so, and tells so
-pub leaves_telling : (e : Endpoint) (s : State) (h : ContextsState) (m : Member) → IsShown e s h m None → (i : Inside) → s.present ≡ Some i → (o : Option Contents) (v : Option (List ℕ)) → v ≡ option_map (λ x. x.values) o →
+pub leaves_telling : (e : Endpoint) (s : State) (h : ContextsState) (m : Member) → IsShown e s h m None → (i : Inside) → s.present ≡ Some i → (o v : Option Contents) → v ≡ o →
     (ms : List Message) (out : List (Endpoint × Notice)) → AreSaid e ms out → Follows e s h (record { outcome = outcomes.Leaves o; drawn = 0; messages = ms }) (left_and_told m i.context i.number v out)
 leaves_telling e s h m b i at o v is ms out said = (leaves e s h m b i at o v is (m.serial + 0) (omega arith), said)

@@ -28,7 +28,7 @@ use Rattle.payload.specs.declared.record.Elements.{Elements}
 use Rattle.payload.specs.declared.record.Rooted.{Rooted}
 use Rattle.perfect_groups.specs.Collectives.{Part, scattered_values}
 use Rattle.perfect_groups.specs.Operations.{combined_by}
-use Rattle.perfect_groups.specs.Results.{block_at, gathered, has_rank, place_of, reduced}
+use Rattle.perfect_groups.specs.Results.{gathered, has_rank, place_of, reduced}
 use Rattle.proof_collective_steps.proofs.KeptNotes.{BlocksAre}
 use Rattle.proof_collective_steps.proofs.Middle.{at_place, at_same, gathered_is, made_of, other_rank, place_back, rank_back, reduced_is}
 use Rattle.proof_collective_steps.proofs.Verdicts.{DecidesBy, here}
@@ -51,13 +51,13 @@ decides_bcast e s h m b place c inc k root x at ranks ps false u d step q = absu
 decides_bcast e s h m b place c inc k root x at ranks ps true u d step q =
     subst (λ (st : Prepared). Follows e s h st (carried_out e m (here I ranks) k P (network.Decides ps))) (sym q)
     (subst (λ (zs : List Part). Follows e s h (steps.bcast_step e I ranks x) (carried_out e m (here I ranks) k P (network.Decides zs))) (sym d)
-    (leaves_telling e s h m b I at None (handed e) (ap (λ (v : Bool). if v then None else Some (gathered (P ∷ []))) there) _ _
+    (leaves_telling e s h m b I at None (handed e) (ap (λ (v : Bool). if v then None else Some (whole (P ∷ []))) there) _ _
     (apart_said e I (given.Elements FromRoot x) (λ z. HasResult P.record_is (handed z))
     (λ z other. (
       refl,
-      ap (λ (v : Option (List ℕ)). HasResult P.record_is v)
-          (ap (λ (v : Bool). if v then None else Some (gathered (P ∷ []))) (other_rank e z (map (member_at inc) ranks) root there other)
-          ∙ ap (λ (vs : List ℕ). Some vs) (append-nil x.values)),
+      ap (λ (v : Option Contents). HasResult P.record_is v)
+          (ap (λ (v : Bool). if v then None else Some (whole (P ∷ []))) (other_rank e z (map (member_at inc) ranks) root there other)
+          ∙ ap (λ (vs : List ℕ). Some (record { basic = x.basic; values = vs })) (append-nil x.values)),
     )) ranks)))
   where
     I : Inside
@@ -69,37 +69,38 @@ decides_bcast e s h m b place c inc k root x at ranks ps true u d step q =
     there : has_rank e (map (member_at inc) ranks) root ≡ true
     there = at_same e inc ranks root ∙ u
 
-    handed : Endpoint → Option (List ℕ)
-    handed z = if has_rank z (map (member_at inc) ranks) root then None else Some (gathered (P ∷ []))
+    whole : List Part → Contents
+    whole ps = record { basic = x.basic; values = gathered ps }
+
+    handed : Endpoint → Option Contents
+    handed z = if has_rank z (map (member_at inc) ranks) root then None else Some (whole (P ∷ []))
 
 -- where messages go inwards alone, the root leaves with what was made, and who isn't the root with nothing
-pub decides_inwards : (e : Endpoint) (s : State) (h : ContextsState) (m : Member) → IsShown e s h m None → (i : Inside) → s.present ≡ Some i → (ranks : List ℕ) (root : ℕ) (made : Option Contents) (v : List ℕ) →
-    (t : Bool) → is_at e i.incarnation ranks root ≡ t → (t ≡ true → (x : Contents) × (made ≡ Some x) × (x.values ≡ v)) →
+pub decides_inwards : (e : Endpoint) (s : State) (h : ContextsState) (m : Member) → IsShown e s h m None → (i : Inside) → s.present ≡ Some i → (ranks : List ℕ) (root : ℕ) (made : Option Contents) (x : Contents) →
+    (t : Bool) → is_at e i.incarnation ranks root ≡ t → (t ≡ true → made ≡ Some x) →
     (step : Prepared) → step ≡ (if is_at e i.incarnation ranks root then steps.leaving_with made else steps.leaving None) →
-    Follows e s h step (left_and_told m i.context i.number (if has_rank e (map (member_at i.incarnation) ranks) root then Some v else None) [])
-decides_inwards e s h m b i at ranks root made v false u is step q =
-    subst (λ (st : Prepared). Follows e s h st (left_and_told m i.context i.number (if has_rank e (map (member_at i.incarnation) ranks) root then Some v else None) []))
+    Follows e s h step (left_and_told m i.context i.number (if has_rank e (map (member_at i.incarnation) ranks) root then Some x else None) [])
+decides_inwards e s h m b i at ranks root made x false u is step q =
+    subst (λ (st : Prepared). Follows e s h st (left_and_told m i.context i.number (if has_rank e (map (member_at i.incarnation) ranks) root then Some x else None) []))
     (sym (q ∙ ap (λ (w : Bool). if w then steps.leaving_with made else steps.leaving None) u))
-    (leaves_telling e s h m b i at None _ (ap (λ (w : Bool). if w then Some v else None) (at_same e i.incarnation ranks root ∙ u)) [] [] tt)
-decides_inwards e s h m b i at ranks root made v true u is step q =
-    let of = is refl in
-    subst (λ (st : Prepared). Follows e s h st (left_and_told m i.context i.number (if has_rank e (map (member_at i.incarnation) ranks) root then Some v else None) []))
-    (sym (q ∙ (ap (λ (w : Bool). if w then steps.leaving_with made else steps.leaving None) u ∙ ap (λ (o : Option Contents). steps.leaving_with o) of.1)))
-    (leaves_telling e s h m b i at (Some of.0) _
-    (ap (λ (w : Bool). if w then Some v else None) (at_same e i.incarnation ranks root ∙ u) ∙ ap (λ (vs : List ℕ). Some vs) (sym of.2)) [] [] tt)
+    (leaves_telling e s h m b i at None _ (ap (λ (w : Bool). if w then Some x else None) (at_same e i.incarnation ranks root ∙ u)) [] [] tt)
+decides_inwards e s h m b i at ranks root made x true u is step q =
+    subst (λ (st : Prepared). Follows e s h st (left_and_told m i.context i.number (if has_rank e (map (member_at i.incarnation) ranks) root then Some x else None) []))
+    (sym (q ∙ (ap (λ (w : Bool). if w then steps.leaving_with made else steps.leaving None) u ∙ ap (λ (o : Option Contents). steps.leaving_with o) (is refl))))
+    (leaves_telling e s h m b i at (Some x) _ (ap (λ (w : Bool). if w then Some x else None) (at_same e i.incarnation ranks root ∙ u)) [] [] tt)
 
 -- to each other member its block
 blocks_said : (e : Endpoint) (i : Inside) (all : Contents) (count : ℕ) → option_map (λ t. t.basic) (elements_of (entering.record_of i.entry)) ≡ Some all.basic → (place : Endpoint → ℕ) (rs : List ℕ) (n : ℕ) →
     ((j r : ℕ) → slice_get rs j ≡ Some r → place (member_at i.incarnation r) ≡ n + j) →
     AreSaid e (steps.blocks_to e i all count n rs)
-    (network.to_others e (λ z. notice i.context i.number (HasResult (record_of (entering.record_of i.entry)) (Some (block_at (place z) count all.values)))) (map (member_at i.incarnation) rs))
+    (network.to_others e (λ z. notice i.context i.number (HasResult (record_of (entering.record_of i.entry)) (Some (steps.block_of all count (place z))))) (map (member_at i.incarnation) rs))
 blocks_said e i all count basic place [] n at = tt
 blocks_said e i all count basic place (r ∷ rs) n at =
     go (is_same (member_at i.incarnation r) e)
     (blocks_said e i all count basic place rs (suc n) (λ j x q. let z : n + suc j ≡ suc n + j = omega arith in at (suc j) x q ∙ z))
   where
     told : Endpoint → Notice
-    told z = notice i.context i.number (HasResult (record_of (entering.record_of i.entry)) (Some (block_at (place z) count all.values)))
+    told z = notice i.context i.number (HasResult (record_of (entering.record_of i.entry)) (Some (steps.block_of all count (place z))))
 
     first : n ≡ place (member_at i.incarnation r)
     first = let z : n + 0 ≡ n = omega arith in sym (at 0 r refl ∙ z)
@@ -111,7 +112,7 @@ blocks_said e i all count basic place (r ∷ rs) n at =
     go true rest = rest
     go false rest = (
       said_to e i (given.Elements FromRoot (steps.block_of all count n)) r _
-          (basic, ap (λ p. HasResult (record_of (entering.record_of i.entry)) (Some (block_at p count all.values))) (sym first)),
+          (basic, ap (λ p. HasResult (record_of (entering.record_of i.entry)) (Some (steps.block_of all count p))) (sym first)),
       rest,
     )
 
@@ -130,9 +131,9 @@ decides_scatter e s h m b place c inc k r x at own ranks once hands ps false u d
 decides_scatter e s h m b place c inc k r x at own ranks once hands ps true u d step q =
     subst (λ (st : Prepared). Follows e s h st (carried_out e m (here I ranks) k P (network.Decides ps))) (sym (q ∙ whole))
     (subst (λ (zs : List Part). Follows e s h scattered (carried_out e m (here I ranks) k P (network.Decides zs))) (sym d)
-    (leaves_telling e s h m b I at (Some (steps.block_of all count r.root)) (Some (block_at (place_of e MS) count (scattered_values x ++ []))) own_block _ _
-    (subst (λ (vs : List ℕ). AreSaid e (steps.blocks_to e I all count 0 ranks) (network.to_others e (λ z. notice c k (HasResult P.record_is (Some (block_at (place_of z MS) count vs)))) MS))
-    (sym (handed_alone r.elements x))
+    (leaves_telling e s h m b I at (Some (steps.block_of all count r.root)) (Some (steps.block_of entered count (place_of e MS))) own_block _ _
+    (subst (λ (y : Contents). AreSaid e (steps.blocks_to e I all count 0 ranks) (network.to_others e (λ z. notice c k (HasResult P.record_is (Some (steps.block_of y count (place_of z MS))))) MS))
+    (sym entered_is)
     (blocks_said e I all count (ap (λ y. Some y) (sym blocks.0)) (λ z. place_of z MS) ranks 0 (λ j y there. let z : j ≡ 0 + j = omega arith in place_back inc ranks once j y there ∙ z)))))
   where
     I : Inside
@@ -167,8 +168,14 @@ decides_scatter e s h m b place c inc k r x at own ranks once hands ps true u d 
     own_place : place_of e MS ≡ r.root
     own_place = ap (λ (z : Endpoint). place_of z MS) (λ t. record { rank = e.rank; incarnation = own t }) ∙ place_back inc ranks once r.root e.rank stands
 
-    own_block : Some (block_at (place_of e MS) count (scattered_values x ++ [])) ≡ Some (block_at r.root count all.values)
-    own_block = λ t. Some (block_at (own_place t) count (handed_alone r.elements x t))
+    entered : Contents
+    entered = record { basic = r.elements.basic; values = scattered_values x ++ [] }
+
+    entered_is : entered ≡ all
+    entered_is = λ t. record { basic = sym blocks.0 t; values = handed_alone r.elements x t }
+
+    own_block : Some (steps.block_of entered count (place_of e MS)) ≡ Some (steps.block_of all count r.root)
+    own_block = λ t. Some (steps.block_of (entered_is t) count (own_place t))
 
 -- an allreduce: all get the fold (5.9.6)
 pub decides_allreduce : (e : Endpoint) (s : State) (h : ContextsState) (m : Member) → IsShown e s h m None → (place c inc k : ℕ) (o : Operation) (x : Contents) → s.present ≡ Some (inside place c inc k (entries.Allreduce o x)) →
@@ -179,7 +186,7 @@ decides_allreduce e s h m b place c inc k o x at ranks defined ps false d step q
 decides_allreduce e s h m b place c inc k o x at ranks defined ps true d step q =
     subst (λ (st : Prepared). Follows e s h st (carried_out e m (here I ranks) k P (network.Decides ps)))
     (sym (q ∙ ap (λ (y : Option Contents). steps.telling_all e I ranks y) (reduced_is e I s.kept ranks o x ps d.blocks defined)))
-    (leaves_telling e s h m b I at (Some R) (Some R.values) refl _ _ (some_said e I (given.Elements FromRoot R) (HasResult P.record_is (Some R.values)) (refl, refl) ranks))
+    (leaves_telling e s h m b I at (Some R) (Some R) refl _ _ (some_said e I (given.Elements FromRoot R) (HasResult P.record_is (Some R)) (refl, refl) ranks))
   where
     I : Inside
     I = inside place c inc k (entries.Allreduce o x)
@@ -192,16 +199,13 @@ decides_allreduce e s h m b place c inc k o x at ranks defined ps true d step q 
 
 -- the root of a gather leaves with what it gathered, where that is known
 pub gathered_by : (e : Endpoint) (i : Inside) (ranks : List ℕ) (ns : List Note) (root : ℕ) (x : Contents) (ps : List Part) → i.entry ≡ entries.Gather root x → (t : Bool) → DecidesBy Inwards t e i ranks ns ps → t ≡ true →
-    (y : Contents) × (steps.gathered e i ns ranks x ≡ Some y) × (y.values ≡ gathered ps)
+    steps.gathered e i ns ranks x ≡ Some (record { basic = x.basic; values = gathered ps })
 gathered_by e i ranks ns root x ps is false d q = absurd (false≢true q)
 gathered_by e i ranks ns root x ps is true d q =
-    (record { basic = x.basic; values = gathered ps }, gathered_is e i ns ranks x ps (subst (λ (y : Entry). BlocksAre (made_of y) (λ z. blocks_known e z i.incarnation i.context i.number ns ranks) ps) is d.blocks), refl)
+    gathered_is e i ns ranks x ps (subst (λ (y : Entry). BlocksAre (made_of y) (λ z. blocks_known e z i.incarnation i.context i.number ns ranks) ps) is d.blocks)
 
 pub reduced_by : (e : Endpoint) (i : Inside) (ranks : List ℕ) (ns : List Note) (o : Operation) (root : ℕ) (x : Contents) (ps : List Part) → is_defined (op_of o) x.basic ≡ true → i.entry ≡ entries.Reduce o root x → (t : Bool) → DecidesBy Inwards t e i ranks ns ps → t ≡ true →
-    (y : Contents) × (steps.reduced e i ns ranks o x ≡ Some y) × (y.values ≡ reduced (combined_by (Some (op_of o)) (Some x.basic)) ps)
+    steps.reduced e i ns ranks o x ≡ Some (record { basic = x.basic; values = reduced (combined_by (Some (op_of o)) (Some x.basic)) ps })
 reduced_by e i ranks ns o root x ps defined is false d q = absurd (false≢true q)
-reduced_by e i ranks ns o root x ps defined is true d q = (
-  record { basic = x.basic; values = reduced (combined_by (Some (op_of o)) (Some x.basic)) ps },
-  reduced_is e i ns ranks o x ps (subst (λ (y : Entry). BlocksAre (made_of y) (λ z. blocks_known e z i.incarnation i.context i.number ns ranks) ps) is d.blocks) defined,
-  refl,
-)
+reduced_by e i ranks ns o root x ps defined is true d q =
+    reduced_is e i ns ranks o x ps (subst (λ (y : Entry). BlocksAre (made_of y) (λ z. blocks_known e z i.incarnation i.context i.number ns ranks) ps) is d.blocks) defined

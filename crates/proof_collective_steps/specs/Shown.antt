@@ -1,5 +1,5 @@
 -- When what a rank keeps of collectives and communicators stands for its member of the pure network.
-use Rattle.std.specs.Prelude.{◌≡◌, ℕ, ◌≤◌, map, option_map, Option, Some, None, slice_get}
+use Rattle.std.specs.Prelude.{◌≡◌, ℕ, ◌≤◌, map, Option, Some, None, slice_get}
 use Rattle.collectives.specs.State.{State, members_incarnation}
 use Rattle.collective_notes.specs.Tallies.{count_in}
 use Rattle.collective_notes.specs.declared.entry.Inside as code
@@ -33,7 +33,7 @@ IsPresent e h (Some i) p = IsInside e h i p
 
 -- how a collective ends
 abbrev pub ending_is : steps.Ending → Ending
-ending_is (endings.Left b) = Left (option_map (λ x. x.values) b)
+ending_is (endings.Left b) = Left b
 ending_is (endings.Comm place) = Comm place
 ending_is endings.Replaced = Failed 11
 ending_is endings.Mismatch = Failed 12
