@@ -1,7 +1,6 @@
 -- A payload that was announced, and one that comes in pieces.
-use Rattle.std.specs.Prelude.{◌≡◌, ℕ, ◌==◌, ◌&&◌, ◌≤◌, Bool, List, [], ◌++◌, length}
+use Rattle.std.specs.Prelude.{ℕ, ◌==◌, ◌&&◌, ◌≤◌, Bool, List, ◌++◌, length, take}
 use Rattle.rendezvous.specs.Pieces.{is_next_piece}
-use Rattle.collective_transfers.specs.declared.payloads.WholePayload.{WholePayload}
 
 -- a payload that this rank announced: the rank to which it goes, the number of its transfer in the session with that, and its bytes
 pub record Announced : Type 0 where
@@ -30,6 +29,12 @@ pub record Whole : Type 0 where
   pub number : ℕ
   pub bytes : List ℕ
 
+-- a payload that was taken out with its last piece: the place at which it stood, what it was before that piece, and what it says
+pub record Taken : Type 0 where
+  pub place : ℕ
+  pub before : Coming
+  pub whole : Whole
+
 -- whether a payload is the transfer to a rank that has this number
 abbrev pub is_to : (target transfer : ℕ) → Announced → Bool
 is_to target transfer a = (a.target == target) && (a.transfer == transfer)
@@ -54,6 +59,6 @@ is_whole c = length c.bytes == c.total
 abbrev pub whole_of : Coming → Whole
 whole_of c = record { context = c.context; number = c.number; bytes = c.bytes }
 
--- what a value of the program says
-abbrev pub whole_text : WholePayload → Whole
-whole_text w = record { context = w.context; number = w.number; bytes = w.bytes.items }
+-- with no more than its first bytes, so many
+abbrev pub cut_to : ℕ → Coming → Coming
+cut_to count c = record c { bytes = take count c.bytes }

@@ -1,6 +1,6 @@
 -- The payloads that a rank announced and those that come to it, and what each step does to them.
-use Rattle.std.specs.Prelude.{ℕ, ◌==◌, not, Bool, false, List, [], ◌∷◌, ◌++◌, Option, Some, None, is_some, position, remove, filter, slice_get, slice_set, slice_index_or, if◌then◌else◌}
-use Rattle.collective_transfers.specs.Payloads.{Announced, Coming, Whole, is_from, is_to, is_whole, takes, whole_of, with_piece}
+use Rattle.std.specs.Prelude.{ℕ, ◌==◌, not, Bool, false, List, [], ◌∷◌, ◌++◌, Option, Some, None, position, insert, remove, filter, slice_get, slice_set, slice_index_or, if◌then◌else◌}
+use Rattle.collective_transfers.specs.Payloads.{Announced, Coming, Taken, Whole, is_from, is_to, is_whole, takes, whole_of, with_piece}
 
 -- the oldest first
 pub record State : Type 0 where
@@ -108,6 +108,10 @@ after_begin s c = record s { coming = s.coming ++ c ∷ [] }
 -- the next piece of a transfer has come
 abbrev pub after_data : State → (rank transfer : ℕ) → List ℕ → State
 after_data s rank transfer piece = record s { coming = with_data_at s.coming (place_from rank transfer s.coming) piece }
+
+-- a payload that was taken out with its last piece stands again where it stood, as it was before that piece
+abbrev pub after_return : State → Taken → State
+after_return s t = record s { coming = insert s.coming t.place t.before }
 
 -- a rank is known at a new incarnation: what was announced to it and what comes from it is gone
 abbrev pub after_drop : State → (rank : ℕ) → State

@@ -1,8 +1,8 @@
-//! A payload that was announced, one that comes in pieces, and one that has come.
+//! A payload that was announced, one that comes in pieces, and one that has come whole.
 
 ghost use Rattle.std.specs.Prelude.{◌≡◌, ◌+◌, ◌≤◌, ◌++◌, [], length, IfOk};
 ghost use Rattle.vocabulary.specs.Limits.{send_limit};
-ghost use Rattle.collective_transfers.specs.Payloads.{is_from, is_to, is_whole, takes, whole_of, whole_text, with_piece};
+ghost use Rattle.collective_transfers.specs.Payloads.{cut_to, is_from, is_to, is_whole, takes, whole_of, with_piece};
 
 use rendezvous::is_next_piece;
 use std::alloc::Global;
@@ -94,15 +94,25 @@ impl Model for ComingPayload {
     ghost invariant = { λ p. IsBounded p.total p.bytes.items (vec_capacity p.bytes) };
 }
 
-/// A payload that has come whole, and the collective that it is of.
+/// A payload that has come whole with its last piece, taken out of those that come. It stands in the memory that was taken for it
+/// when it began to come, so it can be put back as it was before that piece.
 #[derive(Debug, Drop)]
 pub struct WholePayload {
-    /// The context of the communicator.
-    pub context: u64,
-    /// The number of the collective on the communicator.
-    pub number: u32,
-    /// Its bytes, of which the first 16 are the record of the collective.
-    pub bytes: Vec<u8>,
+    place: usize,
+    came: usize,
+    payload: ComingPayload,
+}
+
+impl Model for WholePayload {
+    ghost use Rattle.collective_transfers.specs.Payloads.{Taken, cut_to, whole_of};
+
+    ghost Value = { Taken };
+
+    ghost view = { λ p. record {
+      place = p.place;
+      before = cut_to p.came p.payload;
+      whole = whole_of p.payload;
+    } };
 }
 
 impl ComingPayload {
@@ -174,24 +184,63 @@ impl ComingPayload {
         self.bytes.extend_from_slice(bytes).unwrap();
     }
 
-    /// What it is with one more piece; or want of memory.
-    pub(crate) fn whole_with(
-        &self,
-        alloc: Global,
-        bytes: &[u8],
-    ) -> Result<WholePayload, OutOfMemory>
-        ensures { IfOk result (λ whole. whole_text whole ≡ whole_of (with_piece self.now bytes.now)) }
+    /// Of its bytes only so many are left.
+    fn cut(&mut self, count: usize)
+        ensures { self.new ≡ cut_to count self.old }
     {
-        let Ok(mut all) = Vec::from_slice(alloc, &self.bytes) else {
-            return Err(OutOfMemory {});
-        };
-        match all.extend_from_slice(bytes) {
-            Ok(()) => Ok(WholePayload {
-                context: self.context,
-                number: self.number,
-                bytes: all,
-            }),
-            Err(_) => Err(OutOfMemory {}),
+        self.bytes.truncate(count);
+    }
+}
+
+impl WholePayload {
+    /// A payload that stood at a place, with its last piece, for which there is room.
+    pub(crate) fn new(place: usize, mut payload: ComingPayload, bytes: &[u8]) -> Self
+        requires { length payload.bytes + length bytes.now ≤ payload.total }
+        ensures { result ≡ record { place = place; before = payload; whole = whole_of (with_piece payload bytes.now) } }
+    {
+        let came = payload.bytes.len();
+        payload.push(bytes);
+        WholePayload {
+            place,
+            came,
+            payload,
         }
+    }
+
+    /// The context of the communicator.
+    pub fn context(&self) -> u64
+        ensures { result ≡ self.now.whole.context }
+    {
+        self.payload.context
+    }
+
+    /// The number of the collective on the communicator.
+    pub fn number(&self) -> u32
+        ensures { result ≡ self.now.whole.number }
+    {
+        self.payload.number
+    }
+
+    /// Its bytes, of which the first 16 are the record of the collective.
+    pub fn bytes(&self) -> &[u8]
+        ensures { result.now ≡ self.now.whole.bytes }
+    {
+        &self.payload.bytes
+    }
+
+    /// The place at which it stood.
+    pub(crate) fn place(&self) -> usize
+        ensures { result ≡ self.now.place }
+    {
+        self.place
+    }
+
+    /// What it was before its last piece.
+    pub(crate) fn into_before(self) -> ComingPayload
+        ensures { result ≡ self.before }
+    {
+        let mut payload = self.payload;
+        payload.cut(self.came);
+        payload
     }
 }

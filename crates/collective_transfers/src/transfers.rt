@@ -1,9 +1,9 @@
 //! The payloads that a rank announced and those that come to it.
 
-ghost use Rattle.std.specs.Prelude.{◌≡◌, ◌+◌, ◌≤◌, ◌<◌, not, ◌==◌, false, true, filter, length, OnOk, OnErr, IfOk, slice_set, vec_len, vec_capacity, is_some, option_map};
+ghost use Rattle.std.specs.Prelude.{◌≡◌, ◌+◌, ◌≤◌, ◌<◌, not, ◌==◌, false, true, filter, insert, length, IfNone, IfSome, OnOk, OnSome, slice_set, vec_len, vec_capacity, is_some, option_map};
 ghost use Rattle.std.specs.Option.{option_copied};
-ghost use Rattle.collective_transfers.specs.Payloads.{Announced, Coming, is_whole, whole_text};
-ghost use Rattle.collective_transfers.specs.State.{after_announcing, after_answer, after_begin, after_data, after_drop, announced_at, announced_to, coming_at, coming_from, grown_at, is_due, is_taken, opening, place_from, place_to, whole_with, with_data_at, without};
+ghost use Rattle.collective_transfers.specs.Payloads.{Announced, Coming, Taken, is_whole};
+ghost use Rattle.collective_transfers.specs.State.{after_announcing, after_answer, after_begin, after_data, after_drop, after_return, announced_at, announced_to, coming_at, coming_from, grown_at, is_due, is_taken, opening, place_from, place_to, whole_by, whole_with, with_data_at, without};
 
 use crate::payloads::{AnnouncedPayload, ComingPayload, WholePayload};
 use std::alloc::Global;
@@ -116,6 +116,42 @@ fn take_piece(
     }
 }
 
+/// Takes out the payload of the transfer from the rank that has this number, with these bytes behind those that came before,
+/// where it is whole with them.
+#[tactic(auto, using(crate::proofs::Steps::insert_removed))]
+fn take_whole(
+    coming: &mut Vec<ComingPayload>,
+    source: u16,
+    transfer: u32,
+    bytes: &[u8],
+) -> Option<WholePayload>
+    ensures whole { option_map (λ (t : Taken). t.whole) result ≡ whole_by (coming_at coming.old.items (place_from source transfer coming.old.items)) bytes.now }
+    ensures rest { OnSome result (coming.new.items ≡ with_data_at coming.old.items (place_from source transfer coming.old.items) bytes.now) }
+    ensures back { IfSome result (λ t. insert coming.new.items t.place t.before ≡ coming.old.items) }
+    ensures place { IfSome result (λ t. t.place ≤ length coming.new.items) }
+    ensures fewer { OnSome result (vec_len coming.new + 1 ≡ vec_len coming.old) }
+    ensures kept { IfNone result (coming.new.items ≡ coming.old.items) }
+    ensures capacity { vec_capacity coming.new ≡ vec_capacity coming.old }
+{
+    let place = place_from(coming.as_slice(), source, transfer)?;
+    if !coming[place].is_last(bytes) {
+        return None;
+    }
+    let payload = coming.remove(place);
+    Some(WholePayload::new(place, payload, bytes))
+}
+
+/// Puts a payload in at a place, for which there is room.
+fn put_at(coming: &mut Vec<ComingPayload>, place: usize, payload: ComingPayload)
+    requires place { place ≤ length coming.old.items }
+    requires room { vec_len coming.old < vec_capacity coming.old }
+    ensures items { coming.new.items ≡ insert coming.old.items place payload }
+    ensures more { vec_len coming.new ≡ vec_len coming.old + 1 }
+    ensures capacity { vec_capacity coming.new ≡ vec_capacity coming.old }
+{
+    coming.insert(place, payload).unwrap();
+}
+
 fn drop_announced(announced: &mut Vec<AnnouncedPayload>, rank: u16)
     ensures items { announced.new.items ≡ filter (λ (a : Announced). not (a.target == rank)) announced.old.items }
     ensures bound { vec_len announced.new ≤ vec_len announced.old }
@@ -219,30 +255,6 @@ impl CollectiveTransfers {
         }
     }
 
-    /// The payload of the transfer from the rank that has this number, where it is whole with these bytes; or want of memory.
-    /// Nothing changes.
-    pub fn whole_with(
-        &self,
-        alloc: Global,
-        rank: u16,
-        transfer: u32,
-        bytes: &[u8],
-    ) -> Result<Option<WholePayload>, OutOfMemory>
-        ensures ok { IfOk result (λ whole. option_map whole_text whole ≡ whole_with self.now.state rank transfer bytes.now) }
-        ensures need { OnErr result (is_some (whole_with self.now.state rank transfer bytes.now) ≡ true) }
-    {
-        let Some(payload) = find_coming(&self.coming, rank, transfer) else {
-            return Ok(None);
-        };
-        if !payload.is_last(bytes) {
-            return Ok(None);
-        }
-        match payload.whole_with(alloc, bytes) {
-            Ok(whole) => Ok(Some(whole)),
-            Err(refused) => Err(refused),
-        }
-    }
-
     /// Takes the next piece of the transfer from the rank that has this number; with its last piece it comes no more. It takes
     /// no memory.
     pub fn on_data(&mut self, rank: u16, transfer: u32, offset: u32, bytes: &[u8])
@@ -252,6 +264,33 @@ impl CollectiveTransfers {
         ensures coming { self.old.more_coming ≤ self.new.more_coming }
     {
         take_piece(&mut self.coming, rank, transfer, offset, bytes);
+    }
+
+    /// Takes out the payload of the transfer from the rank that has this number, where it is whole with these bytes: it comes no
+    /// more, unless it is put back. Where it isn't, nothing changes. It takes no memory.
+    pub fn take_whole(&mut self, rank: u16, transfer: u32, bytes: &[u8]) -> Option<WholePayload>
+        ensures whole { option_map (λ (t : Taken). t.whole) result ≡ whole_with self.old.state rank transfer bytes.now }
+        ensures state { OnSome result (self.new.state ≡ after_data self.old.state rank transfer bytes.now) }
+        ensures back { IfSome result (λ t. after_return self.new.state t ≡ self.old.state) }
+        ensures place { IfSome result (λ t. t.place ≤ length self.new.state.coming) }
+        ensures room { OnSome result (self.new.more_coming ≡ self.old.more_coming + 1) }
+        ensures announced { self.new.more_announced ≡ self.old.more_announced }
+        ensures kept { IfNone result (self.new ≡ self.old) }
+    {
+        take_whole(&mut self.coming, rank, transfer, bytes)
+    }
+
+    /// A payload that was taken out stands again where it stood, as it was before its last piece; there is room for it. It takes
+    /// no memory.
+    pub fn put_back(&mut self, payload: WholePayload)
+        requires place { payload.place ≤ length self.old.state.coming }
+        requires room { 0 < self.old.more_coming }
+        ensures state { self.new.state ≡ after_return self.old.state payload }
+        ensures announced { self.new.more_announced ≡ self.old.more_announced }
+        ensures coming { self.new.more_coming + 1 ≡ self.old.more_coming }
+    {
+        let place = payload.place();
+        put_at(&mut self.coming, place, payload.into_before());
     }
 
     /// What was announced to the rank and what comes from it is gone, since it is known at a new incarnation. It takes no

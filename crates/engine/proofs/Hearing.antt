@@ -272,32 +272,32 @@ turned_away e t u why away = (why, refl, refl, away)
 abbrev pub parts_of : CoreState → GroupsState → Option Ending → payloads.State → SessionsState → EngineState
 parts_of c g ended p s = record { core = c; groups = g; ended = ended; payloads = p; sessions = s }
 
--- why a message isn't taken says nothing of what is kept
-for_any : (c : CoreState) (g : GroupsState) (a b : Option Ending) (p : payloads.State) (s : SessionsState) (h : HeardText) (w : Whole) (e : Refused) →
-    WhyUnnoticed (parts_of c g a p s) h w e → WhyUnnoticed (parts_of c g b p s) h w e
-for_any c g a b p s h w refusals.BadFrame why = why
-for_any c g a b p s h w refusals.Limit why = why
-for_any c g a b p s h w refusals.OutOfMemory why = why
-for_any c g a b p s h w refusals.Count why = absurd why
-for_any c g a b p s h w refusals.WrongType why = absurd why
-for_any c g a b p s h w refusals.Tag why = absurd why
-for_any c g a b p s h w refusals.Communicator why = absurd why
-for_any c g a b p s h w refusals.Rank why = absurd why
-for_any c g a b p s h w refusals.Request why = absurd why
-for_any c g a b p s h w refusals.Root why = absurd why
-for_any c g a b p s h w refusals.Operation why = absurd why
-for_any c g a b p s h w refusals.Replaced why = absurd why
-for_any c g a b p s h w refusals.Short why = absurd why
-for_any c g a b p s h w refusals.Magic why = absurd why
-for_any c g a b p s h w refusals.Version why = absurd why
-for_any c g a b p s h w refusals.Kind why = absurd why
-for_any c g a b p s h w refusals.Length why = absurd why
-for_any c g a b p s h w refusals.ForeignJob why = absurd why
-for_any c g a b p s h w refusals.NotForMe why = absurd why
-for_any c g a b p s h w refusals.StaleSource why = absurd why
-for_any c g a b p s h w refusals.StaleTarget why = absurd why
-for_any c g a b p s h w refusals.OutOfWindow why = absurd why
-for_any c g a b p s h w refusals.ClockBack why = absurd why
+-- why a message isn't taken says nothing of what is kept, nor of the payloads
+pub for_any : (c : CoreState) (g : GroupsState) (a b : Option Ending) (p q : payloads.State) (s : SessionsState) (h : HeardText) (w : Whole) (e : Refused) →
+    WhyUnnoticed (parts_of c g a p s) h w e → WhyUnnoticed (parts_of c g b q s) h w e
+for_any c g a b p q s h w refusals.BadFrame why = why
+for_any c g a b p q s h w refusals.Limit why = why
+for_any c g a b p q s h w refusals.OutOfMemory why = why
+for_any c g a b p q s h w refusals.Count why = absurd why
+for_any c g a b p q s h w refusals.WrongType why = absurd why
+for_any c g a b p q s h w refusals.Tag why = absurd why
+for_any c g a b p q s h w refusals.Communicator why = absurd why
+for_any c g a b p q s h w refusals.Rank why = absurd why
+for_any c g a b p q s h w refusals.Request why = absurd why
+for_any c g a b p q s h w refusals.Root why = absurd why
+for_any c g a b p q s h w refusals.Operation why = absurd why
+for_any c g a b p q s h w refusals.Replaced why = absurd why
+for_any c g a b p q s h w refusals.Short why = absurd why
+for_any c g a b p q s h w refusals.Magic why = absurd why
+for_any c g a b p q s h w refusals.Version why = absurd why
+for_any c g a b p q s h w refusals.Kind why = absurd why
+for_any c g a b p q s h w refusals.Length why = absurd why
+for_any c g a b p q s h w refusals.ForeignJob why = absurd why
+for_any c g a b p q s h w refusals.NotForMe why = absurd why
+for_any c g a b p q s h w refusals.StaleSource why = absurd why
+for_any c g a b p q s h w refusals.StaleTarget why = absurd why
+for_any c g a b p q s h w refusals.OutOfWindow why = absurd why
+for_any c g a b p q s h w refusals.ClockBack why = absurd why
 
 -- parts that are the same make the same engine
 same_parts : (c d : CoreState) (g k : GroupsState) (o : Option Ending) (p q : payloads.State) (s x : SessionsState) → d ≡ c →
@@ -319,7 +319,7 @@ pub message_refused : {A : Type 0} (r : Result A Refused) (n : Option NoticeText
 message_refused (Ok y) n h t w c d g k p q s x is says why core collective contexts kept links = tt
 message_refused (Err e) n h t w c d g k p q s x is says why core collective contexts kept links = λ before.
     subst (λ (m : Option NoticeText). HeardGivesBy m (parts_of c g before p s) h (Err e) (parts_of d k before q x)) (sym is) (
-      for_any c g None before p s h (whole_in t) e (subst (λ (v : Whole). WhyUnnoticed (parts_of c g None p s) h v e) says why),
+      for_any c g None before p p s h (whole_in t) e (subst (λ (v : Whole). WhyUnnoticed (parts_of c g None p s) h v e) says why),
       same_parts c d g k before p q s x core collective contexts kept links,
     )
 
@@ -328,8 +328,7 @@ data_for_any : (due : Bool) (v : Option Whole) (c : CoreState) (g : GroupsState)
     (e : Refused) → WhyNoPieceBy due v (parts_of c g a p s) h e → WhyNoPieceBy due v (parts_of c g b p s) h e
 data_for_any false v c g a b p s h e why = why
 data_for_any true None c g a b p s h e why = why
-data_for_any true (Some w) c g a b p s h e (inl why) = inl why
-data_for_any true (Some w) c g a b p s h e (inr why) = inr (for_any c g a b p s h w e why)
+data_for_any true (Some w) c g a b p s h e why = for_any c g a b p p s h w e why
 
 -- data that are refused
 not_taken : (due : Bool) (v : Option Whole) (old new : EngineState) (h : HeardText) (t : DataText) (e : Refused) → WhyNoPieceBy due v old h e → new ≡ old →

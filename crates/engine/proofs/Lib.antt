@@ -4,3 +4,4 @@ pub mod Taken
 pub mod Replies
 pub mod Announced
 pub mod Hearing
+pub mod LastPiece

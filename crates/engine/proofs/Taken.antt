@@ -1,6 +1,5 @@
 -- What taking a message of a collective gives.
-use Rattle.std.proofs.Common.{◌≡◌, ℕ, Bool, true, false, List, Option, Some, None, Ok, refl, sym, ap, subst, ◌∙◌, inl, inr}
-use Rattle.std.specs.Prelude.{if◌then◌else◌}
+use Rattle.std.proofs.Common.{◌≡◌, List, Option, Some, None, Ok, refl, sym, ap, subst, ◌∙◌, inl, inr}
 use Rattle.collective_notes.specs.Arrivals.{ArrivalGives}
 use Rattle.collective_notes.specs.declared.note.Note.{Note}
 use Rattle.collective_notes.specs.declared.address.Address.{Address}
@@ -9,7 +8,7 @@ use Rattle.collective_notes.specs.declared.refused.Refused.TheVariants as notes
 use Rattle.collective_notes.specs.declared.message.Message.{Message}
 use Rattle.collective_transfers.specs.Payloads.{Announced, Whole}
 use Rattle.collective_transfers.specs.State as payloads
-use Rattle.collective_transfers.specs.State.{after_announcing, is_due}
+use Rattle.collective_transfers.specs.State.{after_announcing}
 use Rattle.collectives.specs.Calls.{IsReady, MessageRefused, met, with_note}
 use Rattle.collectives.specs.State.{State, after_step}
 use Rattle.collective_steps.specs.Steps.{contexts_after, ending_of}
@@ -172,18 +171,3 @@ stopped old h w lesson p ready ns why taught read is first stops =
     go refusals.BadFrame s i = absurd s
     go refusals.OutOfWindow s i = absurd s
     go refusals.ClockBack s i = absurd s
-
--- ---- the last piece of a payload
-
--- with no lesson there is nobody who teaches
-no_lesson : (h : HeardText) → h.lesson ≡ false → lesson_in h ≡ None
-no_lesson h on = ap (λ (b : Bool). if b then Some h.source else None) on
-
--- what comes in pieces stays while a message is taken in without a lesson
-pub still_due : (old new : EngineState) (h : HeardText) (w : Whole) (rank transfer offset : ℕ) (bytes : List ℕ) → h.lesson ≡ false →
-    IsNoticed old (payloads_met old.payloads (lesson_in h)) h w new → is_due old.payloads rank transfer offset bytes ≡ true →
-    is_due new.payloads rank transfer offset bytes ≡ true
-still_due old new h w rank transfer offset bytes on is due =
-    ap (λ (s : payloads.State). is_due s rank transfer offset bytes) is.payloads
-    ∙ ap (λ (l : Option Endpoint). is_due (payloads_met old.payloads l) rank transfer offset bytes) (no_lesson h on)
-    ∙ due

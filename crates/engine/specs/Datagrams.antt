@@ -250,10 +250,10 @@ IsPieceTaken None old h t new =
     × (new ≡ record old { payloads = payloads_grown old h t; sessions = after_event old.sessions (Some h) [] })
 IsPieceTaken (Some w) old h t new = IsNoticed old (payloads_grown old h t) h w new
 
--- why a piece that is due is refused: for a limit or want of memory; with the last one as the message is
+-- why a piece that is due is refused: for a limit or want of memory; with the last one as the message is, as if it stood in a frame
 abbrev pub WhyNotTaken : Option Whole → EngineState → HeardText → Refused → Type 0
 WhyNotTaken None old h e = IsRefusal (fault_of_sessions (event_limit old.sessions (Some h) [])) e
-WhyNotTaken (Some w) old h e = (e ≡ refusals.OutOfMemory) ⊎ WhyUnnoticed old h w e
+WhyNotTaken (Some w) old h e = WhyUnnoticed old h w e
 
 -- why data are refused, which are due or not: others are refused with 30
 abbrev pub WhyNoPieceBy : (due : Bool) → Option Whole → EngineState → HeardText → Refused → Type 0

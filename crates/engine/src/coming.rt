@@ -2,8 +2,7 @@
 
 ghost use Rattle.std.specs.Prelude.{◌≡◌, ◌≤◌, ◌<◌, ◌+◌, ◌*◌, [], true, false, length, IfErr, IfOk, None, Ok, OnErr, OnOk, Option, Some};
 ghost use Rattle.collective_steps.specs.declared.step.Ending.{Ending};
-ghost use Rattle.collective_transfers.specs.Payloads.{whole_text};
-ghost use Rattle.collective_transfers.specs.State.{after_data, is_due};
+ghost use Rattle.collective_transfers.specs.State.{after_data, after_return, is_due};
 ghost use Rattle.datagram.specs.Spelling.{data_text};
 ghost use Rattle.rank_calls.specs.Refusals.{IsRefusal};
 ghost use Rattle.sessions.specs.Heard.{heard_text, CanHear};
@@ -11,7 +10,7 @@ ghost use Rattle.sessions.specs.Events.{after_event, event_limit, most_answers};
 ghost use Rattle.engine_parts.specs.EngineState.{or_before};
 ghost use Rattle.engine_parts.specs.Refusals.{fault_of_sessions};
 ghost use Rattle.engine_parts.specs.Steps.{engine_held};
-ghost use Rattle.engine.specs.Datagrams.{IsNoticed, PieceGives, WhyNoPiece, WhyUnnoticed};
+ghost use Rattle.engine.specs.Datagrams.{IsNoticed, PieceGives, WhyNoPiece, WhyUnnoticed, lesson_in, payloads_met, received};
 
 use crate::announcing::{carry_out, limit_of};
 use crate::notices::{Received, take_message};
@@ -40,8 +39,19 @@ fn take_in(sessions: &mut Sessions, heard: Heard<'_>) -> Result<(), Refused>
     carry_out(sessions, heard, &[])
 }
 
-/// Takes in the last piece of a payload, which is whole with it: the message is taken in, and comes no more. Answered is with what a
-/// collective ends by it. Refused is 30, 13 and 14; then nothing changes.
+/// What a payload says that has come whole.
+fn received_whole(whole: &WholePayload) -> Received<'_>
+    ensures { received result ≡ whole.now.whole }
+{
+    Received {
+        context: whole.context(),
+        number: whole.number(),
+        bytes: whole.bytes(),
+    }
+}
+
+/// Takes in the message of a payload that was taken out with its last piece. Answered is with what a collective ends by it.
+/// Refused is 30, 13 and 14; then the payload is put back, and nothing else changes.
 fn take_last(
     alloc: Global,
     core: &mut Core,
@@ -49,31 +59,26 @@ fn take_last(
     payloads: &mut CollectiveTransfers,
     sessions: &mut Sessions,
     heard: Heard<'_>,
-    piece: Data<'_>,
-    whole: &WholePayload,
+    whole: WholePayload,
 ) -> Result<Option<Ending>, Refused>
     requires can { CanHear sessions.old (Some (heard_text heard)) }
-    requires lesson { heard.lesson ≡ false }
-    requires due { is_due payloads.old.state heard.source.rank piece.transfer piece.offset piece.bytes.now ≡ true }
+    requires place { whole.place ≤ length payloads.old.state.coming }
+    requires room { 0 < payloads.old.more_coming }
     ensures ok { IfOk result (λ ending. (before : Option Ending) → IsNoticed (engine_held core.old communicators.old before payloads.old.state sessions.old)
-        (after_data payloads.old.state heard.entry.source.rank piece.entry.transfer piece.entry.bytes.now)
-        (heard_text heard.entry) (whole_text whole.now) (engine_held core.new communicators.new (or_before ending before) payloads.new.state sessions.new)) }
-    ensures err { IfErr result (WhyUnnoticed (engine_held core.old communicators.old None payloads.old.state sessions.old) (heard_text heard.entry) (whole_text whole.now)) }
+        (payloads_met payloads.old.state (lesson_in (heard_text heard.entry)))
+        (heard_text heard.entry) whole.whole (engine_held core.new communicators.new (or_before ending before) payloads.new.state sessions.new)) }
+    ensures err { IfErr result (WhyUnnoticed (engine_held core.old communicators.old None payloads.old.state sessions.old) (heard_text heard.entry) whole.whole) }
     ensures core { OnErr result (core.new.state ≡ core.old.state) }
     ensures collective { OnErr result (communicators.new.collective.state ≡ communicators.old.collective.state) }
     ensures contexts { OnErr result (communicators.new.contexts.state ≡ communicators.old.contexts.state) }
-    ensures payloads { OnErr result (payloads.new.state ≡ payloads.old.state) }
+    ensures back { OnErr result (payloads.new.state ≡ after_return payloads.old.state whole) }
     ensures sessions { OnErr result (sessions.new ≡ sessions.old) }
     ensures few { length sessions.new.out ≤ length sessions.old.out + (most_answers (Some (heard_text heard.entry)) + 64 * sessions.old.place.size) }
     ensures placed { sessions.new.place ≡ sessions.old.place }
     ensures core_placed { core.new.state.place ≡ core.old.state.place }
 {
-    let message = Received {
-        context: whole.context,
-        number: whole.number,
-        bytes: &whole.bytes,
-    };
-    let ending = take_message(
+    let message = received_whole(&whole);
+    match take_message(
         alloc,
         core,
         communicators,
@@ -81,9 +86,13 @@ fn take_last(
         sessions,
         heard,
         message,
-    )?;
-    payloads.on_data(heard.source.rank, piece.transfer, piece.offset, piece.bytes);
-    Ok(ending)
+    ) {
+        Ok(ending) => Ok(ending),
+        Err(refused) => {
+            payloads.put_back(whole);
+            Err(refused)
+        }
+    }
 }
 
 /// Takes in a piece that is due and isn't the last one: it stands behind those that came before. Refused is 13 and 14; then
@@ -142,20 +151,8 @@ pub(crate) fn take_piece(
     if !payloads.is_due(rank, piece.transfer, piece.offset, piece.bytes) {
         return Err(Refused::BadFrame);
     }
-    let Ok(whole) = payloads.whole_with(alloc, rank, piece.transfer, piece.bytes) else {
-        return Err(Refused::OutOfMemory);
-    };
-    match whole {
-        Some(whole) => take_last(
-            alloc,
-            core,
-            communicators,
-            payloads,
-            sessions,
-            heard,
-            piece,
-            &whole,
-        ),
+    match payloads.take_whole(rank, piece.transfer, piece.bytes) {
+        Some(whole) => take_last(alloc, core, communicators, payloads, sessions, heard, whole),
         None => match take_next(payloads, sessions, heard, piece) {
             Ok(()) => Ok(None),
             Err(refused) => Err(refused),

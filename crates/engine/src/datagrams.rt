@@ -263,8 +263,8 @@ impl Engine {
     /// out to its source), 31 (a number outside the window), 30 (a message of a collective that can't be read,
     /// or carries what doesn't fit its record; an announcement under another number than the next of its session; an answer
     /// to a transfer that is not offered, or 'drop' to a payload of a collective, which no engine answers; data that are not
-    /// due), 13 and 14. With the last data of a payload 14 may come first, for the copy that is read. A refusal changes nothing, but for that reset;
-    /// without memory for the reset it is 14.
+    /// due), 13 and 14. With the last data of a payload its message is judged, as if it stood in a frame. A refusal changes
+    /// nothing, but for that reset; without memory for the reset it is 14.
     ///
     /// A message of a collective is kept until the rank has entered that collective; then, or where it has, the rank does of
     /// itself all that follows, the others are told, and a rank that is thereby through leaves.

@@ -125,6 +125,7 @@ pub(crate) fn take_message(
     ensures collective { OnErr result (communicators.new.collective.state ≡ communicators.old.collective.state) }
     ensures contexts { OnErr result (communicators.new.contexts.state ≡ communicators.old.contexts.state) }
     ensures payloads { OnErr result (payloads.new.state ≡ payloads.old.state) }
+    ensures coming { payloads.old.more_coming ≤ payloads.new.more_coming }
     ensures sessions { OnErr result (sessions.new ≡ sessions.old) }
     ensures few { length sessions.new.out ≤ length sessions.old.out + (most_answers (Some (heard_text heard.entry)) + 64 * sessions.old.place.size) }
     ensures placed { sessions.new.place ≡ sessions.old.place }

@@ -314,6 +314,7 @@ pub fn send_step(
     ensures announced { IfOk result (λ announced. announced.items ≡ step_payloads numbers.old.items messages.now) }
     ensures room { IfOk result (λ announced. length announced.items ≤ payloads.new.more_announced) }
     ensures payloads { payloads.new.state ≡ payloads.old.state }
+    ensures coming { payloads.new.more_coming ≡ payloads.old.more_coming }
     ensures why { IfErr result (StepStops (step_limit sessions.old numbers.old.items (heard_option heard.entry) messages.now)) }
     ensures unchanged { OnErr result (sessions.new ≡ sessions.old) }
     ensures few { length sessions.new.out ≤ length sessions.old.out + (most_answers (heard_option heard.entry) + 64 * sessions.old.place.size) }

@@ -2,8 +2,6 @@
 #![tactic(auto)]
 
 #[cfg(test)]
-mod announced_tests;
-#[cfg(test)]
 mod collective_tests;
 #[cfg(test)]
 mod tests;

@@ -1,6 +1,6 @@
 //! Payloads of collectives that are announced and that come in pieces.
 
-use collective_transfers::{AnnouncedPayload, CollectiveTransfers, ComingPayload};
+use collective_transfers::{AnnouncedPayload, CollectiveTransfers, ComingPayload, WholePayload};
 use rendezvous::{count_of, pieces_of};
 use std::alloc::Global;
 
@@ -11,6 +11,11 @@ fn bytes(alloc: Global, count: usize) -> Option<Vec<u8>> {
         all.push((place % 251) as u8).ok()?;
     }
     Some(all)
+}
+
+/// Of which collective a payload is, and whether it is what was sent.
+fn said(whole: &WholePayload, sent: &[u8]) -> (u64, u32, bool) {
+    (whole.context(), whole.number(), whole.bytes() == sent)
 }
 
 /// What the pieces of 2,500 bytes give, one after the other: of which collective the payload is, and whether it is what was sent.
@@ -25,11 +30,13 @@ fn passed(alloc: Global) -> Option<(usize, usize, Option<(u64, u32, bool)>, bool
         if !transfers.is_due(3, 5, piece.offset, piece.bytes) {
             return None;
         }
-        match transfers.whole_with(alloc, 3, 5, piece.bytes).ok()? {
-            Some(whole) => given = Some((whole.context, whole.number, whole.bytes == all)),
-            None => early.push(piece.offset).ok()?,
+        match transfers.take_whole(3, 5, piece.bytes) {
+            Some(whole) => given = Some(said(&whole, &all)),
+            None => {
+                transfers.on_data(3, 5, piece.offset, piece.bytes);
+                early.push(piece.offset).ok()?;
+            }
         }
-        transfers.on_data(3, 5, piece.offset, piece.bytes);
     }
     Some((
         count_of(&all),
@@ -45,6 +52,40 @@ fn a_payload_is_handed_out_whole_with_its_last_piece(rt: HostRuntime) {
         passed(rt.alloc()),
         Some((3, 2, Some((77, 8, true)), false))
     );
+}
+
+/// Of a payload of two pieces that is taken out with the second one and put back: whether it comes before and after that, whether
+/// that piece is due again then, and what it is when that comes again.
+fn put_back(alloc: Global) -> Option<([bool; 3], (u64, u32, bool))> {
+    let all = bytes(alloc, 1500)?;
+    let first = all.get(0..1024)?;
+    let last = all.get(1024..1500)?;
+    let mut transfers = CollectiveTransfers::new(alloc);
+    transfers.reserve_coming().ok()?;
+    transfers.begin(ComingPayload::new(alloc, 3, 5, 77, 8, 1500).ok()?);
+    if !transfers.is_due(3, 5, 0, first) {
+        return None;
+    }
+    transfers.on_data(3, 5, 0, first);
+    let Some(whole) = transfers.take_whole(3, 5, last) else {
+        return None;
+    };
+    let is_gone = !transfers.is_coming(3, 5);
+    transfers.put_back(whole);
+    let states = [
+        is_gone,
+        transfers.is_coming(3, 5),
+        transfers.is_due(3, 5, 1024, last),
+    ];
+    match transfers.take_whole(3, 5, last) {
+        Some(again) => Some((states, said(&again, &all))),
+        None => None,
+    }
+}
+
+#[test]
+fn a_payload_that_is_put_back_comes_as_before(rt: HostRuntime) {
+    assert_eq!(rt; put_back(rt.alloc()), Some(([true; 3], (77, 8, true))));
 }
 
 /// Of a payload of which one piece came: whether the same piece is due again, one behind the next, one that is too short, and that

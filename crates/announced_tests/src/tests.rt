@@ -105,16 +105,28 @@ fn start_receive(alloc: Global, engine: &mut Engine, count: usize) -> Option<()>
     }
 }
 
+/// The last byte of the transfer number of a datagram that announces something, if it does.
+fn announced_number(bytes: &[u8]) -> Option<u8> {
+    // Byte 32 is the kind of its frame, and 55 its last one.
+    match (bytes.get(32), bytes.get(55)) {
+        (Some(2), Some(number)) => Some(*number),
+        _ => None,
+    }
+}
+
 /// The transfer numbers of the announcements among datagrams, the first four of them.
 fn announced(engine: &mut Engine) -> [Option<u8>; 4] {
     let mut numbers = [None; 4];
-    let mut count = 0;
+    let mut count = 0usize;
     for (_target, bytes) in engine.take_out() {
-        let bytes = bytes.as_slice();
-        if bytes.len() == 56 && bytes[32] == 2 && count < 4 {
-            numbers[count] = Some(bytes[55]);
-            count += 1;
+        let number = announced_number(bytes.as_slice());
+        if number.is_none() {
+            continue;
         }
+        if let Some(place) = numbers.get_mut(count) {
+            *place = number;
+        }
+        count = count.wrapping_add(1);
     }
     numbers
 }
@@ -237,4 +249,114 @@ fn wrong_numbers_are_refused_and_nothing_changes(rt: HostRuntime) {
         wrong_numbers(rt.alloc()),
         Some(([Some(30), Some(30), Some(30)], all))
     );
+}
+
+/// A broadcast of 70,000 bytes passes: what it gives, how many datagrams go at the answer and in the turn after that, and whether
+/// nothing is left.
+fn pass_long(
+    alloc: Global,
+    zero: &mut Engine,
+    one: &mut Engine,
+) -> Option<(Option<Got>, [usize; 2], bool)> {
+    broadcast(alloc, zero, 7, 70_000)?;
+    let counts = exchange(zero, one)?;
+    let entered = broadcast(alloc, one, 0, 70_000);
+    Some((
+        entered,
+        [counts[2], counts[4]],
+        one.is_idle() && zero.is_idle(),
+    ))
+}
+
+/// The same between two new ranks.
+fn long_comes(alloc: Global) -> Option<(Option<Got>, [usize; 2], bool)> {
+    let mut zero = rank_of(alloc, 0, 0, 2)?;
+    let mut one = rank_of(alloc, 1, 0, 2)?;
+    pass_long(alloc, &mut zero, &mut one)
+}
+
+#[test]
+fn a_payload_of_more_than_a_window_comes_whole(rt: HostRuntime) {
+    let all = Some(Got::Elements(70_000, Some(7), Some(7)));
+    // An acknowledgement and the first 64 of 69 pieces; once these are acknowledged, the others.
+    assert_eq!(rt; long_comes(rt.alloc()), Some((all, [65, 5], true)));
+}
+
+/// How a datagram is refused, if it is.
+fn refusal(to: &mut Engine, bytes: &[u8]) -> Option<u8> {
+    match to.on_datagram(bytes) {
+        Err(refused) => Some(refused.number()),
+        Ok(()) => None,
+    }
+}
+
+/// Whether a datagram has the first piece of a payload.
+fn is_first_piece(bytes: &[u8]) -> bool {
+    // Byte 32 is the kind of its frame, 42 in the offset of data, which begin at byte 44.
+    match (bytes.get(32), bytes.get(42)) {
+        (Some(4), Some(0)) => true,
+        _ => false,
+    }
+}
+
+/// A datagram; with the first piece of a payload another byte stands at a place.
+fn with_first_changed(alloc: Global, bytes: &[u8], place: usize, value: u8) -> Option<Vec<u8>> {
+    if is_first_piece(bytes) {
+        return changed(alloc, bytes, place, value);
+    }
+    Vec::from_slice(alloc, bytes).ok()
+}
+
+/// What an engine emitted comes to another one, the first piece of a payload with another byte at a place: how many datagrams are
+/// taken, and how the last one is refused that is, and when it comes again.
+fn hear_changed(
+    alloc: Global,
+    from: &mut Engine,
+    to: &mut Engine,
+    place: usize,
+    value: u8,
+) -> Option<(usize, [Option<u8>; 2])> {
+    let mut taken = 0usize;
+    let mut refused = [None; 2];
+    for (_target, bytes) in from.take_out() {
+        let bytes = with_first_changed(alloc, bytes.as_slice(), place, value)?;
+        match refusal(to, bytes.as_slice()) {
+            None => taken = taken.wrapping_add(1),
+            Some(number) => refused = [Some(number), refusal(to, bytes.as_slice())],
+        }
+    }
+    Some((taken, refused))
+}
+
+/// The same of the data of a broadcast of 2,000 bytes; and whether a rank that enters it then is blocked.
+fn pass_changed(
+    alloc: Global,
+    zero: &mut Engine,
+    one: &mut Engine,
+    place: usize,
+    value: u8,
+) -> Option<(usize, [Option<u8>; 2], bool)> {
+    broadcast(alloc, zero, 7, 2000)?;
+    deliver(zero, one)?;
+    deliver(one, zero)?;
+    let (taken, refused) = hear_changed(alloc, zero, one, place, value)?;
+    Some((taken, refused, broadcast(alloc, one, 0, 2000).is_none()))
+}
+
+/// The same between two new ranks.
+fn unreadable(alloc: Global, place: usize, value: u8) -> Option<(usize, [Option<u8>; 2], bool)> {
+    let mut zero = rank_of(alloc, 0, 0, 2)?;
+    let mut one = rank_of(alloc, 1, 0, 2)?;
+    pass_changed(alloc, &mut zero, &mut one, place, value)
+}
+
+#[test]
+fn a_payload_that_can_not_be_read_is_refused_at_its_last_piece(rt: HostRuntime) {
+    // Its record has the kind 9; or it has 1,999 elements, before 2,000 bytes. The acknowledgement and the first piece are taken.
+    for (place, value) in [(44, 9), (55, 207)] {
+        assert_eq!(rt;
+            unreadable(rt.alloc(), place, value),
+            Some((2, [Some(30), Some(30)], true))
+        );
+    }
 }
