@@ -10,7 +10,6 @@ use Rattle.requests.specs.declared.region.Places.TheVariants as places
 use Rattle.requests.specs.declared.table.Request.{Request}
 use Rattle.collective_notes.specs.declared.entry.Entry.{Entry}
 use Rattle.collective_notes.specs.declared.entry.Entry.TheVariants as entries
-use Rattle.communicators.specs.declared.question.Question.{Question}
 use Rattle.communicators.specs.declared.question.Question.TheVariants as questions
 use Rattle.engine_parts.specs.declared.call.Call.{Call}
 use Rattle.engine_parts.specs.declared.call.Call.TheVariants as calls
@@ -43,7 +42,7 @@ use Rattle.statement_calls.specs.declared.awaited.Stage.TheVariants as stages
 use Rattle.statement_calls.specs.Awaited.{asking, entering, free, making, starting, waiting, waiting_for_several}
 use Rattle.statement_calls.specs.Entries.{elements_like, entry_with, refusal_of_block, split_by}
 use Rattle.rank_script.specs.NamesState.{NamesState, here, is_lent, is_root, place_named, request_at, with_buffer, with_layout}
-use Rattle.rank_script.specs.Tables.{value_at}
+use Rattle.name_tables.specs.Tables.{value_at}
 use Rattle.script_lines.specs.Lines.{elements_line, error_line, words_line}
 
 -- what a rank does next, if that is more than a change of names, and what its names then stand for

@@ -29,7 +29,7 @@ use Rattle.statement_calls.specs.Awaited.{asking, free, null, seating, several_o
 use Rattle.statement_calls.specs.Told.{as_text, error_of, status_after}
 use Rattle.rank_script.specs.Acting.{Acts, makes_call, prints}
 use Rattle.rank_script.specs.NamesState.{NamesState, given_back, with_communicator, with_request}
-use Rattle.rank_script.specs.Tables.{value_at}
+use Rattle.name_tables.specs.Tables.{value_at}
 use Rattle.script_lines.specs.Lines.{error_line, error_lines, pending_line}
 
 -- nothing but a change of names

@@ -1,4 +1,3 @@
-pub mod Tables
 pub mod NamesState
 pub mod Acting
 pub mod Heeding

@@ -11,8 +11,7 @@ use Rattle.statement_calls.specs.declared.awaited.Held.{Held}
 use Rattle.statement_calls.specs.declared.awaited.Seat.{Seat}
 use Rattle.statement_calls.specs.Awaited.{free}
 use Rattle.statement_calls.specs.Told.{empty_status}
-use Rattle.rank_script.specs.declared.table.Entry.{Entry}
-use Rattle.rank_script.specs.Tables.{value_at, with_value}
+use Rattle.name_tables.specs.Tables.{Entry, value_at, with_value}
 
 -- The rank in world; the buffers that were set, where none is one that is lent; the layouts; the requests that were started; the
 -- communicators that were made, where none is MPI_COMM_NULL; the status of the last receive; and what the answer to the last call is

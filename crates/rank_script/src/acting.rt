@@ -2,11 +2,10 @@
 
 ghost use Rattle.std.specs.Prelude.{◌≡◌, IfOk, Some};
 ghost use Rattle.rank_script.specs.NamesState.{here, place_named};
-ghost use Rattle.rank_script.specs.Tables.{value_at};
+ghost use Rattle.name_tables.specs.Tables.{value_at};
 ghost use Rattle.rank_script.specs.Acting.{acts, acts_on, AreListed, asks_group, asks_rank, Begins, cancels_for, compares, makes, old_layout, places_named, prints_count, prints_elements, LendGives, receives, request_named, requests_named, sends, sets, sets_layout, states, tests_for, waits_for, waits_for_several};
 
 use crate::names::Names;
-use crate::table::place_of;
 use datatypes::{Buffer, Layout, Refusal};
 use engine::{Call, Entry, Places, Question, Receive, Region, Request, RequestList, Send};
 use rank_drive::Step;
@@ -31,10 +30,7 @@ impl Names {
     fn lend(&mut self, name: &Name) -> Option<Buffer>
         ensures { LendGives self.old name.now result self.new }
     {
-        match place_of(&self.buffers, name) {
-            Some(place) => self.buffers[place].value.take(),
-            None => None,
-        }
+        self.buffers.replace(name, None).flatten()
     }
 
     fn set_line(&mut self, number: usize, line: BufferLine) -> Result<Option<Step>, AllocError>
@@ -44,7 +40,7 @@ impl Names {
         if self.is_lent(&name) {
             return Ok(Some(stop(number)));
         }
-        self.set_buffer(name, Some(value))?;
+        self.set_buffer(&name, Some(value))?;
         Ok(None)
     }
 
@@ -78,7 +74,7 @@ impl Names {
         };
         match form.layout_made(self.alloc, &old) {
             Ok(layout) => {
-                self.set_layout(name, layout)?;
+                self.set_layout(&name, layout)?;
                 Ok(None)
             }
             Err(Refusal::OutOfMemory) => Err(AllocError),
@@ -304,9 +300,9 @@ impl Names {
         ensures { IfOk result (λ step.
             prints_count number (value_at self.now.layouts name.now) self.now ≡ (Some step, self.now)) }
     {
-        match place_of(&self.layouts, name) {
-            Some(place) => {
-                let copies = self.layouts[place].value.get_count(self.last.count);
+        match self.layouts.get(name) {
+            Some(layout) => {
+                let copies = layout.get_count(self.last.count);
                 Ok(Step::Print(count_line(self.alloc, copies)?))
             }
             None => Ok(stop(number)),

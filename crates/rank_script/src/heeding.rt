@@ -6,7 +6,6 @@ ghost use Rattle.rank_script.specs.NamesState.{with_request};
 ghost use Rattle.rank_script.specs.Heeding.{buffer_of, counts, ended_each, ended_named, ends_all, ends_by, ends_one, ends_with, handed_back, heeds, held_buffer, EndsNext, learns, leaves, named_as, named_communicator, nulled, refuses, returned, starts_at, takes_elements, takes_seat, tells_error, tells_errors};
 
 use crate::names::Names;
-use crate::table::place_of;
 use datatypes::Buffer;
 use engine::{
     Answer, Call, Comparison, Ending, Fact, Outcome, Outcomes, Question, Refused, Reply, Request,
@@ -18,7 +17,6 @@ use script_lines::{
 use statement_calls::{Doing, Held, Seat, Stage, as_text, error_of, status_after};
 use statements::{Name, Requested};
 use std::alloc::AllocError;
-use std::mem;
 
 impl Names {
     fn name_request(
@@ -31,7 +29,7 @@ impl Names {
     {
         match name {
             Some(name) => self.set_request(
-                name,
+                &name,
                 Held {
                     request: Some(request),
                     buffer,
@@ -104,13 +102,10 @@ impl Names {
     fn null_request(&mut self, name: Name) -> Result<Option<Name>, AllocError>
         ensures { IfOk result (λ buffer. (buffer ≡ held_buffer self.old name) × (self.new ≡ with_request self.old name null)) }
     {
-        match place_of(&self.requests, &name) {
-            Some(place) => {
-                let held = mem::replace(&mut self.requests[place].value, Held::null());
-                Ok(held.buffer)
-            }
+        match self.requests.replace(&name, Held::null()) {
+            Some(held) => Ok(held.buffer),
             None => {
-                self.set_request(name, Held::null())?;
+                self.set_request(&name, Held::null())?;
                 Ok(None)
             }
         }
@@ -295,7 +290,7 @@ impl Names {
         ensures { OnOk result (self.new ≡ named_communicator name seat self.old) }
     {
         match name {
-            Some(name) => self.set_communicator(name, seat),
+            Some(name) => self.set_communicator(&name, seat),
             None => Ok(()),
         }
     }

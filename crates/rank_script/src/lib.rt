@@ -6,6 +6,5 @@ mod entering;
 mod heeding;
 mod names;
 mod runner;
-mod table;
 
 pub use runner::ScriptRunner;

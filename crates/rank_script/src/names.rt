@@ -2,11 +2,11 @@
 
 ghost use Rattle.std.specs.Prelude.{◌≡◌, IfOk, OnOk, Option, Some, None};
 ghost use Rattle.statement_calls.specs.Awaited.{free};
-ghost use Rattle.rank_script.specs.Tables.{value_at, value_there, with_value};
+ghost use Rattle.name_tables.specs.Tables.{value_at};
 ghost use Rattle.rank_script.specs.NamesState.{no_names, here, is_lent, is_root, place_named, request_at, with_buffer, with_communicator, with_layout, with_request, given_back};
 
-use crate::table::{Entry, place_of, set};
 use datatypes::{Buffer, Layout};
+use name_tables::Table;
 use requests::Request;
 use statement_calls::{Doing, Held, Seat, empty_status};
 use statements::{Communicator, Name};
@@ -20,10 +20,10 @@ use vocabulary::Status;
 pub(crate) struct Names {
     pub alloc: Global,
     pub rank: u16,
-    pub buffers: Vec<Entry<Option<Buffer>>>,
-    pub layouts: Vec<Entry<Layout>>,
-    pub requests: Vec<Entry<Held>>,
-    pub communicators: Vec<Entry<Option<Seat>>>,
+    pub buffers: Table<Option<Buffer>>,
+    pub layouts: Table<Layout>,
+    pub requests: Table<Held>,
+    pub communicators: Table<Option<Seat>>,
     pub last: Status,
     pub doing: Doing,
 }
@@ -35,10 +35,10 @@ impl Model for Names {
 
     ghost view = { λ n. record {
       rank = n.rank;
-      buffers = n.buffers.items;
-      layouts = n.layouts.items;
-      requests = n.requests.items;
-      communicators = n.communicators.items;
+      buffers = n.buffers;
+      layouts = n.layouts;
+      requests = n.requests;
+      communicators = n.communicators;
       last = n.last;
       doing = n.doing;
     } };
@@ -52,55 +52,55 @@ impl Names {
         Names {
             alloc,
             rank,
-            buffers: Vec::new(alloc),
-            layouts: Vec::new(alloc),
-            requests: Vec::new(alloc),
-            communicators: Vec::new(alloc),
+            buffers: Table::new(alloc),
+            layouts: Table::new(alloc),
+            requests: Table::new(alloc),
+            communicators: Table::new(alloc),
             last: empty_status(),
             doing: Doing::free(),
         }
     }
 
     /// Lets a buffer's name stand for these elements, or be lent.
-    pub(crate) fn set_buffer(&mut self, name: Name, slot: Option<Buffer>) -> Result<(), AllocError>
-        ensures { OnOk result (self.new ≡ with_buffer self.old name slot) }
+    pub(crate) fn set_buffer(&mut self, name: &Name, slot: Option<Buffer>) -> Result<(), AllocError>
+        ensures { OnOk result (self.new ≡ with_buffer self.old name.now slot) }
     {
-        set(&mut self.buffers, name, slot)
+        self.buffers.set(name, slot)
     }
 
     /// Lets a layout's name stand for this.
-    pub(crate) fn set_layout(&mut self, name: Name, layout: Layout) -> Result<(), AllocError>
-        ensures { OnOk result (self.new ≡ with_layout self.old name layout) }
+    pub(crate) fn set_layout(&mut self, name: &Name, layout: Layout) -> Result<(), AllocError>
+        ensures { OnOk result (self.new ≡ with_layout self.old name.now layout) }
     {
-        set(&mut self.layouts, name, layout)
+        self.layouts.set(name, layout)
     }
 
     /// A copy of the layout of this name, if it is set.
     pub(crate) fn layout_of(&self, name: &Name) -> Result<Option<Layout>, AllocError>
         ensures { IfOk result (λ layout. layout ≡ value_at self.now.layouts name.now) }
     {
-        match place_of(&self.layouts, name) {
-            Some(place) => Ok(Some(self.layouts[place].value.try_clone(self.alloc)?)),
+        match self.layouts.get(name) {
+            Some(layout) => Ok(Some(layout.try_clone(self.alloc)?)),
             None => Ok(None),
         }
     }
 
     /// Lets a request's name stand for this.
-    pub(crate) fn set_request(&mut self, name: Name, held: Held) -> Result<(), AllocError>
-        ensures { OnOk result (self.new ≡ with_request self.old name held) }
+    pub(crate) fn set_request(&mut self, name: &Name, held: Held) -> Result<(), AllocError>
+        ensures { OnOk result (self.new ≡ with_request self.old name.now held) }
     {
-        set(&mut self.requests, name, held)
+        self.requests.set(name, held)
     }
 
     /// Lets a communicator's name stand for this one; none is MPI_COMM_NULL.
     pub(crate) fn set_communicator(
         &mut self,
-        name: Name,
+        name: &Name,
         seat: Option<Seat>,
     ) -> Result<(), AllocError>
-        ensures { OnOk result (self.new ≡ with_communicator self.old name seat) }
+        ensures { OnOk result (self.new ≡ with_communicator self.old name.now seat) }
     {
-        set(&mut self.communicators, name, seat)
+        self.communicators.set(name, seat)
     }
 
     /// The place of the communicator that a line names, if it is set; none is MPI_COMM_NULL.
@@ -110,8 +110,8 @@ impl Names {
         match communicator {
             Communicator::World => Some(Some(0)),
             Communicator::Own => Some(Some(1)),
-            Communicator::Named(name) => match place_of(&self.communicators, name) {
-                Some(place) => match self.communicators[place].value {
+            Communicator::Named(name) => match self.communicators.get(name) {
+                Some(held) => match held {
                     Some(seat) => Some(Some(seat.place)),
                     None => Some(None),
                 },
@@ -127,8 +127,8 @@ impl Names {
         match communicator {
             Communicator::World => self.rank == root,
             Communicator::Own => root == 0,
-            Communicator::Named(name) => match place_of(&self.communicators, name) {
-                Some(place) => match self.communicators[place].value {
+            Communicator::Named(name) => match self.communicators.get(name) {
+                Some(held) => match held {
                     Some(seat) => seat.rank == usize::from(root),
                     None => false,
                 },
@@ -142,7 +142,7 @@ impl Names {
         ensures { OnOk result (self.new ≡ given_back self.old name buffer) }
     {
         match name {
-            Some(name) => self.set_buffer(name, Some(buffer)),
+            Some(name) => self.set_buffer(&name, Some(buffer)),
             None => Ok(()),
         }
     }
@@ -151,8 +151,8 @@ impl Names {
     pub(crate) fn is_lent(&self, name: &Name) -> bool
         ensures { result ≡ is_lent self.now name.now }
     {
-        match place_of(&self.buffers, name) {
-            Some(place) => self.buffers[place].value.is_none(),
+        match self.buffers.get(name) {
+            Some(slot) => slot.is_none(),
             None => false,
         }
     }
@@ -161,8 +161,8 @@ impl Names {
     pub(crate) fn copy_of(&self, name: &Name) -> Result<Option<Buffer>, AllocError>
         ensures { IfOk result (λ copy. copy ≡ here self.now name.now) }
     {
-        match place_of(&self.buffers, name) {
-            Some(place) => match &self.buffers[place].value {
+        match self.buffers.get(name) {
+            Some(slot) => match slot {
                 Some(buffer) => Ok(Some(buffer.try_clone(self.alloc)?)),
                 None => Ok(None),
             },
@@ -174,8 +174,8 @@ impl Names {
     pub(crate) fn held(&self, name: &Name) -> Option<Option<Request>>
         ensures { result ≡ request_at self.now name.now }
     {
-        match place_of(&self.requests, name) {
-            Some(place) => Some(self.requests[place].value.request),
+        match self.requests.get(name) {
+            Some(held) => Some(held.request),
             None => None,
         }
     }

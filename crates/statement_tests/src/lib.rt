@@ -1,4 +1,4 @@
-//! Rows of what lines spell, of what files of events and scripts say, and of the texts of answers.
+//! Rows of what lines spell, of what files of events and scripts say, of tables of names, and of the texts of answers.
 #![tactic(auto)]
 
 #[cfg(test)]
@@ -7,5 +7,7 @@ mod answer_tests;
 mod event_files_tests;
 #[cfg(test)]
 mod line_tests;
+#[cfg(test)]
+mod name_table_tests;
 #[cfg(test)]
 mod script_files_tests;
