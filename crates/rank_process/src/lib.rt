@@ -4,6 +4,7 @@
 
 mod acknowledgements;
 mod clock;
+mod kept;
 mod running;
 mod udp;
 

@@ -82,7 +82,7 @@ fn new_engine<R: AllocGlobal>(rt: &R, settings: &Settings) -> Result<Engine, u8>
 }
 
 /// The status of a rank that ended so. What its socket kept back goes before.
-fn end<R: Print + Eprint>(
+fn end<R: Print + Eprint + Clock>(
     rt: &R,
     udp: &mut Udp<'_, R>,
     ended: Result<Ended, TransportFault>,

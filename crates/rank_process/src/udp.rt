@@ -1,11 +1,9 @@
 //! Datagrams over UDP on the loopback, and lines on the standard output.
 
-ghost use Rattle.std.specs.Prelude.{◌≡◌, ◌↔◌, ◌+◌, ◌<◌, ◌^◌, ◌≤◌, ◌⊎◌, length, option_map, IfOk, IfSome, IsTrue, None, Some};
+ghost use Rattle.std.specs.Prelude.{◌≡◌, ◌+◌, ◌<◌, ◌^◌, ◌≤◌, length, IfOk};
 ghost use Rattle.rank_drive.specs.Exchanges.{FailsWith};
-ghost use Rattle.rank_process.specs.Acknowledgements.{CoveredBy, short_acknowledgement};
 
-use crate::acknowledgements::{acknowledgement_in, covers};
-use datagram::Header;
+use crate::kept::{Delay, Kept, going, kept_of};
 use mio::net::UdpSocket;
 use mio::{Events, Interest, Poll, Token};
 use rank_drive::{LONGEST, Transport, TransportFault};
@@ -14,23 +12,10 @@ use std::io;
 use std::io::{ErrorKind, Write};
 use std::net::{Ipv4Addr, Net, SocketAddr};
 use std::thread::yield_now;
-use std::time::Duration;
+use std::time::{Clock, Duration};
 
 /// How often a rank that waits behind a datagram lets other processes run and asks for the next one.
 const YIELDS: u32 = 24;
-
-/// The length of an acknowledgement.
-const ACK_BYTES: usize = 32;
-
-/// An acknowledgement that was handed over last.
-#[derive(Clone, Copy)]
-struct Kept {
-    /// The rank that it goes to.
-    target: u16,
-    /// What it says.
-    header: Header,
-    bytes: [u8; ACK_BYTES],
-}
 
 /// A socket of a rank on 127.0.0.1, and its standard output.
 ///
@@ -38,10 +23,12 @@ struct Kept {
 /// it mostly is there soon, and comes back early where none is; each later wait sleeps until a datagram comes. So a rank that
 /// nobody speaks with sleeps at once, and just as long as it is told to.
 ///
-/// An acknowledgement that is sent goes when the next thing is sent, received or waited for, so at the latest when the rank's next
-/// turn begins. Where that is a later acknowledgement of the same session, which says all that it says, it is lost on purpose.
+/// An acknowledgement is kept back for a little while. Where a later one of the same session comes, which says all that it says, it
+/// is lost on purpose; so one datagram stands for up to 16 of them. The one that is kept goes when an acknowledgement of another
+/// session is kept, when a line is printed, behind 128 receives, and where the rank waits and no datagram comes, or a millisecond
+/// is over: far earlier than its frames are sent again, unless the rank's script works for long between two calls.
 #[derive(Drop)]
-pub struct Udp<'a, R: Print> {
+pub struct Udp<'a, R: Print + Clock> {
     rt: &'a R,
     socket: UdpSocket,
     poll: Poll,
@@ -54,6 +41,8 @@ pub struct Udp<'a, R: Print> {
     held: Option<usize>,
     /// The acknowledgement that was handed over last, until it goes or a later one takes its place.
     kept: Option<Kept>,
+    /// How long it has been kept back.
+    delay: Delay,
     /// Whether a datagram was sent or handed out since the last wait.
     has_carried: bool,
     /// The line that is written, with its end.
@@ -75,12 +64,29 @@ fn put(buffer: &mut [u8], room: &[u8], len: usize) -> usize
     len
 }
 
-/// The length of the next datagram, which is put into the room, if one comes while others run.
-fn come(socket: &UdpSocket, room: &mut [u8]) -> Option<usize> {
+/// Whether something is kept back with this delay, and is late.
+fn is_late<R: Clock>(rt: &R, delay: Option<Delay>) -> bool {
+    match delay {
+        Some(delay) => delay.is_late(rt),
+        None => false,
+    }
+}
+
+/// The length of the next datagram, which is put into the room, if one comes while others run. It gives up early where what is
+/// kept back, with this delay, is late.
+fn come<R: Clock>(
+    rt: &R,
+    socket: &UdpSocket,
+    room: &mut [u8],
+    delay: Option<Delay>,
+) -> Option<usize> {
     for _ in 0..YIELDS {
         yield_now();
         if let Ok(len) = socket.recv(room) {
             return Some(len);
+        }
+        if is_late(rt, delay) {
+            return None;
         }
     }
     None
@@ -105,47 +111,6 @@ fn put_out(socket: &UdpSocket, port: u16, bytes: &[u8]) -> Result<(), TransportF
     }
 }
 
-/// The acknowledgement that the bytes spell, if they spell one.
-fn kept_of(target: u16, bytes: &[u8]) -> Option<Kept>
-    ensures header { option_map (λ k. k.header) result ≡ short_acknowledgement bytes.now }
-    ensures whole { IfSome result (λ k. (k.target ≡ target) × (k.bytes ≡ bytes.now)) }
-{
-    if bytes.len() != ACK_BYTES {
-        return None;
-    }
-    let header = acknowledgement_in(bytes)?;
-    let mut copy = [0u8; ACK_BYTES];
-    copy.copy_from_slice(bytes);
-    Some(Kept {
-        target,
-        header,
-        bytes: copy,
-    })
-}
-
-/// Whether this one is an acknowledgement that says all that the former one says.
-fn takes_the_place(next: &Option<Kept>, former: &Kept) -> bool
-    ensures { IsTrue result ↔ CoveredBy (option_map (λ k. k.header) next.now) former.now.header }
-{
-    match next {
-        Some(next) => covers(next.header, former.header),
-        None => false,
-    }
-}
-
-/// The acknowledgement that goes now, behind which this one comes, or something else: the kept one, unless this one says all that
-/// it says.
-fn going(kept: Option<Kept>, next: &Option<Kept>) -> Option<Kept>
-    ensures lost { IfSome kept (λ k. (result ≡ Some k) ⊎ CoveredBy (option_map (λ n. n.header) next.now) k.header) }
-    ensures other { (result ≡ None) ⊎ (result ≡ kept) }
-{
-    let former = kept?;
-    if takes_the_place(next, &former) {
-        return None;
-    }
-    Some(former)
-}
-
 /// Writes a line and its end.
 fn write_line<R: Print>(rt: &R, text: &mut Vec<u8>, line: &[u8]) -> io::Result<()> {
     text.clear();
@@ -155,7 +120,7 @@ fn write_line<R: Print>(rt: &R, text: &mut Vec<u8>, line: &[u8]) -> io::Result<(
     out.write_all(text.as_slice())
 }
 
-impl<'a, R: Print> Udp<'a, R> {
+impl<'a, R: Print + Clock> Udp<'a, R> {
     /// The socket of a rank at a port. Fails where the port is taken, or where the system or memory is wanting.
     pub fn new(rt: &'a R, alloc: Global, rank: u16, port: u16) -> io::Result<Udp<'a, R>>
     where
@@ -176,6 +141,7 @@ impl<'a, R: Print> Udp<'a, R> {
             room: vec![in alloc; 0u8; LONGEST]?,
             held: None,
             kept: None,
+            delay: Delay::begun(rt),
             has_carried: false,
             text: Vec::new(alloc),
             failures: 0,
@@ -201,23 +167,82 @@ impl<'a, R: Print> Udp<'a, R> {
         }
     }
 
-    /// The acknowledgement that was handed over last goes, unless this one takes its place.
-    fn let_go(&mut self, next: &Option<Kept>) -> Result<(), TransportFault>
+    /// The acknowledgement that is kept back goes, if there is one.
+    fn flush(&mut self) -> Result<(), TransportFault>
         requires { self.old.failures + 1 < 2 ^ 64 }
         ensures { FailsWith result self.old.failures self.new.failures }
     {
-        match going(self.kept.take(), next) {
+        match self.kept.take() {
+            Some(kept) => self.carry(kept.target, &kept.bytes),
+            None => Ok(()),
+        }
+    }
+
+    /// The acknowledgement that is kept back goes, if it has been kept for as many others or as many receives as it may.
+    fn flush_if_over(&mut self) -> Result<(), TransportFault>
+        requires { self.old.failures + 1 < 2 ^ 64 }
+        ensures { FailsWith result self.old.failures self.new.failures }
+    {
+        if self.delay.is_over() {
+            return self.flush();
+        }
+        Ok(())
+    }
+
+    /// Keeps an acknowledgement back. The former one goes, unless this one says all that it says.
+    fn keep(&mut self, next: Kept) -> Result<(), TransportFault>
+        requires { self.old.failures + 1 < 2 ^ 64 }
+        ensures { FailsWith result self.old.failures self.new.failures }
+    {
+        let former = self.kept.take();
+        let leaves = going(former, next);
+        self.kept = Some(next);
+        if former.is_some() && leaves.is_none() {
+            self.delay = self.delay.of_one_more();
+            return self.flush_if_over();
+        }
+        self.delay = Delay::begun(self.rt);
+        match leaves {
             Some(former) => self.carry(former.target, &former.bytes),
             None => Ok(()),
         }
     }
 
-    /// The acknowledgement that was handed over last goes, if it hasn't gone yet.
-    fn flush(&mut self) -> Result<(), TransportFault>
+    /// A receive begins, behind which the acknowledgement that is kept back may go.
+    fn begin_receive(&mut self) -> Result<(), TransportFault>
         requires { self.old.failures + 1 < 2 ^ 64 }
         ensures { FailsWith result self.old.failures self.new.failures }
     {
-        self.let_go(&None)
+        if self.kept.is_none() {
+            return Ok(());
+        }
+        self.delay = self.delay.behind_receive();
+        self.flush_if_over()
+    }
+
+    /// The delay of the acknowledgement that is kept back, if there is one.
+    fn delay_of_kept(&self) -> Option<Delay> {
+        match self.kept {
+            Some(_) => Some(self.delay),
+            None => None,
+        }
+    }
+
+    /// Lets others run, and asks for the next datagram some times. The acknowledgement that is kept back goes where it is late
+    /// already, and where none comes.
+    fn await_next(&mut self) -> Result<(), TransportFault>
+        requires { self.old.failures + 1 < 2 ^ 64 }
+        ensures { FailsWith result self.old.failures self.new.failures }
+    {
+        let delay = self.delay_of_kept();
+        if is_late(self.rt, delay) {
+            return self.flush();
+        }
+        self.held = come(self.rt, &self.socket, &mut self.room, delay);
+        if self.held.is_none() {
+            return self.flush();
+        }
+        Ok(())
     }
 
     /// The same at the end, behind which nothing else is asked of it.
@@ -233,13 +258,13 @@ impl<'a, R: Print> Udp<'a, R> {
     }
 }
 
-impl<'a, R: Print> Transport for Udp<'a, R> {
+impl<'a, R: Print + Clock> Transport for Udp<'a, R> {
     ghost passed = { λ _ _ _. Unit {0} };
 
     ghost failed = { λ t. t.failures };
 
     fn receive(&mut self, buffer: &mut [u8]) -> Result<Option<usize>, TransportFault> {
-        let Ok(_) = self.flush() else {
+        let Ok(_) = self.begin_receive() else {
             return Err(TransportFault);
         };
         if let Some(len) = self.held.take() {
@@ -262,19 +287,17 @@ impl<'a, R: Print> Transport for Udp<'a, R> {
     }
 
     fn send(&mut self, target: u16, bytes: &[u8]) -> Result<(), TransportFault> {
-        let next = kept_of(target, bytes);
-        let Ok(_) = self.let_go(&next) else {
-            return Err(TransportFault);
-        };
         self.has_carried = true;
-        if next.is_some() {
-            self.kept = next;
-            return Ok(());
+        match kept_of(target, bytes) {
+            Some(next) => self.keep(next),
+            None => self.carry(target, bytes),
         }
-        self.carry(target, bytes)
     }
 
     fn print(&mut self, line: &[u8]) -> Result<(), TransportFault> {
+        let Ok(_) = self.flush() else {
+            return Err(TransportFault);
+        };
         match write_line(self.rt, &mut self.text, line) {
             Ok(()) => Ok(()),
             Err(_) => Err(self.fault()),
@@ -282,14 +305,13 @@ impl<'a, R: Print> Transport for Udp<'a, R> {
     }
 
     fn wait(&mut self, most: u64) -> Result<(), TransportFault> {
+        if self.has_carried {
+            self.has_carried = false;
+            return self.await_next();
+        }
         let Ok(_) = self.flush() else {
             return Err(TransportFault);
         };
-        if self.has_carried {
-            self.has_carried = false;
-            self.held = come(&self.socket, &mut self.room);
-            return Ok(());
-        }
         match self
             .poll
             .poll(&mut self.events, Some(Duration::from_millis(most)))
