@@ -16,6 +16,14 @@ fn rank_of(alloc: Global, rank: u16, incarnation: u16, size: u16) -> Option<Engi
     Engine::new(alloc, place).ok()
 }
 
+/// Ranks 0 and 1 of two.
+fn two_ranks(alloc: Global) -> Option<Vec<Engine>> {
+    let mut ranks = Vec::new(alloc);
+    ranks.push(rank_of(alloc, 0, 0, 2)?).ok()?;
+    ranks.push(rank_of(alloc, 1, 0, 2)?).ok()?;
+    Some(ranks)
+}
+
 /// So many bytes of one value.
 fn copies(alloc: Global, number: u8, count: usize) -> Option<Buffer> {
     let mut elements = Buffer::new(alloc, BasicType::Uint8);
@@ -179,9 +187,11 @@ fn pass_both(
 
 /// Both come whole, whichever was announced first.
 fn both_come(alloc: Global) -> Option<(Option<Got>, usize, bool)> {
-    let mut zero = rank_of(alloc, 0, 0, 2)?;
-    let mut one = rank_of(alloc, 1, 0, 2)?;
-    pass_both(alloc, &mut zero, &mut one)
+    let mut ranks = two_ranks(alloc)?;
+    match ranks.as_mut_slice() {
+        [zero, one] => pass_both(alloc, zero, one),
+        _ => None,
+    }
 }
 
 #[test]
@@ -237,9 +247,11 @@ fn pass_with_faults(
 
 /// The same between two new ranks.
 fn wrong_numbers(alloc: Global) -> Option<([Option<u8>; 3], Option<Got>)> {
-    let mut zero = rank_of(alloc, 0, 0, 2)?;
-    let mut one = rank_of(alloc, 1, 0, 2)?;
-    pass_with_faults(alloc, &mut zero, &mut one)
+    let mut ranks = two_ranks(alloc)?;
+    match ranks.as_mut_slice() {
+        [zero, one] => pass_with_faults(alloc, zero, one),
+        _ => None,
+    }
 }
 
 #[test]
@@ -270,9 +282,11 @@ fn pass_long(
 
 /// The same between two new ranks.
 fn long_comes(alloc: Global) -> Option<(Option<Got>, [usize; 2], bool)> {
-    let mut zero = rank_of(alloc, 0, 0, 2)?;
-    let mut one = rank_of(alloc, 1, 0, 2)?;
-    pass_long(alloc, &mut zero, &mut one)
+    let mut ranks = two_ranks(alloc)?;
+    match ranks.as_mut_slice() {
+        [zero, one] => pass_long(alloc, zero, one),
+        _ => None,
+    }
 }
 
 #[test]
@@ -345,9 +359,11 @@ fn pass_changed(
 
 /// The same between two new ranks.
 fn unreadable(alloc: Global, place: usize, value: u8) -> Option<(usize, [Option<u8>; 2], bool)> {
-    let mut zero = rank_of(alloc, 0, 0, 2)?;
-    let mut one = rank_of(alloc, 1, 0, 2)?;
-    pass_changed(alloc, &mut zero, &mut one, place, value)
+    let mut ranks = two_ranks(alloc)?;
+    match ranks.as_mut_slice() {
+        [zero, one] => pass_changed(alloc, zero, one, place, value),
+        _ => None,
+    }
 }
 
 #[test]

@@ -38,6 +38,14 @@ fn rank_of_two(alloc: Global, rank: u16) -> Option<Engine> {
     Engine::new(alloc, place).ok()
 }
 
+/// Ranks 0 and 1.
+fn two_ranks(alloc: Global) -> Option<Vec<Engine>> {
+    let mut ranks = Vec::new(alloc);
+    ranks.push(rank_of_two(alloc, 0)?).ok()?;
+    ranks.push(rank_of_two(alloc, 1)?).ok()?;
+    Some(ranks)
+}
+
 /// So many bytes of one value.
 fn copies(alloc: Global, number: u8, count: usize) -> Option<Buffer> {
     let mut elements = Buffer::new(alloc, BasicType::Uint8);
@@ -99,14 +107,11 @@ fn deliver(from: &mut Engine, to: &mut Engine) -> Option<()> {
     Some(())
 }
 
-/// Rank 1 enters, then rank 0; then what rank 1 emitted comes, and then what rank 0 did. What ranks 0 and 1 are told on entering,
-/// and with what it ends for those that were blocked.
-fn both_enter(
-    zero: &mut Engine,
-    one: &mut Engine,
-    of_zero: Entry,
-    of_one: Entry,
-) -> Option<([Told; 2], [Option<Told>; 2])> {
+/// What ranks 0 and 1 are told on entering, and with what it ends for those that were blocked.
+type Both = ([Told; 2], [Option<Told>; 2]);
+
+/// Rank 1 enters, then rank 0; then what rank 1 emitted comes, and then what rank 0 did.
+fn both_enter(zero: &mut Engine, one: &mut Engine, of_zero: Entry, of_one: Entry) -> Option<Both> {
     let by_one = enter(one, of_one);
     let by_zero = enter(zero, of_zero);
     deliver(one, zero)?;
@@ -115,22 +120,14 @@ fn both_enter(
 }
 
 /// Rank 0 tells rank 1 three elements.
-fn broadcast(
-    alloc: Global,
-    zero: &mut Engine,
-    one: &mut Engine,
-) -> Option<([Told; 2], [Option<Told>; 2])> {
+fn broadcast(alloc: Global, zero: &mut Engine, one: &mut Engine) -> Option<Both> {
     let of_zero = Entry::Bcast(0, block(alloc, 7, 3)?);
     let of_one = Entry::Bcast(0, block(alloc, 0, 3)?);
     both_enter(zero, one, of_zero, of_one)
 }
 
 /// Rank 0 gathers 5 and 6.
-fn gathered(
-    alloc: Global,
-    zero: &mut Engine,
-    one: &mut Engine,
-) -> Option<([Told; 2], [Option<Told>; 2])> {
+fn gathered(alloc: Global, zero: &mut Engine, one: &mut Engine) -> Option<Both> {
     let of_zero = Entry::Gather(0, block(alloc, 5, 1)?);
     let of_one = Entry::Gather(0, block(alloc, 6, 1)?);
     both_enter(zero, one, of_zero, of_one)
@@ -147,74 +144,64 @@ fn scatter(all: Option<Buffer>) -> Entry {
 }
 
 /// Rank 0 scatters 3 and 4.
-fn scattered(
-    alloc: Global,
-    zero: &mut Engine,
-    one: &mut Engine,
-) -> Option<([Told; 2], [Option<Told>; 2])> {
+fn scattered(alloc: Global, zero: &mut Engine, one: &mut Engine) -> Option<Both> {
     let mut all = copies(alloc, 3, 1)?;
     all.push_copies(4, 1).ok()?;
     both_enter(zero, one, scatter(Some(all)), scatter(None))
 }
 
 /// The greater of 2 and 9 goes to rank 1.
-fn reduced(
-    alloc: Global,
-    zero: &mut Engine,
-    one: &mut Engine,
-) -> Option<([Told; 2], [Option<Told>; 2])> {
+fn reduced(alloc: Global, zero: &mut Engine, one: &mut Engine) -> Option<Both> {
     let of_zero = Entry::Reduce(Operation::Max, 1, block(alloc, 9, 1)?);
     let of_one = Entry::Reduce(Operation::Max, 1, block(alloc, 2, 1)?);
     both_enter(zero, one, of_zero, of_one)
 }
 
 /// The sum of 2 and 9 goes to both.
-fn summed(
-    alloc: Global,
-    zero: &mut Engine,
-    one: &mut Engine,
-) -> Option<([Told; 2], [Option<Told>; 2])> {
+fn summed(alloc: Global, zero: &mut Engine, one: &mut Engine) -> Option<Both> {
     let of_zero = Entry::Allreduce(Operation::Sum, block(alloc, 9, 2)?);
     let of_one = Entry::Allreduce(Operation::Sum, block(alloc, 2, 2)?);
     both_enter(zero, one, of_zero, of_one)
 }
 
+/// The five, one after the other.
+fn five(alloc: Global, zero: &mut Engine, one: &mut Engine) -> Option<[Both; 5]> {
+    Some([
+        broadcast(alloc, zero, one)?,
+        gathered(alloc, zero, one)?,
+        scattered(alloc, zero, one)?,
+        reduced(alloc, zero, one)?,
+        summed(alloc, zero, one)?,
+    ])
+}
+
+/// The same of two new ranks.
+fn five_of_two(alloc: Global) -> Option<[Both; 5]> {
+    let mut ranks = two_ranks(alloc)?;
+    match ranks.as_mut_slice() {
+        [zero, one] => five(alloc, zero, one),
+        _ => None,
+    }
+}
+
+/// So many elements, the first and the second of which are these.
+fn gets(count: usize, first: u64, second: Option<u64>) -> Told {
+    Told::Gets(count, [Some(first), second])
+}
+
 #[test]
 fn each_collective_gives_its_elements(rt: HostRuntime) {
-    let mut zero = rank_of_two(rt.alloc(), 0).expect(&rt, "a rank");
-    let mut one = rank_of_two(rt.alloc(), 1).expect(&rt, "a rank");
+    let (left, blocked) = (Told::Left, Told::Blocked);
+    let sum = Some(gets(2, 11, Some(11)));
     assert_eq!(rt;
-        broadcast(rt.alloc(), &mut zero, &mut one),
-        Some((
-            [Told::Left, Told::Blocked],
-            [None, Some(Told::Gets(3, [Some(7), Some(7)]))]
-        ))
-    );
-    assert_eq!(rt;
-        gathered(rt.alloc(), &mut zero, &mut one),
-        Some((
-            [Told::Blocked, Told::Left],
-            [Some(Told::Gets(2, [Some(5), Some(6)])), None]
-        ))
-    );
-    assert_eq!(rt;
-        scattered(rt.alloc(), &mut zero, &mut one),
-        Some((
-            [Told::Gets(1, [Some(3), None]), Told::Blocked],
-            [None, Some(Told::Gets(1, [Some(4), None]))]
-        ))
-    );
-    assert_eq!(rt;
-        reduced(rt.alloc(), &mut zero, &mut one),
-        Some((
-            [Told::Left, Told::Blocked],
-            [None, Some(Told::Gets(1, [Some(9), None]))]
-        ))
-    );
-    let both = Some(Told::Gets(2, [Some(11), Some(11)]));
-    assert_eq!(rt;
-        summed(rt.alloc(), &mut zero, &mut one),
-        Some(([Told::Blocked, Told::Blocked], [both, both]))
+        five_of_two(rt.alloc()),
+        Some([
+            ([left, blocked], [None, Some(gets(3, 7, Some(7)))]),
+            ([blocked, left], [Some(gets(2, 5, Some(6))), None]),
+            ([gets(1, 3, None), blocked], [None, Some(gets(1, 4, None))]),
+            ([left, blocked], [None, Some(gets(1, 9, None))]),
+            ([blocked, blocked], [sum, sum]),
+        ])
     );
 }
 
@@ -234,11 +221,16 @@ fn refused(alloc: Global, zero: &mut Engine) -> Option<[Told; 5]> {
     ])
 }
 
+/// The same of a new rank.
+fn refused_by_new(alloc: Global) -> Option<[Told; 5]> {
+    let mut zero = rank_of_two(alloc, 0)?;
+    refused(alloc, &mut zero)
+}
+
 #[test]
 fn a_refused_entry_comes_back(rt: HostRuntime) {
-    let mut zero = rank_of_two(rt.alloc(), 0).expect(&rt, "a rank");
     assert_eq!(rt;
-        refused(rt.alloc(), &mut zero),
+        refused_by_new(rt.alloc()),
         Some([
             Told::Refused(2, Some(0)),
             Told::Refused(1, Some(3)),
@@ -250,29 +242,34 @@ fn a_refused_entry_comes_back(rt: HostRuntime) {
 }
 
 /// As many elements as a frame holds go to rank 1, which wants one more or as many.
-fn most(
-    alloc: Global,
-    zero: &mut Engine,
-    one: &mut Engine,
-    wanted: usize,
-) -> Option<([Told; 2], [Option<Told>; 2])> {
+fn most(alloc: Global, zero: &mut Engine, one: &mut Engine, wanted: usize) -> Option<Both> {
     let of_zero = Entry::Bcast(0, block(alloc, 1, 1008)?);
     let of_one = Entry::Bcast(0, block(alloc, 0, wanted)?);
     both_enter(zero, one, of_zero, of_one)
 }
 
+/// The one that wants as many, and then the one that wants one more, of two new ranks.
+fn most_of_two(alloc: Global) -> Option<[Both; 2]> {
+    let mut ranks = two_ranks(alloc)?;
+    match ranks.as_mut_slice() {
+        [zero, one] => both_most(alloc, zero, one),
+        _ => None,
+    }
+}
+
+fn both_most(alloc: Global, zero: &mut Engine, one: &mut Engine) -> Option<[Both; 2]> {
+    Some([most(alloc, zero, one, 1008)?, most(alloc, zero, one, 1009)?])
+}
+
 #[test]
 fn a_frame_holds_1008_bytes_of_elements(rt: HostRuntime) {
-    let mut zero = rank_of_two(rt.alloc(), 0).expect(&rt, "a rank");
-    let mut one = rank_of_two(rt.alloc(), 1).expect(&rt, "a rank");
     let entered = [Told::Left, Told::Blocked];
-    let all = Told::Gets(1008, [Some(1), Some(1)]);
+    let all = gets(1008, 1, Some(1));
     assert_eq!(rt;
-        most(rt.alloc(), &mut zero, &mut one, 1008),
-        Some((entered, [None, Some(all)]))
-    );
-    assert_eq!(rt;
-        most(rt.alloc(), &mut zero, &mut one, 1009),
-        Some((entered, [None, Some(Told::Error(12))]))
+        most_of_two(rt.alloc()),
+        Some([
+            (entered, [None, Some(all)]),
+            (entered, [None, Some(Told::Error(12))]),
+        ])
     );
 }
