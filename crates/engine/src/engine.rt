@@ -126,6 +126,14 @@ impl Engine {
         self.sessions.take_out()
     }
 
+    /// Gives the list back that `take_out` handed out, so that what is emitted next has its room. What it holds is dropped, and
+    /// nothing else changes. It takes no memory.
+    pub fn give_back(&mut self, taken: Vec<(u16, Bytes)>)
+        ensures { self.new ≡ self.old }
+    {
+        self.sessions.give_back(taken);
+    }
+
     /// Hands out the answer of a blocked call, once, after the event in which it was ready: of its requests, or of the
     /// collective that it entered. It is to be taken after each such event: of two answers that were not taken one is lost.
     pub fn take_completion(&mut self) -> Option<Completion>

@@ -2,6 +2,8 @@
 #![tactic(auto)]
 
 #[cfg(test)]
+mod acknowledgement_tests;
+#[cfg(test)]
 mod incarnation_tests;
 #[cfg(test)]
 mod reliable_link_tests;

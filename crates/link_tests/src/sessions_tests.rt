@@ -324,3 +324,30 @@ fn data_of_an_announced_message_are_handed_up(rt: HostRuntime) {
     });
     assert_eq!(rt; passed(rt.alloc(), frame, &PART), Some((true, Some(8))));
 }
+
+/// How many datagrams go out three times in turn: the first list is given back when it was taken out, the second one when the
+/// next frames have gone out.
+fn emitted_in_turn(sessions: &mut Sessions) -> (usize, usize, usize) {
+    let _sent = send_both(sessions, 1, 2, b"a");
+    let first = sessions.take_out();
+    let first_len = first.len();
+    sessions.give_back(first);
+    let _sent = send_both(sessions, 1, 2, b"b");
+    let second = sessions.take_out();
+    let second_len = second.len();
+    let _sent = send_both(sessions, 1, 2, b"c");
+    sessions.give_back(second);
+    (first_len, second_len, sessions.take_out().len())
+}
+
+fn emitted_by_a_new_rank(alloc: Global) -> Option<(usize, usize, usize)> {
+    match sessions_of(alloc, 0, 0) {
+        Some(mut sessions) => Some(emitted_in_turn(&mut sessions)),
+        None => None,
+    }
+}
+
+#[test]
+fn a_list_that_is_given_back_holds_nothing(rt: HostRuntime) {
+    assert_eq!(rt; emitted_by_a_new_rank(rt.alloc()), Some((2, 2, 2)));
+}

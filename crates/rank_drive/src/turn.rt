@@ -99,6 +99,7 @@ pub(crate) fn turn<R: Wait, P: Runner, T: Transport>(
     let Ok(_) = send_all(transport, &out) else {
         return Err(TransportFault);
     };
+    engine.give_back(out);
     let moved = heard.accepted || answered || is_ready(&next);
     Ok(Turned {
         stage: next,

@@ -2,11 +2,8 @@
 //! `rank_main` does, apart from its `main`, so that a program of worked rows can run it too.
 #![tactic(auto)]
 
-mod acknowledgements;
 mod clock;
-mod kept;
 mod running;
 mod udp;
 
-pub use crate::acknowledgements::{acknowledgement_in, covers};
 pub use crate::running::{run, run_words};

@@ -1,5 +1,7 @@
 //! Running a rank: its words, its script, its engine, and its end.
 
+ghost use Rattle.std.specs.Prelude.{◌≡◌};
+
 use crate::clock::HostClock;
 use crate::udp::Udp;
 use engine::{Engine, Place};
@@ -97,34 +99,59 @@ fn end<R: Print + Eprint + Clock>(
     }
 }
 
+/// Drives the rank over its socket until it ends, and answers its status.
+fn meet<R: Wait + Print + Eprint + Clock>(
+    rt: &R,
+    patience: u64,
+    runner: &mut ScriptRunner,
+    engine: &mut Engine,
+    udp: &mut Udp<'_, R>,
+) -> Result<u8, u8>
+    requires { udp.old.failures ≡ 0 }
+{
+    let mut clock = match HostClock::new(rt) {
+        Ok(clock) => clock,
+        Err(error) => return Err(status_of(&error)),
+    };
+    let ended = drive(rt, engine, runner, patience, udp, &mut clock);
+    end(rt, udp, ended)
+}
+
+/// Opens the rank's socket, and meets the others over it.
+fn open<R: Net + Wait + Print + Eprint + AllocGlobal + Clock>(
+    rt: &R,
+    settings: &Settings,
+    runner: &mut ScriptRunner,
+    engine: &mut Engine,
+) -> Result<u8, u8> {
+    match Udp::new(rt, rt.alloc(), settings.rank, settings.port) {
+        Ok(mut udp) => meet(rt, settings.patience, runner, engine, &mut udp),
+        Err(error) => Err(status_of(&error)),
+    }
+}
+
+/// Makes the rank's engine, and opens its socket.
+fn start<R: Net + Wait + Print + Eprint + AllocGlobal + Clock>(
+    rt: &R,
+    settings: &Settings,
+    runner: &mut ScriptRunner,
+) -> Result<u8, u8> {
+    match new_engine(rt, settings) {
+        Ok(mut engine) => open(rt, settings, runner, &mut engine),
+        Err(status) => Err(status),
+    }
+}
+
 /// Runs the rank of these settings, and answers its status.
 fn run_rank<R: Net + Wait + Files + Print + Eprint + AllocGlobal + Clock>(
     rt: &R,
     settings: &Settings,
 ) -> Result<u8, u8> {
     let script = read_script(rt, settings)?;
-    let Ok(mut runner) = ScriptRunner::new(rt.alloc(), script, settings.rank, settings.incarnation)
-    else {
-        return Err(MEMORY);
-    };
-    let mut engine = new_engine(rt, settings)?;
-    let mut udp = match Udp::new(rt, rt.alloc(), settings.rank, settings.port) {
-        Ok(udp) => udp,
-        Err(error) => return Err(status_of(&error)),
-    };
-    let mut clock = match HostClock::new(rt) {
-        Ok(clock) => clock,
-        Err(error) => return Err(status_of(&error)),
-    };
-    let ended = drive(
-        rt,
-        &mut engine,
-        &mut runner,
-        settings.patience,
-        &mut udp,
-        &mut clock,
-    );
-    end(rt, &mut udp, ended)
+    match ScriptRunner::new(rt.alloc(), script, settings.rank, settings.incarnation) {
+        Ok(mut runner) => start(rt, settings, &mut runner),
+        Err(_) => Err(MEMORY),
+    }
 }
 
 /// Runs the rank that these words ask for, the first of which is the program's name, and answers its status: 0 where the script

@@ -3,7 +3,7 @@
 ghost use Rattle.std.specs.Prelude.{◌≡◌, ◌+◌, ◌<◌, ◌^◌, ◌≤◌, length, IfOk};
 ghost use Rattle.rank_drive.specs.Exchanges.{FailsWith};
 
-use crate::kept::{Delay, Kept, going, kept_of};
+use kept_acknowledgements::{Delay, Kept, going, kept_of};
 use mio::net::UdpSocket;
 use mio::{Events, Interest, Poll, Token};
 use rank_drive::{LONGEST, Transport, TransportFault};

@@ -58,23 +58,55 @@ pub struct Pair {
     failures: u64,
 }
 
+/// A pair whose rank 1 goes on by this runner and answers, or doesn't, and which fails from its call of this number on.
+fn pair_of(alloc: Global, runner: ScriptRunner, fails_at: u64, answers: bool) -> Option<Pair>
+    ensures { IfSome result (λ p. p.failures ≡ 0) }
+{
+    match Engine::new(alloc, place_of_two(1)) {
+        Ok(engine) => Some(Pair {
+            engine,
+            runner,
+            told: Some(None),
+            to_us: VecDeque::new(alloc),
+            answers,
+            printed: Vec::new(alloc),
+            calls: 0,
+            fails_at,
+            failures: 0,
+        }),
+        Err(_) => None,
+    }
+}
+
 /// A pair whose rank 1 runs this script and answers, or doesn't, and which fails from its call of this number on.
 pub fn new_pair(alloc: Global, text: &[u8], fails_at: u64, answers: bool) -> Option<Pair>
     ensures { IfSome result (λ p. p.failures ≡ 0) }
 {
-    let runner = runner_of(alloc, text, 1)?;
-    let engine = Engine::new(alloc, place_of_two(1)).ok()?;
-    Some(Pair {
-        engine,
-        runner,
-        told: Some(None),
-        to_us: VecDeque::new(alloc),
-        answers,
-        printed: Vec::new(alloc),
-        calls: 0,
-        fails_at,
-        failures: 0,
-    })
+    match runner_of(alloc, text, 1) {
+        Some(runner) => pair_of(alloc, runner, fails_at, answers),
+        None => None,
+    }
+}
+
+/// What the runner is told once this answer of a blocked call, or none, has come.
+fn told_with(told: Option<Option<Reply>>, completion: Option<Completion>) -> Option<Option<Reply>> {
+    match completion {
+        Some(Completion::Requests(answer)) => Some(Some(Reply::Done(answer))),
+        Some(Completion::Collective(ending)) => Some(Some(Reply::Left(ending))),
+        None => told,
+    }
+}
+
+/// What the runner is told after its step, if it may go on.
+fn told_after(engine: &mut Engine, step: Step) -> Option<Option<Reply>> {
+    match step {
+        Step::Call(call) => match engine.call(call) {
+            Reply::Blocked => None,
+            reply => Some(Some(reply)),
+        },
+        Step::Print(_) => Some(None),
+        Step::End(_, _) => None,
+    }
 }
 
 impl Pair {
@@ -104,31 +136,22 @@ impl Pair {
         self.calls >= self.fails_at
     }
 
-    fn take_step(&mut self, step: Step)
+    /// This is what the runner is told next.
+    fn tell(&mut self, told: Option<Option<Reply>>)
         ensures { self.new.failures ≡ self.old.failures }
     {
-        match step {
-            Step::Call(call) => match self.engine.call(call) {
-                Reply::Blocked => {}
-                reply => self.told = Some(Some(reply)),
-            },
-            Step::Print(_) => self.told = Some(None),
-            Step::End(_, _) => {}
-        }
+        self.told = told;
     }
 
     /// Rank 1 does what comes next, if it may go on.
     fn go_on(&mut self)
         ensures { self.new.failures ≡ self.old.failures }
     {
-        match self.engine.take_completion() {
-            Some(Completion::Requests(answer)) => self.told = Some(Some(Reply::Done(answer))),
-            Some(Completion::Collective(ending)) => self.told = Some(Some(Reply::Left(ending))),
-            None => {}
-        }
-        if let Some(reply) = self.told.take() {
+        let told = told_with(self.told.take(), self.engine.take_completion());
+        if let Some(reply) = told {
             let step = self.runner.next(reply);
-            self.take_step(step);
+            let told = told_after(&mut self.engine, step);
+            self.tell(told);
         }
     }
 

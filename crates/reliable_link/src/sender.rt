@@ -29,14 +29,13 @@ pub struct Sender {
 }
 
 impl Model for Sender {
-    ghost use Rattle.reliable_link.specs.SenderState.{SenderState};
-    ghost use Rattle.std.specs.Prelude.{◌+◌, ◌<◌, ◌^◌, length};
+    ghost use Rattle.reliable_link.specs.SenderState.{SenderState, IsKept};
 
     ghost Value = { SenderState };
 
     ghost view = { λ s. record { lowest = s.lowest; frames = s.frames.items; clock = s.clock } };
 
-    ghost invariant = { λ s. s.lowest + length s.frames.items < 2 ^ 64 };
+    ghost invariant = { λ s. IsKept s.lowest s.frames.items s.clock };
 }
 
 /// At most so many frames are out at one time.
@@ -163,6 +162,10 @@ impl Sender {
         if now < self.clock {
             return Err(Refused::ClockBack);
         }
+        if now == self.clock {
+            // Behind a tick nothing is due at its time.
+            return Ok(Vec::new(*self.frames.allocator()));
+        }
         numbers_due(&self.frames, out_of(self.frames.len()), self.lowest, now)
     }
 
@@ -171,6 +174,10 @@ impl Sender {
         requires { self.old.clock ≤ now }
         ensures { self.new ≡ after_due self.old now }
     {
+        if now == self.clock {
+            // Behind a tick nothing is due at its time.
+            return;
+        }
         let out = out_of(self.frames.len());
         mark_due(&mut self.frames, out, now);
         self.clock = now;

@@ -149,3 +149,7 @@ range_more a n = let e : n + 1 ≡ suc n = omega arith in ap (λ (k : ℕ). rang
 pub few_of : {A E : Type 0} (r : Result (Vec A) E) (n : ℕ) → IfOk r (λ v. vec_len v ≤ n) → n ≤ 64 → IfOk r (λ v. vec_len v ≤ 64)
 few_of (Ok v) n h le = omega (arith, h, le)
 few_of (Err e) n h le = tt
+
+-- nothing of a session is due that keeps no frame
+pub none_out : (rank now : ℕ) (s : SenderState) → s.frames ≡ [] → [] ≡ frames_out rank s (due_at s now)
+none_out rank now s none = rw none refl

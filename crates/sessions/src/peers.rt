@@ -161,7 +161,7 @@ pub(crate) fn entering_frames(
 }
 
 /// The frames of one session that are due at this time, as they go out to its rank.
-#[tactic(auto, using(crate::proofs::PeerLemmas::few_due))]
+#[tactic(auto, using(crate::proofs::PeerLemmas::few_due, crate::proofs::PeerLemmas::none_out))]
 fn due_frames_of(
     alloc: Global,
     rank: u16,
@@ -174,6 +174,9 @@ fn due_frames_of(
     ensures few { IfOk result (λ frames. vec_len frames ≤ 64) }
     ensures err { IfErr result (λ e. e ≡ Refused.OutOfMemory) }
 {
+    if peer.sender.is_empty() {
+        return Ok(Vec::new(alloc));
+    }
     match peer.sender.due(now) {
         Ok(numbers) => frames_of(alloc, rank, &peer.sender, &numbers),
         Err(_) => Err(Refused::OutOfMemory),

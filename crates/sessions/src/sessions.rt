@@ -58,6 +58,15 @@ pub struct Session {
     pub idle: bool,
 }
 
+/// The list with nothing in it, and its room.
+fn cleared(taken: Vec<(u16, Bytes)>) -> Vec<(u16, Bytes)>
+    ensures { result.items ≡ [] }
+{
+    let mut list = taken;
+    list.clear();
+    list
+}
+
 impl Sessions {
     /// The sessions of a rank at its start: the clock is at 0, none has begun, and every other rank is known at
     /// incarnation 0.
@@ -142,6 +151,16 @@ impl Sessions {
         ensures rest { self.new ≡ record self.old { out = [] } }
     {
         mem::replace(&mut self.out, Vec::new(self.alloc))
+    }
+
+    /// Gives the list back that `take_out` handed out, so that what is emitted next has its room. What it holds is dropped, and
+    /// nothing else changes. It takes no memory.
+    pub fn give_back(&mut self, taken: Vec<(u16, Bytes)>)
+        ensures { self.new ≡ self.old }
+    {
+        if self.out.is_empty() {
+            self.out = cleared(taken);
+        }
     }
 
     /// Whether no frame of any session waits or is unacknowledged. It takes no memory.

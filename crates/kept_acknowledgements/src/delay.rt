@@ -1,14 +1,8 @@
-//! Acknowledgements that are kept back, since a later one may say all that they say.
+//! How long an acknowledgement has been kept back.
 
-ghost use Rattle.std.specs.Prelude.{◌≡◌, ◌≤◌, ◌+◌, ◌⊎◌, ◌||◌, nat_le, option_map, min, IfSome, None, Some};
-ghost use Rattle.rank_process.specs.Acknowledgements.{Covers, short_acknowledgement};
+ghost use Rattle.std.specs.Prelude.{◌≡◌, ◌+◌, ◌||◌, nat_le, min, true, None};
 
-use crate::acknowledgements::{acknowledgement_in, covers};
-use datagram::Header;
 use std::time::{Clock, Duration, Instant};
-
-/// The length of an acknowledgement, in bytes.
-const ACK_BYTES: usize = 32;
 
 /// The one that goes stands for so many at most: a quarter of the frames that a sender may have out at one time.
 const MOST_STOOD_FOR: u32 = 16;
@@ -20,61 +14,20 @@ const MOST_RECEIVES: u32 = 128;
 /// again.
 const LATE: u64 = 1;
 
-/// An acknowledgement that is kept back.
+/// For how many others, how many receives and how long an acknowledgement has been kept back.
 #[derive(Clone, Copy)]
-pub(crate) struct Kept {
-    /// The rank that it goes to.
-    pub target: u16,
-    /// What it says.
-    pub header: Header,
-    /// The bytes that spell it.
-    pub bytes: [u8; ACK_BYTES],
-}
-
-/// The acknowledgement that the bytes spell, if they spell one.
-pub(crate) fn kept_of(target: u16, bytes: &[u8]) -> Option<Kept>
-    ensures header { option_map (λ k. k.header) result ≡ short_acknowledgement bytes.now }
-    ensures whole { IfSome result (λ k. (k.target ≡ target) × (k.bytes ≡ bytes.now)) }
-{
-    if bytes.len() != ACK_BYTES {
-        return None;
-    }
-    let header = acknowledgement_in(bytes)?;
-    let mut copy = [0u8; ACK_BYTES];
-    copy.copy_from_slice(bytes);
-    Some(Kept {
-        target,
-        header,
-        bytes: copy,
-    })
-}
-
-/// The acknowledgement that goes now, behind which this one is kept: the former one, unless this one says all that it says.
-pub(crate) fn going(former: Option<Kept>, next: Kept) -> Option<Kept>
-    ensures lost { IfSome former (λ k. (result ≡ Some k) ⊎ Covers next.header k.header) }
-    ensures other { (result ≡ None) ⊎ (result ≡ former) }
-{
-    let former = former?;
-    if covers(next.header, former.header) {
-        return None;
-    }
-    Some(former)
-}
-
-/// How long an acknowledgement has been kept back.
-#[derive(Clone, Copy)]
-pub(crate) struct Delay {
+pub struct Delay {
     /// For how many acknowledgements it stands: itself, and those whose place it took.
-    stands_for: u32,
+    pub stands_for: u32,
     /// How many receives there were since the first of them was kept.
-    receives: u32,
+    pub receives: u32,
     /// When that was, if the clock told it.
-    since: Option<Instant>,
+    pub since: Option<Instant>,
 }
 
 impl Delay {
     /// The delay of one that is kept from now on.
-    pub(crate) fn begun<R: Clock>(rt: &R) -> Delay
+    pub fn begun<R: Clock>(rt: &R) -> Delay
         ensures { (result.stands_for ≡ 1) × (result.receives ≡ 0) }
     {
         Delay {
@@ -85,7 +38,7 @@ impl Delay {
     }
 
     /// The delay of one that takes the place of another one, which was kept so long.
-    pub(crate) fn of_one_more(self) -> Delay
+    pub fn of_one_more(self) -> Delay
         ensures one { result.stands_for ≡ min (self.stands_for + 1) 4294967295 }
         ensures others { (result.receives ≡ self.receives) × (result.since ≡ self.since) }
     {
@@ -96,7 +49,7 @@ impl Delay {
     }
 
     /// The delay behind one more receive.
-    pub(crate) fn behind_receive(self) -> Delay
+    pub fn behind_receive(self) -> Delay
         ensures one { result.receives ≡ min (self.receives + 1) 4294967295 }
         ensures others { (result.stands_for ≡ self.stands_for) × (result.since ≡ self.since) }
     {
@@ -107,14 +60,16 @@ impl Delay {
     }
 
     /// Whether it stands for as many as one may, or was kept for as many receives.
-    pub(crate) fn is_over(self) -> bool
+    pub fn is_over(self) -> bool
         ensures { result ≡ (nat_le 16 self.stands_for || nat_le 128 self.receives) }
     {
         self.stands_for >= MOST_STOOD_FOR || self.receives >= MOST_RECEIVES
     }
 
     /// Whether it has been kept for as long as it may; where the clock doesn't tell it, it has.
-    pub(crate) fn is_late<R: Clock>(self, rt: &R) -> bool {
+    pub fn is_late<R: Clock>(self, rt: &R) -> bool
+        ensures { self.since ≡ None → result ≡ true }
+    {
         match self.since {
             Some(since) => match since.elapsed(rt) {
                 Ok(passed) => passed >= Duration::from_millis(LATE),

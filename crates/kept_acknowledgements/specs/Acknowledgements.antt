@@ -25,8 +25,3 @@ pub record Covers (later earlier : Header) : Type 0 where
   pub target : later.target ≡ earlier.target
   pub job : later.job ≡ earlier.job
   pub frames : earlier.sequence ≤ later.sequence
-
--- what comes next is an acknowledgement that says all that the former one says
-abbrev pub CoveredBy : Option Header → Header → Type 0
-CoveredBy None former = ⊥
-CoveredBy (Some next) former = Covers next former

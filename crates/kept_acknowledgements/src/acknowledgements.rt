@@ -5,7 +5,7 @@
 
 ghost use Rattle.std.specs.Prelude.{◌≡◌, ◌↔◌, IsTrue};
 ghost use Rattle.datagram.specs.Reading.{datagram_of};
-ghost use Rattle.rank_process.specs.Acknowledgements.{Covers, acknowledgement};
+ghost use Rattle.kept_acknowledgements.specs.Acknowledgements.{Covers, acknowledgement};
 
 use datagram::{Content, Datagram, Header, read};
 

@@ -1,0 +1,11 @@
+//! Acknowledgements that a rank keeps back for a little while, since a later one may say all that they say: one datagram then
+//! stands for several of them.
+#![tactic(auto)]
+
+mod acknowledgements;
+mod delay;
+mod kept;
+
+pub use crate::acknowledgements::{acknowledgement_in, covers};
+pub use crate::delay::Delay;
+pub use crate::kept::{Kept, going, kept_of};
