@@ -7,14 +7,18 @@ ghost use Rattle.line_words.specs.Words.{is_letter, is_name_byte, is_reserved, i
 
 use crate::types::basic_type_of;
 use crate::word::is;
+use smallvec::SmallVec;
 use std::alloc::{AllocError, Global};
 use std::marker::Model;
 
+/// The greatest length of a name, in bytes.
+const LONGEST: usize = 16;
+
 /// A name that a line gives a buffer, a request or a communicator: a lower-case letter and then at most 15 lower-case
-/// letters or digits. Contracts see it as the list of its bytes.
+/// letters or digits, which stand in the value itself. Contracts see it as the list of its bytes.
 #[derive(Debug, Drop)]
 pub struct Name {
-    bytes: Vec<u8>,
+    bytes: SmallVec<u8, LONGEST>,
 }
 
 impl Model for Name {
@@ -31,7 +35,7 @@ impl Name {
         ensures { IfOk result (λ name. name ≡ bytes.now) }
     {
         Ok(Name {
-            bytes: Vec::from_slice(alloc, bytes)?,
+            bytes: SmallVec::from_slice(alloc, bytes)?,
         })
     }
 
@@ -39,21 +43,21 @@ impl Name {
     pub fn try_clone(&self, alloc: Global) -> Result<Name, AllocError>
         ensures { IfOk result (λ name. name ≡ self.now) }
     {
-        Name::from_slice(alloc, &self.bytes)
+        Name::from_slice(alloc, self.as_bytes())
     }
 
     /// The bytes of the name.
     pub fn as_bytes(&self) -> &[u8]
         ensures { result.now ≡ self.now }
     {
-        &self.bytes
+        self.bytes.as_slice()
     }
 
     /// Whether the other is the same name.
     pub fn is(&self, other: &Name) -> bool
         ensures { result ≡ bytes_eq self.now other.now }
     {
-        is(&self.bytes, &other.bytes)
+        is(self.as_bytes(), other.as_bytes())
     }
 }
 
@@ -94,7 +98,7 @@ fn is_reserved(word: &[u8]) -> bool
 pub(crate) fn is_name(word: &[u8]) -> bool
     ensures { result ≡ is_name word.now }
 {
-    if word.is_empty() || word.len() > 16 {
+    if word.is_empty() || word.len() > LONGEST {
         return false;
     }
     is_letter(word[0]) && are_name_bytes(word) && !is_reserved(word)
