@@ -2,6 +2,4 @@
 #![tactic(auto)]
 
 #[cfg(test)]
-mod collective_tests;
-#[cfg(test)]
 mod tests;

@@ -4,7 +4,7 @@ use Rattle.std.specs.Prelude.{codes}
 use Rattle.std.specs.Str.{bytes_eq}
 use Rattle.statements.specs.declared.verb.Verb.{Verb}
 use Rattle.statements.specs.declared.verb.Verb.TheVariants as verbs
-use Rattle.statements.specs.Words.{verb_of}
+use Rattle.statements.specs.Words.{communicator_verb_of, verb_of}
 use Rattle.line_words.specs.Grammar.{Word}
 use Rattle.line_words.proofs.WordLaws.{Yields, step, yielded, same_word}
 
@@ -31,7 +31,7 @@ verb_word verbs.Members = codes "members"
 verb_word verbs.Compare = codes "compare"
 
 verbs_are : (word : Word) → Yields (verb_of word) (λ verb. word ≡ verb_word verb)
-unfolding verb_of
+unfolding verb_of communicator_verb_of
 verbs_are word =
     let P : Verb → Type 0 = λ verb. word ≡ verb_word verb in
     step P (bytes_eq word (codes "buf")) _ _ (same_word word (codes "buf"))
@@ -59,7 +59,7 @@ pub verb_takes : (word : Word) (verb : Verb) → verb_of word ≡ Some verb → 
 verb_takes word verb e = yielded (λ verb. word ≡ verb_word verb) (verb_of word) verb (verbs_are word) e
 
 pub verb_again : (verb : Verb) → verb_of (verb_word verb) ≡ Some verb
-unfolding verb_of
+unfolding verb_of communicator_verb_of
 verb_again verbs.Buffer = refl
 verb_again verbs.Layout = refl
 verb_again verbs.Isend = refl

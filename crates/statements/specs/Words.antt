@@ -5,6 +5,22 @@ use Rattle.statements.specs.declared.verb.Verb.{Verb}
 use Rattle.statements.specs.declared.verb.Verb.TheVariants as verbs
 use Rattle.line_words.specs.Grammar.{Word}
 
+-- what the first word says that a rank does with a communicator as a whole
+unfoldable pub communicator_verb_of : Word → Option Verb
+communicator_verb_of word =
+    if bytes_eq word (codes "barrier") then Some verbs.Barrier
+    else (if bytes_eq word (codes "bcast") then Some verbs.Bcast
+    else (if bytes_eq word (codes "gather") then Some verbs.Gather
+    else (if bytes_eq word (codes "scatter") then Some verbs.Scatter
+    else (if bytes_eq word (codes "reduce") then Some verbs.Reduce
+    else (if bytes_eq word (codes "allreduce") then Some verbs.Allreduce
+    else (if bytes_eq word (codes "dup") then Some verbs.Dup
+    else (if bytes_eq word (codes "split") then Some verbs.Split
+    else (if bytes_eq word (codes "who") then Some verbs.Who
+    else (if bytes_eq word (codes "members") then Some verbs.Members
+    else (if bytes_eq word (codes "compare") then Some verbs.Compare
+    else None))))))))))
+
 -- what the first word says that a rank does
 unfoldable pub verb_of : Word → Option Verb
 verb_of word =
@@ -17,15 +33,4 @@ verb_of word =
     else (if bytes_eq word (codes "cancel") then Some verbs.Cancel
     else (if bytes_eq word (codes "waitany") then Some verbs.Waitany
     else (if bytes_eq word (codes "waitall") then Some verbs.Waitall
-    else (if bytes_eq word (codes "barrier") then Some verbs.Barrier
-    else (if bytes_eq word (codes "bcast") then Some verbs.Bcast
-    else (if bytes_eq word (codes "gather") then Some verbs.Gather
-    else (if bytes_eq word (codes "scatter") then Some verbs.Scatter
-    else (if bytes_eq word (codes "reduce") then Some verbs.Reduce
-    else (if bytes_eq word (codes "allreduce") then Some verbs.Allreduce
-    else (if bytes_eq word (codes "dup") then Some verbs.Dup
-    else (if bytes_eq word (codes "split") then Some verbs.Split
-    else (if bytes_eq word (codes "who") then Some verbs.Who
-    else (if bytes_eq word (codes "members") then Some verbs.Members
-    else (if bytes_eq word (codes "compare") then Some verbs.Compare
-    else None)))))))))))))))))))
+    else communicator_verb_of word))))))))

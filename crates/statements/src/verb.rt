@@ -1,7 +1,7 @@
 //! The first word of what a rank does.
 
 ghost use Rattle.std.specs.Prelude.{◌≡◌};
-ghost use Rattle.statements.specs.Words.{verb_of};
+ghost use Rattle.statements.specs.Words.{communicator_verb_of, verb_of};
 
 use line_words::is;
 
@@ -50,30 +50,12 @@ pub(crate) enum Verb {
     Compare,
 }
 
-/// What the first word says.
-#[tactic(auto, unfolding(crate::specs::Words::verb_of))]
-pub(crate) fn verb_of(word: &[u8]) -> Option<Verb>
-    ensures { result ≡ verb_of word.now }
+/// What the first word says that a rank does with a communicator as a whole.
+#[tactic(auto, unfolding(crate::specs::Words::communicator_verb_of))]
+fn communicator_verb_of(word: &[u8]) -> Option<Verb>
+    ensures { result ≡ communicator_verb_of word.now }
 {
-    if is(word, b"buf") {
-        Some(Verb::Buffer)
-    } else if is(word, b"type") {
-        Some(Verb::Layout)
-    } else if is(word, b"isend") {
-        Some(Verb::Isend)
-    } else if is(word, b"irecv") {
-        Some(Verb::Irecv)
-    } else if is(word, b"wait") {
-        Some(Verb::Wait)
-    } else if is(word, b"test") {
-        Some(Verb::Test)
-    } else if is(word, b"cancel") {
-        Some(Verb::Cancel)
-    } else if is(word, b"waitany") {
-        Some(Verb::Waitany)
-    } else if is(word, b"waitall") {
-        Some(Verb::Waitall)
-    } else if is(word, b"barrier") {
+    if is(word, b"barrier") {
         Some(Verb::Barrier)
     } else if is(word, b"bcast") {
         Some(Verb::Bcast)
@@ -97,5 +79,33 @@ pub(crate) fn verb_of(word: &[u8]) -> Option<Verb>
         Some(Verb::Compare)
     } else {
         None
+    }
+}
+
+/// What the first word says.
+#[tactic(auto, unfolding(crate::specs::Words::verb_of))]
+pub(crate) fn verb_of(word: &[u8]) -> Option<Verb>
+    ensures { result ≡ verb_of word.now }
+{
+    if is(word, b"buf") {
+        Some(Verb::Buffer)
+    } else if is(word, b"type") {
+        Some(Verb::Layout)
+    } else if is(word, b"isend") {
+        Some(Verb::Isend)
+    } else if is(word, b"irecv") {
+        Some(Verb::Irecv)
+    } else if is(word, b"wait") {
+        Some(Verb::Wait)
+    } else if is(word, b"test") {
+        Some(Verb::Test)
+    } else if is(word, b"cancel") {
+        Some(Verb::Cancel)
+    } else if is(word, b"waitany") {
+        Some(Verb::Waitany)
+    } else if is(word, b"waitall") {
+        Some(Verb::Waitall)
+    } else {
+        communicator_verb_of(word)
     }
 }
