@@ -6,7 +6,7 @@ ghost use Rattle.rank_drive.specs.Drives.{Drives};
 
 use crate::clock::Clock;
 use crate::listening::LONGEST;
-use crate::rounds::{Ended, Round, make_round};
+use crate::rounds::{Ended, make_round};
 use crate::runner::Runner;
 use crate::standing::{Stage, Standing};
 use crate::transport::{Transport, TransportFault};
@@ -49,14 +49,14 @@ pub fn drive<R: Wait, P: Runner, T: Transport, C: Clock>(
             rt,
             engine,
             runner,
-            standing,
+            &mut standing,
             patience,
             transport,
             &mut buffer,
             now,
         ) {
-            Ok(Round::On(next)) => standing = next,
-            Ok(Round::Last(ended)) => return Ok(ended),
+            Ok(None) => {}
+            Ok(Some(ended)) => return Ok(ended),
             Err(_) => return Err(TransportFault),
         }
     }

@@ -1,12 +1,11 @@
 //! One turn, and what follows it.
 
 ghost use Rattle.std.specs.Prelude.{◌≡◌, ◌+◌, ◌-◌, ◌<◌, ◌^◌, if◌then◌else◌};
-ghost use Rattle.rank_drive.specs.declared.standing.Standing.{Standing};
 ghost use Rattle.rank_drive.specs.Exchanges.{FailsWith, waited};
-ghost use Rattle.rank_drive.specs.Drives.{RoundGives, ending, patience_ends, standing_after, status_of};
+ghost use Rattle.rank_drive.specs.Drives.{RoundGives, ending, patience_ends, status_of};
 
 use crate::runner::Runner;
-use crate::standing::{Stage, Standing, Turned};
+use crate::standing::{Stage, Standing};
 use crate::transport::{Transport, TransportFault};
 use crate::turn::{is_ready, turn};
 use engine::Engine;
@@ -25,15 +24,6 @@ pub enum Ended {
     Runner(u8, Option<usize>),
     /// Nothing moved for as long as its patience lasts.
     Patience,
-}
-
-/// What a round came to.
-#[derive(Debug, Drop)]
-pub enum Round {
-    /// The rank goes on from here.
-    On(Standing),
-    /// It has ended.
-    Last(Ended),
 }
 
 impl Ended {
@@ -109,51 +99,49 @@ fn rest<T: Transport>(transport: &mut T, ready: bool, most: u64) -> Result<(), T
     transport.wait(most)
 }
 
-/// Where a rank stands after a turn at this time.
-fn standing_after(heard: u64, moved: u64, now: u64, turned: Turned) -> Standing
-    ensures { (s : Standing) → s.heard ≡ heard → s.moved ≡ moved → result ≡ standing_after s now turned }
-{
-    Standing {
-        stage: turned.stage,
-        heard: time_of(turned.came, now, heard),
-        moved: time_of(turned.moved, now, moved),
-    }
-}
-
-/// One turn at this time, and a wait for a datagram behind it where the rank goes on and has nothing to do.
+/// One turn at this time, and a wait for a datagram behind it where the rank goes on and has nothing to do. Answers how the rank
+/// ended, if it has.
 pub(crate) fn make_round<R: Wait, P: Runner, T: Transport>(
     rt: &R,
     engine: &mut Engine,
     runner: &mut P,
-    standing: Standing,
+    standing: &mut Standing,
     patience: u64,
     transport: &mut T,
     buffer: &mut [u8],
     now: u64,
-) -> Result<Round, TransportFault>
+) -> Result<Option<Ended>, TransportFault>
     requires { T.failed transport.old + 1 < 2 ^ 64 }
     ensures exact { RoundGives P.does T.passed patience
-        (record { engine = engine.old; runner = runner.old; standing = standing; transport = transport.old })
-        now result engine.new runner.new transport.new }
+        (record { engine = engine.old; runner = runner.old; standing = standing.old; transport = transport.old })
+        now result engine.new runner.new standing.new transport.new }
     ensures failures { FailsWith result (T.failed transport.old) (T.failed transport.new) }
 {
-    let (heard, moved) = (standing.heard, standing.moved);
-    let Ok(turned) = turn(rt, engine, runner, standing.stage, transport, buffer, now) else {
-        return Err(TransportFault);
-    };
-    let next = standing_after(heard, moved, now, turned);
-    let idle = engine.is_idle();
-    let quiet = now.saturating_sub(next.heard);
-    let still = now.saturating_sub(next.moved);
-    if let Some(ended) = ending(&next.stage, idle, patience, quiet, still) {
-        return Ok(Round::Last(ended));
-    }
-    let Ok(_) = rest(
+    let Ok(turned) = turn(
+        rt,
+        engine,
+        runner,
+        &mut standing.stage,
         transport,
-        is_ready(&next.stage),
-        wait_of(&next.stage, idle, patience, quiet, still),
+        buffer,
+        now,
     ) else {
         return Err(TransportFault);
     };
-    Ok(Round::On(next))
+    standing.heard = time_of(turned.came, now, standing.heard);
+    standing.moved = time_of(turned.moved, now, standing.moved);
+    let idle = engine.is_idle();
+    let quiet = now.saturating_sub(standing.heard);
+    let still = now.saturating_sub(standing.moved);
+    if let Some(ended) = ending(&standing.stage, idle, patience, quiet, still) {
+        return Ok(Some(ended));
+    }
+    let Ok(_) = rest(
+        transport,
+        is_ready(&standing.stage),
+        wait_of(&standing.stage, idle, patience, quiet, still),
+    ) else {
+        return Err(TransportFault);
+    };
+    Ok(None)
 }

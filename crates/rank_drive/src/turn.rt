@@ -14,14 +14,14 @@ use crate::transport::{Transport, TransportFault};
 use engine::{Completion, Engine, Reply};
 use std::sync::Wait;
 
-/// What the runner waits for, once this answer of a blocked call, or none, has come.
-fn stage_with(stage: Stage, completion: Option<Completion>) -> Stage
-    ensures { result ≡ stage_with stage completion }
+/// This answer of a blocked call, or none, has come.
+fn hear_answer(stage: &mut Stage, completion: Option<Completion>)
+    ensures { stage.new ≡ stage_with stage.old completion }
 {
     match completion {
-        Some(Completion::Requests(answer)) => Stage::Ready(Some(Reply::Done(answer))),
-        Some(Completion::Collective(ending)) => Stage::Ready(Some(Reply::Left(ending))),
-        None => stage,
+        Some(Completion::Requests(answer)) => *stage = Stage::Ready(Some(Reply::Done(answer))),
+        Some(Completion::Collective(ending)) => *stage = Stage::Ready(Some(Reply::Left(ending))),
+        None => {}
     }
 }
 
@@ -52,21 +52,22 @@ fn go_on<R: Wait, P: Runner, T: Transport>(
     rt: &R,
     engine: &mut Engine,
     runner: &mut P,
-    stage: Stage,
+    stage: &mut Stage,
     transport: &mut T,
-) -> Result<Stage, TransportFault>
+) -> Result<(), TransportFault>
     requires { T.failed transport.old + 1 < 2 ^ 64 }
-    ensures exact { GoesOnTo P.does T.passed engine.old runner.old stage transport.old result engine.new runner.new transport.new }
+    ensures exact { GoesOnTo P.does T.passed engine.old runner.old stage.old transport.old result engine.new runner.new stage.new transport.new }
     ensures failures { FailsWith result (T.failed transport.old) (T.failed transport.new) }
 {
     let reply = match stage {
-        Stage::Ready(reply) => reply,
-        stopped => return Ok(stopped),
+        Stage::Ready(reply) => reply.take(),
+        Stage::Blocked | Stage::Over(_, _) => return Ok(()),
     };
     let Ok(step) = speak(rt, runner, reply, transport) else {
         return Err(TransportFault);
     };
-    Ok(take_step(engine, step))
+    *stage = take_step(engine, step);
+    Ok(())
 }
 
 /// One turn: the clock ticks, all datagrams that are there are taken in, the runner's lines are written and its next
@@ -75,14 +76,14 @@ pub(crate) fn turn<R: Wait, P: Runner, T: Transport>(
     rt: &R,
     engine: &mut Engine,
     runner: &mut P,
-    stage: Stage,
+    stage: &mut Stage,
     transport: &mut T,
     buffer: &mut [u8],
     now: u64,
 ) -> Result<Turned, TransportFault>
     requires { T.failed transport.old + 1 < 2 ^ 64 }
-    ensures exact { TurnGives P.does T.passed engine.old runner.old stage transport.old now result
-        engine.new runner.new transport.new }
+    ensures exact { TurnGives P.does T.passed engine.old runner.old stage.old transport.old now result
+        engine.new runner.new stage.new transport.new }
     ensures failures { FailsWith result (T.failed transport.old) (T.failed transport.new) }
 {
     let _ = engine.tick(now);
@@ -91,8 +92,8 @@ pub(crate) fn turn<R: Wait, P: Runner, T: Transport>(
     };
     let completion = engine.take_completion();
     let answered = completion.is_some();
-    let stage = stage_with(stage, completion);
-    let Ok(next) = go_on(rt, engine, runner, stage, transport) else {
+    hear_answer(stage, completion);
+    let Ok(_) = go_on(rt, engine, runner, stage, transport) else {
         return Err(TransportFault);
     };
     let out = engine.take_out();
@@ -100,10 +101,8 @@ pub(crate) fn turn<R: Wait, P: Runner, T: Transport>(
         return Err(TransportFault);
     };
     engine.give_back(out);
-    let moved = heard.accepted || answered || is_ready(&next);
     Ok(Turned {
-        stage: next,
         came: heard.any,
-        moved,
+        moved: heard.accepted || answered || is_ready(stage),
     })
 }
