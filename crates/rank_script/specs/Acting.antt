@@ -292,6 +292,29 @@ acts_on number (actions.Who c) s = asks_rank number (place_named s c) s
 acts_on number (actions.Members c) s = asks_group number (place_named s c) s
 acts_on number (actions.Compare c d) s = compares number (place_named s c) (place_named s d) s
 
+-- it concerns a communicator as a whole: a collective, or a question about it
+abbrev pub IsTogether : Action → Type 0
+IsTogether (actions.Buffer line) = ⊥
+IsTogether (actions.Layout line) = ⊥
+IsTogether (actions.Isend name x) = ⊥
+IsTogether (actions.Irecv name x) = ⊥
+IsTogether (actions.Wait r) = ⊥
+IsTogether (actions.Test r) = ⊥
+IsTogether (actions.Cancel r) = ⊥
+IsTogether (actions.Waitany rs) = ⊥
+IsTogether (actions.Waitall rs) = ⊥
+IsTogether (actions.Barrier c) = Unit {0}
+IsTogether (actions.Bcast x) = Unit {0}
+IsTogether (actions.Gather x) = Unit {0}
+IsTogether (actions.Scatter x) = Unit {0}
+IsTogether (actions.Reduce x) = Unit {0}
+IsTogether (actions.Allreduce x) = Unit {0}
+IsTogether (actions.Dup name c) = Unit {0}
+IsTogether (actions.Split name x) = Unit {0}
+IsTogether (actions.Who c) = Unit {0}
+IsTogether (actions.Members c) = Unit {0}
+IsTogether (actions.Compare c d) = Unit {0}
+
 -- what the statement of this line asks for
 abbrev pub states : ℕ → Statement → NamesState → Acts
 states number (statements.Action action) s = acts_on number action s
@@ -302,6 +325,17 @@ states number statements.Status s = prints (status_text s.last) s
 states number (statements.Count name) s = prints_count number (value_at s.layouts name) s
 states number (statements.Say words) s = prints (words_line words) s
 states number statements.Fail s = (Some (steps.End 5 None), s)
+
+-- it asks for no call: a line is printed, or the script ends
+abbrev pub IsSpoken : Statement → Type 0
+IsSpoken (statements.Action action) = ⊥
+IsSpoken (statements.Send x) = ⊥
+IsSpoken (statements.Recv x) = ⊥
+IsSpoken (statements.Print name) = Unit {0}
+IsSpoken statements.Status = Unit {0}
+IsSpoken (statements.Count name) = Unit {0}
+IsSpoken (statements.Say words) = Unit {0}
+IsSpoken statements.Fail = Unit {0}
 
 -- What a line asks for. A name that isn't set, or a buffer that is lent, ends the script with the line's number.
 abbrev pub acts : RankLine → NamesState → Acts

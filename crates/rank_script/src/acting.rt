@@ -3,7 +3,7 @@
 ghost use Rattle.std.specs.Prelude.{◌≡◌, IfOk, Some};
 ghost use Rattle.rank_script.specs.NamesState.{here, place_named};
 ghost use Rattle.name_tables.specs.Tables.{value_at};
-ghost use Rattle.rank_script.specs.Acting.{acts, acts_on, AreListed, asks_group, asks_rank, Begins, cancels_for, compares, makes, old_layout, places_named, prints_count, prints_elements, LendGives, receives, request_named, requests_named, sends, sets, sets_layout, states, tests_for, waits_for, waits_for_several};
+ghost use Rattle.rank_script.specs.Acting.{acts, acts_on, AreListed, IsSpoken, IsTogether, asks_group, asks_rank, Begins, cancels_for, compares, makes, old_layout, places_named, prints_count, prints_elements, LendGives, receives, request_named, requests_named, sends, sets, sets_layout, states, tests_for, waits_for, waits_for_several};
 
 use crate::names::Names;
 use datatypes::{Buffer, Layout, Refusal};
@@ -309,6 +309,39 @@ impl Names {
         }
     }
 
+    /// What concerns a communicator as a whole: a collective, or a question about it.
+    fn act_together(&mut self, number: usize, action: Action) -> Result<Step, AllocError>
+        requires { IsTogether action }
+        ensures { IfOk result (λ step. acts_on number action self.old ≡ (Some step, self.new)) }
+    {
+        match action {
+            Action::Barrier(communicator) => Ok(self.wait_for_all(number, &communicator)),
+            Action::Bcast(said) => self.broadcast(number, said),
+            Action::Gather(said) => self.gather(number, said),
+            Action::Scatter(said) => self.scatter(number, said),
+            Action::Reduce(said) => self.reduce(number, said),
+            Action::Allreduce(said) => self.reduce_to_all(number, said),
+            Action::Dup(name, communicator) => Ok(self.make(
+                number,
+                name,
+                &communicator,
+                Entry::Dup,
+            )),
+            Action::Split(name, splitting) => Ok(self.make(
+                number,
+                name,
+                &splitting.communicator,
+                split_by(&splitting),
+            )),
+            Action::Who(communicator) => Ok(self.ask_rank(number, &communicator)),
+            Action::Members(communicator) => Ok(self.ask_group(number, &communicator)),
+            Action::Compare(one, other) => Ok(self.compare(number, &one, &other)),
+            _ => unreachable!(),
+        }
+    }
+
+    // What concerns a communicator, and what prints, stands apart: a function pays at its entry for the locals of all its cases, and
+    // most lines of a script are sends, receives and waits.
     fn act_on(&mut self, number: usize, action: Action) -> Result<Option<Step>, AllocError>
         ensures { IfOk result (λ step. acts_on number action self.old ≡ (step, self.new)) }
     {
@@ -327,27 +360,22 @@ impl Names {
             Action::Cancel(requested) => Ok(self.cancel(number, requested)),
             Action::Waitany(several) => self.wait_any(number, several),
             Action::Waitall(several) => self.wait_all(number, several),
-            Action::Barrier(communicator) => Ok(Some(self.wait_for_all(number, &communicator))),
-            Action::Bcast(said) => Ok(Some(self.broadcast(number, said)?)),
-            Action::Gather(said) => Ok(Some(self.gather(number, said)?)),
-            Action::Scatter(said) => Ok(Some(self.scatter(number, said)?)),
-            Action::Reduce(said) => Ok(Some(self.reduce(number, said)?)),
-            Action::Allreduce(said) => Ok(Some(self.reduce_to_all(number, said)?)),
-            Action::Dup(name, communicator) => Ok(Some(self.make(
-                number,
-                name,
-                &communicator,
-                Entry::Dup,
-            ))),
-            Action::Split(name, splitting) => Ok(Some(self.make(
-                number,
-                name,
-                &splitting.communicator,
-                split_by(&splitting),
-            ))),
-            Action::Who(communicator) => Ok(Some(self.ask_rank(number, &communicator))),
-            Action::Members(communicator) => Ok(Some(self.ask_group(number, &communicator))),
-            Action::Compare(one, other) => Ok(Some(self.compare(number, &one, &other))),
+            together => Ok(Some(self.act_together(number, together)?)),
+        }
+    }
+
+    /// What asks for no call: a line is printed, or the script ends.
+    fn speak(&self, number: usize, statement: Statement) -> Result<Step, AllocError>
+        requires { IsSpoken statement }
+        ensures { IfOk result (λ step. states number statement self.now ≡ (Some step, self.now)) }
+    {
+        match statement {
+            Statement::Print(name) => self.print(number, &name),
+            Statement::Status => Ok(Step::Print(status_line(self.alloc, self.last)?)),
+            Statement::Count(name) => self.count(number, &name),
+            Statement::Say(words) => Ok(Step::Print(words_line(self.alloc, &words)?)),
+            Statement::Fail => Ok(Step::End(5, None)),
+            _ => unreachable!(),
         }
     }
 
@@ -363,11 +391,7 @@ impl Names {
                 None,
                 receiving,
             ),
-            Statement::Print(name) => Ok(Some(self.print(number, &name)?)),
-            Statement::Status => Ok(Some(Step::Print(status_line(self.alloc, self.last)?))),
-            Statement::Count(name) => Ok(Some(self.count(number, &name)?)),
-            Statement::Say(words) => Ok(Some(Step::Print(words_line(self.alloc, &words)?))),
-            Statement::Fail => Ok(Some(Step::End(5, None))),
+            spoken => Ok(Some(self.speak(number, spoken)?)),
         }
     }
 
