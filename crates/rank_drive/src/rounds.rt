@@ -1,6 +1,6 @@
 //! One turn, and what follows it.
 
-ghost use Rattle.std.specs.Prelude.{◌≡◌, ◌+◌, ◌-◌, ◌<◌, ◌^◌, if◌then◌else◌};
+ghost use Rattle.std.specs.Prelude.{◌≡◌, ◌≤◌, ◌+◌, ◌-◌, ◌<◌, ◌^◌, true, false, if◌then◌else◌};
 ghost use Rattle.rank_drive.specs.Exchanges.{FailsWith, waited};
 ghost use Rattle.rank_drive.specs.Drives.{RoundGives, ending, patience_ends, status_of};
 
@@ -76,7 +76,11 @@ fn time_of(happened: bool, now: u64, before: u64) -> u64
 }
 
 /// For how many milliseconds a rank waits at most for a datagram: until something is due of itself.
-fn wait_of(stage: &Stage, idle: bool, patience: u64, quiet: u64, still: u64) -> u64 {
+fn wait_of(stage: &Stage, idle: bool, patience: u64, quiet: u64, still: u64) -> u64
+    ensures some { 0 < result }
+    ensures soon { idle ≡ false → result ≤ 5 }
+    ensures within { still < patience → result ≤ patience - still }
+{
     let over = patience.saturating_sub(still).max(1);
     if !idle {
         return SHORT_WAIT.min(over);
@@ -91,6 +95,7 @@ fn wait_of(stage: &Stage, idle: bool, patience: u64, quiet: u64, still: u64) -> 
 fn rest<T: Transport>(transport: &mut T, ready: bool, most: u64) -> Result<(), TransportFault>
     requires { T.failed transport.old + 1 < 2 ^ 64 }
     ensures passed { T.passed transport.old (waited result) transport.new }
+    ensures at_once { ready ≡ true → transport.new ≡ transport.old }
     ensures failures { FailsWith result (T.failed transport.old) (T.failed transport.new) }
 {
     if ready {
