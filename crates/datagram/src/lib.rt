@@ -3,6 +3,7 @@
 
 mod bytes;
 mod datagram;
+mod drafting;
 mod frame;
 mod kinds;
 mod laws;
@@ -12,6 +13,7 @@ mod writing;
 
 pub use bytes::Bytes;
 pub use datagram::{Content, Datagram, Header};
+pub use drafting::spelled;
 pub use frame::{ClearToSend, Data, Eager, Frame, RequestToSend};
 pub use kinds::{Clearance, Kind, Plane};
 pub use laws::no_spelling_begins_another;

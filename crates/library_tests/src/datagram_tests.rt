@@ -224,6 +224,8 @@ fn none_are_kept(alloc: Global) -> Option<bool> {
 #[test]
 fn bytes_keep_what_they_were_given(rt: HostRuntime) {
     assert_eq!(rt; copied(rt.alloc(), &[1, 2, 3]), Some((3, true)));
+    assert_eq!(rt; copied(rt.alloc(), &[7; 64]), Some((64, true)));
+    assert_eq!(rt; copied(rt.alloc(), &[7; 65]), Some((65, true)));
     assert_eq!(rt; none_are_kept(rt.alloc()), Some(true));
     no_spelling_begins_another();
 }

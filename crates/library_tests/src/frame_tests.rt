@@ -24,6 +24,12 @@ const DROP: [u8; 8] = [3, 1, 0, 0, 0, 0, 1, 2];
 /// Three bytes of transfer 258, from byte 2,048 on.
 const DATA: [u8; 15] = [4, 0, 0, 0, 0, 0, 1, 2, 0, 0, 8, 0, 11, 12, 13];
 
+/// Bytes of transfer 258, from byte 2,048 on: one more than stand in a short datagram.
+const LONG_DATA: [u8; 33] = [
+    4, 0, 0, 0, 0, 0, 1, 2, 0, 0, 8, 0, 1, 2, 3, 4, 5, 6, 7, 8, 9, 10, 11, 12, 13, 14, 15, 16, 17,
+    18, 19, 20, 21,
+];
+
 fn request(count: u32) -> RequestToSend {
     RequestToSend {
         plane: Plane::PointToPoint,
@@ -241,4 +247,28 @@ fn other_forms_are_refused(rt: HostRuntime) {
         let found = fault_with(rt.alloc(), frame, at, byte);
         assert_eq!(rt; found, Some(Refused::BadFrame), "byte {at}");
     }
+}
+
+/// Whether a datagram with this body is spelled as it was read, on a draft that others were spelled on.
+fn is_spelled(alloc: Global, draft: &mut Vec<u8>, body: &[u8]) -> Option<bool> {
+    let text = datagram_with(alloc, body)?;
+    let datagram = read(&text).ok()?;
+    let bytes = spelled(alloc, draft, &datagram).ok()?;
+    Some(bytes.as_slice() == text.as_slice())
+}
+
+/// Whether a long datagram, two short ones and a long one again are spelled as they were read.
+fn are_spelled(alloc: Global) -> Option<(bool, bool, bool, bool)> {
+    let mut draft = Vec::new(alloc);
+    Some((
+        is_spelled(alloc, &mut draft, &LONG_DATA)?,
+        is_spelled(alloc, &mut draft, &REQUEST)?,
+        is_spelled(alloc, &mut draft, &CLEAR)?,
+        is_spelled(alloc, &mut draft, &LONG_DATA)?,
+    ))
+}
+
+#[test]
+fn short_and_long_datagrams_are_spelled(rt: HostRuntime) {
+    assert_eq!(rt; are_spelled(rt.alloc()), Some((true, true, true, true)));
 }

@@ -116,6 +116,7 @@ impl Sessions {
         let target = self.endpoint_after(heard, rank);
         let bytes = frame_bytes(
             self.alloc,
+            &mut self.draft,
             self.knowledge.place(),
             target,
             &outgoing.frame,
@@ -156,7 +157,13 @@ impl Sessions {
         ensures unchanged { OnErr result (self.new ≡ self.old) }
         ensures err { IfErr result (λ e. e ≡ Refused.OutOfMemory) }
     {
-        let ack = ack_bytes(self.alloc, self.knowledge.place(), source, next)?;
+        let ack = ack_bytes(
+            self.alloc,
+            &mut self.draft,
+            self.knowledge.place(),
+            source,
+            next,
+        )?;
         match self.out.push((source.rank, ack)) {
             Ok(()) => Ok(()),
             Err(_) => Err(Refused::OutOfMemory),
@@ -336,7 +343,8 @@ impl Sessions {
         let Some(source) = unheard.reset else {
             return unheard.refused;
         };
-        let Ok(reset) = reset_bytes(self.alloc, self.knowledge.place(), source) else {
+        let place = self.knowledge.place();
+        let Ok(reset) = reset_bytes(self.alloc, &mut self.draft, place, source) else {
             return Refused::OutOfMemory;
         };
         if self.out.push((source.rank, reset)).is_err() {

@@ -29,6 +29,8 @@ pub struct Sessions {
     pub(crate) clock: u64,
     /// The datagrams that were emitted and not yet taken out, each with the rank that it goes to.
     pub(crate) out: Vec<(u16, Bytes)>,
+    /// Where short datagrams are spelled before they are emitted. What it holds says nothing.
+    pub(crate) draft: Vec<u8>,
 }
 
 impl Model for Sessions {
@@ -90,6 +92,7 @@ impl Sessions {
             peers,
             clock: 0,
             out: Vec::new(alloc),
+            draft: Vec::new(alloc),
         })
     }
 

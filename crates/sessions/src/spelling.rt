@@ -22,15 +22,14 @@ fn header_to(place: Place, target: Endpoint, sequence: u64) -> Header
     }
 }
 
-fn bytes_of(alloc: Global, datagram: &Datagram) -> Result<Bytes, Refused>
+fn bytes_of(alloc: Global, draft: &mut Vec<u8>, datagram: &Datagram) -> Result<Bytes, Refused>
     requires body { BodyFits (content_text datagram.now.content) }
     requires sequence { SequenceFits datagram.now.header.sequence (content_text datagram.now.content) }
     ensures ok { IfOk result (λ bytes. bytes ≡ spelling (datagram_text datagram.now)) }
     ensures err { IfErr result (λ e. e ≡ Refused.OutOfMemory) }
 {
-    let mut bytes = Vec::new(alloc);
-    match datagram::write(datagram, &mut bytes) {
-        Ok(()) => Bytes::from_vec(bytes).map_err(|_| Refused::OutOfMemory),
+    match datagram::spelled(alloc, draft, datagram) {
+        Ok(bytes) => Ok(bytes),
         Err(_) => Err(Refused::OutOfMemory),
     }
 }
@@ -39,6 +38,7 @@ fn bytes_of(alloc: Global, datagram: &Datagram) -> Result<Bytes, Refused>
 #[tactic(auto, unfolding(crate::specs::Spellings::ack_bytes))]
 pub(crate) fn ack_bytes(
     alloc: Global,
+    draft: &mut Vec<u8>,
     place: Place,
     target: Endpoint,
     next: u64,
@@ -50,12 +50,17 @@ pub(crate) fn ack_bytes(
         header: header_to(place, target, next),
         content: Content::Ack,
     };
-    bytes_of(alloc, &datagram)
+    bytes_of(alloc, draft, &datagram)
 }
 
 /// A reset, which tells an endpoint at which incarnation the rank is now.
 #[tactic(auto, unfolding(crate::specs::Spellings::reset_bytes))]
-pub(crate) fn reset_bytes(alloc: Global, place: Place, target: Endpoint) -> Result<Bytes, Refused>
+pub(crate) fn reset_bytes(
+    alloc: Global,
+    draft: &mut Vec<u8>,
+    place: Place,
+    target: Endpoint,
+) -> Result<Bytes, Refused>
     ensures ok { IfOk result (λ bytes. bytes ≡ reset_bytes place target) }
     ensures err { IfErr result (λ e. e ≡ Refused.OutOfMemory) }
 {
@@ -63,13 +68,14 @@ pub(crate) fn reset_bytes(alloc: Global, place: Place, target: Endpoint) -> Resu
         header: header_to(place, target, 0),
         content: Content::Reset,
     };
-    bytes_of(alloc, &datagram)
+    bytes_of(alloc, draft, &datagram)
 }
 
 /// A frame for an endpoint, under a number of their session.
 #[tactic(auto, unfolding(crate::specs::Spellings::frame_bytes))]
 pub(crate) fn frame_bytes(
     alloc: Global,
+    draft: &mut Vec<u8>,
     place: Place,
     target: Endpoint,
     frame: &Frame,
@@ -83,5 +89,5 @@ pub(crate) fn frame_bytes(
         header: header_to(place, target, number),
         content: Content::Frame(*frame),
     };
-    bytes_of(alloc, &datagram)
+    bytes_of(alloc, draft, &datagram)
 }
