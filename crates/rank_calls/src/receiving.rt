@@ -89,7 +89,7 @@ fn progress_on_match(into: ReceiveRegion, status: Status, body: Body) -> Progres
     ensures { result ≡ progress_on_match into status body }
 {
     match body {
-        Body::Whole(elements) => Progress::Finished(received(into, status, &elements)),
+        Body::Whole(elements) => Progress::Finished(received(into, status, elements)),
         Body::Announced(announcement) => match_announced(into, status, announcement.basic),
     }
 }

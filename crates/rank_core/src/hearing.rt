@@ -40,7 +40,7 @@ impl Core {
         };
         let status = status_of(&message);
         match message.body {
-            Body::Whole(elements) => self.requests.finish(receive.request, status, &elements),
+            Body::Whole(elements) => self.requests.finish(receive.request, status, elements),
             Body::Announced(announcement) => {
                 self.requests
                     .announce(receive.request, status, announcement.basic);
@@ -95,8 +95,7 @@ impl Core {
             .transfers
             .on_data(rank, piece.transfer, piece.offset, piece.bytes)
         {
-            self.requests
-                .deliver(collected.request, &collected.elements);
+            self.requests.deliver(collected.request, collected.elements);
         }
     }
 

@@ -60,7 +60,7 @@ fn receive(alloc: Global, requests: &mut Requests, request: Request) -> [Seen; 3
     requests.finish(
         request.key,
         empty_status(),
-        &Buffer::new(alloc, BasicType::Byte),
+        Buffer::new(alloc, BasicType::Byte),
     );
     [before, look(requests, request), look(requests, request)]
 }
@@ -89,7 +89,7 @@ fn received_in_group(alloc: Global, sender: u16) -> Option<Seen> {
         source: Source::Rank(sender),
         ..empty_status()
     };
-    requests.finish(request.key, status, &Buffer::new(alloc, BasicType::Byte));
+    requests.finish(request.key, status, Buffer::new(alloc, BasicType::Byte));
     Some(look(&mut requests, request))
 }
 
@@ -188,7 +188,7 @@ fn received_through(alloc: Global) -> Option<[u8; 6]> {
         places: Places::Copies(layout, 1),
     };
     let message = bytes(alloc, &[7, 8])?;
-    match received(judged(region)?, empty_status(), &message) {
+    match received(judged(region)?, empty_status(), message) {
         Outcome::Received(_status, buffer) => match buffer.as_bytes() {
             [a, b, c, d, e, f] => Some([*a, *b, *c, *d, *e, *f]),
             _ => None,
@@ -227,7 +227,7 @@ fn wanted(requests: &Requests, key: usize) -> [bool; 2] {
 fn collect(alloc: Global, requests: &mut Requests, request: Request) -> [Seen; 2] {
     requests.announce(request.key, empty_status(), BasicType::Byte);
     let before = look(requests, request);
-    requests.deliver(request.key, &Buffer::new(alloc, BasicType::Byte));
+    requests.deliver(request.key, Buffer::new(alloc, BasicType::Byte));
     [before, look(requests, request)]
 }
 

@@ -71,21 +71,23 @@ impl Outcome {
 /// A shorter message changes only its own places (MPI 3.1, 3.2.4). Where the types differ, or the message is
 /// longer, the buffer stays as it was; that, and the status beside it, are this project's own choice.
 #[tactic(auto, using(crate::proofs::Receiving::whole_is))]
-pub fn received(into: ReceiveRegion, status: Status, message: &Buffer) -> Outcome
-    ensures { result ≡ outcome_of (handed_of into) status message.now }
+pub fn received(into: ReceiveRegion, status: Status, message: Buffer) -> Outcome
+    ensures { result ≡ outcome_of (handed_of into) status message }
 {
     let Region { buffer, places } = into.into_region();
     match places {
         Places::All => received_whole(buffer, status, message),
         Places::Copies(layout, copies) => {
-            received_apart(buffer, &layout, copies, status, message)
+            received_apart(buffer, &layout, copies, status, &message)
         }
     }
 }
 
-/// How a receive into all elements of the buffer ends.
-fn received_whole(mut buffer: Buffer, status: Status, message: &Buffer) -> Outcome
-    ensures { result ≡ outcome_of_whole buffer status message.now }
+/// How a receive into all elements of the buffer ends. A message that takes all places is handed out itself, so its elements
+/// aren't copied once more.
+#[tactic(auto, using(crate::proofs::Receiving::all_places))]
+fn received_whole(mut buffer: Buffer, status: Status, message: Buffer) -> Outcome
+    ensures { result ≡ outcome_of_whole buffer status message }
 {
     if buffer.basic() != message.basic() {
         return Outcome::Ended(Failure::WrongType, status, buffer);
@@ -93,7 +95,10 @@ fn received_whole(mut buffer: Buffer, status: Status, message: &Buffer) -> Outco
     if message.len() > buffer.len() {
         return Outcome::Ended(Failure::Truncated, status, buffer);
     }
-    buffer.overwrite(message);
+    if message.len() == buffer.len() {
+        return Outcome::Received(status, message);
+    }
+    buffer.overwrite(&message);
     Outcome::Received(status, buffer)
 }
 

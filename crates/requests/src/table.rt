@@ -98,8 +98,8 @@ impl Model for Requests {
 }
 
 /// Ends a receive that waits with the message that was matched with it.
-fn advance(entry: &mut Entry, status: Status, message: &Buffer)
-    ensures { entry.new ≡ after_message entry.old status message.now }
+fn advance(entry: &mut Entry, status: Status, message: Buffer)
+    ensures { entry.new ≡ after_message entry.old status message }
 {
     match mem::replace(&mut entry.progress, Progress::Finished(Outcome::Sent)) {
         Progress::Receiving(Posted { into, group }) => {
@@ -124,8 +124,8 @@ fn announce(entry: &mut Entry, status: Status, basic: BasicType)
 }
 
 /// Ends a receive that collects with the data that it waited for.
-fn deliver(entry: &mut Entry, message: &Buffer)
-    ensures { entry.new ≡ record entry.old { progress = progress_on_delivery entry.old.progress message.now } }
+fn deliver(entry: &mut Entry, message: Buffer)
+    ensures { entry.new ≡ record entry.old { progress = progress_on_delivery entry.old.progress message } }
 {
     match mem::replace(&mut entry.progress, Progress::Offering) {
         Progress::Collecting(Matched { into, status }) => {
@@ -250,8 +250,8 @@ impl Requests {
 
     /// Gives the receive under this key the message that was matched with it, of which the status names the source as a
     /// rank of world. Anything else stays as it is.
-    pub fn finish(&mut self, key: usize, status: Status, message: &Buffer)
-        ensures { self.new ≡ record self.old { slots = after_finish self.old.slots key status message.now } }
+    pub fn finish(&mut self, key: usize, status: Status, message: Buffer)
+        ensures { self.new ≡ record self.old { slots = after_finish self.old.slots key status message } }
     {
         if let Some(entry) = self.entries.get_mut(key) {
             advance(entry, status, message);
@@ -283,8 +283,8 @@ impl Requests {
     }
 
     /// Gives the receive under this key the data that it collected. Anything else stays as it is.
-    pub fn deliver(&mut self, key: usize, message: &Buffer)
-        ensures { self.new ≡ record self.old { slots = after_delivery self.old.slots key message.now } }
+    pub fn deliver(&mut self, key: usize, message: Buffer)
+        ensures { self.new ≡ record self.old { slots = after_delivery self.old.slots key message } }
     {
         if let Some(entry) = self.entries.get_mut(key) {
             deliver(entry, message);
