@@ -1,10 +1,11 @@
 #!/usr/bin/env python3
 """Where the gate's processor time goes, by crate: its proof, its tests, and its must-fail edits.
 
-    python3 tools/gate_times/gate_times.py watch LOG &   # before rt ci; end it with kill
-    python3 tools/gate_times/gate_times.py show LOG      # minutes of processor time, and how many runs
+    python3 tools/gate_times/gate_times.py watch LOG [FOLDER] &   # before rt ci; end it with kill
+    python3 tools/gate_times/gate_times.py show LOG               # minutes of processor time, and how many runs
 
-It looks at /proc once a second, so runs of less than that may be missing. Let nothing else of Rattle run meanwhile.
+It looks at /proc once a second, so runs of less than that may be missing. With a folder only what a process that works in just that
+folder has started is counted, such as `rt ci` there: else let nothing else of Rattle run meanwhile.
 """
 import collections
 import os
@@ -20,7 +21,20 @@ def kind_of(words, folder):
     return "tests" if "--test" in words else "proof"
 
 
-def look():
+def is_below(pid, folder):
+    """Whether a process that works in the folder has started this one, or one that started it."""
+    while pid != "0":
+        try:
+            if os.readlink(f"/proc/{pid}/cwd") == folder:
+                return True
+            with open(f"/proc/{pid}/stat", encoding="utf-8", errors="replace") as it:
+                pid = it.read().rsplit(")", 1)[1].split()[1]
+        except OSError:
+            return False
+    return False
+
+
+def look(top):
     """Returns each run of rattle on a crate: its crate, its kind, and the seconds of processor time that it has taken."""
     seen, parents = {}, {}
     for pid in filter(str.isdigit, os.listdir("/proc")):
@@ -34,6 +48,8 @@ def look():
             folder = os.readlink(f"/proc/{pid}/cwd")
         except OSError:
             continue
+        if top and not is_below(pid, top):
+            continue
         # its own time and that of the children that it has waited for, which aren't counted by themselves
         seconds = sum(map(int, fields[11:15])) / TICKS
         crate = words[words.index("--crate-name") + 1]
@@ -43,11 +59,11 @@ def look():
     return {run: it for run, it in seen.items() if parents[run] not in pids}
 
 
-def watch(log):
+def watch(log, top=None):
     runs = {}
     with open(log, "w", buffering=1, encoding="utf-8") as it:
         while True:
-            now = look()
+            now = look(top)
             for ended in runs.keys() - now.keys():
                 crate, kind, seconds = runs.pop(ended)
                 print(crate, kind, f"{seconds:.1f}", file=it)
@@ -69,6 +85,6 @@ def show(log):
 
 
 if __name__ == "__main__":
-    if len(sys.argv) != 3 or sys.argv[1] not in ("watch", "show"):
+    if len(sys.argv) not in (3, 4) or sys.argv[1] not in ("watch", "show"):
         sys.exit(__doc__)
-    {"watch": watch, "show": show}[sys.argv[1]](sys.argv[2])
+    {"watch": watch, "show": show}[sys.argv[1]](*sys.argv[2:])
