@@ -141,6 +141,10 @@ impl Engine {
         ensures rest { self.new ≡ without_completion self.old }
     {
         let answer = self.core.take_completion();
+        if self.ended.is_none() {
+            // As mostly: a look is cheaper than a move.
+            return completion_by(None, answer);
+        }
         completion_by(self.ended.take(), answer)
     }
 

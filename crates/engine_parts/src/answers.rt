@@ -9,7 +9,7 @@ ghost use Rattle.engine_parts.specs.Calls.{CoreGives};
 ghost use Rattle.engine_parts.specs.Frames.{after_frame};
 ghost use Rattle.engine_parts.specs.declared.call.Call as engine_calls;
 
-use crate::asked::{Asked, told, with_members};
+use crate::asked::{Asked, share_members, told};
 use crate::call::Call;
 use crate::reply::Reply;
 use communicators::Communicators;
@@ -109,12 +109,13 @@ fn answer_asked(
     ensures placed { sessions.new.place ≡ sessions.old.place }
     ensures core_placed { core.new.state.place ≡ core.old.state.place }
 {
-    match with_members(alloc, communicators, asked) {
-        Ok(asked) => {
+    let mut asked = asked;
+    match share_members(alloc, communicators, &mut asked) {
+        Ok(()) => {
             let Asked { comm, named, call } = asked;
             told(comm, named, answer(core, sessions, call))
         }
-        Err(asked) => Reply::Refused(Refused::OutOfMemory, asked.into_call()),
+        Err(_) => Reply::Refused(Refused::OutOfMemory, asked.into_call()),
     }
 }
 

@@ -1,6 +1,6 @@
 //! What the core is asked by a call of point to point, or on requests.
 
-ghost use Rattle.std.specs.Prelude.{◌≡◌, IfOk, IfErr, OnErr};
+ghost use Rattle.std.specs.Prelude.{◌≡◌, IfOk, OnErr, OnOk};
 ghost use Rattle.communicators.specs.Routes.{route_text};
 ghost use Rattle.engine_parts.specs.Asks.{IsShareable, NeedsGroup, call_named, call_of, group_at, groups_of, receive_asked, send_asked, told, with_group};
 ghost use Rattle.engine_parts.specs.Faults.{group_limit};
@@ -127,44 +127,23 @@ fn members_of(
     }
 }
 
-/// The same, where a receive has its group; or it comes back as it was, for want of memory.
-pub fn with_members(
+/// A receive has its group from now on, by which its status names the source. It fails for want of memory alone, and then leaves
+/// what is asked as it was.
+pub fn share_members(
     alloc: Global,
     communicators: &Communicators,
-    asked: Asked,
-) -> Result<Asked, Asked>
-    requires { IsShareable (group_at (groups_of communicators.now) asked.comm asked.named) asked.call }
-    ensures ok { IfOk result (λ a. a ≡ record asked { call = with_group (group_at (groups_of communicators.now) asked.comm asked.named) asked.call }) }
-    ensures back { IfErr result (λ a. a ≡ asked) }
-    ensures need { OnErr result (NeedsGroup asked.call) }
+    asked: &mut Asked,
+) -> Result<(), AllocError>
+    requires { IsShareable (group_at (groups_of communicators.now) asked.old.comm asked.old.named) asked.old.call }
+    ensures ok { OnOk result (asked.new ≡ record asked.old {
+      call = with_group (group_at (groups_of communicators.now) asked.old.comm asked.old.named) asked.old.call;
+    }) }
+    ensures unchanged { OnErr result (asked.new ≡ asked.old) }
+    ensures need { OnErr result (NeedsGroup asked.old.call) }
 {
-    let Asked { comm, named, call } = asked;
-    let rank_core::Call::Irecv(receive) = call else {
-        return Ok(Asked { comm, named, call });
+    let rank_core::Call::Irecv(receive) = &mut asked.call else {
+        return Ok(());
     };
-    match members_of(alloc, communicators, comm, named) {
-        Ok(group) => {
-            let rank_core::Receive {
-                source,
-                tag,
-                context,
-                into,
-                ..
-            } = receive;
-            let receive = rank_core::Receive {
-                source,
-                tag,
-                context,
-                group,
-                into,
-            };
-            let call = rank_core::Call::Irecv(receive);
-            Ok(Asked { comm, named, call })
-        }
-        Err(_) => Err(Asked {
-            comm,
-            named,
-            call: rank_core::Call::Irecv(receive),
-        }),
-    }
+    receive.group = members_of(alloc, communicators, asked.comm, asked.named)?;
+    Ok(())
 }

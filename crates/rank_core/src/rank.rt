@@ -97,6 +97,10 @@ impl Core {
         ensures completion { result ≡ self.old.state.completion }
         ensures rest { self.new.state ≡ record self.old.state { completion = None } }
     {
+        // Mostly there is none, and a look is cheaper than a move.
+        if self.completion.is_none() {
+            return None;
+        }
         self.completion.take()
     }
 }

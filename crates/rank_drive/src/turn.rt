@@ -1,9 +1,9 @@
 //! One turn of a rank.
 
-ghost use Rattle.std.specs.Prelude.{◌≡◌, ◌+◌, ◌<◌, ◌^◌};
+ghost use Rattle.std.specs.Prelude.{◌≡◌, ◌+◌, ◌<◌, ◌^◌, Option, None};
 ghost use Rattle.rank_drive.specs.Exchanges.{FailsWith};
 ghost use Rattle.rank_drive.specs.Speaking.{IsNoLine};
-ghost use Rattle.rank_drive.specs.Turns.{TakesStep, GoesOnTo, TurnGives, stage_with, is_ready};
+ghost use Rattle.rank_drive.specs.Turns.{TakesStep, GoesOnTo, TurnGives, stage_after, stage_with, is_ready};
 
 use crate::listening::listen;
 use crate::runner::{Runner, Step};
@@ -32,19 +32,53 @@ pub(crate) fn is_ready(stage: &Stage) -> bool
     matches!(stage, Stage::Ready(_))
 }
 
+/// What the runner waits for after a reply.
+fn stage_after(reply: Reply) -> Stage
+    ensures { result ≡ stage_after reply }
+{
+    match reply {
+        Reply::Blocked => Stage::Blocked,
+        reply => Stage::Ready(Some(reply)),
+    }
+}
+
 /// The runner's call goes to its engine; its end is the end.
 fn take_step(engine: &mut Engine, step: Step) -> Stage
     requires { IsNoLine step }
     ensures { TakesStep engine.old step result engine.new }
 {
     match step {
-        Step::Call(call) => match engine.call(call) {
-            Reply::Blocked => Stage::Blocked,
-            reply => Stage::Ready(Some(reply)),
-        },
+        Step::Call(call) => stage_after(engine.call(call)),
         Step::Print(_) => unreachable!(),
         Step::End(status, line) => Stage::Over(status, line),
     }
+}
+
+/// The runner, which had something else to do before and now has this line to print, prints it and goes on behind it.
+// It stands apart, so that calls of the runner don't pay for what its lines need.
+#[inline(never)]
+fn go_on_behind<R: Wait, P: Runner, T: Transport>(
+    rt: &R,
+    engine: &mut Engine,
+    runner: &mut P,
+    stage: &mut Stage,
+    transport: &mut T,
+    line: &[u8],
+) -> Result<(), TransportFault>
+    requires room { T.failed transport.old + 1 < 2 ^ 64 }
+    requires ready { stage.old ≡ Stage.Ready None }
+    ensures exact { (before : P) (reply : Option Reply) → P.does before reply (Step.Print line.now) runner.old →
+        GoesOnTo P.does T.passed engine.old before (Stage.Ready reply) transport.old result engine.new runner.new stage.new transport.new }
+    ensures failures { FailsWith result (T.failed transport.old) (T.failed transport.new) }
+{
+    let Ok(_) = transport.print(line) else {
+        return Err(TransportFault);
+    };
+    let Ok(step) = speak(rt, runner, None, transport) else {
+        return Err(TransportFault);
+    };
+    *stage = take_step(engine, step);
+    Ok(())
 }
 
 /// The runner goes on, unless its call is blocked or it has ended.
@@ -63,10 +97,13 @@ fn go_on<R: Wait, P: Runner, T: Transport>(
         Stage::Ready(reply) => reply.take(),
         Stage::Blocked | Stage::Over(_, _) => return Ok(()),
     };
-    let Ok(step) = speak(rt, runner, reply, transport) else {
-        return Err(TransportFault);
-    };
-    *stage = take_step(engine, step);
+    match runner.next(reply) {
+        Step::Call(call) => *stage = stage_after(engine.call(call)),
+        Step::Print(line) => {
+            return go_on_behind(rt, engine, runner, stage, transport, line.as_slice());
+        }
+        Step::End(status, line) => *stage = Stage::Over(status, line),
+    }
     Ok(())
 }
 

@@ -1,11 +1,11 @@
 -- Frames that are out were last sent less than 20 ms before the last tick.
 use Rattle.std.proofs.Common.{◌≡◌, ℕ, ◌+◌, ◌-◌, ◌<◌, ◌≤◌, ◌^◌, Bool, true, false, cond, List, [], ◌∷◌, ◌++◌, length, take, drop, map, min, refl, sym, ap, subst, ◌∙◌, append_assoc, arith, inl, inr}
-use Rattle.std.specs.Prelude.{All, slice_range}
+use Rattle.std.specs.Prelude.{All, slice_range, IsTrue, ◌==◌, ◌↔◌}
 use Rattle.std.proofs.lemmas.List.{length-append, length-take, length-drop, length-map, take-append-drop, take_all, take-take, take_at, take-append-le, drop-take}
 use Rattle.std.proofs.lemmas.List.Elements.{All-head, All-tail, All-same, All-append, All-push, All-take, All-drop, All-map}
-use Rattle.std.proofs.lemmas.Bool.{cases_lt, le-leb, lt-leb}
+use Rattle.std.proofs.lemmas.Bool.{cases_lt, le-leb, lt-leb, eqb-true, eq-eqb}
 use Rattle.reliable_link.specs.declared.out_frame.OutFrame.{OutFrame}
-use Rattle.reliable_link.specs.SenderState.{SenderState, IsFresh, AreFresh, IsKept, is_due, numbers_due, due_at, sent_at, sent_between, sent_if_due, after_due, out_count}
+use Rattle.reliable_link.specs.SenderState.{SenderState, IsFresh, AreFresh, IsKept, is_due, numbers_due, due_at, sent_at, sent_between, sent_if_due, after_due, out_count, StandsAt}
 use Rattle.reliable_link.proofs.Frames.{length-sent_between}
 
 -- ---- a second tick at one time
@@ -40,6 +40,14 @@ unticked t s now is at kept =
     let back : List OutFrame → List OutFrame = λ fs. fs ++ drop (out_count t) t.frames in
     let same : after_due t t.clock ≡ t = ap made (ap back (none_marked t.clock (take (out_count t) t.frames) kept.fresh) ∙ take-append-drop (out_count t) t.frames) in
     subst (λ (u : SenderState). u ≡ after_due u now) is (sym same ∙ ap (after_due t) (sym at))
+
+-- so whether it stands at a time is whether that is the time of its last tick
+pub stands : (t s : SenderState) (now : ℕ) → t ≡ s → IsKept t.lowest t.frames t.clock → IsTrue (now == t.clock) ↔ StandsAt s now
+stands t s now is kept =
+    let clock : t.clock ≡ s.clock = ap (λ (u : SenderState). u.clock) is in
+    (λ h. let same : now ≡ t.clock = eqb-true now t.clock h in
+          (sym clock ∙ sym same, sym (none_due t s now is same kept), sym (unticked t s now is same kept)),
+     λ h. eq-eqb now t.clock (sym (h.0) ∙ sym clock))
 
 -- ---- what keeps frames fresh; `w` is how many are out at most
 

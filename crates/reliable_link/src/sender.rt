@@ -2,7 +2,7 @@
 
 ghost use Rattle.std.specs.Prelude.{◌≡◌, ◌<◌, ◌≤◌, ◌+◌, ◌^◌, ◌↔◌, ◌⊎◌, [], length, IfOk, OnOk, OnErr, IfErr, IsTrue, IsErrOf, IsOkUnless};
 ghost use Rattle.std.specs.Option.{option_copied};
-ghost use Rattle.reliable_link.specs.SenderState.{SenderState, next_number, out_count, out_end, after_accept, entered_on_accept, after_ack, due_at, after_due, frame_at, after_take_back, after_reset};
+ghost use Rattle.reliable_link.specs.SenderState.{SenderState, next_number, out_count, out_end, after_accept, entered_on_accept, after_ack, due_at, after_due, frame_at, after_take_back, after_reset, StandsAt};
 ghost use Rattle.reliable_link.specs.Accepting.{HasNumberLeft, AcceptGives};
 ghost use Rattle.std.proofs.Common.{min};
 
@@ -181,6 +181,13 @@ impl Sender {
         let out = out_of(self.frames.len());
         mark_due(&mut self.frames, out, now);
         self.clock = now;
+    }
+
+    /// Whether the last tick was at this time. Then nothing is due, and one more tick at this time changes nothing.
+    pub fn stands_at(&self, now: u64) -> bool
+        ensures { IsTrue result ↔ StandsAt self.now now }
+    {
+        now == self.clock
     }
 
     /// Whether every frame was acknowledged.

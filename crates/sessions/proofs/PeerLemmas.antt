@@ -3,18 +3,21 @@ use Rattle.std.proofs.Common.{◌≡◌, ℕ, zero, suc, ◌+◌, ◌<◌, ◌�
 use Rattle.std.specs.Prelude.{All}
 use Rattle.std.specs.List.{enumerate_from, range_with_len}
 use Rattle.std.proofs.lemmas.List.{length-set, length-take, length-map, take_more, replicate-append-replicate}
-use Rattle.std.proofs.lemmas.List.Elements.{All-set, All-nil, All-cons}
+use Rattle.std.proofs.lemmas.List.Elements.{All-set, All-nil, All-cons, All-head, All-tail}
 use Rattle.std.proofs.lemmas.Option.{slice_get_cases}
-use Rattle.std.specs.Prelude.{nat_lt, Bool, true, false, Result, Ok, Err, IfOk, vec_len}
+use Rattle.std.proofs.lemmas.Bool.{le-ltb}
+use Rattle.std.specs.Prelude.{nat_lt, Bool, true, false, None, Result, Ok, Err, IfOk, vec_len}
 use Rattle.std.specs.Global.{Vec}
 use Rattle.std.proofs.Common.{cond}
 use Rattle.reliable_link.specs.declared.out_frame.OutFrame.{OutFrame}
-use Rattle.reliable_link.specs.SenderState.{SenderState, due_at, is_due, out_count, out_end, after_ack, after_due, heeded}
+use Rattle.reliable_link.specs.SenderState.{SenderState, due_at, is_due, out_count, out_end, after_ack, after_due, heeded, StandsAt}
 use Rattle.incarnation.specs.declared.place.Place.{Place}
 use Rattle.sessions.specs.declared.peers.Peer.{Peer}
 use Rattle.sessions.specs.Invariant.{IsSound}
 use Rattle.sessions.specs.Heard.{WordText, Acknowledges, Repeats, Hands, Nothing}
 use Rattle.sessions.specs.Events.{heeded_by}
+use Rattle.sessions.specs.SessionsState.{SessionsState}
+use Rattle.sessions.specs.Ticks.{clock_fault, after_tick}
 use Rattle.sessions.specs.Peers.{peer_at, with_sender, with_receiver, new_session, with_new_session, frames_out, due_out, due_peer, after_all_due}
 
 -- ---- the clocks
@@ -83,6 +86,41 @@ sound_after_due place peers clock now h = record {
   each = length-map peers (due_peer now) ∙ h.each;
   clocks = each_due now peers;
 }
+
+-- ---- a further tick in one millisecond
+
+abbrev pub Stands : ℕ → Peer → Type 0
+Stands now p = StandsAt p.sender now
+
+-- nothing is due
+nothing_due : (rank now : ℕ) (ps : List Peer) → All (Stands now) ps → due_out rank ps now ≡ []
+nothing_due rank now [] each = refl
+nothing_due rank now (p ∷ ps) each =
+    ap (λ (ns : List ℕ). frames_out rank p.sender ns ++ due_out (suc rank) ps now) ((All-head (Stands now) p ps each).1)
+    ∙ nothing_due (suc rank) now ps (All-tail (Stands now) p ps each)
+
+-- and nothing changes
+nothing_marked : (now : ℕ) (ps : List Peer) → All (Stands now) ps → after_all_due ps now ≡ ps
+nothing_marked now [] each = refl
+nothing_marked now (p ∷ ps) each =
+    let made : SenderState → Peer = λ s. record { sender = s; receiver = p.receiver } in
+    ap (λ (s : SenderState). made s ∷ after_all_due ps now) ((All-head (Stands now) p ps each).2)
+    ∙ ap (λ (qs : List Peer). p ∷ qs) (nothing_marked now ps (All-tail (Stands now) p ps each))
+
+-- the clock doesn't go back; `t` is what is seen of the sessions `s`
+pub not_back : (t s : SessionsState) (now : ℕ) → t ≡ s → t.clock ≤ now → clock_fault s.clock now ≡ None
+not_back t s now is le =
+    let none : clock_fault t.clock now ≡ None = rw (le-ltb now t.clock le) refl in
+    subst (λ (u : SessionsState). clock_fault u.clock now ≡ None) is none
+
+-- so a tick moves the clock alone
+pub unticked : (t s : SessionsState) (now : ℕ) (peers : List Peer) → t ≡ s → peers ≡ t.peers → All (Stands now) peers → record t { clock = now } ≡ after_tick s now
+unticked t s now peers is same each =
+    let here : All (Stands now) t.peers = subst (All (Stands now)) same each in
+    let made : List Peer → List (ℕ × List ℕ) → SessionsState = λ ps os. record t { clock = now; peers = ps; out = os } in
+    let out : t.out ++ due_out 0 t.peers now ≡ t.out = ap (λ (os : List (ℕ × List ℕ)). t.out ++ os) (nothing_due 0 now t.peers here) ∙ append-nil t.out in
+    let still : after_tick t now ≡ record t { clock = now } = ap (λ (ps : List Peer). made ps (t.out ++ due_out 0 t.peers now)) (nothing_marked now t.peers here) ∙ ap (made t.peers) out in
+    sym still ∙ ap (λ (u : SessionsState). after_tick u now) is
 
 -- ---- one more
 

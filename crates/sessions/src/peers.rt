@@ -1,7 +1,7 @@
 //! The session with each rank of the job.
 
 ghost use Rattle.std.specs.Prelude.{◌≡◌, ◌≢◌, ◌≤◌, ◌<◌, ◌+◌, ◌-◌, ◌*◌, ◌++◌, ◌↔◌, length, All, IsTrue, IfOk, OnOk, OnErr, IfErr, nat_lt, ◌^◌, [], ◌∷◌, if◌then◌else◌, vec_len, vec_capacity};
-ghost use Rattle.reliable_link.specs.SenderState.{after_accept, after_ack, entered_on_ack, due_at, out_end};
+ghost use Rattle.reliable_link.specs.SenderState.{after_accept, after_ack, entered_on_ack, due_at, out_end, StandsAt};
 ghost use Rattle.reliable_link.specs.Accepting.{HasNumberLeft};
 ghost use Rattle.std.specs.List.{range_with_len};
 ghost use Rattle.sessions.specs.Carrying.{taken_back};
@@ -213,6 +213,13 @@ fn mark_each_sent(peers: &mut [Peer], now: u64)
     for peer in peers.iter_mut() {
         peer.sender.mark_sent(now);
     }
+}
+
+/// Whether the last tick of each session was at this time: then nothing is due, and one more tick changes nothing.
+pub(crate) fn stand_at(peers: &[Peer], now: u64) -> bool
+    ensures { IsTrue result ↔ All (λ p. StandsAt p.sender now) peers.now }
+{
+    peers.iter().all(|peer| peer.sender.stands_at(now))
 }
 
 /// The frames that are due count as sent now.

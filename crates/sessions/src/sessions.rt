@@ -135,6 +135,11 @@ impl Sessions {
         if now < self.clock {
             return Err(Refused::ClockBack);
         }
+        if peers::stand_at(&self.peers, now) {
+            // A further tick in one millisecond.
+            self.clock = now;
+            return Ok(());
+        }
         let mut frames = peers::due_frames(self.alloc, &self.peers, now)?;
         self.out
             .reserve(frames.len())

@@ -16,9 +16,9 @@ answer-requires-clause-clear c =
 pub returns-in-Ok-clause-exact : goal.returns-in-Ok-clause-exact
 returns-in-Ok-clause-exact c =
     answer_told c.args.core.now.state c.answer.new.core.state (groups_of c.args.communicators.now) c.args.sessions.now c.answer.new.sessions
-    c.args.asked c.in-Ok.asked c.answer.result c.told.result c.in-Ok.ensures.ok c.answer.ensures.exact c.told.ensures
+    c.args.asked c.share_members.new.asked c.answer.result c.told.result c.in-Ok.ensures.ok c.answer.ensures.exact c.told.ensures
 
 pub returns-in-Err-clause-exact : goal.returns-in-Err-clause-exact
 returns-in-Err-clause-exact c =
-    group_told c.args.core.now.state (groups_of c.args.communicators.now) c.args.sessions.now c.args.asked c.in-Err.asked c.into_call.result
-    c.into_call.ensures c.in-Err.ensures.back c.in-Err.ensures.need
+    group_told c.args.core.now.state (groups_of c.args.communicators.now) c.args.sessions.now c.args.asked c.share_members.new.asked c.into_call.result
+    c.into_call.ensures c.in-Err.ensures.unchanged c.in-Err.ensures.need
