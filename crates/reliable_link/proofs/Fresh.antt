@@ -44,10 +44,11 @@ unticked t s now is at kept =
 -- so whether it stands at a time is whether that is the time of its last tick
 pub stands : (t s : SenderState) (now : ℕ) → t ≡ s → IsKept t.lowest t.frames t.clock → IsTrue (now == t.clock) ↔ StandsAt s now
 stands t s now is kept =
-    let clock : t.clock ≡ s.clock = ap (λ (u : SenderState). u.clock) is in
-    (λ h. let same : now ≡ t.clock = eqb-true now t.clock h in
+    let clock : t.clock ≡ s.clock = ap (λ (u : SenderState). u.clock) is in (
+      λ h. let same : now ≡ t.clock = eqb-true now t.clock h in
           (sym clock ∙ sym same, sym (none_due t s now is same kept), sym (unticked t s now is same kept)),
-     λ h. eq-eqb now t.clock (sym (h.0) ∙ sym clock))
+      λ h. eq-eqb now t.clock (sym (h.0) ∙ sym clock),
+    )
 
 -- ---- what keeps frames fresh; `w` is how many are out at most
 
