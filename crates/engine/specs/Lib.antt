@@ -1,3 +1,4 @@
+pub mod Answering
 pub mod Places
 pub mod Entering
 pub mod Datagrams

@@ -2,6 +2,7 @@
 
 ghost use Rattle.std.specs.Prelude.{◌≡◌, ◌≤◌, ◌+◌, ◌*◌, length, None};
 ghost use Rattle.engine_parts.specs.Asks.{AskGives, CanAskBy, IsOnRequests, call_named};
+ghost use Rattle.engine.specs.Answering.{IsOther};
 ghost use Rattle.engine_parts.specs.Calls.{CallGives, CoreGives, RefusedLeaves};
 ghost use Rattle.engine_parts.specs.Faults.{fault_of};
 ghost use Rattle.engine_parts.specs.declared.call.Call as engine_calls;
@@ -130,6 +131,31 @@ impl Engine {
         }
     }
 
+    /// Answers a call that is neither a send, a receive nor a wait for one request.
+    // These stand apart, since a function pays at its entry for the locals of all its cases.
+    #[inline(never)]
+    #[tactic(auto, using(engine_parts::proofs::Answering::few_by_one))]
+    fn answer_other(&mut self, call: Call) -> Reply
+        requires { IsOther call }
+        ensures exact { CallGives self.old call result self.new }
+        ensures unchanged { RefusedLeaves result self.old self.new }
+        ensures few { length self.new.sessions.out ≤ length self.old.sessions.out + 65 * self.old.sessions.place.size }
+        ensures placed { self.new.sessions.place ≡ self.old.sessions.place }
+        ensures core_placed { self.new.core.place ≡ self.old.core.place }
+    {
+        // The place shows that the job has a rank at least.
+        let _place = self.sessions.place();
+        match call {
+            Call::Test(request) => self.call_on_requests(rank_core::Call::Test(request)),
+            Call::Waitany(list) => self.call_on_requests(rank_core::Call::Waitany(list)),
+            Call::Waitall(list) => self.call_on_requests(rank_core::Call::Waitall(list)),
+            Call::Cancel(request) => self.call_on_requests(rank_core::Call::Cancel(request)),
+            Call::Enter(comm, entry) => self.enter(comm, entry),
+            Call::Ask(comm, question) => self.ask(comm, question),
+            _ => unreachable!(),
+        }
+    }
+
     /// Answers a call.
     ///
     /// Refused is the first that holds of: 6 (an earlier call is blocked, on requests or in a collective; there is no such
@@ -161,12 +187,7 @@ impl Engine {
             Call::Isend(send) => self.isend(send),
             Call::Irecv(receive) => self.irecv(receive),
             Call::Wait(request) => self.call_on_requests(rank_core::Call::Wait(request)),
-            Call::Test(request) => self.call_on_requests(rank_core::Call::Test(request)),
-            Call::Waitany(list) => self.call_on_requests(rank_core::Call::Waitany(list)),
-            Call::Waitall(list) => self.call_on_requests(rank_core::Call::Waitall(list)),
-            Call::Cancel(request) => self.call_on_requests(rank_core::Call::Cancel(request)),
-            Call::Enter(comm, entry) => self.enter(comm, entry),
-            Call::Ask(comm, question) => self.ask(comm, question),
+            other => self.answer_other(other),
         }
     }
 }

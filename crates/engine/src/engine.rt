@@ -134,18 +134,28 @@ impl Engine {
         self.sessions.give_back(taken);
     }
 
+    /// The answer of a blocked call, where that of its requests isn't there.
+    fn take_ending(&mut self) -> Option<Completion>
+        ensures completion { result ≡ completion_by self.old.ended None }
+        ensures rest { self.new ≡ record self.old { ended = None } }
+    {
+        // Mostly there is none, and a look is cheaper than a move.
+        if self.ended.is_none() {
+            return None;
+        }
+        completion_by(self.ended.take(), None)
+    }
+
     /// Hands out the answer of a blocked call, once, after the event in which it was ready: of its requests, or of the
     /// collective that it entered. It is to be taken after each such event: of two answers that were not taken one is lost.
     pub fn take_completion(&mut self) -> Option<Completion>
         ensures completion { result ≡ completion_of self.old }
         ensures rest { self.new ≡ without_completion self.old }
     {
-        let answer = self.core.take_completion();
-        if self.ended.is_none() {
-            // As mostly: a look is cheaper than a move.
-            return completion_by(None, answer);
-        }
-        completion_by(self.ended.take(), answer)
+        let Some(answer) = self.core.take_completion() else {
+            return self.take_ending();
+        };
+        completion_by(self.ended.take(), Some(answer))
     }
 
     /// Whether no frame of any session waits or is unacknowledged. It takes no memory.

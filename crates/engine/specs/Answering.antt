@@ -1,0 +1,15 @@
+-- Which calls stand apart from those that are made most.
+use Rattle.engine_parts.specs.declared.call.Call.{Call}
+use Rattle.engine_parts.specs.declared.call.Call.TheVariants as calls
+
+-- neither a send, a receive nor a wait for one request
+abbrev pub IsOther : Call → Type 0
+IsOther (calls.Isend send) = ⊥
+IsOther (calls.Irecv receive) = ⊥
+IsOther (calls.Wait request) = ⊥
+IsOther (calls.Test request) = Unit {0}
+IsOther (calls.Waitany list) = Unit {0}
+IsOther (calls.Waitall list) = Unit {0}
+IsOther (calls.Cancel request) = Unit {0}
+IsOther (calls.Enter comm entry) = Unit {0}
+IsOther (calls.Ask comm question) = Unit {0}
