@@ -159,6 +159,24 @@ fn a_frame_is_due_20_ms_after_it_was_sent(rt: HostRuntime) {
     );
 }
 
+/// Whether a new sender stands at 0, and after a tick at 7 at that time, at the one before and at the next one.
+fn standing(sender: &mut Sender) -> [bool; 4] {
+    let at_start = sender.stands_at(0);
+    let _clock = mark(sender, 7);
+    [
+        at_start,
+        sender.stands_at(7),
+        sender.stands_at(0),
+        sender.stands_at(8),
+    ]
+}
+
+#[test]
+fn a_sender_stands_at_its_last_tick(rt: HostRuntime) {
+    let mut sender = Sender::new(rt.alloc());
+    assert_eq!(rt; standing(&mut sender), [true, true, false, false]);
+}
+
 fn begin_anew(alloc: Global, sender: &mut Sender) -> (bool, u64, u64, Option<Option<u64>>) {
     let _first = accepted(alloc, sender, 0);
     let clock = mark(sender, 7);
