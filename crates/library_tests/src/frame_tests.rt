@@ -30,6 +30,12 @@ const LONG_DATA: [u8; 33] = [
     18, 19, 20, 21,
 ];
 
+/// The same with eight more.
+const LONGER_DATA: [u8; 41] = [
+    4, 0, 0, 0, 0, 0, 1, 2, 0, 0, 8, 0, 1, 2, 3, 4, 5, 6, 7, 8, 9, 10, 11, 12, 13, 14, 15, 16, 17,
+    18, 19, 20, 21, 22, 23, 24, 25, 26, 27, 28, 29,
+];
+
 fn request(count: u32) -> RequestToSend {
     RequestToSend {
         plane: Plane::PointToPoint,
@@ -249,26 +255,72 @@ fn other_forms_are_refused(rt: HostRuntime) {
     }
 }
 
-/// Whether a datagram with this body is spelled as it was read, on a draft that others were spelled on.
-fn is_spelled(alloc: Global, draft: &mut Vec<u8>, body: &[u8]) -> Option<bool> {
+/// The bytes of a datagram with this body, where they are those that it was read from.
+fn spelled(alloc: Global, drafts: &mut Drafts, body: &[u8]) -> Option<Bytes> {
     let text = datagram_with(alloc, body)?;
     let datagram = read(&text).ok()?;
-    let bytes = spelled(alloc, draft, &datagram).ok()?;
-    Some(bytes.as_slice() == text.as_slice())
+    let bytes = drafts.spell(&datagram).ok()?;
+    if bytes.as_slice() == text.as_slice() {
+        Some(bytes)
+    } else {
+        None
+    }
 }
 
 /// Whether a long datagram, two short ones and a long one again are spelled as they were read.
-fn are_spelled(alloc: Global) -> Option<(bool, bool, bool, bool)> {
-    let mut draft = Vec::new(alloc);
-    Some((
-        is_spelled(alloc, &mut draft, &LONG_DATA)?,
-        is_spelled(alloc, &mut draft, &REQUEST)?,
-        is_spelled(alloc, &mut draft, &CLEAR)?,
-        is_spelled(alloc, &mut draft, &LONG_DATA)?,
-    ))
+fn are_spelled(alloc: Global) -> Option<bool> {
+    let mut drafts = Drafts::new(alloc);
+    spelled(alloc, &mut drafts, &LONG_DATA)?;
+    spelled(alloc, &mut drafts, &REQUEST)?;
+    spelled(alloc, &mut drafts, &CLEAR)?;
+    spelled(alloc, &mut drafts, &LONG_DATA)?;
+    Some(true)
+}
+
+/// Whether a datagram stays as it is while it has an owner, though its memory was to be kept; when it is gone, a shorter and a
+/// longer one are spelled there.
+fn memory_is_taken_over(alloc: Global) -> Option<bool> {
+    let mut drafts = Drafts::new(alloc);
+    let first = spelled(alloc, &mut drafts, &LONGER_DATA)?;
+    drafts.keep(&first);
+    let second = spelled(alloc, &mut drafts, &LONG_DATA)?;
+    let text = datagram_with(alloc, &LONGER_DATA)?;
+    let is_whole = first.as_slice() == text.as_slice();
+    drafts.keep(&first);
+    drop(first);
+    let third = spelled(alloc, &mut drafts, &LONG_DATA)?;
+    drafts.keep(&second);
+    drop(second);
+    spelled(alloc, &mut drafts, &LONGER_DATA)?;
+    drop(third);
+    Some(is_whole)
+}
+
+/// Whether datagrams are spelled as they were read when the memory of more than 64 was to be kept, and short ones have none.
+fn many_are_kept(alloc: Global) -> Option<bool> {
+    let mut drafts = Drafts::new(alloc);
+    let mut all = Vec::new(alloc);
+    for _round in 0..66 {
+        all.push(spelled(alloc, &mut drafts, &LONG_DATA)?).ok()?;
+        all.push(spelled(alloc, &mut drafts, &CLEAR)?).ok()?;
+    }
+    for bytes in &all {
+        drafts.keep(bytes);
+    }
+    drop(all);
+    for _round in 0..66 {
+        spelled(alloc, &mut drafts, &LONG_DATA)?;
+    }
+    Some(true)
 }
 
 #[test]
 fn short_and_long_datagrams_are_spelled(rt: HostRuntime) {
-    assert_eq!(rt; are_spelled(rt.alloc()), Some((true, true, true, true)));
+    assert_eq!(rt; are_spelled(rt.alloc()), Some(true));
+}
+
+#[test]
+fn memory_of_a_datagram_is_taken_over_when_it_is_gone(rt: HostRuntime) {
+    assert_eq!(rt; memory_is_taken_over(rt.alloc()), Some(true));
+    assert_eq!(rt; many_are_kept(rt.alloc()), Some(true));
 }

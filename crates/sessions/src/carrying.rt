@@ -23,7 +23,7 @@ use crate::peers::{self, Peer};
 use crate::refused::Refused;
 use crate::sessions::Sessions;
 use crate::spelling::{ack_bytes, frame_bytes, reset_bytes};
-use datagram::Bytes;
+use datagram::Drafts;
 use vocabulary::Endpoint;
 
 /// So many frames are out at one time at most.
@@ -52,13 +52,13 @@ fn learn(knowledge: &mut incarnation::Peers, lesson: bool, source: Endpoint)
 }
 
 /// The session with the source heeds the word.
-fn heed(peers: &mut Vec<Peer>, rank: u16, word: Word<'_>)
+fn heed(peers: &mut Vec<Peer>, drafts: &mut Drafts, rank: u16, word: Word<'_>)
     requires there { rank < vec_len peers.old }
     requires can { CanSettleIn (peer_at peers.old.items rank) (word_text word) }
     ensures { peers.new.items ≡ heeded_by (word_text word.entry) peers.old.items rank }
 {
     match word {
-        Word::Acknowledges(n) => peers::acknowledge_at(peers, rank, n),
+        Word::Acknowledges(n) => peers::acknowledge_at(peers, drafts, rank, n),
         Word::Hands(_) => peers::raise_at(peers, rank),
         Word::Repeats | Word::Nothing => {}
     }
@@ -115,8 +115,7 @@ impl Sessions {
         let number = peers::peer_at(&self.peers, rank).sender.next_number();
         let target = self.endpoint_after(heard, rank);
         let bytes = frame_bytes(
-            self.alloc,
-            &mut self.draft,
+            &mut self.drafts,
             self.knowledge.place(),
             target,
             &outgoing.frame,
@@ -158,8 +157,7 @@ impl Sessions {
         ensures err { IfErr result (λ e. e ≡ Refused.OutOfMemory) }
     {
         let ack = ack_bytes(
-            self.alloc,
-            &mut self.draft,
+            &mut self.drafts,
             self.knowledge.place(),
             source,
             next,
@@ -240,7 +238,12 @@ impl Sessions {
         // The place shows that there is one known incarnation for each rank.
         let _place = self.knowledge.place();
         learn(&mut self.knowledge, heard.lesson, heard.source);
-        heed(&mut self.peers, heard.source.rank, heard.word);
+        heed(
+            &mut self.peers,
+            &mut self.drafts,
+            heard.source.rank,
+            heard.word,
+        );
     }
 
     /// Both directions of the session with a rank start anew; the former session is handed out.
@@ -344,7 +347,7 @@ impl Sessions {
             return unheard.refused;
         };
         let place = self.knowledge.place();
-        let Ok(reset) = reset_bytes(self.alloc, &mut self.draft, place, source) else {
+        let Ok(reset) = reset_bytes(&mut self.drafts, place, source) else {
             return Refused::OutOfMemory;
         };
         if self.out.push((source.rank, reset)).is_err() {

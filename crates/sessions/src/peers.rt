@@ -8,7 +8,7 @@ ghost use Rattle.sessions.specs.Carrying.{taken_back};
 ghost use Rattle.sessions.specs.Peers.{new_peers, peer_at, with_sender, with_receiver, with_new_session, frames_out, due_out, after_all_due, IsIdlePeer};
 
 use crate::refused::Refused;
-use datagram::Bytes;
+use datagram::{Bytes, Drafts};
 use reliable_link::{Receiver, Sender};
 use std::alloc::{AllocError, Global};
 use std::mem;
@@ -83,13 +83,24 @@ pub(crate) fn raise_at(peers: &mut Vec<Peer>, rank: u16)
     let _ = peer.receiver.on_frame(next);
 }
 
-/// The session with a rank heeds an acknowledgement of all frames below `n`.
-pub(crate) fn acknowledge_at(peers: &mut Vec<Peer>, rank: u16, n: u64)
+/// The memory of the frames below `n` is kept for datagrams to come.
+fn keep_below(drafts: &mut Drafts, sender: &Sender, n: u64) {
+    let lowest = sender.next_number() - sender.kept() as u64;
+    for number in lowest..n {
+        if let Some(bytes) = sender.frame(number) {
+            drafts.keep(bytes);
+        }
+    }
+}
+
+/// The session with a rank heeds an acknowledgement of all frames below `n`. The memory of those is kept for datagrams to come.
+pub(crate) fn acknowledge_at(peers: &mut Vec<Peer>, drafts: &mut Drafts, rank: u16, n: u64)
     requires room { rank < vec_len peers.old }
     requires sent { n ≤ out_end (peer_at peers.old.items rank).sender }
     ensures { peers.new.items ≡ with_sender peers.old.items rank (after_ack (peer_at peers.old.items rank).sender n) }
 {
     let peer = &mut peers[rank as usize];
+    keep_below(drafts, &peer.sender, n);
     let _ = peer.sender.on_ack(n);
 }
 

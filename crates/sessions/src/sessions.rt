@@ -10,7 +10,7 @@ ghost use Rattle.sessions.specs.Ticks.{clock_fault, after_tick};
 use crate::peers::{self, Peer};
 use crate::place::{fault_of_place, is_other};
 use crate::refused::Refused;
-use datagram::Bytes;
+use datagram::{Bytes, Drafts};
 use incarnation::Place;
 use std::alloc::Global;
 use std::marker::Model;
@@ -29,8 +29,8 @@ pub struct Sessions {
     pub(crate) clock: u64,
     /// The datagrams that were emitted and not yet taken out, each with the rank that it goes to.
     pub(crate) out: Vec<(u16, Bytes)>,
-    /// Where short datagrams are spelled before they are emitted. What it holds says nothing.
-    pub(crate) draft: Vec<u8>,
+    /// Where datagrams are spelled, and the memory of those that were acknowledged. What it holds says nothing.
+    pub(crate) drafts: Drafts,
 }
 
 impl Model for Sessions {
@@ -92,7 +92,7 @@ impl Sessions {
             peers,
             clock: 0,
             out: Vec::new(alloc),
-            draft: Vec::new(alloc),
+            drafts: Drafts::new(alloc),
         })
     }
 

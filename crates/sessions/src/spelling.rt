@@ -5,9 +5,8 @@ ghost use Rattle.datagram.specs.Spelling.{datagram_text, content_text, frame_tex
 ghost use Rattle.sessions.specs.Spellings.{header_to, ack_bytes, reset_bytes, frame_bytes};
 
 use crate::refused::Refused;
-use datagram::{Bytes, Content, Datagram, Frame, Header};
+use datagram::{Bytes, Content, Datagram, Drafts, Frame, Header};
 use incarnation::Place;
-use std::alloc::Global;
 use vocabulary::Endpoint;
 
 /// The header of a datagram to an endpoint.
@@ -22,13 +21,13 @@ fn header_to(place: Place, target: Endpoint, sequence: u64) -> Header
     }
 }
 
-fn bytes_of(alloc: Global, draft: &mut Vec<u8>, datagram: &Datagram) -> Result<Bytes, Refused>
+fn bytes_of(drafts: &mut Drafts, datagram: &Datagram) -> Result<Bytes, Refused>
     requires body { BodyFits (content_text datagram.now.content) }
     requires sequence { SequenceFits datagram.now.header.sequence (content_text datagram.now.content) }
     ensures ok { IfOk result (λ bytes. bytes ≡ spelling (datagram_text datagram.now)) }
     ensures err { IfErr result (λ e. e ≡ Refused.OutOfMemory) }
 {
-    match datagram::spelled(alloc, draft, datagram) {
+    match drafts.spell(datagram) {
         Ok(bytes) => Ok(bytes),
         Err(_) => Err(Refused::OutOfMemory),
     }
@@ -37,8 +36,7 @@ fn bytes_of(alloc: Global, draft: &mut Vec<u8>, datagram: &Datagram) -> Result<B
 /// An acknowledgement of all frames of an endpoint below `next`.
 #[tactic(auto, unfolding(crate::specs::Spellings::ack_bytes))]
 pub(crate) fn ack_bytes(
-    alloc: Global,
-    draft: &mut Vec<u8>,
+    drafts: &mut Drafts,
     place: Place,
     target: Endpoint,
     next: u64,
@@ -50,14 +48,13 @@ pub(crate) fn ack_bytes(
         header: header_to(place, target, next),
         content: Content::Ack,
     };
-    bytes_of(alloc, draft, &datagram)
+    bytes_of(drafts, &datagram)
 }
 
 /// A reset, which tells an endpoint at which incarnation the rank is now.
 #[tactic(auto, unfolding(crate::specs::Spellings::reset_bytes))]
 pub(crate) fn reset_bytes(
-    alloc: Global,
-    draft: &mut Vec<u8>,
+    drafts: &mut Drafts,
     place: Place,
     target: Endpoint,
 ) -> Result<Bytes, Refused>
@@ -68,14 +65,13 @@ pub(crate) fn reset_bytes(
         header: header_to(place, target, 0),
         content: Content::Reset,
     };
-    bytes_of(alloc, draft, &datagram)
+    bytes_of(drafts, &datagram)
 }
 
 /// A frame for an endpoint, under a number of their session.
 #[tactic(auto, unfolding(crate::specs::Spellings::frame_bytes))]
 pub(crate) fn frame_bytes(
-    alloc: Global,
-    draft: &mut Vec<u8>,
+    drafts: &mut Drafts,
     place: Place,
     target: Endpoint,
     frame: &Frame,
@@ -89,5 +85,5 @@ pub(crate) fn frame_bytes(
         header: header_to(place, target, number),
         content: Content::Frame(*frame),
     };
-    bytes_of(alloc, draft, &datagram)
+    bytes_of(drafts, &datagram)
 }
