@@ -296,11 +296,11 @@ fn memory_is_taken_over(alloc: Global) -> Option<bool> {
     Some(is_whole)
 }
 
-/// Whether datagrams are spelled as they were read when the memory of more than 64 was to be kept, and short ones have none.
+/// Whether datagrams are spelled as they were read when the memory of more than 1,024 was to be kept, and short ones have none.
 fn many_are_kept(alloc: Global) -> Option<bool> {
     let mut drafts = Drafts::new(alloc);
     let mut all = Vec::new(alloc);
-    for _round in 0..66 {
+    for _round in 0..1030 {
         all.push(spelled(alloc, &mut drafts, &LONG_DATA)?).ok()?;
         all.push(spelled(alloc, &mut drafts, &CLEAR)?).ok()?;
     }
@@ -308,7 +308,7 @@ fn many_are_kept(alloc: Global) -> Option<bool> {
         drafts.keep(bytes);
     }
     drop(all);
-    for _round in 0..66 {
+    for _round in 0..1030 {
         spelled(alloc, &mut drafts, &LONG_DATA)?;
     }
     Some(true)
