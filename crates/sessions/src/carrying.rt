@@ -156,12 +156,7 @@ impl Sessions {
         ensures unchanged { OnErr result (self.new ≡ self.old) }
         ensures err { IfErr result (λ e. e ≡ Refused.OutOfMemory) }
     {
-        let ack = ack_bytes(
-            &mut self.drafts,
-            self.knowledge.place(),
-            source,
-            next,
-        )?;
+        let ack = ack_bytes(&mut self.drafts, self.knowledge.place(), source, next)?;
         match self.out.push((source.rank, ack)) {
             Ok(()) => Ok(()),
             Err(_) => Err(Refused::OutOfMemory),
