@@ -43,6 +43,10 @@ abbrev pub count_text : Option ℕ → List ℕ
 count_text None = codes "undefined"
 count_text (Some copies) = decimal copies
 
+-- `STATUS data` and the elements
+abbrev pub received_text : Status → Contents → List ℕ
+received_text status buffer = status_text status ++ codes " data" ++ elements_text buffer
+
 -- how an operation ended
 abbrev pub outcome_text : OutcomeText → List ℕ
 outcome_text outcomes.Sent = codes "sent"

@@ -47,28 +47,25 @@ impl<'a> fmt::Display for Answer<'a> {
     ghost output = { λ a. Some (answer_text a) };
 
     fn fmt<W: fmt::Write>(&self, f: &mut fmt::Formatter<W>) -> fmt::Result {
-        match *self {
+        match self {
             Answer::Started(serial) => write!(f, "request {serial}"),
-            Answer::Blocked => write!(f, "blocked"),
+            Answer::Blocked => f.write_str("blocked"),
             Answer::Refused(number) => write!(f, "refused {number}"),
-            Answer::One(outcome) => write!(f, "{outcome}"),
+            Answer::One(outcome) => outcome.fmt(f),
             Answer::Index(place, outcome) => write!(f, "index {place} {outcome}"),
-            Answer::IndexUndefined => write!(f, "index undefined"),
-            Answer::All(outcomes) => {
-                let outcomes = OutcomesText { outcomes };
-                write!(f, "{outcomes}")
-            }
+            Answer::IndexUndefined => f.write_str("index undefined"),
+            Answer::All(outcomes) => OutcomesText { outcomes }.fmt(f),
             Answer::Data(buffer) => {
                 let elements = Elements { buffer };
                 write!(f, "data{elements}")
             }
-            Answer::Communicator(communicator) => write!(f, "{communicator}"),
-            Answer::Position(position) => write!(f, "{position}"),
-            Answer::Members(members) => write!(f, "{members}"),
-            Answer::Comparison(comparison) => write!(f, "{comparison}"),
-            Answer::Pending => write!(f, "pending"),
-            Answer::Done => write!(f, "done"),
-            Answer::Taken => write!(f, "ok"),
+            Answer::Communicator(communicator) => communicator.fmt(f),
+            Answer::Position(position) => position.fmt(f),
+            Answer::Members(members) => members.fmt(f),
+            Answer::Comparison(comparison) => comparison.fmt(f),
+            Answer::Pending => f.write_str("pending"),
+            Answer::Done => f.write_str("done"),
+            Answer::Taken => f.write_str("ok"),
         }
     }
 }

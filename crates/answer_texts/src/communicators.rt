@@ -103,6 +103,23 @@ pub enum ComparisonText {
     Unequal,
 }
 
+impl ComparisonText {
+    ghost use Rattle.std.specs.Prelude.{◌≡◌};
+    ghost use Rattle.answer_texts.specs.Communicators.{comparison_text};
+
+    /// The word of this comparison.
+    fn word(self) -> &'static str
+        ensures { result.now ≡ comparison_text self }
+    {
+        match self {
+            ComparisonText::Ident => "ident",
+            ComparisonText::Congruent => "congruent",
+            ComparisonText::Similar => "similar",
+            ComparisonText::Unequal => "unequal",
+        }
+    }
+}
+
 impl fmt::Display for ComparisonText {
     ghost use Rattle.std.specs.Prelude.{Some};
     ghost use Rattle.answer_texts.specs.Communicators.{comparison_text};
@@ -110,11 +127,6 @@ impl fmt::Display for ComparisonText {
     ghost output = { λ c. Some (comparison_text c) };
 
     fn fmt<W: fmt::Write>(&self, f: &mut fmt::Formatter<W>) -> fmt::Result {
-        match self {
-            ComparisonText::Ident => write!(f, "ident"),
-            ComparisonText::Congruent => write!(f, "congruent"),
-            ComparisonText::Similar => write!(f, "similar"),
-            ComparisonText::Unequal => write!(f, "unequal"),
-        }
+        f.write_str(self.word())
     }
 }

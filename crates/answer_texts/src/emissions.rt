@@ -40,6 +40,25 @@ pub enum FrameKind {
     Reset,
 }
 
+impl FrameKind {
+    ghost use Rattle.std.specs.Prelude.{◌≡◌};
+    ghost use Rattle.answer_texts.specs.Answers.{kind_text};
+
+    /// The word of this kind.
+    fn word(self) -> &'static str
+        ensures { result.now ≡ kind_text self }
+    {
+        match self {
+            FrameKind::Eager => "EAGER",
+            FrameKind::Rts => "RTS",
+            FrameKind::Cts => "CTS",
+            FrameKind::Data => "DATA",
+            FrameKind::Ack => "ACK",
+            FrameKind::Reset => "RESET",
+        }
+    }
+}
+
 impl fmt::Display for FrameKind {
     ghost use Rattle.std.specs.Prelude.{Some};
     ghost use Rattle.answer_texts.specs.Answers.{kind_text};
@@ -47,14 +66,7 @@ impl fmt::Display for FrameKind {
     ghost output = { λ k. Some (kind_text k) };
 
     fn fmt<W: fmt::Write>(&self, f: &mut fmt::Formatter<W>) -> fmt::Result {
-        match self {
-            FrameKind::Eager => write!(f, "EAGER"),
-            FrameKind::Rts => write!(f, "RTS"),
-            FrameKind::Cts => write!(f, "CTS"),
-            FrameKind::Data => write!(f, "DATA"),
-            FrameKind::Ack => write!(f, "ACK"),
-            FrameKind::Reset => write!(f, "RESET"),
-        }
+        f.write_str(self.word())
     }
 }
 

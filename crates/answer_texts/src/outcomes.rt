@@ -29,6 +29,30 @@ impl<'a> fmt::Display for Elements<'a> {
     }
 }
 
+/// `STATUS data` and the elements: what a receive took and its buffer, as they are written.
+#[derive(Clone, Copy)]
+struct ReceivedText<'a> {
+    status: &'a Status,
+    buffer: &'a Buffer,
+}
+
+impl<'a> fmt::Display for ReceivedText<'a> {
+    ghost use Rattle.std.specs.Prelude.{Some};
+    ghost use Rattle.answer_texts.specs.Answers.{received_text};
+
+    ghost output = { λ r. Some (received_text r.status.now r.buffer.now) };
+
+    fn fmt<W: fmt::Write>(&self, f: &mut fmt::Formatter<W>) -> fmt::Result {
+        let status = StatusText {
+            status: *self.status,
+        };
+        let elements = Elements {
+            buffer: self.buffer,
+        };
+        write!(f, "{status} data{elements}")
+    }
+}
+
 /// How an operation ended, as it is written.
 #[derive(Clone, Copy, Debug)]
 pub enum OutcomeText<'a> {
@@ -55,17 +79,15 @@ impl<'a> fmt::Display for OutcomeText<'a> {
     ghost output = { λ o. Some (outcome_text o) };
 
     fn fmt<W: fmt::Write>(&self, f: &mut fmt::Formatter<W>) -> fmt::Result {
-        match *self {
-            OutcomeText::Sent => write!(f, "sent"),
+        match self {
+            OutcomeText::Sent => f.write_str("sent"),
             OutcomeText::Received(status, buffer) => {
-                let status = StatusText { status };
-                let elements = Elements { buffer };
-                write!(f, "{status} data{elements}")
+                let received = ReceivedText { status, buffer };
+                received.fmt(f)
             }
             OutcomeText::Ended(number, status, buffer) => {
-                let status = StatusText { status };
-                let elements = Elements { buffer };
-                write!(f, "error {number} {status} data{elements}")
+                let received = ReceivedText { status, buffer };
+                write!(f, "error {number} {received}")
             }
             OutcomeText::Lost(buffer) => {
                 let elements = Elements { buffer };
@@ -76,7 +98,7 @@ impl<'a> fmt::Display for OutcomeText<'a> {
                 write!(f, "cancelled data{elements}")
             }
             OutcomeText::Failed(number) => write!(f, "error {number}"),
-            OutcomeText::Null => write!(f, "source any tag any count 0"),
+            OutcomeText::Null => f.write_str("source any tag any count 0"),
         }
     }
 }

@@ -155,7 +155,7 @@ impl Collective {
         ensures ending { result ≡ ending_of contexts.old.state ready.step.outcome }
     {
         raise(&mut self.tallies, ready.inside.context);
-        self.present = Some(ready.inside);
+        set_present(&mut self.present, Some(ready.inside));
         self.take(contexts, ready.step)
     }
 
@@ -195,7 +195,7 @@ impl Collective {
         if let Some(inside) = &self.present {
             drop_notes(&mut self.kept, inside.context, inside.number);
         }
-        self.present = None;
+        set_present(&mut self.present, None);
     }
 
     /// A rank is known at a higher incarnation now: a collective that has a former one among its members ends with 11. It
@@ -208,9 +208,16 @@ impl Collective {
         if !is_ended(&self.present, contexts, rank, incarnation) {
             return None;
         }
-        self.present = None;
+        set_present(&mut self.present, None);
         Some(Ending::Replaced)
     }
+}
+
+/// The rank is in this collective from now on, or in none.
+fn set_present(present: &mut Option<Inside>, inside: Option<Inside>)
+    ensures { present.new ≡ inside }
+{
+    *present = inside;
 }
 
 /// The collective that the rank is in once a lesson is learnt: a message is judged by it, since the lesson that it teaches comes

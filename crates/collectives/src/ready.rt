@@ -90,6 +90,41 @@ fn hold_one_more(contexts: &mut Contexts) -> Result<(), Refused>
     }
 }
 
+/// Makes room for one more behind these, and for one more communicator.
+fn make_both<T>(list: &mut Vec<T>, contexts: &mut Contexts) -> Result<(), Refused>
+    ensures room { OnOk result (vec_len list.new + 1 ≤ vec_capacity list.new) }
+    ensures held { OnOk result (0 < contexts.new.more) }
+    ensures kept { list.new.items ≡ list.old.items }
+    ensures contexts { contexts.new.state ≡ contexts.old.state }
+    ensures err { IsOkUnless result Refused.OutOfMemory }
+{
+    make_room(list)?;
+    hold_one_more(contexts)
+}
+
+/// The entry is ready once what the rank does on entering is; what was handed in comes back otherwise.
+fn ready_entry(
+    alloc: Global,
+    own: Endpoint,
+    inside: Inside,
+    contexts: &Contexts,
+    kept: &[Note],
+) -> Result<ReadyEntry, RefusedEntry>
+    ensures inside { IfOk result (λ ready. ready.inside ≡ inside) }
+    ensures step { IfOk result (λ ready. IsPreparedEntry own inside contexts.now.state kept.now ready.step) }
+    ensures within { IfOk result (λ ready. MeetsLimit contexts.now.state ready.step → ⊥) }
+    ensures err { IfErr result (λ back. IsRefusal contexts.now.state (IsPreparedEntry own inside contexts.now.state kept.now) back.refused) }
+    ensures handed { IfErr result (λ back. back.entry ≡ inside.entry) }
+{
+    match entry_step(alloc, own, &inside, contexts, kept) {
+        Ok(step) => Ok(ReadyEntry { inside, step }),
+        Err(refused) => Err(RefusedEntry {
+            entry: inside.entry,
+            refused,
+        }),
+    }
+}
+
 impl ReadyEntry {
     /// What would have been entered with, where it isn't entered after all.
     pub fn into_entry(self) -> Entry
@@ -140,18 +175,12 @@ impl Collective {
         ensures kept { self.new.state ≡ self.old.state }
         ensures contexts { contexts.new.state ≡ contexts.old.state }
     {
-        if make_room(&mut self.tallies).is_err() || hold_one_more(contexts).is_err() {
+        if make_both(&mut self.tallies, contexts).is_err() {
             let refused = Refused::OutOfMemory;
             return Err(RefusedEntry { entry, refused });
         }
         let inside = self.inside_of(contexts, place, entry);
-        match entry_step(self.alloc, self.own, &inside, contexts, &self.kept) {
-            Ok(step) => Ok(ReadyEntry { inside, step }),
-            Err(refused) => Err(RefusedEntry {
-                entry: inside.entry,
-                refused,
-            }),
-        }
+        ready_entry(self.alloc, self.own, inside, contexts, &self.kept)
     }
 
     /// Makes ready what a message of a collective brings, once the lesson is learnt that it teaches, if any. Nothing changes
@@ -178,7 +207,7 @@ impl Collective {
         if !payload.fits() {
             return Err(Refused::BadFrame);
         }
-        if make_room(&mut self.kept).is_err() || hold_one_more(contexts).is_err() {
+        if make_both(&mut self.kept, contexts).is_err() {
             return Err(Refused::OutOfMemory);
         }
         match note_of(self.alloc, address, payload) {

@@ -2,7 +2,7 @@
 
 ghost use Rattle.std.specs.Prelude.{◌≡◌, ◌+◌, ◌<◌, ◌^◌};
 ghost use Rattle.rank_drive.specs.Exchanges.{FailsWith};
-ghost use Rattle.rank_drive.specs.Drives.{Drives};
+ghost use Rattle.rank_drive.specs.Drives.{Drives, DrivesOn};
 
 use crate::clock::Clock;
 use crate::listening::LONGEST;
@@ -12,6 +12,43 @@ use crate::standing::{Stage, Standing};
 use crate::transport::{Transport, TransportFault};
 use engine::Engine;
 use std::sync::Wait;
+
+/// Makes rounds, one after the other, until the rank ends. A fault of the transport ends it at once.
+fn make_rounds<R: Wait, P: Runner, T: Transport, C: Clock>(
+    rt: &R,
+    engine: &mut Engine,
+    runner: &mut P,
+    standing: &mut Standing,
+    patience: u64,
+    transport: &mut T,
+    clock: &mut C,
+) -> Result<Ended, TransportFault>
+    requires { T.failed transport.old + 1 < 2 ^ 64 }
+    ensures exact { DrivesOn P.does T.passed C.told patience
+        (record { engine = engine.old; runner = runner.old; standing = standing.old; transport = transport.old })
+        clock.old result engine.new runner.new standing.new transport.new clock.new }
+    ensures failures { FailsWith result (T.failed transport.old) (T.failed transport.new) }
+{
+    let mut buffer = [0u8; LONGEST];
+    for _ in rt.forever() {
+        let now = clock.now();
+        match make_round(
+            rt,
+            engine,
+            runner,
+            standing,
+            patience,
+            transport,
+            &mut buffer,
+            now,
+        ) {
+            Ok(None) => {}
+            Ok(Some(ended)) => return Ok(ended),
+            Err(_) => return Err(TransportFault),
+        }
+    }
+    unreachable!()
+}
 
 /// Drives a rank, turn after turn, until its runner has ended and nothing more is wanted of it, or its patience is over. A fault of the
 /// transport ends it at once.
@@ -36,29 +73,21 @@ pub fn drive<R: Wait, P: Runner, T: Transport, C: Clock>(
         engine.new runner.new transport.new clock.new }
     ensures failures { FailsWith result (T.failed transport.old) (T.failed transport.new) }
 {
-    let mut buffer = [0u8; LONGEST];
     let start = clock.now();
     let mut standing = Standing {
         stage: Stage::Ready(None),
         heard: start,
         moved: start,
     };
-    for _ in rt.forever() {
-        let now = clock.now();
-        match make_round(
-            rt,
-            engine,
-            runner,
-            &mut standing,
-            patience,
-            transport,
-            &mut buffer,
-            now,
-        ) {
-            Ok(None) => {}
-            Ok(Some(ended)) => return Ok(ended),
-            Err(_) => return Err(TransportFault),
-        }
-    }
-    unreachable!()
+    let ended = make_rounds(
+        rt,
+        engine,
+        runner,
+        &mut standing,
+        patience,
+        transport,
+        clock,
+    );
+    drop(standing);
+    ended
 }

@@ -3,7 +3,7 @@
 ghost use Rattle.std.specs.Prelude.{◌≡◌, ◌+◌, ◌<◌, ◌^◌, Option, None};
 ghost use Rattle.rank_drive.specs.Exchanges.{FailsWith};
 ghost use Rattle.rank_drive.specs.Speaking.{IsNoLine};
-ghost use Rattle.rank_drive.specs.Turns.{TakesStep, GoesOnTo, TurnGives, stage_after, stage_with, is_ready};
+ghost use Rattle.rank_drive.specs.Turns.{TakesStep, GoesOnTo, TurnGives, stage_after, stage_with, reply_of, is_ready};
 
 use crate::listening::listen;
 use crate::runner::{Runner, Step};
@@ -14,14 +14,29 @@ use crate::transport::{Transport, TransportFault};
 use engine::{Completion, Engine, Reply};
 use std::sync::Wait;
 
+/// What stood here gives way to this, and is dropped.
+fn give_way<T: Drop>(place: &mut T, next: T)
+    ensures { place.new ≡ next }
+{
+    *place = next;
+}
+
+/// What the runner is told of this answer of a blocked call.
+fn reply_of(completion: Completion) -> Reply
+    ensures { result ≡ reply_of completion }
+{
+    match completion {
+        Completion::Requests(answer) => Reply::Done(answer),
+        Completion::Collective(ending) => Reply::Left(ending),
+    }
+}
+
 /// This answer of a blocked call, or none, has come.
 fn hear_answer(stage: &mut Stage, completion: Option<Completion>)
     ensures { stage.new ≡ stage_with stage.old completion }
 {
-    match completion {
-        Some(Completion::Requests(answer)) => *stage = Stage::Ready(Some(Reply::Done(answer))),
-        Some(Completion::Collective(ending)) => *stage = Stage::Ready(Some(Reply::Left(ending))),
-        None => {}
+    if let Some(completion) = completion {
+        give_way(stage, Stage::Ready(Some(reply_of(completion))));
     }
 }
 
@@ -77,7 +92,7 @@ fn go_on_behind<R: Wait, P: Runner, T: Transport>(
     let Ok(step) = speak(rt, runner, None, transport) else {
         return Err(TransportFault);
     };
-    *stage = take_step(engine, step);
+    give_way(stage, take_step(engine, step));
     Ok(())
 }
 
@@ -98,11 +113,11 @@ fn go_on<R: Wait, P: Runner, T: Transport>(
         Stage::Blocked | Stage::Over(_, _) => return Ok(()),
     };
     match runner.next(reply) {
-        Step::Call(call) => *stage = stage_after(engine.call(call)),
+        Step::Call(call) => give_way(stage, stage_after(engine.call(call))),
         Step::Print(line) => {
             return go_on_behind(rt, engine, runner, stage, transport, line.as_slice());
         }
-        Step::End(status, line) => *stage = Stage::Over(status, line),
+        Step::End(status, line) => give_way(stage, Stage::Over(status, line)),
     }
     Ok(())
 }

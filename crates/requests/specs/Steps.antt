@@ -5,6 +5,8 @@ use Rattle.requests.specs.declared.table.Entry.{Entry}
 use Rattle.requests.specs.declared.table.Progress.{Progress}
 use Rattle.requests.specs.declared.table.Progress.TheVariants.{Receiving, Collecting, Offering, Finished}
 use Rattle.requests.specs.declared.table.Request.{Request}
+use Rattle.requests.specs.declared.table.Tested.{Tested}
+use Rattle.requests.specs.declared.table.Tested.TheVariants.{Pending, Done}
 use Rattle.requests.specs.declared.outcome.Outcome.{Outcome}
 use Rattle.requests.specs.declared.outcome.Outcome.TheVariants.{Cancelled, Empty}
 use Rattle.requests.specs.Completions.{outcome_at}
@@ -29,6 +31,13 @@ cancelled_progress (Finished o) = Finished o
 -- an entry once its request was cancelled
 abbrev pub cancelled_entry : Entry → Entry
 cancelled_entry e = record e { progress = cancelled_progress e.progress }
+
+-- what a test answers of a request that is so far
+abbrev pub told_of : Progress → Tested
+told_of (Receiving p) = Pending
+told_of (Collecting w) = Pending
+told_of Offering = Pending
+told_of (Finished o) = Done o
 
 -- whether a request is named that isn't there
 abbrev pub lacks : List (Option Entry) → Option Request → Bool

@@ -4,8 +4,8 @@ ghost use Rattle.std.specs.Prelude.{◌≡◌, ◌+◌, ◌<◌, ◌^◌, OnOk, 
 ghost use Rattle.std.specs.List.{list_any};
 ghost use Rattle.requests.specs.Completions.{outcome_at};
 ghost use Rattle.requests.specs.Lists.{named, is_one_absent};
-ghost use Rattle.requests.specs.Steps.{is_waiting, lacks, cancelled_entry};
-ghost use Rattle.requests.specs.Table.{Table, HasRoom, is_full, entry_at, IsSet, after_finish, after_message, progress_at, TestGives, replaced_entry, after_replace, after_replaces, after_cancel, is_receive, is_receives, slot_at, wants_by, matched_progress, progress_on_announcement, progress_on_delivery, progress_on_answer, after_announcement, after_delivery, after_answer};
+ghost use Rattle.requests.specs.Steps.{is_waiting, lacks, told_of, cancelled_progress};
+ghost use Rattle.requests.specs.Table.{Table, HasRoom, is_full, entry_at, IsSet, after_finish, progress_after, progress_at, TestGives, replaced_progress, after_replace, after_replaces, after_cancel, is_receive, is_receives, slot_at, wants_by, matched_progress, progress_on_announcement, progress_on_delivery, after_announcement, after_delivery, after_answer};
 
 use crate::list::RequestList;
 use crate::outcome::{Failure, Outcome, received};
@@ -97,50 +97,56 @@ impl Model for Requests {
     ghost view = { λ r. record { slots = r.entries.slots; vacant = r.entries.vacant_key; capacity = r.entries.capacity; serial = r.serial } };
 }
 
-/// Ends a receive that waits with the message that was matched with it.
-fn advance(entry: &mut Entry, status: Status, message: Buffer)
-    ensures { entry.new ≡ after_message entry.old status message }
-{
-    match mem::replace(&mut entry.progress, Progress::Finished(Outcome::Sent)) {
-        Progress::Receiving(Posted { into, group }) => {
-            let status = status_in(&group, status);
-            entry.progress = Progress::Finished(received(into, status, message));
-        }
-        other => entry.progress = other,
+impl Entry {
+    /// Takes out how far its operation is, and leaves in its place that of a send that waits for an answer.
+    fn take_progress(&mut self) -> Progress
+        ensures taken { result ≡ self.old.progress }
+        ensures left { self.new ≡ record self.old { progress = Progress.Offering } }
+    {
+        mem::replace(&mut self.progress, Progress::Offering)
+    }
+
+    /// Says how far its operation is now.
+    fn set_progress(&mut self, progress: Progress)
+        ensures { self.new ≡ record self.old { progress = progress } }
+    {
+        self.progress = progress;
     }
 }
 
-/// Matches a receive that waits with an announced message: it collects the data where it has room for them, and else is
-/// over.
-fn announce(entry: &mut Entry, status: Status, basic: BasicType)
-    ensures { entry.new ≡ record entry.old { progress = progress_on_announcement entry.old.progress status basic } }
+/// How far a request is once the message came that was matched with it.
+fn advanced(progress: Progress, status: Status, message: Buffer) -> Progress
+    ensures { result ≡ progress_after progress status message }
 {
-    match mem::replace(&mut entry.progress, Progress::Offering) {
+    match progress {
         Progress::Receiving(Posted { into, group }) => {
-            entry.progress = match_announced(into, status_in(&group, status), basic);
+            Progress::Finished(received(into, status_in(&group, status), message))
         }
-        other => entry.progress = other,
+        other => other,
     }
 }
 
-/// Ends a receive that collects with the data that it waited for.
-fn deliver(entry: &mut Entry, message: Buffer)
-    ensures { entry.new ≡ record entry.old { progress = progress_on_delivery entry.old.progress message } }
+/// How far a request is once it was matched with an announced message.
+fn announced(progress: Progress, status: Status, basic: BasicType) -> Progress
+    ensures { result ≡ progress_on_announcement progress status basic }
 {
-    match mem::replace(&mut entry.progress, Progress::Offering) {
+    match progress {
+        Progress::Receiving(Posted { into, group }) => {
+            match_announced(into, status_in(&group, status), basic)
+        }
+        other => other,
+    }
+}
+
+/// How far a request is once the data came that it collects.
+fn delivered(progress: Progress, message: Buffer) -> Progress
+    ensures { result ≡ progress_on_delivery progress message }
+{
+    match progress {
         Progress::Collecting(Matched { into, status }) => {
-            entry.progress = Progress::Finished(received(into, status, message));
+            Progress::Finished(received(into, status, message))
         }
-        other => entry.progress = other,
-    }
-}
-
-/// Ends a send that waits for its receiver's answer.
-fn end_offered(entry: &mut Entry)
-    ensures { entry.new ≡ record entry.old { progress = progress_on_answer entry.old.progress } }
-{
-    if let Progress::Offering = &entry.progress {
-        entry.progress = Progress::Finished(Outcome::Sent);
+        other => other,
     }
 }
 
@@ -160,32 +166,41 @@ pub fn match_announced(into: ReceiveRegion, status: Status, basic: BasicType) ->
     Progress::Finished(Outcome::Ended(why, status, buffer))
 }
 
-/// Ends what is unfinished, for a rank that it waits for was started anew.
-fn end_replaced(entry: &mut Entry)
-    ensures { entry.new ≡ replaced_entry entry.old }
+/// How far a request is once a rank that it waits for was started anew.
+fn replaced(progress: Progress) -> Progress
+    ensures { result ≡ replaced_progress progress }
 {
-    match mem::replace(&mut entry.progress, Progress::Finished(Outcome::Sent)) {
+    match progress {
         Progress::Receiving(posted) => {
-            entry.progress = Progress::Finished(Outcome::Replaced(Some(posted.into.into_buffer())));
+            Progress::Finished(Outcome::Replaced(Some(posted.into.into_buffer())))
         }
         Progress::Collecting(matched) => {
-            let buffer = matched.into.into_buffer();
-            entry.progress = Progress::Finished(Outcome::Replaced(Some(buffer)));
+            Progress::Finished(Outcome::Replaced(Some(matched.into.into_buffer())))
         }
-        Progress::Offering => entry.progress = Progress::Finished(Outcome::Replaced(None)),
-        Progress::Finished(outcome) => entry.progress = Progress::Finished(outcome),
+        Progress::Offering => Progress::Finished(Outcome::Replaced(None)),
+        Progress::Finished(outcome) => Progress::Finished(outcome),
     }
 }
 
-/// Ends a receive that waits, for it was cancelled.
-fn end_cancelled(entry: &mut Entry)
-    ensures { entry.new ≡ cancelled_entry entry.old }
+/// How far a request is once it was cancelled.
+fn cancelled(progress: Progress) -> Progress
+    ensures { result ≡ cancelled_progress progress }
 {
-    match mem::replace(&mut entry.progress, Progress::Finished(Outcome::Sent)) {
+    match progress {
         Progress::Receiving(posted) => {
-            entry.progress = Progress::Finished(Outcome::Cancelled(posted.into.into_buffer()));
+            Progress::Finished(Outcome::Cancelled(posted.into.into_buffer()))
         }
-        other => entry.progress = other,
+        other => other,
+    }
+}
+
+/// What a test answers of a request that is so far.
+fn told(progress: Progress) -> Tested
+    ensures { result ≡ told_of progress }
+{
+    match progress {
+        Progress::Finished(outcome) => Tested::Done(outcome),
+        Progress::Receiving(_) | Progress::Collecting(_) | Progress::Offering => Tested::Pending,
     }
 }
 
@@ -254,7 +269,8 @@ impl Requests {
         ensures { self.new ≡ record self.old { slots = after_finish self.old.slots key status message } }
     {
         if let Some(entry) = self.entries.get_mut(key) {
-            advance(entry, status, message);
+            let progress = entry.take_progress();
+            entry.set_progress(advanced(progress, status, message));
         }
     }
 
@@ -265,7 +281,8 @@ impl Requests {
         ensures { self.new ≡ record self.old { slots = after_announcement self.old.slots key status basic } }
     {
         if let Some(entry) = self.entries.get_mut(key) {
-            announce(entry, status, basic);
+            let progress = entry.take_progress();
+            entry.set_progress(announced(progress, status, basic));
         }
     }
 
@@ -287,7 +304,8 @@ impl Requests {
         ensures { self.new ≡ record self.old { slots = after_delivery self.old.slots key message } }
     {
         if let Some(entry) = self.entries.get_mut(key) {
-            deliver(entry, message);
+            let progress = entry.take_progress();
+            entry.set_progress(delivered(progress, message));
         }
     }
 
@@ -296,7 +314,9 @@ impl Requests {
         ensures { self.new ≡ record self.old { slots = after_answer self.old.slots key } }
     {
         if let Some(entry) = self.entries.get_mut(key) {
-            end_offered(entry);
+            if let Progress::Offering = &entry.progress {
+                entry.set_progress(Progress::Finished(Outcome::Sent));
+            }
         }
     }
 
@@ -305,7 +325,8 @@ impl Requests {
         ensures { self.new ≡ record self.old { slots = after_replace self.old.slots key } }
     {
         if let Some(entry) = self.entries.get_mut(key) {
-            end_replaced(entry);
+            let progress = entry.take_progress();
+            entry.set_progress(replaced(progress));
         }
     }
 
@@ -405,7 +426,8 @@ impl Requests {
             return false;
         }
         if let Some(entry) = self.entries.get_mut(request.key) {
-            end_cancelled(entry);
+            let progress = entry.take_progress();
+            entry.set_progress(cancelled(progress));
         }
         true
     }
@@ -447,12 +469,7 @@ impl Requests {
             None => return Tested::Absent,
         }
         match self.entries.try_remove(request.key) {
-            Some(entry) => match entry.progress {
-                Progress::Finished(outcome) => Tested::Done(outcome),
-                Progress::Receiving(_) | Progress::Collecting(_) | Progress::Offering => {
-                    Tested::Absent
-                }
-            },
+            Some(entry) => told(entry.progress),
             None => Tested::Absent,
         }
     }

@@ -175,12 +175,21 @@ impl RankLines {
         }
     }
 
+    /// Adds a line at the end.
+    fn push(&mut self, line: RankLine) -> Result<(), AllocFailed<RankLine>>
+        ensures { OnOk result (self.new ≡ self.old ++ line ∷ []) }
+    {
+        self.lines.push_back(line)
+    }
+
     /// Adds the line at the end, if lines are for this rank `here`.
     fn keep(&mut self, here: bool, line: RankLine) -> Result<(), AllocError>
         ensures { OnOk result (self.new ≡ self.old ++ kept here line) }
     {
         if here {
-            self.lines.push_back(line).map_err(AllocError::from)?;
+            self.push(line)?;
+        } else {
+            drop(line);
         }
         Ok(())
     }

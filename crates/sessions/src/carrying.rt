@@ -7,7 +7,7 @@
 //! before an acknowledgement is heeded is kept as one that comes after it. Where a session starts anew, the former one
 //! is held until nothing fails any more.
 
-ghost use Rattle.std.specs.Prelude.{ℕ, ◌≡◌, ◌≤◌, ◌<◌, ◌+◌, ◌++◌, [], ◌∷◌, All, IsTrue, false, IfErr, OnOk, OnErr, length, nat_lt, take, slice_set, vec_len, None, Some};
+ghost use Rattle.std.specs.Prelude.{ℕ, ◌≡◌, ◌≤◌, ◌<◌, ◌+◌, ◌++◌, [], ◌∷◌, All, IsTrue, false, IfOk, IfErr, OnOk, OnErr, length, nat_lt, take, slice_set, vec_len, None, Some};
 ghost use Rattle.reliable_link.specs.SenderState.{out_end, entered_on_ack};
 ghost use Rattle.reliable_link.specs.Accepting.{HasNumberLeft};
 ghost use Rattle.sessions.specs.SessionsState.{GivesUnless, known_endpoint};
@@ -15,7 +15,7 @@ ghost use Rattle.sessions.specs.Peers.{peer_at, with_new_session, frames_out};
 ghost use Rattle.sessions.specs.Spellings.{ack_bytes};
 ghost use Rattle.sessions.specs.Heard.{word_text, heard_text, heard_option, CanHear};
 ghost use Rattle.sessions.specs.Events.{AreFor, CanSend, taught_known, heeded_by, sending_text, sendings, sends_limit, after_event, event_limit, most_answers, TurnedAway};
-ghost use Rattle.sessions.specs.Carrying.{CanSettleIn, CanSettle, known_after, answered, sender_after, send_ahead, sends_ahead, settled, all_taken_back};
+ghost use Rattle.sessions.specs.Carrying.{CanSettleIn, CanSettle, known_after, answered, sender_after, bytes_ahead, send_ahead, sends_ahead, settled, all_taken_back};
 
 use crate::heard::{Heard, Outgoing, Unheard, Word};
 use crate::limits::frame_at;
@@ -23,7 +23,7 @@ use crate::peers::{self, Peer};
 use crate::refused::Refused;
 use crate::sessions::Sessions;
 use crate::spelling::{ack_bytes, frame_bytes, reset_bytes};
-use datagram::Drafts;
+use datagram::{Bytes, Drafts};
 use vocabulary::Endpoint;
 
 /// So many frames are out at one time at most.
@@ -102,7 +102,23 @@ impl Sessions {
         kept < WINDOW_FRAMES
     }
 
+    /// The datagram of a frame: under the next number of its session, to its rank at the incarnation at which that is known
+    /// after what was heard.
+    fn spell(&mut self, heard: Option<Heard<'_>>, outgoing: Outgoing<'_>) -> Result<Bytes, Refused>
+        requires { CanSend self.old.place (sending_text outgoing) }
+        ensures ok { IfOk result (λ bytes. bytes ≡ bytes_ahead (heard_option heard.entry) self.old (sending_text outgoing.entry)) }
+        ensures kept { self.new ≡ self.old }
+        ensures err { IfErr result (λ e. e ≡ Refused.OutOfMemory) }
+    {
+        let rank = outgoing.target;
+        let number = peers::peer_at(&self.peers, rank).sender.next_number();
+        let target = self.endpoint_after(heard, rank);
+        let place = self.knowledge.place();
+        frame_bytes(&mut self.drafts, place, target, &outgoing.frame, number)
+    }
+
     /// A frame is taken over by the session with its rank, and goes out if it comes into the window.
+    #[tactic(auto, using(crate::proofs::PeerLemmas::peer_not_ahead, crate::proofs::PeerLemmas::sound_with_sender))]
     fn send(&mut self, heard: Option<Heard<'_>>, outgoing: Outgoing<'_>) -> Result<(), Refused>
         requires can { CanSettle self.old.peers (heard_option heard) }
         requires frame { CanSend self.old.place (sending_text outgoing) }
@@ -111,26 +127,12 @@ impl Sessions {
         ensures unchanged { OnErr result (self.new ≡ self.old) }
         ensures err { IfErr result (λ e. e ≡ Refused.OutOfMemory) }
     {
+        // Looking at the sessions shows that there is one for each rank.
+        let _peers = &self.peers;
         let rank = outgoing.target;
-        let number = peers::peer_at(&self.peers, rank).sender.next_number();
-        let target = self.endpoint_after(heard, rank);
-        let bytes = frame_bytes(
-            &mut self.drafts,
-            self.knowledge.place(),
-            target,
-            &outgoing.frame,
-            number,
-        )?;
-        if !self.enters(heard, rank) {
-            peers::accept_at(&mut self.peers, rank, bytes)?;
-            return Ok(());
-        }
-        let shared = bytes.share().map_err(|_| Refused::OutOfMemory)?;
-        self.out.reserve(1).map_err(|_| Refused::OutOfMemory)?;
-        peers::accept_at(&mut self.peers, rank, bytes)?;
-        // Nothing fails from here on.
-        self.out.push((rank, shared)).unwrap();
-        Ok(())
+        let enters = self.enters(heard, rank);
+        let bytes = self.spell(heard, outgoing)?;
+        peers::send_at(&mut self.peers, &mut self.out, rank, bytes, enters)
     }
 
     /// The frames are taken over, one after the other. Refused is with how many were, before memory was wanting.
@@ -157,10 +159,7 @@ impl Sessions {
         ensures err { IfErr result (λ e. e ≡ Refused.OutOfMemory) }
     {
         let ack = ack_bytes(&mut self.drafts, self.knowledge.place(), source, next)?;
-        match self.out.push((source.rank, ack)) {
-            Ok(()) => Ok(()),
-            Err(_) => Err(Refused::OutOfMemory),
-        }
+        peers::emit(&mut self.out, source.rank, ack)
     }
 
     /// The frames that come into the window by an acknowledgement of all frames below `n` go out.
@@ -175,11 +174,8 @@ impl Sessions {
         ensures err { IfErr result (λ e. e ≡ Refused.OutOfMemory) }
     {
         let sender = &peers::peer_at(&self.peers, rank).sender;
-        let mut frames = peers::entering_frames(self.alloc, rank, sender, n)?;
-        match self.out.append(&mut frames) {
-            Ok(()) => Ok(()),
-            Err(_) => Err(Refused::OutOfMemory),
-        }
+        let frames = peers::entering_frames(self.alloc, rank, sender, n)?;
+        peers::emit_all(&mut self.out, frames)
     }
 
     /// What answers the word goes out.
@@ -345,9 +341,9 @@ impl Sessions {
         let Ok(reset) = reset_bytes(&mut self.drafts, place, source) else {
             return Refused::OutOfMemory;
         };
-        if self.out.push((source.rank, reset)).is_err() {
-            return Refused::OutOfMemory;
+        match peers::emit(&mut self.out, source.rank, reset) {
+            Ok(()) => unheard.refused,
+            Err(refused) => refused,
         }
-        unheard.refused
     }
 }

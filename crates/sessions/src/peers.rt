@@ -63,6 +63,54 @@ pub(crate) fn accept_at(peers: &mut Vec<Peer>, rank: u16, frame: Bytes) -> Resul
     }
 }
 
+/// The session with a rank takes a frame over, which goes out at once.
+fn accept_and_emit_at(
+    peers: &mut Vec<Peer>,
+    out: &mut Vec<(u16, Bytes)>,
+    rank: u16,
+    frame: Bytes,
+) -> Result<(), Refused>
+    requires there { rank < vec_len peers.old }
+    requires left { HasNumberLeft (peer_at peers.old.items rank).sender }
+    ensures state { OnOk result (peers.new.items ≡ with_sender peers.old.items rank
+        (after_accept (peer_at peers.old.items rank).sender frame)) }
+    ensures out { OnOk result (out.new.items ≡ out.old.items ++ (rank, frame) ∷ []) }
+    ensures unchanged { OnErr result (peers.new.items ≡ peers.old.items) }
+    ensures silent { OnErr result (out.new.items ≡ out.old.items) }
+    ensures err { IfErr result (λ e. e ≡ Refused.OutOfMemory) }
+{
+    out.reserve(1).map_err(|_| Refused::OutOfMemory)?;
+    let shared = frame.share().map_err(|_| Refused::OutOfMemory)?;
+    accept_at(peers, rank, frame)?;
+    // Nothing fails from here on.
+    out.push_reserved((rank, shared));
+    Ok(())
+}
+
+/// The session with a rank takes a frame over, which goes out at once if it comes into the window.
+pub(crate) fn send_at(
+    peers: &mut Vec<Peer>,
+    out: &mut Vec<(u16, Bytes)>,
+    rank: u16,
+    frame: Bytes,
+    enters: bool,
+) -> Result<(), Refused>
+    requires there { rank < vec_len peers.old }
+    requires left { HasNumberLeft (peer_at peers.old.items rank).sender }
+    ensures state { OnOk result (peers.new.items ≡ with_sender peers.old.items rank
+        (after_accept (peer_at peers.old.items rank).sender frame)) }
+    ensures out { OnOk result (out.new.items ≡ out.old.items ++ (if enters then (rank, frame) ∷ [] else [])) }
+    ensures unchanged { OnErr result (peers.new.items ≡ peers.old.items) }
+    ensures silent { OnErr result (out.new.items ≡ out.old.items) }
+    ensures err { IfErr result (λ e. e ≡ Refused.OutOfMemory) }
+{
+    if enters {
+        accept_and_emit_at(peers, out, rank, frame)
+    } else {
+        accept_at(peers, rank, frame)
+    }
+}
+
 /// The session with a rank gives the frame back that it took over last.
 pub(crate) fn take_back_at(peers: &mut Vec<Peer>, rank: u16)
     requires { rank < vec_len peers.old }
@@ -118,6 +166,41 @@ pub(crate) fn begin_anew_at(peers: &mut Vec<Peer>, rank: u16) -> Peer
     mem::replace(peer, anew)
 }
 
+/// A datagram for a rank goes out behind the others.
+pub(crate) fn emit(out: &mut Vec<(u16, Bytes)>, rank: u16, bytes: Bytes) -> Result<(), Refused>
+    ensures ok { OnOk result (out.new.items ≡ out.old.items ++ (rank, bytes) ∷ []) }
+    ensures len { OnOk result (vec_len out.new ≡ vec_len out.old + 1) }
+    ensures unchanged { OnErr result (out.new.items ≡ out.old.items) }
+    ensures err { IfErr result (λ e. e ≡ Refused.OutOfMemory) }
+{
+    out.push((rank, bytes)).map_err(|_| Refused::OutOfMemory)
+}
+
+/// These datagrams go out behind the others.
+pub(crate) fn emit_all(
+    out: &mut Vec<(u16, Bytes)>,
+    datagrams: Vec<(u16, Bytes)>,
+) -> Result<(), Refused>
+    ensures ok { OnOk result (out.new.items ≡ out.old.items ++ datagrams.items) }
+    ensures len { OnOk result (vec_len out.new ≡ vec_len out.old + vec_len datagrams) }
+    ensures unchanged { OnErr result (out.new.items ≡ out.old.items) }
+    ensures err { IfErr result (λ e. e ≡ Refused.OutOfMemory) }
+{
+    let mut datagrams = datagrams;
+    out.append(&mut datagrams).map_err(|_| Refused::OutOfMemory)
+}
+
+/// A frame goes out to a rank behind the others, and is kept as well.
+fn emit_shared(out: &mut Vec<(u16, Bytes)>, rank: u16, frame: &Bytes) -> Result<(), Refused>
+    ensures ok { OnOk result (out.new.items ≡ out.old.items ++ (rank, frame.now) ∷ []) }
+    ensures len { OnOk result (vec_len out.new ≡ vec_len out.old + 1) }
+    ensures unchanged { OnErr result (out.new.items ≡ out.old.items) }
+    ensures err { IfErr result (λ e. e ≡ Refused.OutOfMemory) }
+{
+    let shared = frame.share().map_err(|_| Refused::OutOfMemory)?;
+    emit(out, rank, shared)
+}
+
 /// The frames of these numbers, as they go out to a rank.
 pub(crate) fn frames_of(
     alloc: Global,
@@ -132,10 +215,7 @@ pub(crate) fn frames_of(
     let mut frames = Vec::new(alloc);
     for number in numbers {
         if let Some(frame) = sender.frame(*number) {
-            let shared = frame.share().map_err(|_| Refused::OutOfMemory)?;
-            frames
-                .push((target, shared))
-                .map_err(|_| Refused::OutOfMemory)?;
+            emit_shared(&mut frames, target, frame)?;
         }
     }
     Ok(frames)
@@ -209,10 +289,8 @@ pub(crate) fn due_frames(
 {
     let mut frames = Vec::new(alloc);
     for (rank, peer) in peers.iter().enumerate() {
-        let mut due = due_frames_of(alloc, rank as u16, peer, now)?;
-        if frames.append(&mut due).is_err() {
-            return Err(Refused::OutOfMemory);
-        }
+        let due = due_frames_of(alloc, rank as u16, peer, now)?;
+        emit_all(&mut frames, due)?;
     }
     Ok(frames)
 }

@@ -33,6 +33,7 @@ use Rattle.statements.specs.declared.layout_line.OldLayout.TheVariants as olds
 use Rattle.statements.specs.declared.layout_line.LayoutForm.{LayoutForm}
 use Rattle.statements.specs.declared.layout_line.LayoutForm.TheVariants as forms
 use Rattle.statements.specs.declared.layout_line.LayoutLine.{LayoutLine}
+use Rattle.statements.specs.declared.layout_line.Stripes.{Stripes}
 use Rattle.statements.specs.declared.layout_reading.FormWord.{FormWord}
 use Rattle.statements.specs.declared.layout_reading.FormWord.TheVariants as form_words
 use Rattle.statements.specs.Words.{verb_of}
@@ -49,6 +50,10 @@ communicator_of word =
     if bytes_eq word (codes "world") then Some communicators.World
     else (if bytes_eq word (codes "self") then Some communicators.Own
     else (name_of word >>= λ name. Some (communicators.Named name)))
+
+-- a communicator, and the name of a buffer
+abbrev pub communicator_and_buffer : Word → Word → Option (Communicator × Word)
+communicator_and_buffer communicator buffer = communicator_of communicator >>= λ c. name_of buffer >>= λ b. Some (c, b)
 
 unfoldable pub target_of : Word → Option Source
 target_of word =
@@ -103,6 +108,39 @@ elements_of basic word = copies_of basic word >>= λ copies. Some (replicate cop
 unfoldable pub buffer_with : BasicType → List Word → Option Contents
 buffer_with kind words = each (elements_of kind) words >>= λ elements. Some (record { basic = kind; values = elements })
 
+-- ---- the words in front
+
+-- one word, and nothing behind it
+abbrev pub one_alone : List Word → Option Word
+one_alone words = first words >>= λ one. ended one.1 >>= λ end. Some one.0
+
+-- two words, and the words behind them
+abbrev pub first_two : List Word → Option (Word × Word × List Word)
+first_two words = first words >>= λ one. first one.1 >>= λ two. Some (one.0, two.0, two.1)
+
+-- two words, and nothing behind them
+abbrev pub two_alone : List Word → Option (Word × Word)
+two_alone words = first words >>= λ one. first one.1 >>= λ two. ended two.1 >>= λ end. Some (one.0, two.0)
+
+-- four words, and the words behind them
+abbrev pub first_four : List Word → Option (Word × Word × Word × Word × List Word)
+first_four words = do
+  one ← first words
+  two ← first one.1
+  three ← first two.1
+  four ← first three.1
+  Some (one.0, two.0, three.0, four.0, four.1)
+
+-- four words, and nothing behind them
+abbrev pub four_alone : List Word → Option (Word × Word × Word × Word)
+four_alone words = do
+  one ← first words
+  two ← first one.1
+  three ← first two.1
+  four ← first three.1
+  end ← ended four.1
+  Some (one.0, two.0, three.0, four.0)
+
 -- ---- the words behind the first one
 
 unfoldable pub buffer_of : List Word → Option BufferLine
@@ -128,6 +166,11 @@ behind_as words = do
 unfoldable pub through_of : List Word → Option (Option Through)
 through_of [] = Some None
 through_of (word ∷ words) = if bytes_eq word (codes "as") then (behind_as words >>= λ through. Some (Some through)) else None
+
+-- a communicator, a buffer's name, and what stands behind them
+abbrev pub places_of : Word → Word → List Word → Option (Communicator × Word × Option Through)
+places_of communicator buffer words =
+    communicator_of communicator >>= λ c. name_of buffer >>= λ b. through_of words >>= λ u. Some (c, b, u)
 
 -- `COMM DEST TAG B`, and what stands behind it
 unfoldable pub sending_of : List Word → Option Sending
@@ -215,6 +258,11 @@ contiguous_of words = do
   o ← old_of old.0
   Some (forms.Contiguous n, o)
 
+-- `C B S`
+abbrev pub stripes_of : Word → Word → Word → Option Stripes
+stripes_of count blocklength stride =
+    large_of count >>= λ c. large_of blocklength >>= λ b. large_of stride >>= λ s. Some (record { count = c; blocklength = b; stride = s })
+
 -- `C B S OLD`
 unfoldable pub vector_of : List Word → Option (LayoutForm × OldLayout)
 vector_of words = do
@@ -282,6 +330,10 @@ two_communicators words = do
   d ← communicator_of other.0
   Some (c, d)
 
+-- a new name, and a communicator
+abbrev pub name_and_communicator : Word → Word → Option (Word × Communicator)
+name_and_communicator name communicator = name_of name >>= λ n. communicator_of communicator >>= λ c. Some (n, c)
+
 -- `NEW COMM`
 unfoldable pub dup_of : List Word → Option (Word × Communicator)
 dup_of words = do
@@ -329,6 +381,11 @@ unfoldable pub block_from : Word → Option (Option Word)
 block_from word =
     if bytes_eq word (codes "-") then Some None
     else (name_of word >>= λ name. Some (Some name))
+
+-- a communicator, and the names of two buffers
+abbrev pub communicator_and_two : Word → Word → Word → Option (Communicator × Word × Word)
+communicator_and_two communicator buffer into =
+    communicator_of communicator >>= λ c. name_of buffer >>= λ b. name_of into >>= λ i. Some (c, b, i)
 
 -- `COMM ROOT B`
 unfoldable pub bcast_of : List Word → Option Broadcasting

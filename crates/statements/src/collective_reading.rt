@@ -1,12 +1,15 @@
 //! What is said of collectives that move elements, by the words that spell it.
 
 ghost use Rattle.std.specs.Prelude.{◌≡◌};
-ghost use Rattle.statements.specs.Reading.{allreduce_of, bcast_of, block_from, gather_of, operation_of, reduce_of, scatter_of};
+ghost use Rattle.statements.specs.Reading.{action_by, block_from, communicator_and_two, operation_of};
 ghost use Rattle.line_words.specs.Results.{Gives};
 
+use crate::action::{Action, Communicator};
 use crate::collective_line::{Broadcasting, Gathering, Reducing, ReducingToAll, Scattering};
-use crate::fields::communicator_of;
-use line_words::{LineError, Name, Word, ended, first, is, name_of, rank_of, required};
+use crate::fields::communicator_and_buffer;
+use crate::front::{first_four, first_two, four_alone, one_alone};
+use crate::verb::Verb;
+use line_words::{LineError, Name, Word, is, name_of, rank_of, required};
 use payload::Operation;
 use std::alloc::Global;
 
@@ -53,92 +56,100 @@ fn block_from(alloc: Global, word: &[u8]) -> Result<Option<Name>, LineError>
     Ok(Some(name_of(alloc, word)?))
 }
 
+/// A communicator, and the names of two buffers.
+fn communicator_and_two(
+    alloc: Global,
+    communicator: &[u8],
+    buffer: &[u8],
+    into: &[u8],
+) -> Result<(Communicator, Name, Name), LineError>
+    ensures { Gives (λ x. x) result (communicator_and_two communicator.now buffer.now into.now) }
+{
+    let (communicator, buffer) = communicator_and_buffer(alloc, communicator, buffer)?;
+    let into = name_of(alloc, into)?;
+    Ok((communicator, buffer, into))
+}
+
 /// `COMM ROOT B`
 #[tactic(auto, unfolding(crate::specs::Reading::bcast_of))]
-pub(crate) fn bcast_of(alloc: Global, words: &[Word]) -> Result<Broadcasting, LineError>
-    ensures { Gives (λ x. x) result (bcast_of words.now) }
+pub(crate) fn bcast_of(alloc: Global, words: &[Word]) -> Result<Action, LineError>
+    ensures { Gives (λ x. x) result (action_by Verb.Bcast words.now) }
 {
-    let (communicator, rest) = first(words)?;
-    let (root, rest) = first(rest)?;
-    let (buffer, rest) = first(rest)?;
-    ended(rest)?;
-    Ok(Broadcasting {
-        communicator: communicator_of(alloc, communicator)?,
-        root: rank_of(root)?,
-        buffer: name_of(alloc, buffer)?,
-    })
+    let (communicator, root, rest) = first_two(words)?;
+    let buffer = one_alone(rest)?;
+    let root = rank_of(root)?;
+    let (communicator, buffer) = communicator_and_buffer(alloc, communicator, buffer)?;
+    Ok(Action::Bcast(Broadcasting {
+        communicator,
+        root,
+        buffer,
+    }))
 }
 
 /// `COMM ROOT B INTO`
 #[tactic(auto, unfolding(crate::specs::Reading::gather_of))]
-pub(crate) fn gather_of(alloc: Global, words: &[Word]) -> Result<Gathering, LineError>
-    ensures { Gives (λ x. x) result (gather_of words.now) }
+pub(crate) fn gather_of(alloc: Global, words: &[Word]) -> Result<Action, LineError>
+    ensures { Gives (λ x. x) result (action_by Verb.Gather words.now) }
 {
-    let (communicator, rest) = first(words)?;
-    let (root, rest) = first(rest)?;
-    let (buffer, rest) = first(rest)?;
-    let (into, rest) = first(rest)?;
-    ended(rest)?;
-    Ok(Gathering {
-        communicator: communicator_of(alloc, communicator)?,
-        root: rank_of(root)?,
-        buffer: name_of(alloc, buffer)?,
-        into: name_of(alloc, into)?,
-    })
+    let (communicator, root, buffer, into) = four_alone(words)?;
+    let root = rank_of(root)?;
+    let (communicator, buffer, into) = communicator_and_two(alloc, communicator, buffer, into)?;
+    Ok(Action::Gather(Gathering {
+        communicator,
+        root,
+        buffer,
+        into,
+    }))
 }
 
 /// `COMM ROOT B INTO`, where B may be `-`
 #[tactic(auto, unfolding(crate::specs::Reading::scatter_of))]
-pub(crate) fn scatter_of(alloc: Global, words: &[Word]) -> Result<Scattering, LineError>
-    ensures { Gives (λ x. x) result (scatter_of words.now) }
+pub(crate) fn scatter_of(alloc: Global, words: &[Word]) -> Result<Action, LineError>
+    ensures { Gives (λ x. x) result (action_by Verb.Scatter words.now) }
 {
-    let (communicator, rest) = first(words)?;
-    let (root, rest) = first(rest)?;
-    let (buffer, rest) = first(rest)?;
-    let (into, rest) = first(rest)?;
-    ended(rest)?;
-    Ok(Scattering {
-        communicator: communicator_of(alloc, communicator)?,
-        root: rank_of(root)?,
-        buffer: block_from(alloc, buffer)?,
-        into: name_of(alloc, into)?,
-    })
+    let (communicator, root, buffer, into) = four_alone(words)?;
+    let root = rank_of(root)?;
+    let buffer = block_from(alloc, buffer)?;
+    let (communicator, into) = communicator_and_buffer(alloc, communicator, into)?;
+    Ok(Action::Scatter(Scattering {
+        communicator,
+        root,
+        buffer,
+        into,
+    }))
 }
 
 /// `COMM ROOT OP B INTO`
 #[tactic(auto, unfolding(crate::specs::Reading::reduce_of))]
-pub(crate) fn reduce_of(alloc: Global, words: &[Word]) -> Result<Reducing, LineError>
-    ensures { Gives (λ x. x) result (reduce_of words.now) }
+pub(crate) fn reduce_of(alloc: Global, words: &[Word]) -> Result<Action, LineError>
+    ensures { Gives (λ x. x) result (action_by Verb.Reduce words.now) }
 {
-    let (communicator, rest) = first(words)?;
-    let (root, rest) = first(rest)?;
-    let (operation, rest) = first(rest)?;
-    let (buffer, rest) = first(rest)?;
-    let (into, rest) = first(rest)?;
-    ended(rest)?;
-    Ok(Reducing {
-        communicator: communicator_of(alloc, communicator)?,
-        root: rank_of(root)?,
-        operation: required(operation_of(operation))?,
-        buffer: name_of(alloc, buffer)?,
-        into: name_of(alloc, into)?,
-    })
+    let (communicator, root, operation, buffer, rest) = first_four(words)?;
+    let into = one_alone(rest)?;
+    let root = rank_of(root)?;
+    let operation = required(operation_of(operation))?;
+    let (communicator, buffer, into) = communicator_and_two(alloc, communicator, buffer, into)?;
+    Ok(Action::Reduce(Reducing {
+        communicator,
+        root,
+        operation,
+        buffer,
+        into,
+    }))
 }
 
 /// `COMM OP B INTO`
 #[tactic(auto, unfolding(crate::specs::Reading::allreduce_of))]
-pub(crate) fn allreduce_of(alloc: Global, words: &[Word]) -> Result<ReducingToAll, LineError>
-    ensures { Gives (λ x. x) result (allreduce_of words.now) }
+pub(crate) fn allreduce_of(alloc: Global, words: &[Word]) -> Result<Action, LineError>
+    ensures { Gives (λ x. x) result (action_by Verb.Allreduce words.now) }
 {
-    let (communicator, rest) = first(words)?;
-    let (operation, rest) = first(rest)?;
-    let (buffer, rest) = first(rest)?;
-    let (into, rest) = first(rest)?;
-    ended(rest)?;
-    Ok(ReducingToAll {
-        communicator: communicator_of(alloc, communicator)?,
-        operation: required(operation_of(operation))?,
-        buffer: name_of(alloc, buffer)?,
-        into: name_of(alloc, into)?,
-    })
+    let (communicator, operation, buffer, into) = four_alone(words)?;
+    let operation = required(operation_of(operation))?;
+    let (communicator, buffer, into) = communicator_and_two(alloc, communicator, buffer, into)?;
+    Ok(Action::Allreduce(ReducingToAll {
+        communicator,
+        operation,
+        buffer,
+        into,
+    }))
 }

@@ -1,12 +1,14 @@
 //! What is said of communicators, by the words that spell it.
 
 ghost use Rattle.std.specs.Prelude.{◌≡◌, ◌≤◌};
-ghost use Rattle.statements.specs.Reading.{colour_of, communicator_alone, communicator_of, dup_of, key_below, key_of, split_of, two_communicators};
+ghost use Rattle.statements.specs.Reading.{action_by, colour_of, communicator_alone, communicator_of, key_below, key_of, name_and_communicator, two_communicators};
 ghost use Rattle.line_words.specs.Results.{Gives};
 
-use crate::action::{Communicator, Splitting};
+use crate::action::{Action, Communicator, Splitting};
 use crate::fields::communicator_of;
-use line_words::{LineError, Name, Word, ended, first, is, name_of, number_up_to};
+use crate::front::{four_alone, one_alone, two_alone};
+use crate::verb::Verb;
+use line_words::{LineError, Name, Word, is, name_of, number_up_to};
 use std::alloc::Global;
 
 /// A colour, or `undefined`.
@@ -59,9 +61,7 @@ fn key_of(word: &[u8]) -> Result<i32, LineError>
 pub(crate) fn communicator_alone(alloc: Global, words: &[Word]) -> Result<Communicator, LineError>
     ensures { Gives (λ x. x) result (communicator_alone words.now) }
 {
-    let (communicator, rest) = first(words)?;
-    ended(rest)?;
-    communicator_of(alloc, communicator)
+    communicator_of(alloc, one_alone(words)?)
 }
 
 /// `COMM COMM`
@@ -72,45 +72,47 @@ pub(crate) fn two_communicators(
 ) -> Result<(Communicator, Communicator), LineError>
     ensures { Gives (λ x. x) result (two_communicators words.now) }
 {
-    let (one, rest) = first(words)?;
-    let (other, rest) = first(rest)?;
-    ended(rest)?;
+    let (one, other) = two_alone(words)?;
     let one = communicator_of(alloc, one)?;
     Ok((one, communicator_of(alloc, other)?))
 }
 
+/// A new name, and a communicator.
+fn name_and_communicator(
+    alloc: Global,
+    name: &[u8],
+    communicator: &[u8],
+) -> Result<(Name, Communicator), LineError>
+    ensures { Gives (λ x. x) result (name_and_communicator name.now communicator.now) }
+{
+    let name = name_of(alloc, name)?;
+    let communicator = communicator_of(alloc, communicator)?;
+    Ok((name, communicator))
+}
+
 /// `NEW COMM`
 #[tactic(auto, unfolding(crate::specs::Reading::dup_of))]
-pub(crate) fn dup_of(alloc: Global, words: &[Word]) -> Result<(Name, Communicator), LineError>
-    ensures { Gives (λ x. x) result (dup_of words.now) }
+pub(crate) fn dup_of(alloc: Global, words: &[Word]) -> Result<Action, LineError>
+    ensures { Gives (λ x. x) result (action_by Verb.Dup words.now) }
 {
-    let (name, rest) = first(words)?;
-    let (communicator, rest) = first(rest)?;
-    ended(rest)?;
-    let name = name_of(alloc, name)?;
-    Ok((name, communicator_of(alloc, communicator)?))
+    let (name, communicator) = two_alone(words)?;
+    let (name, communicator) = name_and_communicator(alloc, name, communicator)?;
+    Ok(Action::Dup(name, communicator))
 }
 
 /// `NEW COMM COLOUR KEY`
 #[tactic(auto, unfolding(crate::specs::Reading::split_of))]
-pub(crate) fn split_of(alloc: Global, words: &[Word]) -> Result<(Name, Splitting), LineError>
-    ensures { Gives (λ x. x) result (split_of words.now) }
+pub(crate) fn split_of(alloc: Global, words: &[Word]) -> Result<Action, LineError>
+    ensures { Gives (λ x. x) result (action_by Verb.Split words.now) }
 {
-    let (name, rest) = first(words)?;
-    let (communicator, rest) = first(rest)?;
-    let (colour, rest) = first(rest)?;
-    let (key, rest) = first(rest)?;
-    ended(rest)?;
-    let name = name_of(alloc, name)?;
-    let communicator = communicator_of(alloc, communicator)?;
+    let (name, communicator, colour, key) = four_alone(words)?;
     let colour = colour_of(colour)?;
     let key = key_of(key)?;
-    Ok((
-        name,
-        Splitting {
-            communicator,
-            colour,
-            key,
-        },
-    ))
+    let (name, communicator) = name_and_communicator(alloc, name, communicator)?;
+    let splitting = Splitting {
+        communicator,
+        colour,
+        key,
+    };
+    Ok(Action::Split(name, splitting))
 }

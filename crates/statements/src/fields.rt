@@ -1,12 +1,13 @@
 //! What one word of a statement stands for.
 
 ghost use Rattle.std.specs.Prelude.{◌≡◌};
-ghost use Rattle.statements.specs.Reading.{communicator_of, target_of, source_of, tag_of, requested_of, one_request, behind_as, through_of};
+ghost use Rattle.statements.specs.Reading.{communicator_of, communicator_and_buffer, target_of, source_of, tag_of, requested_of, one_request, behind_as, through_of};
 ghost use Rattle.line_words.specs.Fields.{first, name_of, ended, rank_of, large_of, each};
 ghost use Rattle.line_words.specs.Results.{Gives};
 
 use crate::action::{Communicator, Requested, RequestedList, Through};
-use line_words::{LineError, Word, ended, first, is, large_of, name_of, number_or, rank_of};
+use crate::front::two_alone;
+use line_words::{LineError, Name, Word, is, large_of, name_of, number_or, rank_of};
 use std::alloc::Global;
 use vocabulary::Source;
 
@@ -21,6 +22,19 @@ pub(crate) fn communicator_of(alloc: Global, word: &[u8]) -> Result<Communicator
     } else {
         Ok(Communicator::Named(name_of(alloc, word)?))
     }
+}
+
+/// A communicator, and the name of a buffer.
+pub(crate) fn communicator_and_buffer(
+    alloc: Global,
+    communicator: &[u8],
+    buffer: &[u8],
+) -> Result<(Communicator, Name), LineError>
+    ensures { Gives (λ x. x) result (communicator_and_buffer communicator.now buffer.now) }
+{
+    let communicator = communicator_of(alloc, communicator)?;
+    let buffer = name_of(alloc, buffer)?;
+    Ok((communicator, buffer))
 }
 
 #[tactic(auto, unfolding(crate::specs::Reading::target_of))]
@@ -87,11 +101,9 @@ pub(crate) fn requests_of(alloc: Global, words: &[Word]) -> Result<RequestedList
 fn behind_as(alloc: Global, words: &[Word]) -> Result<Through, LineError>
     ensures { Gives (λ x. x) result (behind_as words.now) }
 {
-    let (layout, rest) = first(words)?;
-    let (copies, rest) = first(rest)?;
-    ended(rest)?;
-    let layout = name_of(alloc, layout)?;
+    let (layout, copies) = two_alone(words)?;
     let copies = large_of(copies)?;
+    let layout = name_of(alloc, layout)?;
     Ok(Through { layout, copies })
 }
 

@@ -2,13 +2,16 @@
 
 ghost use Rattle.std.specs.Prelude.{◌≡◌};
 ghost use Rattle.std.specs.List.{position};
-ghost use Rattle.statements.specs.Reading.{block_of, contiguous_of, form_word_of, formed_by, indexed_of, is_colon, last, layout_of, old_of, one_block, vector_of};
+ghost use Rattle.statements.specs.Reading.{action_by, block_of, contiguous_of, form_word_of, formed_by, indexed_of, is_colon, last, old_of, one_block, stripes_of, vector_of};
 ghost use Rattle.line_words.specs.Fields.{each};
 ghost use Rattle.line_words.specs.Results.{Gives};
 
+use crate::action::Action;
+use crate::front::{first_two, four_alone, two_alone};
 use crate::layout_line::{Blocks, LayoutForm, LayoutLine, OldLayout, Stripes};
+use crate::verb::Verb;
 use datatypes::Block;
-use line_words::{LineError, Word, basic_type_of, ended, first, is, large_of, name_of, required};
+use line_words::{LineError, Word, basic_type_of, is, large_of, name_of, required};
 use std::alloc::Global;
 
 /// How a layout is made, by its word.
@@ -99,12 +102,21 @@ fn last(words: &[Word]) -> Result<(&[Word], &[u8]), LineError>
 fn contiguous_of(alloc: Global, words: &[Word]) -> Result<(LayoutForm, OldLayout), LineError>
     ensures { Gives (λ x. x) result (contiguous_of words.now) }
 {
-    let (count, rest) = first(words)?;
-    let (old, rest) = first(rest)?;
-    ended(rest)?;
+    let (count, old) = two_alone(words)?;
     let count = large_of(count)?;
     let old = old_of(alloc, old)?;
     Ok((LayoutForm::Contiguous(count), old))
+}
+
+/// `C B S`
+fn stripes_of(count: &[u8], blocklength: &[u8], stride: &[u8]) -> Result<Stripes, LineError>
+    ensures { Gives (λ x. x) result (stripes_of count.now blocklength.now stride.now) }
+{
+    Ok(Stripes {
+        count: large_of(count)?,
+        blocklength: large_of(blocklength)?,
+        stride: large_of(stride)?,
+    })
 }
 
 /// `C B S OLD`
@@ -112,16 +124,8 @@ fn contiguous_of(alloc: Global, words: &[Word]) -> Result<(LayoutForm, OldLayout
 fn vector_of(alloc: Global, words: &[Word]) -> Result<(LayoutForm, OldLayout), LineError>
     ensures { Gives (λ x. x) result (vector_of words.now) }
 {
-    let (count, rest) = first(words)?;
-    let (blocklength, rest) = first(rest)?;
-    let (stride, rest) = first(rest)?;
-    let (old, rest) = first(rest)?;
-    ended(rest)?;
-    let stripes = Stripes {
-        count: large_of(count)?,
-        blocklength: large_of(blocklength)?,
-        stride: large_of(stride)?,
-    };
+    let (count, blocklength, stride, old) = four_alone(words)?;
+    let stripes = stripes_of(count, blocklength, stride)?;
     let old = old_of(alloc, old)?;
     Ok((LayoutForm::Vector(stripes), old))
 }
@@ -154,17 +158,16 @@ fn formed_by(
 
 /// A layout's name, and how it is made.
 #[tactic(auto, unfolding(crate::specs::Reading::layout_of))]
-pub(crate) fn layout_of(alloc: Global, words: &[Word]) -> Result<LayoutLine, LineError>
-    ensures { Gives (λ x. x) result (layout_of words.now) }
+pub(crate) fn layout_of(alloc: Global, words: &[Word]) -> Result<Action, LineError>
+    ensures { Gives (λ x. x) result (action_by Verb.Layout words.now) }
 {
-    let (name, rest) = first(words)?;
-    let (form, rest) = first(rest)?;
-    let name = name_of(alloc, name)?;
+    let (name, form, rest) = first_two(words)?;
     let form = required(form_word_of(form))?;
+    let name = name_of(alloc, name)?;
     let (form, made_of) = formed_by(alloc, form, rest)?;
-    Ok(LayoutLine {
+    Ok(Action::Layout(LayoutLine {
         name,
         form,
         made_of,
-    })
+    }))
 }

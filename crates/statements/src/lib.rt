@@ -9,6 +9,7 @@ mod collective_line;
 mod collective_reading;
 mod communicator_reading;
 mod fields;
+mod front;
 mod layout_line;
 mod layout_reading;
 mod reading;

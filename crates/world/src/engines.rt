@@ -13,7 +13,7 @@ ghost use Rattle.world.specs.Views.{gave_of};
 
 use crate::event::Event;
 use crate::one_engine::{Asked, Given, Rejected, ask, happen};
-use crate::refused::{OUT_OF_MEMORY, Refused};
+use crate::refused::Refused;
 use byteorder::{BigEndian, ByteOrder};
 use datagram::Bytes;
 use engine::{Engine, Place};
@@ -156,10 +156,7 @@ pub fn new_engines(alloc: Global, size: u16) -> Result<Vec<Engine>, Refused>
 {
     let mut engines = Vec::new(alloc);
     for rank in 0..size {
-        let engine = new_engine(alloc, rank, size)?;
-        if engines.push(engine).is_err() {
-            return Err(OUT_OF_MEMORY);
-        }
+        engines.push(new_engine(alloc, rank, size)?)?;
     }
     Ok(engines)
 }

@@ -165,11 +165,11 @@ fn tick(alloc: Global, engine: &mut Engine, now: u64) -> Result<Given, Rejected>
     }
 }
 
-/// The engine gives way to this one; what it held is dropped.
-fn give_way(engine: &mut Engine, next: Engine)
-    ensures { engine.new ≡ next }
+/// What stood here gives way to this, and is dropped.
+fn give_way<T: Drop>(place: &mut T, next: T)
+    ensures { place.new ≡ next }
 {
-    *engine = next;
+    *place = next;
 }
 
 /// The engine gives way to a new one, at the next incarnation.

@@ -1,8 +1,11 @@
 //! Why a world refused an event.
 
 ghost use Rattle.std.specs.Prelude.{◌≡◌};
+ghost use Rattle.rank_calls.specs.declared.refused.Refused.TheVariants as lowers;
+ghost use Rattle.world.specs.declared.refused.Refused.TheVariants as refusals;
 ghost use Rattle.world.specs.Refusals.{number_of_refusal};
 
+use std::alloc::AllocFailed;
 use thiserror::Error;
 
 /// A growth was refused.
@@ -37,5 +40,13 @@ impl Refused {
             Refused::NoSuchDatagram => 62,
             Refused::CarriesJob => 63,
         }
+    }
+}
+
+impl<T: Drop> From<AllocFailed<T>> for Refused {
+    ghost from_gives = { λ _ e. e ≡ refusals.Engine lowers.OutOfMemory };
+
+    fn from(_error: AllocFailed<T>) -> Refused {
+        OUT_OF_MEMORY
     }
 }

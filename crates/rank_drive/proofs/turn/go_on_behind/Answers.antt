@@ -12,4 +12,4 @@ returns-in_default-speak-clause-exact g c = λ before reply told.
 pub returns-clause-exact : goal.returns-clause-exact
 returns-clause-exact g c = λ before reply told.
     let spoken = c.in-Ok-speak.ensures.exact in
-    (c.args.line.now ∷ spoken.0, (c.in-Ok-speak.step, (c.args.runner.now, told, spoken.1), c.take_step.ensures), g.met.T.Transport.joined _ _ _ _ _ c.in-Ok.ensures.passed spoken.3)
+    (c.args.line.now ∷ spoken.0, (c.in-Ok-speak.step, (c.args.runner.now, told, spoken.1), rw c.give_way.ensures c.take_step.ensures), g.met.T.Transport.joined _ _ _ _ _ c.in-Ok.ensures.passed spoken.3)

@@ -1,0 +1,9 @@
+-- Answered so that a wrong body is refused soon.
+use Rattle.std.proofs.Common.{rules}
+use Rattle.collective_transfers.proofs.payloads.WholePayload.into_before.Goals as goal
+
+pub cut-requires : goal.cut-requires
+cut-requires c = search rules
+
+pub returns : goal.returns
+returns c = search rules

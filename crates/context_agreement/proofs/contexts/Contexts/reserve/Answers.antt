@@ -1,0 +1,21 @@
+-- Answered so that a wrong body is refused soon.
+use Rattle.std.proofs.Common.{rules}
+use Rattle.context_agreement.proofs.contexts.Contexts.reserve.Goals as goal
+
+pub reserve-requires : goal.reserve-requires
+reserve-requires c κs = search rules
+
+pub map_err-requires : goal.map_err-requires
+map_err-requires c = search rules
+
+pub invariant_of-self : goal.invariant_of-self
+invariant_of-self c = search rules
+
+pub returns-clause-room : goal.returns-clause-room
+returns-clause-room c = search rules
+
+pub returns-clause-kept : goal.returns-clause-kept
+returns-clause-kept c = search rules
+
+pub returns-clause-err : goal.returns-clause-err
+returns-clause-err c = search rules

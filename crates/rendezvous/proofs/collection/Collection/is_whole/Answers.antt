@@ -1,0 +1,9 @@
+-- Answered so that a wrong body is refused soon.
+use Rattle.std.proofs.Common.{rules}
+use Rattle.rendezvous.proofs.collection.Collection.is_whole.Goals as goal
+
+pub len-requires : goal.len-requires
+len-requires c κs = search rules
+
+pub returns : goal.returns
+returns c = search rules

@@ -1,0 +1,9 @@
+-- Answered so that a wrong body is refused soon.
+use Rattle.std.proofs.Common.{rules}
+use Rattle.rendezvous.proofs.transfers.is_full_to.Goals as goal
+
+pub from-requires : goal.from-requires
+from-requires c = search rules
+
+pub get-requires : goal.get-requires
+get-requires c κs = search rules
