@@ -1,3 +1,4 @@
+pub mod CallLaws
 pub mod EntryLaws
 pub mod RunLaws
 pub mod SeveralLaws

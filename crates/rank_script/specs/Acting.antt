@@ -57,6 +57,11 @@ stops number s = (Some (steps.End 1 (Some number)), s)
 abbrev pub makes_call : Call → Doing → NamesState → Acts
 makes_call call doing s = (Some (steps.Call call), record s { doing = doing })
 
+-- the rank is called, if there is a call; else the line is faulty
+abbrev pub calls_or_stops : ℕ → Option Call → Doing → NamesState → Acts
+calls_or_stops number None doing s = stops number s
+calls_or_stops number (Some call) doing s = makes_call call doing s
+
 -- a line is printed
 abbrev pub prints : List ℕ → NamesState → Acts
 prints line s = (Some (steps.Print line), s)
@@ -107,6 +112,14 @@ abbrev pub sends : ℕ → Stage → Option (List ℕ) → Sending → NamesStat
 sends number stage request x s =
     sends_from number (starting stage request None) x (place_named s x.communicator) (places_named s x.through) (here s x.buffer) s
 
+-- the call of a send, if its communicator and its layout are set and its buffer is here
+abbrev pub send_call : Sending → (comm : Option (Option ℕ)) → Option Places → Option Contents → Option Call
+send_call x None named buffer = None
+send_call x (Some comm) None buffer = None
+send_call x (Some comm) (Some named) None = None
+send_call x (Some comm) (Some named) (Some buffer) =
+    Some (calls.Isend (record { comm = comm; target = x.target; tag = x.tag; from = record { buffer = buffer; places = named } }))
+
 -- a buffer that is here is lent; else nothing changes
 abbrev pub LendGives : NamesState → List ℕ → Option Contents → NamesState → Type 0
 LendGives old name None new = (here old name ≡ None) × (new ≡ old)
@@ -125,6 +138,15 @@ abbrev pub receives : ℕ → Stage → Option (List ℕ) → Receiving → Name
 receives number stage request x s =
     receives_into number (starting stage request (Some x.buffer)) x (place_named s x.communicator) (places_named s x.through)
     (here s x.buffer) s
+
+-- the call of a receive, if its communicator and its layout are set and its buffer is here, which is lent then; else nothing changes
+abbrev pub LendsFor : Receiving → (comm : Option (Option ℕ)) → Option Places → Option Contents → NamesState → Option Call → NamesState → Type 0
+LendsFor x None named buffer old call new = (call ≡ None) × (new ≡ old)
+LendsFor x (Some comm) None buffer old call new = (call ≡ None) × (new ≡ old)
+LendsFor x (Some comm) (Some named) None old call new = (call ≡ None) × (new ≡ old)
+LendsFor x (Some comm) (Some named) (Some buffer) old call new =
+    (call ≡ Some (calls.Irecv (record { comm = comm; source = x.source; tag = x.tag; into = record { buffer = buffer; places = named } })))
+    × (new ≡ with_buffer old x.buffer None)
 
 -- ---- requests
 
@@ -177,6 +199,11 @@ abbrev pub makes : ℕ → (name : List ℕ) → (comm : Option (Option ℕ)) �
 makes number name None entry s = stops number s
 makes number name (Some comm) entry s = makes_call (calls.Enter comm entry) (making name) s
 
+-- a collective that hands no block in is entered on a communicator that is set
+abbrev pub enters : ℕ → (comm : Option (Option ℕ)) → Entry → Doing → NamesState → Acts
+enters number None entry doing s = stops number s
+enters number (Some comm) entry doing s = makes_call (calls.Enter comm entry) doing s
+
 -- ---- collectives that make no communicator (MPI 3.1, 5)
 
 -- `barrier`
@@ -195,6 +222,13 @@ hands_in number None lent name block entry s = stops number s
 hands_in number (Some comm) true name block entry s = stops number s
 hands_in number (Some comm) false name None entry s = stops number s
 hands_in number (Some comm) false name (Some block) entry s = hands_in_to comm name (entry_with entry block) s
+
+-- the communicator's place and the buffer's elements, if both are here and what is to be set isn't lent
+abbrev pub block_for : (comm : Option (Option ℕ)) → (lent : Bool) → Option Contents → Option (Option ℕ × Contents)
+block_for None lent block = None
+block_for (Some comm) true block = None
+block_for (Some comm) false None = None
+block_for (Some comm) false (Some block) = Some (comm, block)
 
 -- `bcast`: the root's elements are those of the others from then on
 abbrev pub broadcasts : ℕ → Broadcasting → NamesState → Acts
@@ -234,6 +268,14 @@ scatters_from number x (Some comm) None blocks s = stops number s
 scatters_from number x (Some comm) (Some into) None s = stops number s
 scatters_from number x (Some comm) (Some into) (Some blocks) s =
     makes_call (calls.Enter comm (entries.Scatter (record { elements = elements_like into; root = x.root }) blocks)) (entering (Some x.into)) s
+
+-- the call of a scatter, if its communicator is set and its buffers are here
+abbrev pub scatter_call : Scattering → (comm : Option (Option ℕ)) → Option Contents → Option (Option Contents) → Option Call
+scatter_call x None into blocks = None
+scatter_call x (Some comm) None blocks = None
+scatter_call x (Some comm) (Some into) None = None
+scatter_call x (Some comm) (Some into) (Some blocks) =
+    Some (calls.Enter comm (entries.Scatter (record { elements = elements_like into; root = x.root }) blocks))
 
 abbrev pub scatters : ℕ → Scattering → NamesState → Acts
 scatters number x s =

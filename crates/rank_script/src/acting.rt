@@ -1,9 +1,11 @@
 //! What a line of a script asks of its rank.
 
 ghost use Rattle.std.specs.Prelude.{◌≡◌, IfOk, Some};
+ghost use Rattle.derived_types.specs.Layouts.{is_beyond};
+ghost use Rattle.statements.specs.Meanings.{offsets_made};
 ghost use Rattle.rank_script.specs.NamesState.{here, place_named};
 ghost use Rattle.name_tables.specs.Tables.{value_at};
-ghost use Rattle.rank_script.specs.Acting.{acts, acts_on, AreListed, IsSpoken, IsTogether, asks_group, asks_rank, Begins, cancels_for, compares, makes, old_layout, places_named, prints_count, prints_elements, LendGives, receives, request_named, requests_named, sends, sets, sets_layout, states, tests_for, waits_for, waits_for_several};
+ghost use Rattle.rank_script.specs.Acting.{acts, acts_on, AreListed, IsSpoken, IsTogether, asks_group, asks_rank, Begins, calls_or_stops, cancels_for, compares, LendsFor, makes_call, old_layout, places_named, prints_count, prints_elements, LendGives, receives, request_named, requests_named, send_call, sends, sets, sets_layout, sets_layout_unless, states, tests_for, waits_for, waits_for_several};
 
 use crate::names::Names;
 use datatypes::{Buffer, Layout, Refusal};
@@ -26,6 +28,24 @@ pub(crate) fn stop(number: usize) -> Step
 }
 
 impl Names {
+    /// The rank is called, and its answer is for this.
+    pub(crate) fn make_call(&mut self, call: Call, doing: Doing) -> Step
+        ensures { makes_call call doing self.old ≡ (Some result, self.new) }
+    {
+        self.doing = doing;
+        Step::Call(call)
+    }
+
+    /// The rank is called, if there is a call; else the line is faulty.
+    pub(crate) fn call_or_stop(&mut self, number: usize, call: Option<Call>, doing: Doing) -> Step
+        ensures { calls_or_stops number call doing self.old ≡ (Some result, self.new) }
+    {
+        match call {
+            Some(call) => self.make_call(call, doing),
+            None => stop(number),
+        }
+    }
+
     /// The buffer of this name, which is lent from now on, unless it is lent already or isn't set.
     fn lend(&mut self, name: &Name) -> Option<Buffer>
         ensures { LendGives self.old name.now result self.new }
@@ -57,28 +77,36 @@ impl Names {
         }
     }
 
-    fn set_layout_line(
+    /// The layout that a line makes of another one is set, unless it passes a limit.
+    fn set_layout_made(
         &mut self,
-        number: usize,
-        line: LayoutLine,
+        line: &LayoutLine,
+        old: &Layout,
     ) -> Result<Option<Step>, AllocError>
-        ensures { IfOk result (λ step. sets_layout number line self.old ≡ (step, self.new)) }
+        ensures { IfOk result (λ step.
+            sets_layout_unless (is_beyond (offsets_made line.now.form old.now.offsets)) line.now.name
+            (record { basic = old.now.basic; offsets = offsets_made line.now.form old.now.offsets }) self.old ≡ (step, self.new)) }
     {
-        let LayoutLine {
-            name,
-            form,
-            made_of,
-        } = line;
-        let Some(old) = self.old_layout(&made_of)? else {
-            return Ok(Some(stop(number)));
-        };
-        match form.layout_made(self.alloc, &old) {
+        match line.form.layout_made(self.alloc, old) {
             Ok(layout) => {
-                self.set_layout(&name, layout)?;
+                self.layouts.set(&line.name, layout)?;
                 Ok(None)
             }
             Err(Refusal::OutOfMemory) => Err(AllocError),
             Err(refusal) => Ok(Some(Step::Print(error_line(self.alloc, refusal.number())?))),
+        }
+    }
+
+    fn set_layout_line(
+        &mut self,
+        number: usize,
+        line: &LayoutLine,
+    ) -> Result<Option<Step>, AllocError>
+        ensures { IfOk result (λ step. sets_layout number line.now self.old ≡ (step, self.new)) }
+    {
+        match self.old_layout(&line.made_of)? {
+            Some(old) => self.set_layout_made(line, &old),
+            None => Ok(Some(stop(number))),
         }
     }
 
@@ -95,31 +123,64 @@ impl Names {
         }
     }
 
+    /// The call of a send, if its communicator and its layout are set and its buffer is here.
+    fn send_call(&self, sending: &Sending) -> Result<Option<Call>, AllocError>
+        ensures { IfOk result (λ call.
+            call ≡ send_call sending.now (place_named self.now sending.now.communicator) (places_named self.now sending.now.through)
+            (here self.now sending.now.buffer)) }
+    {
+        let Some(comm) = self.place_named(&sending.communicator) else {
+            return Ok(None);
+        };
+        let Some(places) = self.places_named(&sending.through)? else {
+            return Ok(None);
+        };
+        match self.copy_of(&sending.buffer)? {
+            Some(buffer) => Ok(Some(Call::Isend(Send {
+                comm,
+                target: sending.target,
+                tag: sending.tag,
+                from: Region { buffer, places },
+            }))),
+            None => Ok(None),
+        }
+    }
+
     fn send(
         &mut self,
         number: usize,
         stage: Stage,
         request: Option<Name>,
-        sending: Sending,
+        sending: &Sending,
     ) -> Result<Option<Step>, AllocError>
-        ensures { IfOk result (λ step. sends number stage request sending self.old ≡ (step, self.new)) }
+        ensures { IfOk result (λ step. sends number stage request sending.now self.old ≡ (step, self.new)) }
     {
-        let Some(comm) = self.place_named(&sending.communicator) else {
-            return Ok(Some(stop(number)));
+        let call = self.send_call(sending)?;
+        let doing = Doing::starting(stage, request, None);
+        Ok(Some(self.call_or_stop(number, call, doing)))
+    }
+
+    /// The call of a receive, if its communicator and its layout are set and its buffer is here, which is lent from now on.
+    fn lend_for(&mut self, receiving: &Receiving) -> Result<Option<Call>, AllocError>
+        ensures { IfOk result (λ call.
+            LendsFor receiving.now (place_named self.old receiving.now.communicator) (places_named self.old receiving.now.through)
+            (here self.old receiving.now.buffer) self.old call self.new) }
+    {
+        let Some(comm) = self.place_named(&receiving.communicator) else {
+            return Ok(None);
         };
-        let Some(places) = self.places_named(&sending.through)? else {
-            return Ok(Some(stop(number)));
+        let Some(places) = self.places_named(&receiving.through)? else {
+            return Ok(None);
         };
-        let Some(buffer) = self.copy_of(&sending.buffer)? else {
-            return Ok(Some(stop(number)));
-        };
-        self.doing = Doing::starting(stage, request, None);
-        Ok(Some(Step::Call(Call::Isend(Send {
-            comm,
-            target: sending.target,
-            tag: sending.tag,
-            from: Region { buffer, places },
-        }))))
+        match self.lend(&receiving.buffer) {
+            Some(buffer) => Ok(Some(Call::Irecv(Receive {
+                comm,
+                source: receiving.source,
+                tag: receiving.tag,
+                into: Region { buffer, places },
+            }))),
+            None => Ok(None),
+        }
     }
 
     fn receive(
@@ -131,22 +192,9 @@ impl Names {
     ) -> Result<Option<Step>, AllocError>
         ensures { IfOk result (λ step. receives number stage request receiving self.old ≡ (step, self.new)) }
     {
-        let Some(comm) = self.place_named(&receiving.communicator) else {
-            return Ok(Some(stop(number)));
-        };
-        let Some(places) = self.places_named(&receiving.through)? else {
-            return Ok(Some(stop(number)));
-        };
-        let Some(buffer) = self.lend(&receiving.buffer) else {
-            return Ok(Some(stop(number)));
-        };
-        self.doing = Doing::starting(stage, request, Some(receiving.buffer));
-        Ok(Some(Step::Call(Call::Irecv(Receive {
-            comm,
-            source: receiving.source,
-            tag: receiving.tag,
-            into: Region { buffer, places },
-        }))))
+        let call = self.lend_for(&receiving)?;
+        let doing = Doing::starting(stage, request, Some(receiving.buffer));
+        Ok(Some(self.call_or_stop(number, call, doing)))
     }
 
     /// The request that a line names, if it is set.
@@ -155,7 +203,10 @@ impl Names {
     {
         match requested {
             Requested::Null => Some(None),
-            Requested::Named(name) => self.held(name),
+            Requested::Named(name) => match self.requests.get(name) {
+                Some(held) => Some(held.request),
+                None => None,
+            },
         }
     }
 
@@ -165,8 +216,7 @@ impl Names {
         let Some(request) = self.request_named(&requested) else {
             return Some(stop(number));
         };
-        self.doing = Doing::waiting(requested);
-        Some(Step::Call(Call::Wait(request)))
+        Some(self.make_call(Call::Wait(request), Doing::waiting(requested)))
     }
 
     fn test(&mut self, number: usize, requested: Requested) -> Option<Step>
@@ -175,8 +225,7 @@ impl Names {
         let Some(request) = self.request_named(&requested) else {
             return Some(stop(number));
         };
-        self.doing = Doing::waiting(requested);
-        Some(Step::Call(Call::Test(request)))
+        Some(self.make_call(Call::Test(request), Doing::waiting(requested)))
     }
 
     fn cancel(&mut self, number: usize, requested: Requested) -> Option<Step>
@@ -185,8 +234,7 @@ impl Names {
         let Some(request) = self.request_named(&requested) else {
             return Some(stop(number));
         };
-        self.doing = Doing::free();
-        Some(Step::Call(Call::Cancel(request)))
+        Some(self.make_call(Call::Cancel(request), Doing::free()))
     }
 
     /// The requests that a line names, if each is set.
@@ -246,25 +294,16 @@ impl Names {
         }
     }
 
-    /// Enters a collective on the communicator, which makes another one of this name.
-    fn make(&mut self, number: usize, name: Name, communicator: &Communicator, entry: Entry) -> Step
-        ensures { makes number name (place_named self.old communicator.now) entry self.old ≡ (Some result, self.new) }
-    {
-        let Some(comm) = self.place_named(communicator) else {
-            return stop(number);
-        };
-        self.doing = Doing::making(name);
-        Step::Call(Call::Enter(comm, entry))
-    }
-
     fn ask_rank(&mut self, number: usize, communicator: &Communicator) -> Step
         ensures { asks_rank number (place_named self.old communicator.now) self.old ≡ (Some result, self.new) }
     {
         let Some(comm) = self.place_named(communicator) else {
             return stop(number);
         };
-        self.doing = Doing::asking(Stage::AskingRank(comm));
-        Step::Call(Call::Ask(comm, Question::Rank))
+        self.make_call(
+            Call::Ask(comm, Question::Rank),
+            Doing::asking(Stage::AskingRank(comm)),
+        )
     }
 
     fn ask_group(&mut self, number: usize, communicator: &Communicator) -> Step
@@ -273,8 +312,10 @@ impl Names {
         let Some(comm) = self.place_named(communicator) else {
             return stop(number);
         };
-        self.doing = Doing::asking(Stage::Asking);
-        Step::Call(Call::Ask(comm, Question::Group))
+        self.make_call(
+            Call::Ask(comm, Question::Group),
+            Doing::asking(Stage::Asking),
+        )
     }
 
     fn compare(&mut self, number: usize, one: &Communicator, other: &Communicator) -> Step
@@ -283,8 +324,10 @@ impl Names {
         let (Some(comm), Some(other)) = (self.place_named(one), self.place_named(other)) else {
             return stop(number);
         };
-        self.doing = Doing::asking(Stage::Asking);
-        Step::Call(Call::Ask(comm, Question::Compare(other)))
+        self.make_call(
+            Call::Ask(comm, Question::Compare(other)),
+            Doing::asking(Stage::Asking),
+        )
     }
 
     fn print(&self, number: usize, name: &Name) -> Result<Step, AllocError>
@@ -315,23 +358,28 @@ impl Names {
         ensures { IfOk result (λ step. acts_on number action self.old ≡ (Some step, self.new)) }
     {
         match action {
-            Action::Barrier(communicator) => Ok(self.wait_for_all(number, &communicator)),
+            Action::Barrier(communicator) => Ok(self.enter(
+                number,
+                &communicator,
+                Entry::Barrier,
+                Doing::entering(None),
+            )),
             Action::Bcast(said) => self.broadcast(number, said),
             Action::Gather(said) => self.gather(number, said),
             Action::Scatter(said) => self.scatter(number, said),
             Action::Reduce(said) => self.reduce(number, said),
             Action::Allreduce(said) => self.reduce_to_all(number, said),
-            Action::Dup(name, communicator) => Ok(self.make(
+            Action::Dup(name, communicator) => Ok(self.enter(
                 number,
-                name,
                 &communicator,
                 Entry::Dup,
+                Doing::making(name),
             )),
-            Action::Split(name, splitting) => Ok(self.make(
+            Action::Split(name, splitting) => Ok(self.enter(
                 number,
-                name,
                 &splitting.communicator,
                 split_by(&splitting),
+                Doing::making(name),
             )),
             Action::Who(communicator) => Ok(self.ask_rank(number, &communicator)),
             Action::Members(communicator) => Ok(self.ask_group(number, &communicator)),
@@ -347,8 +395,13 @@ impl Names {
     {
         match action {
             Action::Buffer(line) => self.set_line(number, line),
-            Action::Layout(line) => self.set_layout_line(number, line),
-            Action::Isend(name, sending) => self.send(number, Stage::Starting, Some(name), sending),
+            Action::Layout(line) => self.set_layout_line(number, &line),
+            Action::Isend(name, sending) => self.send(
+                number,
+                Stage::Starting,
+                Some(name),
+                &sending,
+            ),
             Action::Irecv(name, receiving) => self.receive(
                 number,
                 Stage::Starting,
@@ -384,7 +437,7 @@ impl Names {
     {
         match statement {
             Statement::Action(action) => self.act_on(number, action),
-            Statement::Send(sending) => self.send(number, Stage::StartingToWait, None, sending),
+            Statement::Send(sending) => self.send(number, Stage::StartingToWait, None, &sending),
             Statement::Recv(receiving) => self.receive(
                 number,
                 Stage::StartingToWait,

@@ -1,8 +1,8 @@
 //! What lines of collectives ask of their rank that make no communicator: barrier, bcast, gather, scatter, reduce and allreduce.
 
 ghost use Rattle.std.specs.Prelude.{◌≡◌, IfOk, Some};
-ghost use Rattle.rank_script.specs.NamesState.{place_named};
-ghost use Rattle.rank_script.specs.Acting.{blocks_named, broadcasts, gathers, hands_in_to, is_lent_at_root, reduces, reduces_to_all, scatters, waits_for_all};
+ghost use Rattle.rank_script.specs.NamesState.{here, is_root, place_named};
+ghost use Rattle.rank_script.specs.Acting.{block_for, blocks_named, broadcasts, enters, gathers, hands_in_to, is_lent_at_root, reduces, reduces_to_all, scatter_call, scatters};
 
 use crate::acting::stop;
 use crate::names::Names;
@@ -30,10 +30,7 @@ impl Names {
         ensures { IfOk result (λ step. hands_in_to comm name entry self.old ≡ (Some step, self.new)) }
     {
         match entry {
-            Some(entry) => {
-                self.doing = Doing::entering(name);
-                Ok(Step::Call(Call::Enter(comm, entry)))
-            }
+            Some(entry) => { Ok(self.make_call(Call::Enter(comm, entry), Doing::entering(name))) }
             None => {
                 let line = error_line(self.alloc, refusal_of_block(comm))?;
                 Ok(Step::Print(line))
@@ -48,15 +45,21 @@ impl Names {
         if is_root { self.is_lent(name) } else { false }
     }
 
-    /// `barrier`
-    pub(crate) fn wait_for_all(&mut self, number: usize, communicator: &Communicator) -> Step
-        ensures { waits_for_all number (place_named self.old communicator.now) self.old ≡ (Some result, self.new) }
+    /// Enters a collective that hands no block in, if the communicator is set.
+    pub(crate) fn enter(
+        &mut self,
+        number: usize,
+        communicator: &Communicator,
+        entry: Entry,
+        doing: Doing,
+    ) -> Step
+        ensures { enters number (place_named self.old communicator.now) entry doing self.old ≡ (Some result, self.new) }
     {
-        let Some(comm) = self.place_named(communicator) else {
-            return stop(number);
+        let call = match self.place_named(communicator) {
+            Some(comm) => Some(Call::Enter(comm, entry)),
+            None => None,
         };
-        self.doing = Doing::entering(None);
-        Step::Call(Call::Enter(comm, Entry::Barrier))
+        self.call_or_stop(number, call, doing)
     }
 
     /// `bcast`
@@ -77,20 +80,37 @@ impl Names {
         self.hand_in_to(comm, Some(said.buffer), entry)
     }
 
+    /// The place of the communicator and a copy of the buffer, if both are here and what is to be set isn't lent.
+    fn block_for(
+        &self,
+        communicator: &Communicator,
+        lent: bool,
+        buffer: &Name,
+    ) -> Result<Option<(Option<usize>, Buffer)>, AllocError>
+        ensures { IfOk result (λ found. found ≡ block_for (place_named self.now communicator.now) lent (here self.now buffer.now)) }
+    {
+        let Some(comm) = self.place_named(communicator) else {
+            return Ok(None);
+        };
+        if lent {
+            return Ok(None);
+        }
+        match self.copy_of(buffer)? {
+            Some(block) => Ok(Some((comm, block))),
+            None => Ok(None),
+        }
+    }
+
     /// `gather`
     pub(crate) fn gather(&mut self, number: usize, said: Gathering) -> Result<Step, AllocError>
         ensures { IfOk result (λ step. gathers number said self.old ≡ (Some step, self.new)) }
     {
-        let Some(comm) = self.place_named(&said.communicator) else {
+        let is_root = self.is_root(&said.communicator, said.root);
+        let lent = self.is_lent_at_root(is_root, &said.into);
+        let Some((comm, block)) = self.block_for(&said.communicator, lent, &said.buffer)? else {
             return Ok(stop(number));
         };
-        if self.is_lent_at_root(self.is_root(&said.communicator, said.root), &said.into) {
-            return Ok(stop(number));
-        }
-        let Some(buffer) = self.copy_of(&said.buffer)? else {
-            return Ok(stop(number));
-        };
-        let entry = gather_of(said.root, buffer);
+        let entry = gather_of(said.root, block);
         self.hand_in_to(comm, Some(said.into), entry)
     }
 
@@ -98,16 +118,12 @@ impl Names {
     pub(crate) fn reduce(&mut self, number: usize, said: Reducing) -> Result<Step, AllocError>
         ensures { IfOk result (λ step. reduces number said self.old ≡ (Some step, self.new)) }
     {
-        let Some(comm) = self.place_named(&said.communicator) else {
+        let is_root = self.is_root(&said.communicator, said.root);
+        let lent = self.is_lent_at_root(is_root, &said.into);
+        let Some((comm, block)) = self.block_for(&said.communicator, lent, &said.buffer)? else {
             return Ok(stop(number));
         };
-        if self.is_lent_at_root(self.is_root(&said.communicator, said.root), &said.into) {
-            return Ok(stop(number));
-        }
-        let Some(buffer) = self.copy_of(&said.buffer)? else {
-            return Ok(stop(number));
-        };
-        let entry = reduction_of(said.operation, said.root, buffer);
+        let entry = reduction_of(said.operation, said.root, block);
         self.hand_in_to(comm, Some(said.into), entry)
     }
 
@@ -119,16 +135,11 @@ impl Names {
     ) -> Result<Step, AllocError>
         ensures { IfOk result (λ step. reduces_to_all number said self.old ≡ (Some step, self.new)) }
     {
-        let Some(comm) = self.place_named(&said.communicator) else {
+        let lent = self.is_lent(&said.into);
+        let Some((comm, block)) = self.block_for(&said.communicator, lent, &said.buffer)? else {
             return Ok(stop(number));
         };
-        if self.is_lent(&said.into) {
-            return Ok(stop(number));
-        }
-        let Some(buffer) = self.copy_of(&said.buffer)? else {
-            return Ok(stop(number));
-        };
-        let entry = reduction_to_all_of(said.operation, buffer);
+        let entry = reduction_to_all_of(said.operation, block);
         self.hand_in_to(comm, Some(said.into), entry)
     }
 
@@ -152,25 +163,35 @@ impl Names {
         }
     }
 
+    /// The call of a scatter, if its communicator is set and its buffers are here.
+    fn scatter_call(&self, said: &Scattering) -> Result<Option<Call>, AllocError>
+        ensures { IfOk result (λ call.
+            call ≡ scatter_call said.now (place_named self.now said.now.communicator) (here self.now said.now.into)
+            (blocks_named self.now (is_root self.now said.now.communicator said.now.root) said.now.buffer)) }
+    {
+        let Some(comm) = self.place_named(&said.communicator) else {
+            return Ok(None);
+        };
+        let elements = match self.copy_of(&said.into)? {
+            Some(into) => elements_like(&into),
+            None => return Ok(None),
+        };
+        let is_root = self.is_root(&said.communicator, said.root);
+        let rooted = Rooted {
+            elements,
+            root: u32::from(said.root),
+        };
+        match self.blocks_named(is_root, &said.buffer)? {
+            Some(blocks) => Ok(Some(Call::Enter(comm, Entry::Scatter(rooted, blocks)))),
+            None => Ok(None),
+        }
+    }
+
     /// `scatter`
     pub(crate) fn scatter(&mut self, number: usize, said: Scattering) -> Result<Step, AllocError>
         ensures { IfOk result (λ step. scatters number said self.old ≡ (Some step, self.new)) }
     {
-        let Some(comm) = self.place_named(&said.communicator) else {
-            return Ok(stop(number));
-        };
-        let Some(into) = self.copy_of(&said.into)? else {
-            return Ok(stop(number));
-        };
-        let is_root = self.is_root(&said.communicator, said.root);
-        let Some(blocks) = self.blocks_named(is_root, &said.buffer)? else {
-            return Ok(stop(number));
-        };
-        let rooted = Rooted {
-            elements: elements_like(&into),
-            root: u32::from(said.root),
-        };
-        self.doing = Doing::entering(Some(said.into));
-        Ok(Step::Call(Call::Enter(comm, Entry::Scatter(rooted, blocks))))
+        let call = self.scatter_call(&said)?;
+        Ok(self.call_or_stop(number, call, Doing::entering(Some(said.into))))
     }
 }

@@ -3,7 +3,7 @@
 ghost use Rattle.std.specs.Prelude.{◌≡◌, IfOk, OnOk, slice_get};
 ghost use Rattle.statement_calls.specs.Awaited.{null, several_of};
 ghost use Rattle.rank_script.specs.NamesState.{with_request};
-ghost use Rattle.rank_script.specs.Heeding.{buffer_of, counts, ended_each, ended_named, ends_all, ends_by, ends_one, ends_with, handed_back, heeds, held_buffer, EndsNext, learns, leaves, named_as, named_communicator, nulled, refuses, returned, starts_at, takes_elements, takes_seat, tells_error, tells_errors};
+ghost use Rattle.rank_script.specs.Heeding.{buffer_of, counts, ended_each, ended_named, ends_all, ends_by, ends_one, ends_with, handed_back, heeds, heeds_by, held_buffer, EndsNext, learns, leaves, named_as, named_communicator, nulled, refuses, returned, starts_at, takes_elements, takes_seat, tells_error, tells_errors};
 
 use crate::names::Names;
 use datatypes::Buffer;
@@ -21,15 +21,15 @@ use std::alloc::AllocError;
 impl Names {
     fn name_request(
         &mut self,
-        name: Option<Name>,
+        name: &Option<Name>,
         buffer: Option<Name>,
         request: Request,
     ) -> Result<(), AllocError>
-        ensures { OnOk result (self.new ≡ named_as name (record { request = Some request; buffer = buffer }) self.old) }
+        ensures { OnOk result (self.new ≡ named_as name.now (record { request = Some request; buffer = buffer }) self.old) }
     {
         match name {
-            Some(name) => self.set_request(
-                &name,
+            Some(name) => self.requests.set(
+                name,
                 Held {
                     request: Some(request),
                     buffer,
@@ -39,24 +39,17 @@ impl Names {
         }
     }
 
-    fn start(&mut self, doing: Doing, request: Request) -> Result<Option<Step>, AllocError>
-        ensures { IfOk result (λ step. starts_at doing.stage doing request self.old ≡ (step, self.new)) }
+    fn start(&mut self, doing: &mut Doing, request: Request) -> Result<Option<Step>, AllocError>
+        ensures { IfOk result (λ step. starts_at doing.old.stage doing.old request self.old ≡ (step, self.new)) }
     {
-        let Doing {
-            stage,
-            request: name,
-            buffer,
-            several: _,
-            communicator: _,
-        } = doing;
-        match stage {
+        match doing.stage {
             Stage::Starting => {
-                self.name_request(name, buffer, request)?;
+                self.name_request(&doing.request, doing.buffer.take(), request)?;
                 Ok(None)
             }
             Stage::StartingToWait => {
-                self.doing = Doing::starting(Stage::Waiting, None, buffer);
-                Ok(Some(Step::Call(Call::Wait(Some(request)))))
+                let waiting = Doing::starting(Stage::Waiting, None, doing.buffer.take());
+                Ok(Some(self.make_call(Call::Wait(Some(request)), waiting)))
             }
             Stage::Free
             | Stage::Waiting
@@ -70,8 +63,8 @@ impl Names {
         }
     }
 
-    fn hand_back(&mut self, name: Option<Name>, call: Call) -> Result<(), AllocError>
-        ensures { OnOk result (self.new ≡ handed_back name call self.old) }
+    fn hand_back(&mut self, name: &Option<Name>, call: Call) -> Result<(), AllocError>
+        ensures { OnOk result (self.new ≡ handed_back name.now call self.old) }
     {
         match call {
             Call::Irecv(receive) => self.give_back(name, receive.into.buffer),
@@ -88,49 +81,44 @@ impl Names {
 
     fn refuse(
         &mut self,
-        doing: Doing,
+        doing: &Doing,
         refused: Refused,
         call: Call,
     ) -> Result<Option<Step>, AllocError>
-        ensures { IfOk result (λ step. refuses doing refused call self.old ≡ (step, self.new)) }
+        ensures { IfOk result (λ step. refuses doing.now refused call self.old ≡ (step, self.new)) }
     {
-        self.hand_back(doing.buffer, call)?;
+        self.hand_back(&doing.buffer, call)?;
         Ok(Some(Step::Print(error_line(self.alloc, refused.number())?)))
     }
 
     /// The request of this name is null from now on. Answers the name of the buffer that comes back with its outcome.
-    fn null_request(&mut self, name: Name) -> Result<Option<Name>, AllocError>
-        ensures { IfOk result (λ buffer. (buffer ≡ held_buffer self.old name) × (self.new ≡ with_request self.old name null)) }
+    fn null_request(&mut self, name: &Name) -> Result<Option<Name>, AllocError>
+        ensures { IfOk result (λ buffer.
+            (buffer ≡ held_buffer self.old name.now) × (self.new ≡ with_request self.old name.now null)) }
     {
-        match self.requests.replace(&name, Held::null()) {
+        match self.requests.replace(name, Held::null()) {
             Some(held) => Ok(held.buffer),
             None => {
-                self.set_request(&name, Held::null())?;
+                self.requests.set(name, Held::null())?;
                 Ok(None)
             }
         }
     }
 
     /// The request that was waited for is null from now on, if it has a name. Answers the name of the buffer that comes back.
-    fn end_request(&mut self, doing: Doing) -> Result<Option<Name>, AllocError>
-        ensures { IfOk result (λ buffer. (buffer ≡ buffer_of doing doing.request self.old) × (self.new ≡ nulled doing.request self.old)) }
+    fn end_request(&mut self, doing: &mut Doing) -> Result<Option<Name>, AllocError>
+        ensures { IfOk result (λ buffer.
+            (buffer ≡ buffer_of doing.old doing.old.request self.old) × (self.new ≡ nulled doing.old.request self.old)) }
     {
-        let Doing {
-            stage: _,
-            request,
-            buffer,
-            several: _,
-            communicator: _,
-        } = doing;
-        match request {
+        match &doing.request {
             Some(name) => self.null_request(name),
-            None => Ok(buffer),
+            None => Ok(doing.buffer.take()),
         }
     }
 
     /// A receive's buffer comes back to this name with its outcome.
-    fn return_buffer(&mut self, name: Option<Name>, outcome: Outcome) -> Result<(), AllocError>
-        ensures { OnOk result (self.new ≡ returned name outcome self.old) }
+    fn return_buffer(&mut self, name: &Option<Name>, outcome: Outcome) -> Result<(), AllocError>
+        ensures { OnOk result (self.new ≡ returned name.now outcome self.old) }
     {
         match outcome {
             Outcome::Sent => Ok(()),
@@ -161,8 +149,12 @@ impl Names {
         }
     }
 
-    fn end_with(&mut self, name: Option<Name>, outcome: Outcome) -> Result<Option<Step>, AllocError>
-        ensures { IfOk result (λ step. ends_with name outcome self.old ≡ (step, self.new)) }
+    fn end_with(
+        &mut self,
+        name: &Option<Name>,
+        outcome: Outcome,
+    ) -> Result<Option<Step>, AllocError>
+        ensures { IfOk result (λ step. ends_with name.now outcome self.old ≡ (step, self.new)) }
     {
         let error = error_of(&outcome);
         let last = status_after(self.last, &outcome);
@@ -178,19 +170,19 @@ impl Names {
         match requested {
             Requested::Null => Ok(()),
             Requested::Named(name) => {
-                let buffer = self.null_request(name)?;
-                self.return_buffer(buffer, outcome)
+                let buffer = self.null_request(&name)?;
+                self.return_buffer(&buffer, outcome)
             }
         }
     }
 
     fn end_one(
         &mut self,
-        doing: Doing,
+        doing: &Doing,
         index: usize,
         outcome: Outcome,
     ) -> Result<Option<Step>, AllocError>
-        ensures { IfOk result (λ step. ends_one (slice_get (several_of doing) index) outcome self.old ≡ (step, self.new)) }
+        ensures { IfOk result (λ step. ends_one (slice_get (several_of doing.now) index) outcome self.old ≡ (step, self.new)) }
     {
         match doing.requested_at(self.alloc, index)? {
             Some(requested) => {
@@ -236,17 +228,10 @@ impl Names {
         Ok(errors)
     }
 
-    fn end_all(&mut self, doing: Doing, outcomes: Outcomes) -> Result<Option<Step>, AllocError>
-        ensures { IfOk result (λ step. ends_all (several_of doing) outcomes self.old ≡ (step, self.new)) }
+    fn end_all(&mut self, doing: &mut Doing, outcomes: Outcomes) -> Result<Option<Step>, AllocError>
+        ensures { IfOk result (λ step. ends_all (several_of doing.old) outcomes self.old ≡ (step, self.new)) }
     {
-        let Doing {
-            stage: _,
-            request: _,
-            buffer: _,
-            several,
-            communicator: _,
-        } = doing;
-        match several {
+        match doing.several.take() {
             Some(several) => {
                 let errors = self.end_each(several.into_vec(), outcomes.into_vec())?;
                 self.tell_errors(errors.as_slice())
@@ -255,14 +240,14 @@ impl Names {
         }
     }
 
-    fn end(&mut self, doing: Doing, answer: Answer) -> Result<Option<Step>, AllocError>
-        ensures { IfOk result (λ step. ends_by doing.stage doing answer self.old ≡ (step, self.new)) }
+    fn end(&mut self, doing: &mut Doing, answer: Answer) -> Result<Option<Step>, AllocError>
+        ensures { IfOk result (λ step. ends_by doing.old.stage doing.old answer self.old ≡ (step, self.new)) }
     {
         match answer {
             Answer::One(outcome) => match doing.stage {
                 Stage::Waiting => {
                     let name = self.end_request(doing)?;
-                    self.end_with(name, outcome)
+                    self.end_with(&name, outcome)
                 }
                 Stage::Free
                 | Stage::Starting
@@ -284,13 +269,13 @@ impl Names {
     /// The communicator that a collective made has this name.
     fn name_communicator(
         &mut self,
-        name: Option<Name>,
+        name: &Option<Name>,
         seat: Option<Seat>,
     ) -> Result<(), AllocError>
-        ensures { OnOk result (self.new ≡ named_communicator name seat self.old) }
+        ensures { OnOk result (self.new ≡ named_communicator name.now seat self.old) }
     {
         match name {
-            Some(name) => self.set_communicator(&name, seat),
+            Some(name) => self.communicators.set(name, seat),
             None => Ok(()),
         }
     }
@@ -298,15 +283,16 @@ impl Names {
     /// A communicator was made: behind it the rank in it is asked for.
     fn take_seat(
         &mut self,
-        name: Option<Name>,
+        name: &mut Option<Name>,
         place: Option<usize>,
     ) -> Result<Option<Step>, AllocError>
-        ensures { IfOk result (λ step. takes_seat name place self.old ≡ (step, self.new)) }
+        ensures { IfOk result (λ step. takes_seat name.old place self.old ≡ (step, self.new)) }
     {
         match place {
             Some(place) => {
-                self.doing = Doing::seating(name, place);
-                Ok(Some(Step::Call(Call::Ask(Some(place), Question::Rank))))
+                let seating = Doing::seating(name.take(), place);
+                let call = Call::Ask(Some(place), Question::Rank);
+                Ok(Some(self.make_call(call, seating)))
             }
             None => {
                 self.name_communicator(name, None)?;
@@ -318,10 +304,10 @@ impl Names {
     /// A collective has given these elements, if it gave any.
     fn take_elements(
         &mut self,
-        name: Option<Name>,
+        name: &Option<Name>,
         elements: Option<Buffer>,
     ) -> Result<Option<Step>, AllocError>
-        ensures { IfOk result (λ step. takes_elements name elements self.old ≡ (step, self.new)) }
+        ensures { IfOk result (λ step. takes_elements name.now elements self.old ≡ (step, self.new)) }
     {
         if let Some(elements) = elements {
             self.give_back(name, elements)?;
@@ -330,12 +316,12 @@ impl Names {
     }
 
     /// A collective is over.
-    fn leave(&mut self, doing: Doing, ending: Ending) -> Result<Option<Step>, AllocError>
-        ensures { IfOk result (λ step. leaves doing ending self.old ≡ (step, self.new)) }
+    fn leave(&mut self, doing: &mut Doing, ending: Ending) -> Result<Option<Step>, AllocError>
+        ensures { IfOk result (λ step. leaves doing.old ending self.old ≡ (step, self.new)) }
     {
         match ending {
-            Ending::Left(elements) => self.take_elements(doing.buffer, elements),
-            Ending::Comm(place) => self.take_seat(doing.communicator, place),
+            Ending::Left(elements) => self.take_elements(&doing.buffer, elements),
+            Ending::Comm(place) => self.take_seat(&mut doing.communicator, place),
             Ending::Replaced => Ok(Some(Step::Print(error_line(self.alloc, 11)?))),
             Ending::Mismatch => Ok(Some(Step::Print(error_line(self.alloc, 12)?))),
         }
@@ -343,13 +329,18 @@ impl Names {
 
     /// A number that was asked for: behind the rank the size is asked for, and with the size both are printed; with the rank in a
     /// communicator that was made, that has its name.
-    fn count_members(&mut self, doing: Doing, number: usize) -> Result<Option<Step>, AllocError>
-        ensures { IfOk result (λ step. counts doing.stage doing.communicator number self.old ≡ (step, self.new)) }
+    fn count_members(
+        &mut self,
+        stage: Stage,
+        name: &Option<Name>,
+        number: usize,
+    ) -> Result<Option<Step>, AllocError>
+        ensures { IfOk result (λ step. counts stage name.now number self.old ≡ (step, self.new)) }
     {
-        match doing.stage {
+        match stage {
             Stage::AskingRank(comm) => {
-                self.doing = Doing::asking(Stage::AskingSize(number));
-                Ok(Some(Step::Call(Call::Ask(comm, Question::Size))))
+                let asking = Doing::asking(Stage::AskingSize(number));
+                Ok(Some(self.make_call(Call::Ask(comm, Question::Size), asking)))
             }
             Stage::AskingSize(rank) => {
                 Ok(Some(Step::Print(position_line(self.alloc, rank, number)?)))
@@ -359,7 +350,7 @@ impl Names {
                     place,
                     rank: number,
                 };
-                self.name_communicator(doing.communicator, Some(seat))?;
+                self.name_communicator(name, Some(seat))?;
                 Ok(None)
             }
             Stage::Free
@@ -374,11 +365,11 @@ impl Names {
     }
 
     /// The answer to a question about a communicator.
-    fn learn(&mut self, doing: Doing, fact: Fact) -> Result<Option<Step>, AllocError>
-        ensures { IfOk result (λ step. learns doing fact self.old ≡ (step, self.new)) }
+    fn learn(&mut self, doing: &Doing, fact: Fact) -> Result<Option<Step>, AllocError>
+        ensures { IfOk result (λ step. learns doing.now fact self.old ≡ (step, self.new)) }
     {
         match fact {
-            Fact::Number(number) => self.count_members(doing, number),
+            Fact::Number(number) => self.count_members(doing.stage, &doing.communicator, number),
             Fact::Ranks(ranks) => Ok(Some(Step::Print(members_line(self.alloc, &ranks)?))),
             Fact::Compares(comparison) => {
                 let line = comparison_line(self.alloc, as_text(comparison))?;
@@ -387,11 +378,10 @@ impl Names {
         }
     }
 
-    /// What is made of the answer to the last call: what follows from it at once, if anything does.
-    pub(crate) fn heed(&mut self, reply: Reply) -> Result<Option<Step>, AllocError>
-        ensures { IfOk result (λ step. heeds reply self.old ≡ (step, self.new)) }
+    /// What is made of the answer to a call that was for this.
+    fn heed_by(&mut self, doing: &mut Doing, reply: Reply) -> Result<Option<Step>, AllocError>
+        ensures { IfOk result (λ step. heeds_by doing.old reply self.old ≡ (step, self.new)) }
     {
-        let doing = self.take_doing();
         match reply {
             Reply::Started(request) => self.start(doing, request),
             Reply::Done(answer) => self.end(doing, answer),
@@ -402,5 +392,13 @@ impl Names {
             Reply::Fact(fact) => self.learn(doing, fact),
             Reply::Refused(refused, call) => self.refuse(doing, refused, call),
         }
+    }
+
+    /// What is made of the answer to the last call: what follows from it at once, if anything does.
+    pub(crate) fn heed(&mut self, reply: Reply) -> Result<Option<Step>, AllocError>
+        ensures { IfOk result (λ step. heeds reply self.old ≡ (step, self.new)) }
+    {
+        let mut doing = self.take_doing();
+        self.heed_by(&mut doing, reply)
     }
 }

@@ -3,11 +3,10 @@
 ghost use Rattle.std.specs.Prelude.{◌≡◌, IfOk, OnOk, Option, Some, None};
 ghost use Rattle.statement_calls.specs.Awaited.{free};
 ghost use Rattle.name_tables.specs.Tables.{value_at};
-ghost use Rattle.rank_script.specs.NamesState.{no_names, here, is_lent, is_root, place_named, request_at, with_buffer, with_communicator, with_layout, with_request, given_back};
+ghost use Rattle.rank_script.specs.NamesState.{no_names, here, is_lent, is_root, place_named, with_buffer, given_back};
 
 use datatypes::{Buffer, Layout};
 use name_tables::Table;
-use requests::Request;
 use statement_calls::{Doing, Held, Seat, empty_status};
 use statements::{Communicator, Name};
 use std::alloc::{AllocError, Global};
@@ -68,13 +67,6 @@ impl Names {
         self.buffers.set(name, slot)
     }
 
-    /// Lets a layout's name stand for this.
-    pub(crate) fn set_layout(&mut self, name: &Name, layout: Layout) -> Result<(), AllocError>
-        ensures { OnOk result (self.new ≡ with_layout self.old name.now layout) }
-    {
-        self.layouts.set(name, layout)
-    }
-
     /// A copy of the layout of this name, if it is set.
     pub(crate) fn layout_of(&self, name: &Name) -> Result<Option<Layout>, AllocError>
         ensures { IfOk result (λ layout. layout ≡ value_at self.now.layouts name.now) }
@@ -83,24 +75,6 @@ impl Names {
             Some(layout) => Ok(Some(layout.try_clone(self.alloc)?)),
             None => Ok(None),
         }
-    }
-
-    /// Lets a request's name stand for this.
-    pub(crate) fn set_request(&mut self, name: &Name, held: Held) -> Result<(), AllocError>
-        ensures { OnOk result (self.new ≡ with_request self.old name.now held) }
-    {
-        self.requests.set(name, held)
-    }
-
-    /// Lets a communicator's name stand for this one; none is MPI_COMM_NULL.
-    pub(crate) fn set_communicator(
-        &mut self,
-        name: &Name,
-        seat: Option<Seat>,
-    ) -> Result<(), AllocError>
-        ensures { OnOk result (self.new ≡ with_communicator self.old name.now seat) }
-    {
-        self.communicators.set(name, seat)
     }
 
     /// The place of the communicator that a line names, if it is set; none is MPI_COMM_NULL.
@@ -138,11 +112,15 @@ impl Names {
     }
 
     /// A buffer comes back to the name that lent it, if one did.
-    pub(crate) fn give_back(&mut self, name: Option<Name>, buffer: Buffer) -> Result<(), AllocError>
-        ensures { OnOk result (self.new ≡ given_back self.old name buffer) }
+    pub(crate) fn give_back(
+        &mut self,
+        name: &Option<Name>,
+        buffer: Buffer,
+    ) -> Result<(), AllocError>
+        ensures { OnOk result (self.new ≡ given_back self.old name.now buffer) }
     {
         match name {
-            Some(name) => self.set_buffer(&name, Some(buffer)),
+            Some(name) => self.set_buffer(name, Some(buffer)),
             None => Ok(()),
         }
     }
@@ -167,16 +145,6 @@ impl Names {
                 None => Ok(None),
             },
             None => Ok(None),
-        }
-    }
-
-    /// What the name of a request stands for, if it is set.
-    pub(crate) fn held(&self, name: &Name) -> Option<Option<Request>>
-        ensures { result ≡ request_at self.now name.now }
-    {
-        match self.requests.get(name) {
-            Some(held) => Some(held.request),
-            None => None,
         }
     }
 
