@@ -6,7 +6,7 @@ use datatypes::Buffer;
 use std::fmt;
 
 /// What a call or an event answers, as it is written.
-#[derive(Clone, Copy, Debug)]
+#[derive(Clone, Copy)]
 pub enum Answer<'a> {
     /// A request was started: its number in the order of starting.
     Started(u64),

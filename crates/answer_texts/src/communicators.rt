@@ -3,7 +3,7 @@
 use std::fmt;
 
 /// `comm C`: a communicator that was made, as it is written (MPI 3.1, 6.4.2).
-#[derive(Clone, Copy, Debug, PartialEq, Eq)]
+#[derive(Clone, Copy)]
 pub struct CommunicatorText {
     /// Its place among those of the rank, of which world has 0 and self 1; none: MPI_COMM_NULL.
     pub place: Option<usize>,
@@ -17,14 +17,14 @@ impl fmt::Display for CommunicatorText {
 
     fn fmt<W: fmt::Write>(&self, f: &mut fmt::Formatter<W>) -> fmt::Result {
         match self.place {
-            None => write!(f, "comm null"),
+            None => f.write_str("comm null"),
             Some(place) => write!(f, "comm {place}"),
         }
     }
 }
 
 /// `rank R of N`: the caller's rank in a communicator and the communicator's size, as they are written (MPI 3.1, 6.4.1).
-#[derive(Clone, Copy, Debug, PartialEq, Eq)]
+#[derive(Clone, Copy)]
 pub struct PositionText {
     /// The rank in the communicator.
     pub rank: usize,
@@ -46,7 +46,7 @@ impl fmt::Display for PositionText {
 }
 
 /// Further members of a group as they are written behind the first: a space and the rank of world of each.
-#[derive(Clone, Copy, Debug)]
+#[derive(Clone, Copy)]
 struct FurtherMembers<'a> {
     ranks: &'a [u16],
 }
@@ -67,7 +67,7 @@ impl<'a> fmt::Display for FurtherMembers<'a> {
 }
 
 /// The members of a group as they are written: their ranks of world in order, a space between two (MPI 3.1, 6.3.1).
-#[derive(Clone, Copy, Debug)]
+#[derive(Clone, Copy)]
 pub struct MembersText<'a> {
     /// The ranks of world, in the order of the group.
     pub ranks: &'a [u16],
@@ -91,7 +91,7 @@ impl<'a> fmt::Display for MembersText<'a> {
 }
 
 /// How two communicators compare, as it is written (MPI 3.1, 6.4.1).
-#[derive(Clone, Copy, Debug, PartialEq, Eq)]
+#[derive(Clone, Copy)]
 pub enum ComparisonText {
     /// MPI_IDENT: they are one.
     Ident,

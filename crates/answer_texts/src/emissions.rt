@@ -4,7 +4,7 @@ use std::fmt;
 use vocabulary::Endpoint;
 
 /// `S.I`: an endpoint as it is written, its rank and its incarnation.
-#[derive(Clone, Copy, Debug, PartialEq, Eq)]
+#[derive(Clone, Copy)]
 pub struct EndpointText {
     /// The endpoint.
     pub endpoint: Endpoint,
@@ -24,7 +24,7 @@ impl fmt::Display for EndpointText {
 }
 
 /// What a datagram carries.
-#[derive(Clone, Copy, Debug, PartialEq, Eq)]
+#[derive(Clone, Copy)]
 pub enum FrameKind {
     /// A message with its data: `EAGER`.
     Eager,
@@ -71,7 +71,7 @@ impl fmt::Display for FrameKind {
 }
 
 /// `S.I>T.J`: from where and to where a datagram goes.
-#[derive(Clone, Copy, Debug, PartialEq, Eq)]
+#[derive(Clone, Copy)]
 pub struct Route {
     /// From where.
     pub source: Endpoint,
@@ -97,7 +97,7 @@ impl fmt::Display for Route {
 }
 
 /// `KIND SEQ`: a datagram's kind and sequence.
-#[derive(Clone, Copy, Debug, PartialEq, Eq)]
+#[derive(Clone, Copy)]
 pub struct Load {
     /// What it carries.
     pub kind: FrameKind,
@@ -112,14 +112,14 @@ impl fmt::Display for Load {
     ghost output = { λ l. Some (load_text l) };
 
     fn fmt<W: fmt::Write>(&self, f: &mut fmt::Formatter<W>) -> fmt::Result {
-        let kind = self.kind;
+        let kind = &self.kind;
         let sequence = self.sequence;
         write!(f, "{kind} {sequence}")
     }
 }
 
 /// `+D S.I>T.J KIND SEQ`: a datagram that went out.
-#[derive(Clone, Copy, Debug, PartialEq, Eq)]
+#[derive(Clone, Copy)]
 pub struct Emission {
     /// Its number in the world.
     pub datagram: usize,
@@ -137,8 +137,8 @@ impl fmt::Display for Emission {
 
     fn fmt<W: fmt::Write>(&self, f: &mut fmt::Formatter<W>) -> fmt::Result {
         let datagram = self.datagram;
-        let route = self.route;
-        let load = self.load;
+        let route = &self.route;
+        let load = &self.load;
         write!(f, "+{datagram} {route} {load}")
     }
 }

@@ -6,7 +6,7 @@ use std::fmt;
 use vocabulary::Status;
 
 /// The elements of a buffer as they are written behind `data`: a space and its value for each.
-#[derive(Clone, Copy, Debug)]
+#[derive(Clone, Copy)]
 pub struct Elements<'a> {
     /// The buffer.
     pub buffer: &'a Buffer,
@@ -54,7 +54,7 @@ impl<'a> fmt::Display for ReceivedText<'a> {
 }
 
 /// How an operation ended, as it is written.
-#[derive(Clone, Copy, Debug)]
+#[derive(Clone, Copy)]
 pub enum OutcomeText<'a> {
     /// A send finished.
     Sent,
@@ -104,7 +104,7 @@ impl<'a> fmt::Display for OutcomeText<'a> {
 }
 
 /// How further operations ended, as it is written behind the first: `; ` and the text of each.
-#[derive(Clone, Copy, Debug)]
+#[derive(Clone, Copy)]
 struct FurtherOutcomes<'a> {
     outcomes: &'a [OutcomeText<'a>],
 }
@@ -125,7 +125,7 @@ impl<'a> fmt::Display for FurtherOutcomes<'a> {
 }
 
 /// How several operations ended, as it is written: the texts in their order, `; ` between two; `done` where there is none.
-#[derive(Clone, Copy, Debug)]
+#[derive(Clone, Copy)]
 pub struct OutcomesText<'a> {
     /// How each of them ended.
     pub outcomes: &'a [OutcomeText<'a>],
@@ -139,7 +139,7 @@ impl<'a> fmt::Display for OutcomesText<'a> {
 
     fn fmt<W: fmt::Write>(&self, f: &mut fmt::Formatter<W>) -> fmt::Result {
         match self.outcomes.split_first() {
-            None => write!(f, "done"),
+            None => f.write_str("done"),
             Some((first, rest)) => {
                 let further = FurtherOutcomes { outcomes: rest };
                 write!(f, "{first}{further}")

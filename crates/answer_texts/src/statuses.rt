@@ -4,7 +4,7 @@ use std::fmt;
 use vocabulary::{Source, Status};
 
 /// A source as it is written: a wildcard is `any`, the null process `null`.
-#[derive(Clone, Copy, Debug, PartialEq, Eq)]
+#[derive(Clone, Copy)]
 pub struct SourceText {
     /// The source.
     pub source: Source,
@@ -18,15 +18,15 @@ impl fmt::Display for SourceText {
 
     fn fmt<W: fmt::Write>(&self, f: &mut fmt::Formatter<W>) -> fmt::Result {
         match self.source {
-            Source::Any => write!(f, "any"),
-            Source::Null => write!(f, "null"),
+            Source::Any => f.write_str("any"),
+            Source::Null => f.write_str("null"),
             Source::Rank(rank) => write!(f, "{rank}"),
         }
     }
 }
 
 /// A tag as it is written: a wildcard is `any`.
-#[derive(Clone, Copy, Debug, PartialEq, Eq)]
+#[derive(Clone, Copy)]
 pub struct TagText {
     /// The tag; none is the wildcard.
     pub tag: Option<u32>,
@@ -40,14 +40,14 @@ impl fmt::Display for TagText {
 
     fn fmt<W: fmt::Write>(&self, f: &mut fmt::Formatter<W>) -> fmt::Result {
         match self.tag {
-            None => write!(f, "any"),
+            None => f.write_str("any"),
             Some(tag) => write!(f, "{tag}"),
         }
     }
 }
 
 /// `source S tag T count C`: a status as it is written.
-#[derive(Clone, Copy, Debug, PartialEq, Eq)]
+#[derive(Clone, Copy)]
 pub struct StatusText {
     /// The status.
     pub status: Status,
@@ -73,7 +73,7 @@ impl fmt::Display for StatusText {
 
 /// How many copies of a layout were received, as it is written: a number, or `undefined` where what came is no whole number
 /// of copies (MPI 3.1, 3.2.5).
-#[derive(Clone, Copy, Debug, PartialEq, Eq)]
+#[derive(Clone, Copy)]
 pub struct CountText {
     /// How many copies; none: no whole number of them.
     pub copies: Option<u64>,
@@ -87,7 +87,7 @@ impl fmt::Display for CountText {
 
     fn fmt<W: fmt::Write>(&self, f: &mut fmt::Formatter<W>) -> fmt::Result {
         match self.copies {
-            None => write!(f, "undefined"),
+            None => f.write_str("undefined"),
             Some(copies) => write!(f, "{copies}"),
         }
     }

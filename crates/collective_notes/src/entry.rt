@@ -11,7 +11,7 @@ use std::alloc::{AllocError, Global};
 
 /// A collective that a rank enters, and with what: the root's rank in the communicator, the operation, and the elements that the
 /// rank hands in. In a scatter it says of which type and how many elements each member's block is.
-#[derive(Debug, Drop)]
+#[derive(Drop)]
 pub enum Entry {
     /// MPI_Barrier (MPI 3.1, 5.3).
     Barrier,
@@ -32,7 +32,7 @@ pub enum Entry {
 }
 
 /// The collective that a rank is in.
-#[derive(Debug, Drop)]
+#[derive(Drop)]
 pub struct Inside {
     /// The place of its communicator among those that the rank holds.
     pub place: usize,

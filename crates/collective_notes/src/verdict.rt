@@ -13,7 +13,7 @@ use payload::Choice;
 use vocabulary::Endpoint;
 
 /// What a rank does that is in a collective, by what it was told.
-#[derive(Clone, Copy, Debug, PartialEq, Eq)]
+#[derive(Clone, Copy)]
 pub enum Verdict {
     /// It stays in it.
     Stays,

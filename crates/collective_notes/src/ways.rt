@@ -7,7 +7,7 @@ use payload::Record;
 
 /// Which way the messages of a collective go in the form of a star, whose middle is the root, or member 0 where there is no
 /// root.
-#[derive(Clone, Copy, Debug, PartialEq, Eq)]
+#[derive(Clone, Copy)]
 pub enum Ways {
     /// To the middle alone: gather and reduce (MPI 3.1, 5.5 and 5.9.1).
     Inwards,

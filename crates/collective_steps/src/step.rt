@@ -6,7 +6,7 @@ use datatypes::Buffer;
 use std::marker::Model;
 
 /// With what a collective ends for a rank.
-#[derive(Debug, Drop)]
+#[derive(Drop)]
 pub enum Ending {
     /// It left, with the elements that it gets where it gets any.
     Left(Option<Buffer>),
@@ -19,7 +19,7 @@ pub enum Ending {
 }
 
 /// What becomes of a rank that is in a collective.
-#[derive(Debug, Drop)]
+#[derive(Drop)]
 pub enum Outcome {
     /// It stays in it, or was in none.
     Stays,
@@ -34,7 +34,7 @@ pub enum Outcome {
 }
 
 /// What a rank does of itself: what becomes of it, how many contexts it gives, and whom it tells what.
-#[derive(Debug, Drop)]
+#[derive(Drop)]
 pub struct Step {
     /// What becomes of the rank.
     pub outcome: Outcome,

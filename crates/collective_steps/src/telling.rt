@@ -19,7 +19,7 @@ use std::alloc::{AllocError, Global};
 use vocabulary::{BasicType, Endpoint};
 
 /// What is told to all in the same words.
-#[derive(Clone, Copy, Debug, PartialEq, Eq)]
+#[derive(Clone, Copy)]
 pub enum Words {
     /// That two records differ.
     RecordsDiffer,

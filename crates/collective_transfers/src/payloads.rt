@@ -10,7 +10,7 @@ use std::marker::Model;
 use vocabulary::OutOfMemory;
 
 /// A payload that this rank announced, kept until its receiver asks for it.
-#[derive(Debug, Drop)]
+#[derive(Drop)]
 pub struct AnnouncedPayload {
     target: u16,
     transfer: u32,
@@ -66,7 +66,7 @@ impl AnnouncedPayload {
 }
 
 /// A payload for which this rank asked, and of which so much has come.
-#[derive(Debug, Drop)]
+#[derive(Drop)]
 pub struct ComingPayload {
     source: u16,
     transfer: u32,
@@ -96,7 +96,7 @@ impl Model for ComingPayload {
 
 /// A payload that has come whole with its last piece, taken out of those that come. It stands in the memory that was taken for it
 /// when it began to come, so it can be put back as it was before that piece.
-#[derive(Debug, Drop)]
+#[derive(Drop)]
 pub struct WholePayload {
     place: usize,
     came: usize,

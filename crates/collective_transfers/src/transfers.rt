@@ -11,7 +11,7 @@ use std::marker::Model;
 use vocabulary::OutOfMemory;
 
 /// The payloads of collectives that a rank announced, until they are asked for, and those that come to it in pieces.
-#[derive(Debug, Drop)]
+#[derive(Drop)]
 pub struct CollectiveTransfers {
     announced: Vec<AnnouncedPayload>,
     coming: Vec<ComingPayload>,

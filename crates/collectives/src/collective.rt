@@ -42,7 +42,7 @@ impl Model for Collective {
 }
 
 /// An entry that was refused: what was handed in, and why.
-#[derive(Debug, Drop)]
+#[derive(Drop)]
 pub struct RefusedEntry {
     /// What the rank would have entered with.
     pub entry: Entry,
@@ -51,14 +51,14 @@ pub struct RefusedEntry {
 }
 
 /// An entry that was made ready.
-#[derive(Debug, Drop)]
+#[derive(Drop)]
 pub struct ReadyEntry {
     pub(crate) inside: Inside,
     pub(crate) step: Step,
 }
 
 /// A message that was made ready: what is kept of it, where it isn't dropped, and what the rank then does of itself.
-#[derive(Debug, Drop)]
+#[derive(Drop)]
 pub struct ReadyMessage {
     pub(crate) note: Option<Note>,
     pub(crate) step: Step,

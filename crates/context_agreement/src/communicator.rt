@@ -5,7 +5,7 @@ use crate::refused::Refused;
 use groups::Group;
 
 /// A communicator of a rank: its context, and its members in order (MPI 3.1, 6.2.3).
-#[derive(Debug, Drop)]
+#[derive(Drop)]
 pub struct Communicator {
     /// What tells its messages from those of every other.
     pub context: Context,
@@ -14,7 +14,7 @@ pub struct Communicator {
 }
 
 /// A communicator that could not be installed: why, and the group that was handed in.
-#[derive(Debug, Drop)]
+#[derive(Drop)]
 pub struct NotInstalled {
     /// Why it was refused.
     pub refused: Refused,

@@ -5,7 +5,7 @@ ghost use Rattle.context_agreement.specs.Numbers.{number_of, HaveOwnNumbers};
 
 /// What tells the messages of one communicator from those of every other (MPI 3.1, 6.1.1): who
 /// created it, and the how manieth of its creator's it is. The form is this project's own.
-#[derive(Clone, Copy, Debug, PartialEq, Eq)]
+#[derive(Clone, Copy, PartialEq, Eq)]
 pub struct Context {
     /// The creator's rank in `world`.
     pub rank: u16,

@@ -23,7 +23,7 @@ const MOST_COMMUNICATORS: usize = 4096;
 
 /// The communicators that a rank holds at one incarnation, in the order in which it got them, and
 /// the contexts that it gives as a creator.
-#[derive(Debug, Drop)]
+#[derive(Drop)]
 pub struct Contexts {
     rank: u16,
     incarnation: u16,

@@ -6,7 +6,7 @@ use std::marker::Model;
 
 /// One of the communicators into which a communicator is split: its colour, and the ranks in the
 /// old communicator of those that are in it, in their new order (MPI 3.1, 6.4.2).
-#[derive(Debug, Drop)]
+#[derive(Drop)]
 pub struct Part {
     /// The colour that all of its members gave.
     pub(crate) colour: u32,

@@ -10,7 +10,7 @@ use std::alloc::{AllocError, Global};
 
 /// What a member of a communicator that is split gives (MPI 3.1, 6.4.2). The fields stand in the
 /// order in which rows are sorted.
-#[derive(Clone, Copy, Debug, PartialEq, Eq, PartialOrd, Ord)]
+#[derive(Clone, Copy, PartialEq, Eq, PartialOrd, Ord)]
 pub struct SplitRow {
     /// The communicator that it asks for; `None` for none.
     pub colour: Option<u32>,

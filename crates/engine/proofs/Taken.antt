@@ -26,7 +26,7 @@ use Rattle.sessions.specs.Events.{after_event}
 use Rattle.sessions.specs.Heard.{HeardText}
 use Rattle.sessions.specs.SessionsState.{SessionsState}
 use Rattle.vocabulary.specs.declared.endpoint.Endpoint.{Endpoint}
-use Rattle.engine.specs.Datagrams.{IsNoticed, WhyUnnoticed, address_of, ended_by, lesson_alone, lesson_in, met_by, numbers_met, payloads_met}
+use Rattle.engine.specs.Datagrams.{IsNoticed, IsTold, WhyUnnoticed, address_of, ended_by, lesson_alone, lesson_in, met_by, numbers_met, payloads_met}
 use Rattle.engine_parts.specs.EngineState.{EngineState, or_before}
 use Rattle.engine_parts.specs.Frames.{AreWhole, step_limit, step_numbers, step_payloads, step_sendings}
 use Rattle.engine_parts.specs.Refusals.{of_collectives}
@@ -51,29 +51,51 @@ pub record IsTakenIn (old : EngineState) (lesson : Option Endpoint) (ready : Rea
   pub ends : ending ≡ or_before left replaced
 
 -- what becomes of the core, the numbers of transfers and the payloads, and what is sent
-pub record IsCounted (old : EngineState) (h : HeardText) (lesson : Option Endpoint) (ms : List Message) (c d e : CoreState) (ns n2 : List Numbers)
+pub record IsCounted (core : CoreState) (before : payloads.State) (s : SessionsState) (h : HeardText) (ms : List Message) (c d e : CoreState) (ns n2 : List Numbers)
     (ps : List Announced) (q0 q1 q2 : payloads.State) (links : SessionsState) : Type 0 where
-  pub kept : c ≡ old.core
+  pub kept : c ≡ core
   pub taken : d ≡ after_news c (lesson_alone h)
   pub counted : e ≡ with_numbers d n2
   pub numbers : ns ≡ numbers_met c h
   pub next : n2 ≡ step_numbers ns ms
-  pub goes : step_limit old.sessions ns (Some h) ms ≡ None
-  pub sent : links ≡ after_event old.sessions (Some h) (step_sendings old.sessions.place ns ms)
+  pub whole : AreWhole ms
+  pub goes : step_limit s ns (Some h) ms ≡ None
+  pub sent : links ≡ after_event s (Some h) (step_sendings s.place ns ms)
   pub announced : ps ≡ step_payloads ns ms
-  pub same : q0 ≡ old.payloads
-  pub left : q1 ≡ payloads_met q0 lesson
+  pub same : q0 ≡ before
+  pub left : q1 ≡ payloads_met q0 (lesson_in h)
   pub added : q2 ≡ after_announcing q1 ps
 
+-- so the others are told
+pub told : (core : CoreState) (before : payloads.State) (s : SessionsState) (h : HeardText) (ms : List Message) (c d e : CoreState) (ns n2 : List Numbers)
+    (ps : List Announced) (q0 q1 q2 : payloads.State) (links : SessionsState) → IsCounted core before s h ms c d e ns n2 ps q0 q1 q2 links →
+    IsTold core before s h ms e q2 links
+told core before s h ms c d e ns n2 ps q0 q1 q2 links count =
+    let first : ns ≡ numbers_met core h = count.numbers ∙ ap (λ (x : CoreState). numbers_met x h) count.kept in
+    let news : d ≡ after_news core (lesson_alone h) = count.taken ∙ ap (λ (x : CoreState). after_news x (lesson_alone h)) count.kept in
+    let rest : q1 ≡ payloads_met before (lesson_in h) = count.left ∙ ap (λ (q : payloads.State). payloads_met q (lesson_in h)) count.same in
+    record {
+      whole = count.whole;
+      goes = subst (λ (n : List Numbers). step_limit s n (Some h) ms ≡ None) first count.goes;
+      core = count.counted ∙ ap (λ (x : CoreState). with_numbers x n2) news
+          ∙ ap (λ (n : List Numbers). with_numbers (after_news core (lesson_alone h)) n) (count.next ∙ ap (λ (n : List Numbers). step_numbers n ms) first);
+      payloads = count.added ∙ ap (λ (q : payloads.State). after_announcing q ps) rest
+          ∙ ap (λ (l : List Announced). after_announcing (payloads_met before (lesson_in h)) l) (count.announced ∙ ap (λ (n : List Numbers). step_payloads n ms) first);
+      sessions = count.sent ∙ ap (λ (n : List Numbers). after_event s (Some h) (step_sendings s.place n ms)) first;
+    }
+
+-- for want of memory any step is stopped
+pub memory_stops : (limit : Option Refused) (e : Refused) → e ≡ refusals.OutOfMemory → StepStops limit e
+memory_stops limit e is = subst (λ (r : Refused). StepStops limit r) (sym is) tt
+
 pub noticed : (old : EngineState) (h : HeardText) (w : Whole) (lesson : Option Endpoint) (p : PayloadText) (ready : ReadyMessage)
-    (s1 s2 s3 : State) (k1 k2 k3 : ContextsState) (replaced left ending : Option Ending) (c d e : CoreState) (ns n2 : List Numbers) (ps : List Announced)
-    (q0 q1 q2 : payloads.State) (links : SessionsState) → lesson ≡ lesson_in h → payload_of w.bytes ≡ Some p →
-    IsReady (met old.groups.collective old.groups.contexts lesson) old.groups.contexts (address_of h.source w) p ready → AreWhole ready.step.messages →
-    IsCounted old h lesson ready.step.messages c d e ns n2 ps q0 q1 q2 links → IsTakenIn old lesson ready s1 s2 s3 k1 k2 k3 replaced left ending →
+    (s1 s2 s3 : State) (k1 k2 k3 : ContextsState) (replaced left ending : Option Ending) (c : CoreState) (q : payloads.State) (links : SessionsState) →
+    lesson ≡ lesson_in h → payload_of w.bytes ≡ Some p →
+    IsReady (met old.groups.collective old.groups.contexts lesson) old.groups.contexts (address_of h.source w) p ready →
+    IsTold old.core old.payloads old.sessions h ready.step.messages c q links → IsTakenIn old lesson ready s1 s2 s3 k1 k2 k3 replaced left ending →
     IsNoticed old (payloads_met old.payloads (lesson_in h)) h w
-    (record { core = e; groups = record { collective = s3; contexts = k3 }; ended = or_before ending old.ended; payloads = q2; sessions = links })
-noticed old h w lesson p ready s1 s2 s3 k1 k2 k3 replaced left ending c d e ns n2 ps q0 q1 q2 links taught read is whole count take =
-    let ms = ready.step.messages in
+    (record { core = c; groups = record { collective = s3; contexts = k3 }; ended = or_before ending old.ended; payloads = q; sessions = links })
+noticed old h w lesson p ready s1 s2 s3 k1 k2 k3 replaced left ending c q links taught read is told take =
     let same : k2 ≡ old.groups.contexts = take.same ∙ take.held in
     let learnt : s2 ≡ met_by old h =
     take.learnt ∙ ap (λ (s : State). met s k1 lesson) take.kept ∙ ap (λ (k : ContextsState). met old.groups.collective k lesson) take.held
@@ -82,27 +104,21 @@ noticed old h w lesson p ready s1 s2 s3 k1 k2 k3 replaced left ending c d e ns n
     take.replaces ∙ ap (λ (s : State). ending_met s k1 lesson) take.kept ∙ ap (λ (k : ContextsState). ending_met old.groups.collective k lesson) take.held
     ∙ ap (ended_by old.groups) taught in
     let leaves : left ≡ ending_of old.groups.contexts ready.step.outcome = take.leaves ∙ ap (λ (k : ContextsState). ending_of k ready.step.outcome) same in
-    let first : ns ≡ numbers_met old.core h = count.numbers ∙ ap (λ (x : CoreState). numbers_met x h) count.kept in
-    let core : d ≡ after_news old.core (lesson_alone h) = count.taken ∙ ap (λ (x : CoreState). after_news x (lesson_alone h)) count.kept in
-    let rest : q1 ≡ payloads_met old.payloads (lesson_in h) =
-    count.left ∙ ap (λ (q : payloads.State). payloads_met q lesson) count.same ∙ ap (payloads_met old.payloads) taught in
     record {
       payload = p;
       read = read;
       ready = ready;
       is_ready = subst (λ (l : Option Endpoint). IsReady (met old.groups.collective old.groups.contexts l) old.groups.contexts (address_of h.source w) p ready) taught is;
-      whole = whole;
-      goes = subst (λ (n : List Numbers). step_limit old.sessions n (Some h) ms ≡ None) first count.goes;
-      core = count.counted ∙ ap (λ (x : CoreState). with_numbers x n2) core
-          ∙ ap (λ (n : List Numbers). with_numbers (after_news old.core (lesson_alone h)) n) (count.next ∙ ap (λ (n : List Numbers). step_numbers n ms) first);
+      whole = told.whole;
+      goes = told.goes;
+      core = told.core;
       collective = take.taken ∙ ap (λ (s : State). after_step (with_note s ready.note) ready.step.outcome) learnt;
       contexts = take.got ∙ ap (λ (k : ContextsState). contexts_after k ready.step.drawn ready.step.outcome) same;
       ended = ap (λ (o : Option Ending). or_before o old.ended) take.ends ∙ first_of_three left replaced old.ended
           ∙ ap (λ (o : Option Ending). or_before o (or_before replaced old.ended)) leaves
           ∙ ap (λ (o : Option Ending). or_before (ending_of old.groups.contexts ready.step.outcome) (or_before o old.ended)) replaces;
-      payloads = count.added ∙ ap (λ (q : payloads.State). after_announcing q ps) rest
-          ∙ ap (λ (l : List Announced). after_announcing (payloads_met old.payloads (lesson_in h)) l) (count.announced ∙ ap (λ (n : List Numbers). step_payloads n ms) first);
-      sessions = count.sent ∙ ap (λ (n : List Numbers). after_event old.sessions (Some h) (step_sendings old.sessions.place n ms)) first;
+      payloads = told.payloads;
+      sessions = told.sessions;
     }
 
 -- ---- why it isn't taken
@@ -130,20 +146,12 @@ arrival_fits a p (Some n) gives = gives.0
 ready_fits : (s : State) (k : ContextsState) (a : Address) (p : PayloadText) (ready : ReadyMessage) → IsReady s k a p ready → PartFits p.record_is p.part
 ready_fits s k a p ready is = arrival_fits a p is.0 is.1
 
--- for want of memory, once it is ready
-pub forgotten : (old : EngineState) (h : HeardText) (w : Whole) (lesson : Option Endpoint) (p : PayloadText) (ready : ReadyMessage) (why : Refused) →
-    payload_of w.bytes ≡ Some p → IsReady (met old.groups.collective old.groups.contexts lesson) old.groups.contexts (address_of h.source w) p ready →
-    why ≡ refusals.OutOfMemory → WhyUnnoticed old h w why
-forgotten old h w lesson p ready why read made is =
-    subst (λ (r : Refused). WhyUnnoticed old h w r) (sym is)
-    (p, read, ready_fits (met old.groups.collective old.groups.contexts lesson) old.groups.contexts (address_of h.source w) p ready made)
-
 -- its step is stopped
-pub stopped : (old : EngineState) (h : HeardText) (w : Whole) (lesson : Option Endpoint) (p : PayloadText) (ready : ReadyMessage) (ns : List Numbers) (why : Refused) → lesson ≡ lesson_in h →
+pub stopped : (old : EngineState) (h : HeardText) (w : Whole) (lesson : Option Endpoint) (p : PayloadText) (ready : ReadyMessage) (why : Refused) → lesson ≡ lesson_in h →
     payload_of w.bytes ≡ Some p → IsReady (met old.groups.collective old.groups.contexts lesson) old.groups.contexts (address_of h.source w) p ready →
-    ns ≡ numbers_met old.core h → StepStops (step_limit old.sessions ns (Some h) ready.step.messages) why → WhyUnnoticed old h w why
-stopped old h w lesson p ready ns why taught read is first stops =
-    go why (subst (λ (n : List Numbers). StepStops (step_limit old.sessions n (Some h) ready.step.messages) why) first stops)
+    StepStops (step_limit old.sessions (numbers_met old.core h) (Some h) ready.step.messages) why → WhyUnnoticed old h w why
+stopped old h w lesson p ready why taught read is stops =
+    go why stops
     (subst (λ (l : Option Endpoint). IsReady (met old.groups.collective old.groups.contexts l) old.groups.contexts (address_of h.source w) p ready) taught is)
   where
     go : (r : Refused) → StepStops (step_limit old.sessions (numbers_met old.core h) (Some h) ready.step.messages) r → IsReady (met_by old h) old.groups.contexts (address_of h.source w) p ready →

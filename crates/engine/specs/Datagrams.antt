@@ -1,6 +1,7 @@
 -- What a datagram does to the engine: what is heard in it, all of its parts take in.
 use Rattle.std.specs.Prelude.{◌≡◌, ◌⊎◌, ℕ, Bool, true, false, is_some, List, [], ◌∷◌, Option, Some, None, Result, Ok, Err, if◌then◌else◌, map, slice_index}
 use Rattle.collective_notes.specs.declared.address.Address.{Address}
+use Rattle.collective_notes.specs.declared.message.Message.{Message}
 use Rattle.collective_notes.specs.declared.refused.Refused.TheVariants as notes
 use Rattle.collective_transfers.specs.Payloads.{Announced, Coming, Whole}
 use Rattle.collective_transfers.specs.State as payloads
@@ -127,6 +128,15 @@ met_by e h = met e.groups.collective e.groups.contexts (lesson_in h)
 -- the numbers of the sessions' transfers then: with a lesson those of its session start anew
 abbrev pub numbers_met : CoreState → HeardText → List Numbers
 numbers_met c h = (transfers_met h.lesson c.transfers h.source.rank).numbers
+
+-- What is heard is taken in without its frame, and the others are told by these messages: each can go, they are sent or announced,
+-- and the payloads of those that are announced are kept behind the others
+pub record IsTold (c : CoreState) (p : payloads.State) (s : SessionsState) (h : HeardText) (ms : List Message) (c2 : CoreState) (p2 : payloads.State) (s2 : SessionsState) : Type 0 where
+  pub whole : AreWhole ms
+  pub goes : step_limit s (numbers_met c h) (Some h) ms ≡ None
+  pub core : c2 ≡ with_numbers (after_news c (lesson_alone h)) (step_numbers (numbers_met c h) ms)
+  pub payloads : p2 ≡ after_announcing (payloads_met p (lesson_in h)) (step_payloads (numbers_met c h) ms)
+  pub sessions : s2 ≡ after_event s (Some h) (step_sendings s.place (numbers_met c h) ms)
 
 -- A message of a collective is taken in: it is read, the rank does of itself what follows, and the others are told; what is too
 -- long for a frame is announced to them, and kept behind these payloads

@@ -6,6 +6,9 @@ ghost use Rattle.collective_transfers.specs.State.{after_answer, announced_to};
 ghost use Rattle.datagram.specs.Spelling.{clear_text, request_text};
 ghost use Rattle.rank_calls.specs.Hearing.{framed};
 ghost use Rattle.rank_calls.specs.Refusals.{IsRefusal};
+ghost use Rattle.rank_core.specs.CoreState.{with_numbers};
+ghost use Rattle.rank_core.specs.Hearing.{after_news};
+ghost use Rattle.rendezvous.specs.State.{with_announced};
 ghost use Rattle.sessions.specs.Heard.{heard_text, CanHear};
 ghost use Rattle.sessions.specs.Events.{AreFor, CanSend, Sending, after_event, event_limit, most_answers, sendings};
 ghost use Rattle.vocabulary.specs.Limits.{send_limit};
@@ -13,7 +16,7 @@ ghost use Rattle.engine_parts.specs.EngineState.{or_before};
 ghost use Rattle.engine_parts.specs.Frames.{outgoing_of};
 ghost use Rattle.engine_parts.specs.Refusals.{fault_of_sessions};
 ghost use Rattle.engine_parts.specs.Steps.{engine_held};
-ghost use Rattle.engine.specs.Datagrams.{AnnouncementGives, announcement_fault, answer_fault, answer_to, coming_by, data_for, data_sent};
+ghost use Rattle.engine.specs.Datagrams.{AnnouncementGives, announcement_fault, answer_fault, answer_to, coming_by, data_for, data_sent, lesson_alone, numbers_met};
 
 use crate::notices::{forget, learn, lesson_in, numbers_met};
 use collective_transfers::{CollectiveTransfers, ComingPayload};
@@ -131,6 +134,40 @@ fn make_place(
     }
 }
 
+/// The core and the sessions take in the announcement of a payload, which breaks no rule and meets no limit: it is counted, and the
+/// answer to it is sent; or there is no memory (14), and nothing changes.
+fn count_and_answer(
+    core: &mut Core,
+    sessions: &mut Sessions,
+    heard: Heard<'_>,
+    request: RequestToSend,
+) -> Result<(), Refused>
+    requires can { CanHear sessions.old (Some (heard_text heard)) }
+    requires there { heard.source.rank < sessions.old.place.size }
+    requires allowed { announcement_fault core.old.state sessions.old (heard_text heard) (request_text request) ≡ None }
+    ensures core { OnOk result (core.new.state ≡ with_numbers (after_news core.old.state (lesson_alone (heard_text heard.entry))) (with_announced (numbers_met core.old.state (heard_text heard.entry)) heard.entry.source.rank)) }
+    ensures sessions { OnOk result (sessions.new ≡ after_event sessions.old (Some (heard_text heard.entry)) (answer_to (heard_text heard.entry) (request_text request) ∷ [])) }
+    ensures err { IfErr result (λ e. e ≡ Refused.OutOfMemory) }
+    ensures kept { OnErr result (core.new.state ≡ core.old.state) }
+    ensures unchanged { OnErr result (sessions.new ≡ sessions.old) }
+    ensures few { length sessions.new.out ≤ length sessions.old.out + (most_answers (Some (heard_text heard.entry)) + 64) }
+    ensures placed { sessions.new.place ≡ sessions.old.place }
+    ensures core_placed { core.new.state.place ≡ core.old.state.place }
+{
+    let mut numbers = numbers_met(core, heard)?;
+    let news = News {
+        source: heard.source,
+        lesson: heard.lesson,
+        frame: None,
+    };
+    let prepared = core.prepare_news(news)?;
+    send_answer(sessions, heard, request)?;
+    announce(&mut numbers, heard.source.rank, request.transfer);
+    core.take_news(news, prepared);
+    core.set_numbers(numbers);
+    Ok(())
+}
+
 /// Takes in the announcement of a payload: it is counted, it is answered, and its payload begins to come. Answered is with what a
 /// collective ends by its lesson. Refused is 30, 13 and 14; then nothing changes.
 pub(crate) fn take_announcement(
@@ -159,21 +196,15 @@ pub(crate) fn take_announcement(
         return Err(fault);
     }
     let coming = make_place(alloc, payloads, heard, request)?;
-    let news = News {
-        source: heard.source,
-        lesson: heard.lesson,
-        frame: None,
-    };
-    let prepared = core.prepare_news(news)?;
-    let mut numbers = numbers_met(core, heard)?;
-    send_answer(sessions, heard, request)?;
-    announce(&mut numbers, heard.source.rank, request.transfer);
-    core.take_news(news, prepared);
-    core.set_numbers(numbers);
-    let lesson = lesson_in(heard);
-    forget(payloads, lesson);
-    payloads.begin(coming);
-    Ok(learn(communicators, lesson))
+    match count_and_answer(core, sessions, heard, request) {
+        Ok(()) => {
+            let lesson = lesson_in(heard);
+            forget(payloads, lesson);
+            payloads.begin(coming);
+            Ok(learn(communicators, lesson))
+        }
+        Err(refused) => Err(refused),
+    }
 }
 
 /// The frames of pieces of a transfer for a rank; or want of memory (14).

@@ -1,17 +1,19 @@
 //! How a rank takes in messages of collectives, and lessons that end one.
 
-ghost use Rattle.std.specs.Prelude.{◌≡◌, ◌≤◌, ◌+◌, ◌*◌, length, IfErr, IfOk, None, OnErr, Option, Some};
+ghost use Rattle.std.specs.Prelude.{◌≡◌, ◌≤◌, ◌+◌, ◌*◌, All, length, IfErr, IfOk, None, OnErr, OnOk, Option, Some};
+ghost use Rattle.collective_notes.specs.Messages.{IsFitting};
 ghost use Rattle.collectives.specs.Calls.{met};
 ghost use Rattle.collective_steps.specs.declared.step.Ending.{Ending};
 ghost use Rattle.payload.specs.Reading.{payload_of};
 ghost use Rattle.payload.specs.Spelling.{payload_text};
 ghost use Rattle.sessions.specs.Heard.{CanHear, heard_text};
 ghost use Rattle.sessions.specs.Events.{most_answers};
-ghost use Rattle.engine.specs.Datagrams.{IsNoticed, WhyUnnoticed, lesson_in, numbers_met, payloads_met, received};
+ghost use Rattle.engine.specs.Datagrams.{IsNoticed, IsTold, WhyUnnoticed, lesson_in, numbers_met, payloads_met, received};
 ghost use Rattle.engine_parts.specs.EngineState.{or_before};
-ghost use Rattle.engine_parts.specs.Steps.{ending_met, engine_held};
+ghost use Rattle.engine_parts.specs.Frames.{step_limit};
+ghost use Rattle.engine_parts.specs.Steps.{StepStops, ending_met, engine_held};
 
-use collective_notes::Address;
+use collective_notes::{Address, Message};
 use collective_transfers::CollectiveTransfers;
 use collectives::Ending;
 use communicators::Communicators;
@@ -94,7 +96,7 @@ fn read(bytes: &[u8]) -> Result<Payload<'_>, Refused>
 }
 
 /// A payload of a collective that has come, in a frame or in pieces.
-#[derive(Clone, Copy, Debug)]
+#[derive(Clone, Copy)]
 pub struct Received<'a> {
     /// The context of the communicator.
     pub context: u64,
@@ -102,6 +104,50 @@ pub struct Received<'a> {
     pub number: u32,
     /// Its bytes.
     pub bytes: &'a [u8],
+}
+
+/// The core, the payloads and the sessions take in what is heard, without its frame, and the others are told by these messages;
+/// those that are too long for a frame are announced and kept. Refused is 13 and 14; then nothing changes.
+fn tell(
+    alloc: Global,
+    core: &mut Core,
+    payloads: &mut CollectiveTransfers,
+    sessions: &mut Sessions,
+    heard: Heard<'_>,
+    messages: &[Message],
+) -> Result<(), Refused>
+    requires can { CanHear sessions.old (Some (heard_text heard)) }
+    requires fits { All IsFitting messages.now }
+    ensures ok { OnOk result (IsTold core.old.state payloads.old.state sessions.old (heard_text heard.entry) messages.now core.new.state payloads.new.state sessions.new) }
+    ensures err { IfErr result (StepStops (step_limit sessions.old (numbers_met core.old.state (heard_text heard.entry)) (Some (heard_text heard.entry)) messages.now)) }
+    ensures core { OnErr result (core.new.state ≡ core.old.state) }
+    ensures payloads { OnErr result (payloads.new.state ≡ payloads.old.state) }
+    ensures coming { payloads.old.more_coming ≤ payloads.new.more_coming }
+    ensures sessions { OnErr result (sessions.new ≡ sessions.old) }
+    ensures few { length sessions.new.out ≤ length sessions.old.out + (most_answers (Some (heard_text heard.entry)) + 64 * sessions.old.place.size) }
+    ensures placed { sessions.new.place ≡ sessions.old.place }
+    ensures core_placed { core.new.state.place ≡ core.old.state.place }
+{
+    let mut numbers = numbers_met(core, heard)?;
+    let news = News {
+        source: heard.source,
+        lesson: heard.lesson,
+        frame: None,
+    };
+    let prepared = core.prepare_news(news)?;
+    let announced = send_step(
+        alloc,
+        payloads,
+        sessions,
+        Some(heard),
+        messages,
+        &mut numbers,
+    )?;
+    core.take_news(news, prepared);
+    core.set_numbers(numbers);
+    forget(payloads, lesson_in(heard));
+    payloads.announce(announced);
+    Ok(())
 }
 
 /// Takes in a message of a collective: it is read and made ready with all that follows, the others are told, and only then
@@ -142,26 +188,15 @@ pub(crate) fn take_message(
         Ok(ready) => ready,
         Err(refused) => return Err(of_collectives(refused)),
     };
-    let news = News {
-        source: heard.source,
-        lesson: heard.lesson,
-        frame: None,
-    };
-    let prepared = core.prepare_news(news)?;
-    let mut numbers = numbers_met(core, heard)?;
-    let announced = send_step(
-        alloc,
-        payloads,
-        sessions,
-        Some(heard),
-        ready.messages(),
-        &mut numbers,
-    )?;
-    core.take_news(news, prepared);
-    core.set_numbers(numbers);
-    forget(payloads, lesson);
-    payloads.announce(announced);
-    let replaced = learn(communicators, lesson);
-    let left = communicators.on_message(ready);
-    Ok(or_before(left, replaced))
+    match tell(alloc, core, payloads, sessions, heard, ready.messages()) {
+        Ok(()) => {
+            let replaced = learn(communicators, lesson);
+            let left = communicators.on_message(ready);
+            Ok(or_before(left, replaced))
+        }
+        Err(refused) => {
+            drop(ready);
+            Err(refused)
+        }
+    }
 }

@@ -10,7 +10,7 @@ use datagram::{ClearToSend, Data, Eager, Frame, Plane, RequestToSend};
 use sessions::{Heard, Word};
 
 /// What concerns a collective.
-#[derive(Clone, Copy, Debug)]
+#[derive(Clone, Copy)]
 pub enum Notice<'a> {
     /// A message whose payload stands in a frame.
     Message(Eager<'a>),

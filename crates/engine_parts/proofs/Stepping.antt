@@ -40,20 +40,15 @@ more_chosen r ws i d within =
     ap (filter (λ (f : Sending). f.rank == r)) (map_more written ws i d within)
     ∙ filter-append (λ (f : Sending). f.rank == r) (map written (take i ws)) (written (get_or ws i d) ∷ [])
 
--- one for the rank
-pub chosen_more : (r : ℕ) (ws : List Written) (i : ℕ) (d : Written) → i < length ws → ((get_or ws i d).target == r) ≡ true →
-    filter (λ (f : Sending). f.rank == r) (map written (take (i + 1) ws))
-    ≡ filter (λ (f : Sending). f.rank == r) (map written (take i ws)) ++ written (get_or ws i d) ∷ []
-chosen_more r ws i d within is =
-    more_chosen r ws i d within
-    ∙ ap (λ (t : Bool). filter (λ (f : Sending). f.rank == r) (map written (take i ws)) ++ cond t (written (get_or ws i d) ∷ []) []) is
-
--- one for another rank
-pub passed_over : (r : ℕ) (ws : List Written) (i : ℕ) (d : Written) → i < length ws → ((get_or ws i d).target == r) ≡ false →
-    filter (λ (f : Sending). f.rank == r) (map written (take (i + 1) ws)) ≡ filter (λ (f : Sending). f.rank == r) (map written (take i ws)) ++ []
-passed_over r ws i d within is =
-    more_chosen r ws i d within
-    ∙ ap (λ (t : Bool). filter (λ (f : Sending). f.rank == r) (map written (take i ws)) ++ cond t (written (get_or ws i d) ∷ []) []) is
+-- the next one is put behind those that were chosen, if it is chosen
+pub one_chosen : (r : ℕ) (ws : List Written) (i : ℕ) (d : Written) (old before after : List Sending) → i < length ws →
+    before ≡ old ++ filter (λ (f : Sending). f.rank == r) (map written (take i ws)) →
+    after ≡ before ++ filter (λ (f : Sending). f.rank == r) (written (get_or ws i d) ∷ []) →
+    after ≡ old ++ filter (λ (f : Sending). f.rank == r) (map written (take (i + 1) ws))
+one_chosen r ws i d old before after within was is =
+    let next : List Sending = filter (λ (f : Sending). f.rank == r) (written (get_or ws i d) ∷ []) in
+    is ∙ ap (λ (t : List Sending). t ++ next) was ∙ append_assoc old (filter (λ (f : Sending). f.rank == r) (map written (take i ws))) next
+    ∙ ap (λ (t : List Sending). old ++ t) (sym (more_chosen r ws i d within))
 
 pub by_rank_more : (k : ℕ) (fs : List Sending) → by_rank (k + 1) fs ≡ by_rank k fs ++ filter (λ (f : Sending). f.rank == k) fs
 by_rank_more k fs =

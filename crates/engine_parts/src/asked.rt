@@ -14,7 +14,7 @@ use vocabulary::Source;
 
 /// What the core is asked by a call: in the context of its communicator, with ranks of `world`; and of a call of point to
 /// point what it named.
-#[derive(Debug, Drop)]
+#[derive(Drop)]
 pub struct Asked {
     /// The communicator that it named.
     pub comm: Option<usize>,

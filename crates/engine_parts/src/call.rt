@@ -9,7 +9,7 @@ use std::alloc::{AllocError, Global};
 use vocabulary::Source;
 
 /// A standard send (MPI 3.1, 3.4 and 3.7.2).
-#[derive(Debug, Drop)]
+#[derive(Drop)]
 pub struct Send {
     /// The communicator, by its place among those that the rank holds: `world` has place 0, `self` place 1. `None` is
     /// MPI_COMM_NULL, which is refused (6.4).
@@ -23,7 +23,7 @@ pub struct Send {
 }
 
 /// A receive (MPI 3.1, 3.2.4 and 3.7.2).
-#[derive(Debug, Drop)]
+#[derive(Drop)]
 pub struct Receive {
     /// The communicator, by its place among those that the rank holds; `None` is MPI_COMM_NULL.
     pub comm: Option<usize>,
@@ -37,7 +37,7 @@ pub struct Receive {
 
 /// What a program may ask of its rank. Where a request is named, none is the null request; where a communicator is, none is
 /// MPI_COMM_NULL.
-#[derive(Debug, Drop)]
+#[derive(Drop)]
 pub enum Call {
     /// Starts a send.
     Isend(Send),

@@ -24,7 +24,7 @@ use std::alloc::Global;
 use vocabulary::{BasicType, EAGER_LIMIT, HIGHEST_TAG, SEND_LIMIT};
 
 /// What goes in the frame of a message.
-#[derive(Debug, Drop)]
+#[derive(Drop)]
 pub enum Part {
     /// The bytes that spell what it says.
     Whole(Vec<u8>),
@@ -33,7 +33,7 @@ pub enum Part {
 }
 
 /// A message of a collective, written out.
-#[derive(Debug, Drop)]
+#[derive(Drop)]
 pub struct Written {
     /// The rank that it goes to.
     pub target: u16,
@@ -176,7 +176,7 @@ fn add_message(
 }
 
 /// The messages of a step, written out, and the payloads that are announced.
-#[derive(Debug, Drop)]
+#[derive(Drop)]
 pub struct WrittenStep {
     /// The messages, in order.
     pub frames: Vec<Written>,
@@ -231,8 +231,25 @@ fn frame_of(message: &Written) -> Outgoing<'_>
     }
 }
 
+/// Puts the frame of a message behind these, if it goes to this rank.
+fn add_if_for<'a>(
+    rank: u16,
+    message: &'a Written,
+    frames: &mut Vec<Outgoing<'a>>,
+) -> Result<(), Refused>
+    ensures ok { OnOk result (sendings frames.new.items ≡ sendings frames.old.items ++ filter (λ f. f.rank == rank) (written message.now ∷ [])) }
+    ensures err { IfErr result (λ e. e ≡ Refused.OutOfMemory) }
+{
+    if message.target != rank {
+        return Ok(());
+    }
+    match frames.push(frame_of(message)) {
+        Ok(()) => Ok(()),
+        Err(_) => Err(Refused::OutOfMemory),
+    }
+}
+
 /// Puts the frames of those messages behind these that go to this rank.
-#[tactic(auto, using(crate::proofs::Stepping::chosen_more, crate::proofs::Stepping::passed_over))]
 fn add_for<'a>(
     rank: u16,
     messages: &'a [Written],
@@ -242,9 +259,7 @@ fn add_for<'a>(
     ensures err { IfErr result (λ e. e ≡ Refused.OutOfMemory) }
 {
     for message in messages {
-        if message.target == rank && frames.push(frame_of(message)).is_err() {
-            return Err(Refused::OutOfMemory);
-        }
+        add_if_for(rank, message, frames)?;
     }
     Ok(())
 }

@@ -23,7 +23,7 @@ use sessions::Sessions;
 use vocabulary::Source;
 
 /// A call, with the first rule or limit that it meets.
-#[derive(Debug, Drop)]
+#[derive(Drop)]
 pub struct Judged {
     /// The first rule or limit that it meets, whatever memory there is.
     pub fault: Option<Refused>,

@@ -7,7 +7,7 @@ use rank_core::Refused;
 use requests::{Answer, Request};
 
 /// The answer to a question about a communicator (MPI 3.1, 6.4.1).
-#[derive(Debug, Drop)]
+#[derive(Drop)]
 pub enum Fact {
     /// A rank, or a number of members. A rank that is no member has the number of members (our own).
     Number(usize),
@@ -18,7 +18,7 @@ pub enum Fact {
 }
 
 /// What a call answers.
-#[derive(Debug, Drop)]
+#[derive(Drop)]
 pub enum Reply {
     /// The operation is started under this request.
     Started(Request),
@@ -39,7 +39,7 @@ pub enum Reply {
 }
 
 /// The answer of a call that was blocked.
-#[derive(Debug, Drop)]
+#[derive(Drop)]
 pub enum Completion {
     /// Of requests.
     Requests(Answer),

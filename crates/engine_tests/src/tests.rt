@@ -1,44 +1,104 @@
 //! Worked rows of one rank and of two. Helpers take engines by `&mut` and answer plain values, or nothing where a step
 //! failed; a test makes the engines, calls one helper and compares.
 
+use crate::steps::{copies, deliver, rank_of_two, two_ranks};
 use datatypes::Buffer;
-use engine::{Call, Completion, Engine, Place, Receive, Refused, Reply, Send, Session};
-use requests::{Answer, Outcome, Region, Request, RequestList};
+use engine::{Call, Completion, Engine, Receive, Refused, Reply, Send, Session};
+use requests::{Answer, Outcome, Region, Request};
 use std::alloc::Global;
-use vocabulary::{BasicType, Endpoint, Source};
+use vocabulary::{BasicType, Source};
 
-fn rank_of_two(alloc: Global, rank: u16, incarnation: u16) -> Result<Engine, Refused> {
-    let place = Place {
-        endpoint: Endpoint { rank, incarnation },
-        size: 2,
-        job: 1,
-    };
-    Engine::new(alloc, place)
+/// What a reply or a completion says, without the memory that it owns.
+#[derive(Clone, Copy)]
+enum Said {
+    Started(Request),
+    Blocked,
+    Pending,
+    Accepted,
+    /// The number of a refusal.
+    Refused(u8),
+    Sent,
+    /// How many elements a receive got.
+    Received(u64),
+    /// A receive's source was started anew, and its buffer came back.
+    Replaced,
+    Cancelled,
+    /// A send at this place of a list has ended.
+    SentAt(usize),
+    /// So many requests have ended.
+    All(usize),
+    Other,
 }
 
-fn add_rank(alloc: Global, ranks: &mut Vec<Engine>, rank: u16, incarnation: u16) -> Option<()> {
-    ranks.push(rank_of_two(alloc, rank, incarnation).ok()?).ok()
+fn said_by_outcome(outcome: &Outcome) -> Said {
+    match outcome {
+        Outcome::Sent => Said::Sent,
+        Outcome::Received(status, _buffer) => Said::Received(status.count),
+        Outcome::Replaced(Some(_buffer)) => Said::Replaced,
+        Outcome::Cancelled(_buffer) => Said::Cancelled,
+        _ => Said::Other,
+    }
 }
 
-/// Ranks 0 and 1 at these incarnations.
-fn two_ranks(alloc: Global, first: u16, second: u16) -> Option<Vec<Engine>> {
-    let mut ranks = Vec::new(alloc);
-    add_rank(alloc, &mut ranks, 0, first)?;
-    add_rank(alloc, &mut ranks, 1, second)?;
-    Some(ranks)
+fn said_by_answer(answer: &Answer) -> Said {
+    match answer {
+        Answer::One(outcome) => said_by_outcome(outcome),
+        Answer::Index(place, Outcome::Sent) => Said::SentAt(*place),
+        Answer::All(outcomes) => Said::All(outcomes.as_slice().len()),
+        _ => Said::Other,
+    }
 }
 
-fn copies(alloc: Global, number: u8, count: usize) -> Option<Buffer> {
-    let mut elements = Buffer::new(alloc, BasicType::Uint8);
-    elements.push_copies(u64::from(number), count).ok()?;
-    Some(elements)
-}
-
-fn started(reply: Reply) -> Option<Request> {
+fn said_by_reply(reply: &Reply) -> Said {
     match reply {
-        Reply::Started(request) => Some(request),
+        Reply::Started(request) => Said::Started(*request),
+        Reply::Done(answer) => said_by_answer(answer),
+        Reply::Pending => Said::Pending,
+        Reply::Accepted => Said::Accepted,
+        Reply::Blocked => Said::Blocked,
+        Reply::Refused(refused, _call) => Said::Refused(refused.number()),
+        _ => Said::Other,
+    }
+}
+
+/// What a call is answered. The reply is dropped in generic code: in place its drop would be followed anew.
+fn ask(engine: &mut Engine, call: Call) -> Said {
+    let reply = engine.call(call);
+    let said = said_by_reply(&reply);
+    drop(reply);
+    said
+}
+
+/// The answer of a call on requests that was blocked.
+fn completed(engine: &mut Engine) -> Said {
+    let completion = engine.take_completion();
+    let said = match &completion {
+        Some(Completion::Requests(answer)) => said_by_answer(answer),
+        _ => Said::Other,
+    };
+    drop(completion);
+    said
+}
+
+fn started(said: Said) -> Option<Request> {
+    match said {
+        Said::Started(request) => Some(request),
         _ => None,
     }
+}
+
+fn received_count(said: Said) -> Option<u64> {
+    match said {
+        Said::Received(count) => Some(count),
+        _ => None,
+    }
+}
+
+/// A copy of the call, in place of it.
+fn copied(alloc: Global, call: Call) -> Option<Call> {
+    let copy = call.try_clone(alloc).ok();
+    drop(call);
+    copy
 }
 
 fn start_send(alloc: Global, engine: &mut Engine) -> Option<Request> {
@@ -48,7 +108,7 @@ fn start_send(alloc: Global, engine: &mut Engine) -> Option<Request> {
         tag: Some(3),
         from: Region::whole(copies(alloc, 7, 1)?),
     });
-    started(engine.call(call.try_clone(alloc).ok()?))
+    started(ask(engine, copied(alloc, call)?))
 }
 
 fn start_receive(alloc: Global, engine: &mut Engine, source: Source) -> Option<Request> {
@@ -58,7 +118,7 @@ fn start_receive(alloc: Global, engine: &mut Engine, source: Source) -> Option<R
         tag: None,
         into: Region::whole(copies(alloc, 0, 2)?),
     });
-    started(engine.call(call))
+    started(ask(engine, call))
 }
 
 /// A send of rank 0 to itself, of no elements.
@@ -71,23 +131,12 @@ fn send_to_itself(alloc: Global) -> Call {
     })
 }
 
-/// Each datagram that one engine emitted comes to another.
-fn deliver(from: &mut Engine, to: &mut Engine) -> Option<()> {
-    for (_target, bytes) in from.take_out() {
-        to.on_datagram(bytes.as_slice()).ok()?;
-    }
-    Some(())
-}
-
-fn is_stale(engine: &mut Engine, bytes: &[u8]) -> bool {
-    matches!(engine.on_datagram(bytes), Err(Refused::StaleTarget))
-}
-
 /// How many datagrams were refused as ones for a former incarnation.
 fn stale_count(from: &mut Engine, to: &mut Engine) -> usize {
     let mut refused = 0usize;
-    for (_target, bytes) in from.take_out() {
-        if is_stale(to, bytes.as_slice()) {
+    let emitted = from.take_out();
+    for (_target, bytes) in emitted.as_slice() {
+        if to.on_datagram(bytes.as_slice()).err() == Some(Refused::StaleTarget) {
             refused = refused.wrapping_add(1);
         }
     }
@@ -96,48 +145,28 @@ fn stale_count(from: &mut Engine, to: &mut Engine) -> usize {
 
 /// Each datagram comes twice.
 fn deliver_twice(from: &mut Engine, to: &mut Engine) -> Option<()> {
-    for (_target, bytes) in from.take_out() {
+    let emitted = from.take_out();
+    for (_target, bytes) in emitted.as_slice() {
         to.on_datagram(bytes.as_slice()).ok()?;
         to.on_datagram(bytes.as_slice()).ok()?;
     }
     Some(())
 }
 
-/// The answer of a call on requests that was blocked.
-fn completed(engine: &mut Engine) -> Option<Answer> {
-    match engine.take_completion() {
-        Some(Completion::Requests(answer)) => Some(answer),
-        _ => None,
-    }
+/// How many datagrams an engine emitted.
+fn emitted_count(engine: &mut Engine) -> usize {
+    let emitted = engine.take_out();
+    emitted.len()
 }
 
-fn received_count(answer: Option<Answer>) -> Option<u64> {
-    match answer {
-        Some(Answer::One(Outcome::Received(status, _buffer))) => Some(status.count),
-        _ => None,
-    }
-}
-
-fn is_replaced(answer: Option<Answer>) -> bool {
-    match answer {
-        Some(Answer::One(Outcome::Replaced(Some(_buffer)))) => true,
-        _ => false,
-    }
-}
-
-fn done_count(reply: Reply) -> Option<u64> {
-    match reply {
-        Reply::Done(answer) => received_count(Some(answer)),
-        _ => None,
-    }
+/// Whether a call is not answered at once.
+fn is_blocked_by(engine: &mut Engine, call: Call) -> bool {
+    matches!(ask(engine, call), Said::Blocked)
 }
 
 /// Whether a wait for the request is not answered at once.
 fn is_blocked(engine: &mut Engine, request: Request) -> bool {
-    match engine.call(Call::Wait(Some(request))) {
-        Reply::Blocked => true,
-        _ => false,
-    }
+    is_blocked_by(engine, Call::Wait(Some(request)))
 }
 
 fn incarnation_of(session: Option<Session>) -> Option<u16> {
@@ -177,13 +206,19 @@ fn a_message_goes_through(rt: HostRuntime) {
 }
 
 /// The rank, whether its session is clean, and how a tick back in time is refused.
-fn clock(alloc: Global) -> Option<(u16, bool, bool, Option<u8>)> {
-    let mut engine = rank_of_two(alloc, 1, 0).ok()?;
+fn go_back(engine: &mut Engine) -> (u16, bool, bool, Option<u8>) {
     let rank = engine.place().endpoint.rank;
     let clean = is_clean(engine.session(0));
     let ticked = engine.tick(20).is_ok();
     let back = engine.tick(19).err().map(Refused::number);
-    Some((rank, clean, ticked, back))
+    (rank, clean, ticked, back)
+}
+
+fn clock(alloc: Global) -> Option<(u16, bool, bool, Option<u8>)> {
+    let mut engine = rank_of_two(alloc, 1, 0).ok()?;
+    let told = go_back(&mut engine);
+    drop(engine);
+    Some(told)
 }
 
 #[test]
@@ -204,8 +239,8 @@ fn learn_by_message(
     let blocked = is_blocked(receiver, named);
     deliver(sender, receiver)?;
     deliver(receiver, sender)?;
-    let replaced = is_replaced(completed(receiver));
-    let count = done_count(receiver.call(Call::Wait(Some(any))));
+    let replaced = matches!(completed(receiver), Said::Replaced);
+    let count = received_count(ask(receiver, Call::Wait(Some(any))));
     let incarnation = incarnation_of(receiver.session(0));
     Some((blocked, replaced, count, incarnation, sender.is_idle()))
 }
@@ -240,7 +275,7 @@ fn learn_by_reset(
     let clean = is_clean(sender.session(1));
     let _second = start_send(alloc, sender)?;
     deliver(sender, restarted)?;
-    Some((stale, incarnation, clean, restarted.take_out().len()))
+    Some((stale, incarnation, clean, emitted_count(restarted)))
 }
 
 fn reset(alloc: Global) -> Option<(usize, Option<u16>, bool, usize)> {
@@ -260,22 +295,15 @@ fn a_reset_teaches_a_sender(rt: HostRuntime) {
 fn start_sends_to_itself(alloc: Global, engine: &mut Engine, count: u32) -> Option<Request> {
     let mut last = None;
     for _number in 0..count {
-        last = Some(started(engine.call(send_to_itself(alloc)))?);
+        last = Some(started(ask(engine, send_to_itself(alloc)))?);
     }
     last
 }
 
-fn number_of_refusal(reply: Reply) -> Option<u8> {
-    match reply {
-        Reply::Refused(refused, _call) => Some(refused.number()),
+fn number_of_refusal(said: Said) -> Option<u8> {
+    match said {
+        Said::Refused(number) => Some(number),
         _ => None,
-    }
-}
-
-fn is_sent(reply: Reply) -> bool {
-    match reply {
-        Reply::Done(Answer::One(Outcome::Sent)) => true,
-        _ => false,
     }
 }
 
@@ -283,134 +311,22 @@ fn is_sent(reply: Reply) -> bool {
 /// of the next one then.
 fn reach_the_limit(alloc: Global, engine: &mut Engine) -> Option<(u64, Option<u8>, bool, u64)> {
     let last = start_sends_to_itself(alloc, engine, 65_536)?;
-    let refused = number_of_refusal(engine.call(send_to_itself(alloc)));
-    let ended = is_sent(engine.call(Call::Wait(Some(last))));
-    let next = started(engine.call(send_to_itself(alloc)))?;
+    let refused = number_of_refusal(ask(engine, send_to_itself(alloc)));
+    let ended = matches!(ask(engine, Call::Wait(Some(last))), Said::Sent);
+    let next = started(ask(engine, send_to_itself(alloc)))?;
     Some((last.serial, refused, ended, next.serial))
 }
 
 fn limit(alloc: Global) -> Option<(u64, Option<u8>, bool, u64)> {
     let mut engine = rank_of_two(alloc, 0, 0).ok()?;
-    reach_the_limit(alloc, &mut engine)
+    let told = reach_the_limit(alloc, &mut engine);
+    drop(engine);
+    told
 }
 
 #[test]
 fn a_rank_has_65536_requests_at_one_time(rt: HostRuntime) {
     assert_eq!(rt; limit(rt.alloc()), Some((65_535, Some(13), true, 65_536)));
-}
-
-fn list_of(alloc: Global, first: Request, second: Request) -> Option<RequestList> {
-    let requests = vec![in alloc; Some(first), None, Some(second)].ok()?;
-    RequestList::new(alloc, requests).ok()
-}
-
-/// The place that a wait for any answers, if a send has ended there.
-fn place_of_sent(reply: Reply) -> Option<usize> {
-    match reply {
-        Reply::Done(Answer::Index(place, Outcome::Sent)) => Some(place),
-        _ => None,
-    }
-}
-
-/// How many outcomes a wait for all answers.
-fn outcome_count(answer: Option<Answer>) -> Option<usize> {
-    match answer {
-        Some(Answer::All(outcomes)) => Some(outcomes.as_slice().len()),
-        _ => None,
-    }
-}
-
-fn is_pending(engine: &mut Engine, request: Request) -> bool {
-    match engine.call(Call::Test(Some(request))) {
-        Reply::Pending => true,
-        _ => false,
-    }
-}
-
-fn is_accepted(reply: Reply) -> bool {
-    match reply {
-        Reply::Accepted => true,
-        _ => false,
-    }
-}
-
-fn is_cancelled(answer: Option<Answer>) -> bool {
-    match answer {
-        Some(Answer::One(Outcome::Cancelled(_buffer))) => true,
-        _ => false,
-    }
-}
-
-fn done(reply: Reply) -> Option<Answer> {
-    match reply {
-        Reply::Done(answer) => Some(answer),
-        _ => None,
-    }
-}
-
-/// Whether a receive is unfinished at first, a cancel of it is taken, and it is cancelled then.
-fn cancel(alloc: Global) -> Option<(bool, bool, bool)> {
-    let mut engine = rank_of_two(alloc, 0, 0).ok()?;
-    let receive = start_receive(alloc, &mut engine, Source::Any)?;
-    let pending = is_pending(&mut engine, receive);
-    let accepted = is_accepted(engine.call(Call::Cancel(Some(receive))));
-    let answer = done(engine.call(Call::Test(Some(receive))));
-    Some((pending, accepted, is_cancelled(answer)))
-}
-
-#[test]
-fn a_receive_is_tested_and_cancelled(rt: HostRuntime) {
-    assert_eq!(rt; cancel(rt.alloc()), Some((true, true, true)));
-}
-
-/// Where a send is the only one of a list that is finished, and how many outcomes a wait for two receives has once both
-/// messages came.
-fn wait_for_several(
-    alloc: Global,
-    sender: &mut Engine,
-    receiver: &mut Engine,
-) -> Option<(Option<usize>, Option<usize>)> {
-    let first = start_receive(alloc, receiver, Source::Any)?;
-    let second = start_receive(alloc, receiver, Source::Rank(0))?;
-    let sent = started(receiver.call(send_to_nobody(alloc)))?;
-    let place = place_of_sent(receiver.call(Call::Waitany(list_of(alloc, first, sent)?)));
-    if !is_blocked_by(receiver, Call::Waitall(list_of(alloc, second, first)?)) {
-        return None;
-    }
-    let _first = start_send(alloc, sender)?;
-    deliver(sender, receiver)?;
-    let _second = start_send(alloc, sender)?;
-    deliver(sender, receiver)?;
-    Some((place, outcome_count(completed(receiver))))
-}
-
-fn send_to_nobody(alloc: Global) -> Call {
-    Call::Isend(Send {
-        comm: Some(0),
-        target: Source::Null,
-        tag: Some(3),
-        from: Region::whole(Buffer::new(alloc, BasicType::Uint8)),
-    })
-}
-
-fn is_blocked_by(engine: &mut Engine, call: Call) -> bool {
-    match engine.call(call) {
-        Reply::Blocked => true,
-        _ => false,
-    }
-}
-
-fn several(alloc: Global) -> Option<(Option<usize>, Option<usize>)> {
-    let mut ranks = two_ranks(alloc, 0, 0)?;
-    match ranks.as_mut_slice() {
-        [sender, receiver] => wait_for_several(alloc, sender, receiver),
-        _ => None,
-    }
-}
-
-#[test]
-fn several_requests_are_waited_for(rt: HostRuntime) {
-    assert_eq!(rt; several(rt.alloc()), Some((Some(2), Some(3))));
 }
 
 #[test]
@@ -466,7 +382,7 @@ fn pass_after_refused(
     if refuse_parts(receiver) != (Some(30), Some(30), Some(30)) {
         return None;
     }
-    let emitted = receiver.take_out().len();
+    let emitted = emitted_count(receiver);
     let (blocked, count, idle) = pass_message(alloc, sender, receiver)?;
     Some((emitted, blocked, count, idle))
 }

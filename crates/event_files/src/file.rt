@@ -9,7 +9,7 @@ use std::marker::Model;
 
 /// What a line asks for. The ranks that it names may be beyond the world's; a rank that 16 bits don't hold stands as the
 /// greatest number that they hold.
-#[derive(Debug, Drop)]
+#[derive(Drop)]
 pub enum Statement {
     /// `R ..`: a rank does something.
     Rank(u16, Action),
@@ -25,7 +25,7 @@ pub enum Statement {
 }
 
 /// A line that isn't skipped, and asks for something.
-#[derive(Debug, Drop)]
+#[derive(Drop)]
 pub struct Line {
     /// The number of the line; the first line is 1, and skipped ones count.
     pub number: usize,
@@ -34,7 +34,7 @@ pub struct Line {
 }
 
 /// Lines, in order. Contracts see them as a list.
-#[derive(Debug, Drop)]
+#[derive(Drop)]
 pub struct Lines {
     items: Vec<Line>,
 }
@@ -81,7 +81,7 @@ impl Lines {
 }
 
 /// A file of events, read whole.
-#[derive(Debug, Drop)]
+#[derive(Drop)]
 pub struct EventFile {
     /// How many ranks the world has: 1 to 256.
     pub size: u16,

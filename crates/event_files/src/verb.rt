@@ -6,7 +6,7 @@ ghost use Rattle.event_files.specs.Reading.{verb_of};
 use line_words::is;
 
 /// The event that a line asks for, by its first word.
-#[derive(Clone, Copy, Debug, PartialEq, Eq)]
+#[derive(Clone, Copy)]
 pub(crate) enum Verb {
     /// `deliver`
     Deliver,

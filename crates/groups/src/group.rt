@@ -19,7 +19,7 @@ use std::marker::Model;
 
 /// A group: an ordered list of world ranks, none of them twice (MPI 3.1, 6.2.1). A member's rank in
 /// the group is its position in the list. Up to 16 members need no allocation.
-#[derive(Debug, Drop)]
+#[derive(Drop)]
 pub struct Group {
     members: SmallVec<u16, INLINE>,
 }

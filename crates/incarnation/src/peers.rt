@@ -13,7 +13,7 @@ use std::marker::Model;
 
 /// The place of a process, and the incarnation at which it knows each rank of its job. Contracts
 /// see it as a `Knowledge`.
-#[derive(Debug, Drop)]
+#[derive(Drop)]
 pub struct Peers {
     place: Place,
     /// The incarnation at which each rank is known, by rank.
@@ -89,11 +89,11 @@ impl Peers {
         if header.job != self.place.job {
             return Err(Refused::ForeignJob);
         }
-        if target.rank != own.rank
-            || target.incarnation > own.incarnation
-            || source.rank == own.rank
-            || source.rank >= self.place.size
-        {
+        let is_for_rank = (target.rank == own.rank)
+            & (target.incarnation <= own.incarnation)
+            & (source.rank != own.rank)
+            & (source.rank < self.place.size);
+        if !is_for_rank {
             return Err(Refused::NotForMe);
         }
         let known = self.known[source.rank as usize];

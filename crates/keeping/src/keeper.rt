@@ -13,7 +13,7 @@ pub enum After {
 }
 
 /// The keeper of a rank: how often it may start its program again.
-#[derive(Clone, Copy, Debug, PartialEq, Eq)]
+#[derive(Clone, Copy)]
 pub struct Keeper {
     /// The restarts that are allowed.
     pub allowed: u16,

@@ -7,7 +7,7 @@ use std::alloc::AllocError;
 
 /// What a keeper reports of its rank: the outputs of its incarnations, one behind the other, and the
 /// last one's status.
-#[derive(Debug, Drop)]
+#[derive(Drop)]
 pub struct Report {
     /// The bytes that the rank's programs wrote to standard output.
     pub output: Vec<u8>,

@@ -1,6 +1,7 @@
 //! What a process of the launcher is to do: launch all ranks, or keep one of them.
 
-ghost use Rattle.std.specs.Prelude.{◌≡◌, ◌≤◌, ℕ, List, Some, IfSome, IfOk, codes};
+ghost use Rattle.std.specs.Prelude.{◌≡◌, ◌≤◌, ◌∷◌, ◌++◌, [], ℕ, List, Some, IfSome, IfOk, OnOk, codes};
+ghost use Rattle.std.specs.Fmt.{decimal};
 ghost use Rattle.std.specs.Str.{bytes_eq};
 ghost use Rattle.keeping.specs.Words.{Word};
 ghost use Rattle.keeping.specs.Roles.{keeper_words, kept_text, kept_of};
@@ -17,7 +18,7 @@ const KEEPER: &[u8] = b"-keeper";
 const GREATEST_RANK: u64 = 255;
 
 /// What a keeper's words say: the rank that it keeps, and the words of the launch.
-#[derive(Clone, Copy, Debug)]
+#[derive(Clone, Copy)]
 pub struct Kept<'a> {
     /// The rank, 0 to 255.
     pub rank: u16,
@@ -31,14 +32,22 @@ fn is_keeper(word: &[u8]) -> bool
     word == KEEPER
 }
 
+/// Adds the word `-keeper` and the rank.
+fn push_rank(alloc: Global, words: &mut Words, rank: u16) -> Result<(), AllocError>
+    ensures { OnOk result (words.new ≡ words.old ++ codes "-keeper" ∷ decimal rank ∷ []) }
+{
+    words.push(Word::from_slice(alloc, KEEPER)?)?;
+    words.push(Word::from_number(alloc, u64::from(rank))?)?;
+    Ok(())
+}
+
 /// The words that start the keeper of a rank in a launch with these words: `-keeper`, the rank, and
 /// the words of the launch. Only want of memory is an error.
 pub fn keeper_words(alloc: Global, rank: u16, words: &[Word]) -> Result<Words, AllocError>
     ensures { IfOk result (λ all. all ≡ keeper_words rank words.now) }
 {
     let mut all = Words::new(alloc);
-    all.push(Word::from_slice(alloc, KEEPER)?)?;
-    all.push(Word::from_number(alloc, u64::from(rank))?)?;
+    push_rank(alloc, &mut all, rank)?;
     all.extend(alloc, words)?;
     Ok(all)
 }

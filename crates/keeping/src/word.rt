@@ -8,7 +8,7 @@ use std::marker::Model;
 
 /// A word: an argument of a program. It is any list of bytes, as a configuration file need not be
 /// UTF-8.
-#[derive(Debug, Drop)]
+#[derive(Drop)]
 pub struct Word {
     bytes: Vec<u8>,
 }

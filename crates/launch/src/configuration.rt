@@ -6,6 +6,7 @@ ghost use Rattle.std.specs.List.{slice_split};
 ghost use Rattle.launch.specs.Configuration.{is_line_end, is_blank, is_comment, goes_on, is_nonempty, words_of, pending, lines_of, sets_of_file};
 ghost use Rattle.launch.specs.Results.{Gives, HasNoFault};
 
+use crate::copies::push_bytes;
 use crate::process_set::ProcessSet;
 use crate::refused::Refused;
 use crate::sets::each_set;
@@ -28,17 +29,25 @@ fn pieces(alloc: Global, line: &[u8]) -> Result<Vec<&[u8]>, AllocError>
         .collect(alloc)
 }
 
+/// Adds the pieces that aren't empty.
+fn push_pieces(alloc: Global, words: &mut Words, pieces: &[&[u8]]) -> Result<(), AllocError>
+    ensures { OnOk result
+        (words.new ≡ words.old ++ filter is_nonempty (map (λ piece. piece.now) pieces.now)) }
+{
+    for piece in pieces {
+        if !piece.is_empty() {
+            push_bytes(alloc, words, piece)?;
+        }
+    }
+    Ok(())
+}
+
 /// Adds the words of the line.
 #[tactic(auto, unfolding(crate::specs::Configuration::words_of))]
 fn push_words(alloc: Global, words: &mut Words, line: &[u8]) -> Result<(), AllocError>
     ensures { OnOk result (words.new ≡ words.old ++ words_of line.now) }
 {
-    for piece in &pieces(alloc, line)? {
-        if !piece.is_empty() {
-            words.push(Word::from_slice(alloc, piece)?)?;
-        }
-    }
-    Ok(())
+    push_pieces(alloc, words, &pieces(alloc, line)?)
 }
 
 fn is_comment(line: &[u8]) -> bool

@@ -6,7 +6,7 @@ ghost use Rattle.launch.specs.Configuration.{is_line_end, is_blank};
 ghost use Rattle.launch.specs.Cuts.{IsCut, IsFirst};
 
 /// The first part of a text that is cut, and what stands behind the first cut.
-#[derive(Clone, Copy, Debug)]
+#[derive(Clone, Copy)]
 pub(crate) struct Cut<'a> {
     /// What stands before the first cut: all of the text where there is no cut.
     pub(crate) part: &'a [u8],

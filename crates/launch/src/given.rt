@@ -12,7 +12,7 @@ use numerals::number_between;
 pub(crate) const BASE_PORT: u16 = 47_000;
 
 /// The values of the own options that were given.
-#[derive(Clone, Copy, Debug)]
+#[derive(Clone, Copy)]
 pub(crate) struct Given {
     /// The number of the job, of `-job`.
     pub(crate) job: Option<u64>,
@@ -38,8 +38,8 @@ impl Given {
     }
 
     /// Whether this option was given.
-    pub(crate) fn has(self, option: OwnOption) -> bool
-        ensures { result ≡ is_given option self }
+    pub(crate) fn has(&self, option: OwnOption) -> bool
+        ensures { result ≡ is_given option self.now }
     {
         match option {
             OwnOption::Job => self.job.is_some(),

@@ -25,7 +25,7 @@ use keeping::Word;
 const MOST_RANKS: u16 = 256;
 
 /// What was read of a configuration file.
-#[derive(Clone, Copy, Debug, PartialEq, Eq)]
+#[derive(Clone, Copy)]
 pub(crate) struct Tally {
     /// How many ranks the sets have that were read whole; 257 where there are more than 256.
     pub(crate) ranks: u16,

@@ -2,6 +2,7 @@
 #![tactic(auto)]
 
 mod configuration;
+mod copies;
 mod cut;
 mod given;
 mod judging;

@@ -14,7 +14,7 @@ use crate::symbol::{Symbol, symbol_of};
 use keeping::Word;
 
 /// The own options, and what stands behind them.
-#[derive(Clone, Copy, Debug)]
+#[derive(Clone, Copy)]
 pub(crate) struct Opening<'a> {
     /// The own options that were given.
     pub(crate) given: Given,

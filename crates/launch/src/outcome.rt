@@ -6,7 +6,7 @@ ghost use Rattle.launch.specs.Statuses.{status_of_outcome};
 use crate::refused::Refused;
 
 /// What became of a launch.
-#[derive(Clone, Copy, Debug, PartialEq, Eq)]
+#[derive(Clone, Copy)]
 pub enum Outcome {
     /// All ranks ended; the lowest one whose last status isn't 0 had this one, or it is 0.
     Ended(u8),

@@ -1,9 +1,10 @@
 //! What is launched.
 
-ghost use Rattle.std.specs.Prelude.{◌≡◌, ◌≤◌, ◌+◌, [], ◌∷◌, ◌++◌, slice_get, IfOk, OnOk};
+ghost use Rattle.std.specs.Prelude.{◌≡◌, ◌≤◌, ◌+◌, [], ◌∷◌, ◌++◌, slice_get, codes, IfOk, OnOk};
 ghost use Rattle.std.specs.Option.{option_copied};
-ghost use Rattle.launch.specs.Launches.{processes, rank_count, launch_with, IsWithinLimits, option_words, words_of_rank};
+ghost use Rattle.launch.specs.Launches.{processes, rank_count, launch_with, IsWithinLimits, option_words, optional_words, words_of_rank};
 
+use crate::copies::push_bytes;
 use crate::given::{BASE_PORT, Given};
 use crate::process_set::ProcessSet;
 use keeping::{Word, Words};
@@ -14,7 +15,7 @@ use std::marker::Model;
 ///
 /// Ranks are numbered from 0 through the sets in their order. A plan has at most 256 ranks, and no
 /// port of a rank is above 65,535.
-#[derive(Debug, Drop)]
+#[derive(Drop)]
 pub struct Plan {
     job: u64,
     base_port: u16,
@@ -56,19 +57,58 @@ fn process_of(sets: &[ProcessSet], rank: u16) -> Option<&ProcessSet>
     None
 }
 
-fn push_bytes(alloc: Global, words: &mut Words, bytes: &[u8]) -> Result<(), AllocError>
-    ensures { OnOk result (words.new ≡ words.old ++ bytes.now ∷ []) }
-{
-    words.push(Word::from_slice(alloc, bytes)?)?;
-    Ok(())
-}
-
 fn push_option(alloc: Global, words: &mut Words, name: &[u8], number: u64) -> Result<(), AllocError>
     ensures { OnOk result (words.new ≡ words.old ++ option_words name.now number) }
 {
     push_bytes(alloc, words, name)?;
     words.push(Word::from_number(alloc, number)?)?;
     Ok(())
+}
+
+/// Adds the rank, the number of ranks and the incarnation.
+fn push_place(
+    alloc: Global,
+    words: &mut Words,
+    rank: u16,
+    size: u16,
+    incarnation: u16,
+) -> Result<(), AllocError>
+    ensures { OnOk result (words.new ≡ words.old
+        ++ option_words (codes "--rank") rank
+        ++ option_words (codes "--size") size
+        ++ option_words (codes "--inc") incarnation) }
+{
+    push_option(alloc, words, b"--rank", u64::from(rank))?;
+    push_option(alloc, words, b"--size", u64::from(size))?;
+    push_option(alloc, words, b"--inc", u64::from(incarnation))
+}
+
+/// Adds the patience, where it was given.
+fn push_patience(alloc: Global, words: &mut Words, patience: Option<u32>) -> Result<(), AllocError>
+    ensures { OnOk result (words.new ≡ words.old ++ optional_words (codes "--patience") patience) }
+{
+    match patience {
+        Some(patience) => push_option(alloc, words, b"--patience", u64::from(patience)),
+        None => Ok(()),
+    }
+}
+
+/// Adds the job, the port, and the patience where it was given.
+fn push_job(
+    alloc: Global,
+    words: &mut Words,
+    job: u64,
+    port: u64,
+    patience: Option<u32>,
+) -> Result<(), AllocError>
+    ensures { OnOk result (words.new ≡ words.old
+        ++ option_words (codes "--job") job
+        ++ option_words (codes "--port") port
+        ++ optional_words (codes "--patience") patience) }
+{
+    push_option(alloc, words, b"--job", job)?;
+    push_option(alloc, words, b"--port", port)?;
+    push_patience(alloc, words, patience)
 }
 
 impl Plan {
@@ -145,15 +185,9 @@ impl Plan {
         };
         let mut words = Words::new(alloc);
         push_bytes(alloc, &mut words, process.program.as_bytes())?;
-        push_option(alloc, &mut words, b"--rank", u64::from(rank))?;
-        push_option(alloc, &mut words, b"--size", u64::from(self.size))?;
-        push_option(alloc, &mut words, b"--inc", u64::from(incarnation))?;
-        push_option(alloc, &mut words, b"--job", self.job)?;
+        push_place(alloc, &mut words, rank, self.size, incarnation)?;
         let port = u64::from(self.base_port) + u64::from(rank);
-        push_option(alloc, &mut words, b"--port", port)?;
-        if let Some(patience) = self.patience {
-            push_option(alloc, &mut words, b"--patience", u64::from(patience))?;
-        }
+        push_job(alloc, &mut words, self.job, port, self.patience)?;
         words.extend(alloc, process.arguments.as_slice())?;
         Ok(Some(words))
     }

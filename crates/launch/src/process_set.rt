@@ -5,13 +5,14 @@ ghost use Rattle.launch.specs.Results.{Gives, GivesExactly};
 ghost use Rattle.launch.specs.Sets.{set_of};
 ghost use Rattle.launch.specs.Judging.{last_count, count_of, IsCounted};
 
+use crate::copies::copied;
 use crate::refused::Refused;
 use crate::stage::Stage;
 use keeping::{Word, Words};
 use std::alloc::Global;
 
 /// What one set of words asks for (MPI 3.1, 8.8): so many processes of a program.
-#[derive(Debug, Drop)]
+#[derive(Drop)]
 pub struct ProcessSet {
     /// The number of its processes, 1 to 256.
     pub count: u16,
@@ -44,11 +45,11 @@ pub(crate) fn set_of(alloc: Global, words: &[Word]) -> Result<ProcessSet, Refuse
     ensures { Gives (λ set. set) result (set_of words.now) }
 {
     let count = count_of(words)?;
-    let mut arguments = Words::new(alloc);
-    arguments.extend(alloc, &words[3..])?;
+    let program = Word::from_slice(alloc, words[2].as_bytes())?;
+    let arguments = copied(alloc, &words[3..])?;
     Ok(ProcessSet {
         count,
-        program: Word::from_slice(alloc, words[2].as_bytes())?,
+        program,
         arguments,
     })
 }

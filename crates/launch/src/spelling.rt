@@ -8,6 +8,7 @@ ghost use Rattle.launch.specs.Configuration.{lines_of};
 ghost use Rattle.launch.specs.Spelling.{sets_behind_colons, sets_joined, spelled_out};
 
 use crate::configuration::lines_of;
+use crate::copies::{copied, push_bytes};
 use crate::opening::name_of;
 use keeping::{Word, Words};
 use std::alloc::{AllocError, Global};
@@ -17,7 +18,7 @@ fn push_others(alloc: Global, words: &mut Words, lines: &[Words]) -> Result<(), 
     ensures { OnOk result (words.new ≡ words.old ++ sets_behind_colons lines.now) }
 {
     for line in lines {
-        words.push(Word::from_slice(alloc, b":")?)?;
+        push_bytes(alloc, words, b":")?;
         words.extend(alloc, line.as_slice())?;
     }
     Ok(())
@@ -34,23 +35,21 @@ fn push_lines(alloc: Global, words: &mut Words, lines: &[Words]) -> Result<(), A
     push_others(alloc, words, others)
 }
 
+/// Adds the words of the sets of a configuration file.
+fn push_sets(alloc: Global, words: &mut Words, bytes: &[u8]) -> Result<(), AllocError>
+    ensures { OnOk result (words.new ≡ words.old ++ sets_joined (lines_of bytes.now)) }
+{
+    push_lines(alloc, words, &lines_of(alloc, bytes)?)
+}
+
 /// The words in front of a configuration file's name and option, and the words of its sets.
 fn with_sets(alloc: Global, words: &[Word], bytes: &[u8]) -> Result<Words, AllocError>
     ensures { IfOk result (λ all.
         all ≡ take (length words.now - 2) words.now ++ sets_joined (lines_of bytes.now)) }
 {
-    let mut all = Words::new(alloc);
     let (own, _) = words.split_at(words.len().saturating_sub(2));
-    all.extend(alloc, own)?;
-    push_lines(alloc, &mut all, &lines_of(alloc, bytes)?)?;
-    Ok(all)
-}
-
-fn copied(alloc: Global, words: &[Word]) -> Result<Words, AllocError>
-    ensures { IfOk result (λ all. all ≡ words.now) }
-{
-    let mut all = Words::new(alloc);
-    all.extend(alloc, words)?;
+    let mut all = copied(alloc, own)?;
+    push_sets(alloc, &mut all, bytes)?;
     Ok(all)
 }
 

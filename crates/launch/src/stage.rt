@@ -15,7 +15,7 @@ const MOST_PROCESSES: u64 = 256;
 const TOO_MANY: u32 = 257;
 
 /// How far the words of a set were read.
-#[derive(Clone, Copy, Debug, PartialEq, Eq)]
+#[derive(Clone, Copy)]
 pub(crate) enum Stage {
     /// No word was read.
     Empty,

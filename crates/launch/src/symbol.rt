@@ -5,7 +5,7 @@ ghost use Rattle.std.specs.Str.{bytes_eq};
 ghost use Rattle.launch.specs.Symbols.{symbol_of, is_left_out, is_separator, least_of, greatest_of};
 
 /// The launcher's own options, which have a value each.
-#[derive(Clone, Copy, Debug, PartialEq, Eq)]
+#[derive(Clone, Copy)]
 pub(crate) enum OwnOption {
     /// `-job`: the job's number.
     Job,
@@ -41,7 +41,7 @@ impl OwnOption {
 }
 
 /// What a word is where an option may stand.
-#[derive(Clone, Copy, Debug, PartialEq, Eq)]
+#[derive(Clone, Copy)]
 pub(crate) enum Symbol {
     /// One of the launcher's own options.
     Own(OwnOption),

@@ -1,8 +1,8 @@
 //! Lines of text, and their words.
 
-ghost use Rattle.std.specs.Prelude.{◌≡◌, map, IfOk};
+ghost use Rattle.std.specs.Prelude.{◌≡◌, ◌++◌, ◌==◌, [], ◌∷◌, map, filter, slice_index, IfOk, OnOk};
 ghost use Rattle.std.specs.List.{slice_split, list_all};
-ghost use Rattle.line_words.specs.Lines.{is_line_end, is_blank, is_text_byte, without_end, lines_of, words_of, is_skipped, said_in};
+ghost use Rattle.line_words.specs.Lines.{is_line_end, is_blank, is_text_byte, is_nonempty, without_end, lines_of, words_of, is_skipped, said_in};
 ghost use Rattle.line_words.specs.Results.{Gives};
 
 use crate::fault::LineError;
@@ -54,17 +54,41 @@ fn is_text(line: &[u8]) -> bool
     true
 }
 
+/// Adds the piece as a word, if there is anything in it.
+fn take_piece(alloc: Global, words: &mut Words, piece: &[u8]) -> Result<(), AllocError>
+    ensures { OnOk result (words.new ≡ words.old ++ filter is_nonempty (piece.now ∷ [])) }
+{
+    if piece.is_empty() {
+        return Ok(());
+    }
+    words.push(Word::from_slice(alloc, piece)?)?;
+    Ok(())
+}
+
+/// The pieces that there is anything in, as words.
+fn words_among(alloc: Global, pieces: &[&[u8]]) -> Result<Words, AllocError>
+    ensures { IfOk result (λ words. words ≡ filter is_nonempty (map (λ piece. piece.now) pieces.now)) }
+{
+    let mut words = Words::new(alloc);
+    for piece in pieces {
+        take_piece(alloc, &mut words, piece)?;
+    }
+    Ok(words)
+}
+
 #[tactic(auto, unfolding(crate::specs::Lines::words_of))]
 fn words_of(alloc: Global, line: &[u8]) -> Result<Words, AllocError>
     ensures { IfOk result (λ words. words ≡ words_of line.now) }
 {
-    let mut words = Words::new(alloc);
-    for piece in &pieces(alloc, line)? {
-        if !piece.is_empty() {
-            words.push(Word::from_slice(alloc, piece)?)?;
-        }
-    }
-    Ok(words)
+    let pieces = pieces(alloc, line)?;
+    words_among(alloc, &pieces)
+}
+
+/// Whether the word begins a comment.
+fn is_comment(word: &[u8]) -> bool
+    ensures { result ≡ (slice_index word.now 0 == 35) }
+{
+    !word.is_empty() && word[0] == b'#'
 }
 
 #[tactic(auto, unfolding(crate::specs::Lines::is_skipped))]
@@ -73,10 +97,7 @@ fn is_skipped(words: &[Word]) -> bool
 {
     match words.split_first() {
         None => true,
-        Some((word, _)) => {
-            let bytes = word.as_bytes();
-            !bytes.is_empty() && bytes[0] == b'#'
-        }
+        Some((word, _)) => is_comment(word.as_bytes()),
     }
 }
 

@@ -16,7 +16,7 @@ const LONGEST: usize = 16;
 
 /// A name that a line gives a buffer, a request or a communicator: a lower-case letter and then at most 15 lower-case
 /// letters or digits, which stand in the value itself. Contracts see it as the list of its bytes.
-#[derive(Debug, Drop)]
+#[derive(Drop)]
 pub struct Name {
     bytes: SmallVec<u8, LONGEST>,
 }

@@ -14,7 +14,7 @@ pub fn is(word: &[u8], name: &[u8]) -> bool
 }
 
 /// A word: bytes without a space among them. Contracts see it as the list of its bytes.
-#[derive(Debug, Drop)]
+#[derive(Drop)]
 pub struct Word {
     bytes: Vec<u8>,
 }
@@ -46,7 +46,7 @@ impl Word {
 }
 
 /// A list of words, in order.
-#[derive(Debug, Drop)]
+#[derive(Drop)]
 pub struct Words {
     items: Vec<Word>,
 }

@@ -19,7 +19,7 @@ use std::marker::Model;
 use vocabulary::OutOfMemory;
 
 /// What a rank has posted and not yet received, and what came and was not yet wanted. The oldest stand first.
-#[derive(Debug, Drop)]
+#[derive(Drop)]
 pub struct Queues {
     posted: VecDeque<Receive>,
     unexpected: VecDeque<Message>,
@@ -40,7 +40,7 @@ impl Model for Queues {
 }
 
 /// What became of a message that came.
-#[derive(Debug, Drop)]
+#[derive(Drop)]
 pub enum Arrival {
     /// The oldest posted receive that accepts the message took it, and is no longer posted.
     Matched(Receive, Message),
@@ -209,12 +209,8 @@ impl Queues {
         ensures state { self.new.state ≡ after_arrival self.old.state message }
         ensures what { result ≡ arrival_of self.old.state message }
     {
-        let found = match place_of_receive(&message, &self.posted) {
-            Some(place) => self.posted.remove(place),
-            None => None,
-        };
-        match found {
-            Some(receive) => Arrival::Matched(receive, message),
+        match place_of_receive(&message, &self.posted) {
+            Some(place) => Arrival::Matched(self.posted.remove(place).unwrap(), message),
             None => {
                 self.unexpected.push_back_reserved(message);
                 Arrival::Kept

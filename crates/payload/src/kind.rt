@@ -4,7 +4,7 @@ ghost use Rattle.std.specs.Prelude.{◌≡◌};
 ghost use Rattle.payload.specs.Codes.{kind_code, kind_at, phase_code, phase_at};
 
 /// Which collective a record is of.
-#[derive(Clone, Copy, Debug, PartialEq, Eq)]
+#[derive(Clone, Copy)]
 pub enum Kind {
     /// MPI_Barrier.
     Barrier,
@@ -60,7 +60,7 @@ impl Kind {
 }
 
 /// Which step of a collective a message is.
-#[derive(Clone, Copy, Debug, PartialEq, Eq)]
+#[derive(Clone, Copy)]
 pub enum Phase {
     /// Towards the root.
     TowardsRoot,

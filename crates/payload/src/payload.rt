@@ -39,7 +39,7 @@ pub struct Choice {
 }
 
 /// A communicator that a split made, as its members get it.
-#[derive(Clone, Copy, Debug)]
+#[derive(Clone, Copy)]
 pub struct NewGroup<'a> {
     /// The context of the new communicator.
     pub context: u64,
@@ -70,7 +70,7 @@ impl NewGroup<'_> {
 }
 
 /// What a message carries beside its sender's record.
-#[derive(Clone, Copy, Debug)]
+#[derive(Clone, Copy)]
 pub enum Part<'a> {
     /// That the records of two members differ: nothing else.
     RecordsDiffer,
@@ -89,7 +89,7 @@ pub enum Part<'a> {
 }
 
 /// One message of a collective.
-#[derive(Clone, Copy, Debug)]
+#[derive(Clone, Copy)]
 pub struct Payload<'a> {
     /// What its sender entered.
     pub entered: Record,

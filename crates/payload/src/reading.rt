@@ -17,7 +17,7 @@ use vocabulary::BasicType;
 const RECORD_BYTES: usize = 16;
 
 /// The fields of a record behind its kind.
-#[derive(Clone, Copy, Debug, PartialEq, Eq)]
+#[derive(Clone, Copy)]
 pub struct Fields {
     /// The code of the operation.
     pub operation: u8,

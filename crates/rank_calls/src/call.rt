@@ -9,7 +9,7 @@ use std::alloc::{AllocError, Global};
 use vocabulary::Source;
 
 /// A standard send on a communicator (MPI 3.1, 3.4 and 3.7.2).
-#[derive(Debug, Drop)]
+#[derive(Drop)]
 pub struct Send {
     /// The rank of world that it goes to, or the null process (3.11). Any rank is no target: it is refused.
     pub target: Source,
@@ -22,7 +22,7 @@ pub struct Send {
 }
 
 /// A receive on a communicator (MPI 3.1, 3.2.4 and 3.7.2).
-#[derive(Debug, Drop)]
+#[derive(Drop)]
 pub struct Receive {
     /// Whom it names, as a rank of world.
     pub source: Source,
@@ -37,7 +37,7 @@ pub struct Receive {
 }
 
 /// What a program may ask of its rank. Where a request is named, none is the null request.
-#[derive(Debug, Drop)]
+#[derive(Drop)]
 pub enum Call {
     /// Starts a send.
     Isend(Send),
@@ -56,7 +56,7 @@ pub enum Call {
 }
 
 /// What a call answers.
-#[derive(Debug, Drop)]
+#[derive(Drop)]
 pub enum Reply {
     /// The operation is started under this request.
     Started(Request),
@@ -73,7 +73,7 @@ pub enum Reply {
 }
 
 /// A refusal, with what was handed in.
-#[derive(Debug, Drop)]
+#[derive(Drop)]
 pub struct Handed<T> {
     /// Why it was refused.
     pub refused: Refused,

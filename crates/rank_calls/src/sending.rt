@@ -21,7 +21,7 @@ use rendezvous::Transfers;
 use vocabulary::{EAGER_LIMIT, SEND_LIMIT, Source};
 
 /// A frame for a rank.
-#[derive(Clone, Copy, Debug)]
+#[derive(Clone, Copy)]
 pub struct Addressed<'a> {
     /// The rank that it goes to.
     pub rank: u16,
@@ -30,7 +30,7 @@ pub struct Addressed<'a> {
 }
 
 /// The rank that a message goes to, its tag and its context.
-#[derive(Clone, Copy, Debug)]
+#[derive(Clone, Copy)]
 pub struct Destination {
     /// The rank of world.
     pub rank: u16,

@@ -17,7 +17,7 @@ ghost use Rattle.rank_core.specs.Sending.{IsOffering, IsSending, arrived_at_itse
 ghost use Rattle.rank_core.specs.Waiting.{Tests, Waits, cancelled};
 ghost use Rattle.rank_calls.specs.declared.call.Call.TheVariants as calls;
 
-use crate::rank::Core;
+use crate::rank::{Core, give_way};
 use datatypes::Buffer;
 use rank_calls::{
     Call, Destination, Prepared, Receive, Reply, Send, announced_to, destination_of, into_elements,
@@ -147,7 +147,7 @@ impl Core {
         match self.requests.complete(awaited) {
             Ok(answer) => Reply::Done(answer),
             Err(awaited) => {
-                self.blocked = Some(awaited);
+                give_way(&mut self.blocked, Some(awaited));
                 Reply::Blocked
             }
         }
@@ -202,11 +202,22 @@ impl Core {
         match call {
             Call::Isend(send) => Reply::Started(self.send(send, prepared)),
             Call::Irecv(receive) => Reply::Started(self.receive(receive, prepared.into_place())),
-            Call::Wait(request) => self.wait(Awaited::One(request)),
-            Call::Test(request) => self.test(request),
-            Call::Waitany(list) => self.wait(Awaited::AnyOf(list)),
             Call::Waitall(list) => self.wait_all(list, prepared),
+            // The others need nothing. It is dropped by name: that is one step of the proof each, and not one for each variant.
+            Call::Wait(request) => {
+                drop(prepared);
+                self.wait(Awaited::One(request))
+            }
+            Call::Test(request) => {
+                drop(prepared);
+                self.test(request)
+            }
+            Call::Waitany(list) => {
+                drop(prepared);
+                self.wait(Awaited::AnyOf(list))
+            }
             Call::Cancel(request) => {
+                drop(prepared);
                 self.cancel(request);
                 Reply::Accepted
             }

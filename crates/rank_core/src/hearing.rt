@@ -11,17 +11,12 @@ ghost use Rattle.rank_core.specs.Waiting.{woken};
 ghost use Rattle.rank_calls.specs.Hearing.{news_text, frame_option, IsWhole, needs_message_room, heard_fault, message_from, announced_of};
 ghost use Rattle.rank_core.specs.Hearing.{news_fault, CanTake, KeysFit, after_any, collection_for, taught, announced, answered, grown, after_news};
 
-use crate::rank::Core;
+use crate::rank::{Core, give_way};
 use datagram::{ClearToSend, Data, Frame, RequestToSend};
 use match_queues::{Arrival, Body, Message};
 use rank_calls::{News, Ready, announced_of, status_of};
 use rendezvous::Collection;
-use requests::Answer;
-use std::mem;
 use vocabulary::Endpoint;
-
-/// Drops an answer that was not taken out.
-fn forget(_answer: Option<Answer>) {}
 
 impl Core {
     /// The message ends the oldest receive that accepts it, or is kept in the room that there is. One that was announced is
@@ -36,11 +31,15 @@ impl Core {
         ensures placed { self.new.state.place ≡ self.old.state.place }
     {
         let Arrival::Matched(receive, message) = self.queues.arrive(message) else {
+            drop(collection);
             return;
         };
         let status = status_of(&message);
         match message.body {
-            Body::Whole(elements) => self.requests.finish(receive.request, status, elements),
+            Body::Whole(elements) => {
+                drop(collection);
+                self.requests.finish(receive.request, status, elements);
+            }
             Body::Announced(announcement) => {
                 self.requests
                     .announce(receive.request, status, announcement.basic);
@@ -133,16 +132,32 @@ impl Core {
         ensures exact { self.new.state ≡ after_any self.old.state source (frame_option frame.entry) }
         ensures placed { self.new.state.place ≡ self.old.state.place }
     {
+        // What isn't used up is dropped by name: that is one step of the proof each, and not one for each variant.
         match frame {
-            None => {}
+            None => {
+                drop(message);
+                drop(collection);
+            }
             Some(Frame::Eager(_)) => {
+                drop(collection);
                 if let Some(message) = message {
                     self.arrive(message);
                 }
             }
-            Some(Frame::RequestToSend(request)) => self.announce(source, request, collection),
-            Some(Frame::ClearToSend(answer)) => self.finish_offer(source.rank, answer),
-            Some(Frame::Data(piece)) => self.grow(source.rank, piece),
+            Some(Frame::RequestToSend(request)) => {
+                drop(message);
+                self.announce(source, request, collection);
+            }
+            Some(Frame::ClearToSend(answer)) => {
+                drop(message);
+                drop(collection);
+                self.finish_offer(source.rank, answer);
+            }
+            Some(Frame::Data(piece)) => {
+                drop(message);
+                drop(collection);
+                self.grow(source.rank, piece);
+            }
         }
     }
 
@@ -154,8 +169,8 @@ impl Core {
     {
         if let Some(awaited) = self.blocked.take() {
             match self.requests.complete(awaited) {
-                Ok(answer) => forget(mem::replace(&mut self.completion, Some(answer))),
-                Err(awaited) => self.blocked = Some(awaited),
+                Ok(answer) => give_way(&mut self.completion, Some(answer)),
+                Err(awaited) => give_way(&mut self.blocked, Some(awaited)),
             }
         }
     }
@@ -179,6 +194,9 @@ impl Core {
             collection,
         } = ready;
         if keys.is_none() && news.frame.is_none() {
+            drop(keys);
+            drop(message);
+            drop(collection);
             return;
         }
         self.learn(news.source, keys);

@@ -240,14 +240,35 @@ impl Core {
         ensures need { OnErr result (news_need_memory (news_text news.entry) ≡ true) }
     {
         let keys = self.keys_for(news.source, news.lesson)?;
-        let message = message_from(self.alloc, news.source, news.frame)?;
-        let collection = self.collection_for(news.source, news.frame, &keys)?;
-        self.make_room_for_message(news.frame)?;
-        self.make_room_to_collect(collection.is_some())?;
-        Ok(Ready {
+        // What is held is dropped by name where a step fails: that is one step of the proof each, and not one for each variant.
+        let message = match message_from(self.alloc, news.source, news.frame) {
+            Ok(message) => message,
+            Err(refused) => {
+                drop(keys);
+                return Err(refused);
+            }
+        };
+        let collection = match self.collection_for(news.source, news.frame, &keys) {
+            Ok(collection) => collection,
+            Err(refused) => {
+                drop(keys);
+                drop(message);
+                return Err(refused);
+            }
+        };
+        let ready = Ready {
             keys,
             message,
             collection,
-        })
+        };
+        if let Err(refused) = self.make_room_for_message(news.frame) {
+            drop(ready);
+            return Err(refused);
+        }
+        if let Err(refused) = self.make_room_to_collect(ready.collection.is_some()) {
+            drop(ready);
+            return Err(refused);
+        }
+        Ok(ready)
     }
 }

@@ -3,7 +3,7 @@
 use datagram::Bytes;
 
 /// One thing that passed between a rank and its transport.
-#[derive(Debug, Drop)]
+#[derive(Drop)]
 pub enum Exchange {
     /// The transport gave this datagram.
     Received(Bytes),

@@ -15,7 +15,7 @@ use std::sync::Wait;
 pub const LONGEST: usize = 1_233;
 
 /// What came in a turn so far.
-#[derive(Clone, Copy, Debug, PartialEq, Eq)]
+#[derive(Clone, Copy)]
 pub struct Heard {
     /// Whether a datagram came.
     pub any: bool,

@@ -1,6 +1,6 @@
 //! A transport and a clock in memory.
 
-ghost use Rattle.std.specs.Prelude.{◌≡◌, ◌+◌, ◌<◌, ◌≤◌, ◌^◌, min, [], ◌∷◌, ◌++◌, length, take, OnOk, OnErr};
+ghost use Rattle.std.specs.Prelude.{◌≡◌, ◌+◌, ◌<◌, ◌≤◌, ◌^◌, min, [], ◌∷◌, ◌++◌, length, take, true, false, OnOk, OnErr};
 ghost use Rattle.rank_drive.specs.Memories.{HasFailed, HasPassed};
 
 use crate::clock::Clock;
@@ -50,6 +50,14 @@ fn put(buffer: &mut [u8], bytes: &[u8]) -> usize
     len
 }
 
+/// Puts a value behind the others, and answers whether there was memory for it; where there was none it is dropped.
+fn put_behind<T: Drop>(values: &mut Vec<T>, value: T) -> bool
+    ensures put { result ≡ true → values.new.items ≡ values.old.items ++ value ∷ [] }
+    ensures dropped { result ≡ false → values.new.items ≡ values.old.items }
+{
+    values.push(value).is_ok()
+}
+
 impl Memory {
     /// A transport that gives these datagrams, in order, and of whose calls so many succeed.
     pub fn new(alloc: Global, waiting: VecDeque<Bytes>, calls: u64) -> Memory
@@ -82,9 +90,10 @@ impl Memory {
         ensures err { OnErr result (HasFailed self.old self.new) }
     {
         if self.calls_left == 0 {
+            drop(exchange);
             return Err(self.fail());
         }
-        if self.log.push(exchange).is_err() {
+        if !put_behind(&mut self.log, exchange) {
             return Err(self.fail());
         }
         self.calls_left -= 1;
@@ -162,7 +171,7 @@ impl Transport for Memory {
 }
 
 /// A clock that rises by a millisecond at each reading, and stands still once 64 bits hold no later one.
-#[derive(Clone, Copy, Debug, PartialEq, Eq)]
+#[derive(Clone, Copy)]
 pub struct Rising {
     /// The time that it told last.
     pub time: u64,

@@ -1,9 +1,7 @@
 ghost use Rattle.std.specs.Prelude.{◌≡◌};
 
-use crate::two_ranks::{COLLECTIVES, PING_PONG, Pair, new_pair, place_of_two, runner_of};
-use engine::Engine;
+use crate::two_ranks::{COLLECTIVES, PING_PONG, Pair, Rank, new_pair, rank_of};
 use rank_drive::{Ended, Memory, Rising, Transport, drive};
-use rank_script::ScriptRunner;
 use std::alloc::Global;
 use std::collections::VecDeque;
 use std::process::Abort;
@@ -13,30 +11,22 @@ use std::sync::Wait;
 /// the transport.
 fn driven<R: Wait, T: Transport>(
     rt: &R,
-    runner: &mut ScriptRunner,
-    engine: &mut Engine,
+    rank: &mut Rank,
     transport: &mut T,
 ) -> (Option<Ended>, bool)
     requires { T.failed transport.old ≡ 0 }
 {
     let mut clock = Rising { time: 0 };
-    let ended = drive(rt, engine, runner, 500, transport, &mut clock).ok();
-    (ended, engine.is_idle())
-}
-
-/// The same of rank 0 with a new engine.
-fn run_from<R: Wait, T: Transport>(
-    rt: &R,
-    alloc: Global,
-    runner: &mut ScriptRunner,
-    transport: &mut T,
-) -> Option<(Option<Ended>, bool)>
-    requires { T.failed transport.old ≡ 0 }
-{
-    match Engine::new(alloc, place_of_two(0)) {
-        Ok(mut engine) => Some(driven(rt, runner, &mut engine, transport)),
-        Err(_) => None,
-    }
+    let ended = drive(
+        rt,
+        &mut rank.engine,
+        &mut rank.runner,
+        500,
+        transport,
+        &mut clock,
+    )
+    .ok();
+    (ended, rank.engine.is_idle())
 }
 
 /// The same of rank 0 of a script.
@@ -48,37 +38,55 @@ fn run<R: Wait, T: Transport>(
 ) -> Option<(Option<Ended>, bool)>
     requires { T.failed transport.old ≡ 0 }
 {
-    match runner_of(alloc, text, 0) {
-        Some(mut runner) => run_from(rt, alloc, &mut runner, transport),
-        None => None,
-    }
+    let Some(mut rank) = rank_of(alloc, text, 0) else {
+        return None;
+    };
+    let shown = driven(rt, &mut rank, transport);
+    drop(rank);
+    Some(shown)
 }
 
-/// How rank 0 of the ping-pong ends over a new pair, whether nothing is unacknowledged, whether it has printed `2` alone, and how
+/// How rank 0 of the script ends over a new pair, whether nothing is unacknowledged, whether it has printed these lines alone, and how
 /// many calls of the transport there were and how many of them failed.
 fn run_over<R: Wait>(
     rt: &R,
     alloc: Global,
+    text: &[u8],
+    lines: &[u8],
     pair: &mut Pair,
 ) -> Option<(Option<Ended>, bool, bool, u64, u64)>
     requires { pair.old.failures ≡ 0 }
 {
-    let (ended, idle) = run(rt, alloc, PING_PONG, pair)?;
+    let (ended, idle) = run(rt, alloc, text, pair)?;
     let (calls, failures) = pair.counts();
-    Some((ended, idle, pair.has_printed(b"2\n"), calls, failures))
+    Some((ended, idle, pair.has_printed(lines), calls, failures))
 }
 
 /// The same over a pair that fails from its call of this number on, and answers or doesn't.
+fn run_script<R: Wait>(
+    rt: &R,
+    alloc: Global,
+    text: &[u8],
+    lines: &[u8],
+    fails_at: u64,
+    answers: bool,
+) -> Option<(Option<Ended>, bool, bool, u64, u64)> {
+    let Some(mut pair) = new_pair(alloc, text, fails_at, answers) else {
+        return None;
+    };
+    let shown = run_over(rt, alloc, text, lines, &mut pair);
+    drop(pair);
+    shown
+}
+
+/// The same of the ping-pong, of which rank 0 prints `2` alone.
 fn run_pair<R: Wait>(
     rt: &R,
     alloc: Global,
     fails_at: u64,
     answers: bool,
 ) -> Option<(Option<Ended>, bool, bool, u64, u64)> {
-    match new_pair(alloc, PING_PONG, fails_at, answers) {
-        Some(mut pair) => run_over(rt, alloc, &mut pair),
-        None => None,
-    }
+    run_script(rt, alloc, PING_PONG, b"2\n", fails_at, answers)
 }
 
 #[test]
@@ -90,26 +98,12 @@ fn a_rank_ends_by_its_script(rt: HostRuntime) {
     assert_eq!(rt; Ended::Runner(0, None).status(), 0);
 }
 
-/// How rank 0 of the script of collectives ends over a new pair, whether nothing is unacknowledged, and whether it has printed
-/// what it must.
-fn run_collectives_over<R: Wait>(
-    rt: &R,
-    alloc: Global,
-    pair: &mut Pair,
-) -> Option<(Option<Ended>, bool, bool)>
-    requires { pair.old.failures ≡ 0 }
-{
-    let (ended, idle) = run(rt, alloc, COLLECTIVES, pair)?;
-    let printed = pair.has_printed(b"1 2\n4 6\n3 8\n1 2 3 4\n3 4\nerror 7\ndone\n");
-    Some((ended, idle, printed))
-}
-
-/// The same over a pair that answers.
+/// How rank 0 of the script of collectives ends over a pair that answers, whether nothing is unacknowledged, and whether it has
+/// printed what it must.
 fn run_collectives<R: Wait>(rt: &R, alloc: Global) -> Option<(Option<Ended>, bool, bool)> {
-    match new_pair(alloc, COLLECTIVES, 100_000, true) {
-        Some(mut pair) => run_collectives_over(rt, alloc, &mut pair),
-        None => None,
-    }
+    let lines = b"1 2\n4 6\n3 8\n1 2 3 4\n3 4\nerror 7\ndone\n";
+    let (ended, idle, printed, _, _) = run_script(rt, alloc, COLLECTIVES, lines, 100_000, true)?;
+    Some((ended, idle, printed))
 }
 
 #[test]

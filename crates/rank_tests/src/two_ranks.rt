@@ -9,6 +9,7 @@ use rank_script::ScriptRunner;
 use script_files::parse;
 use std::alloc::Global;
 use std::collections::VecDeque;
+use std::mem;
 use vocabulary::Endpoint;
 
 /// The script of two ranks that play ping-pong.
@@ -32,16 +33,43 @@ pub fn place_of_two(rank: u16) -> Place {
 }
 
 /// The runner of a script for a rank.
-pub fn runner_of(alloc: Global, text: &[u8], rank: u16) -> Option<ScriptRunner> {
+fn runner_of(alloc: Global, text: &[u8], rank: u16) -> Option<ScriptRunner> {
     let script = parse(alloc, text).ok()?;
     ScriptRunner::new(alloc, script, rank, 0).ok()
+}
+
+/// One of two ranks that run a script.
+#[derive(Drop)]
+pub struct Rank {
+    /// Its engine.
+    pub engine: Engine,
+    /// What it runs.
+    pub runner: ScriptRunner,
+}
+
+/// Both, if both are here.
+// In code for every type a drop is one step of a proof; that of an engine or a runner takes each of its types in turn.
+fn both<A: Drop, B: Drop>(one: Option<A>, other: Option<B>) -> Option<(A, B)> {
+    match (one, other) {
+        (Some(one), Some(other)) => Some((one, other)),
+        _ => None,
+    }
+}
+
+/// A rank of a script, at its start.
+pub fn rank_of(alloc: Global, text: &[u8], rank: u16) -> Option<Rank> {
+    let runner = runner_of(alloc, text, rank);
+    let engine = Engine::new(alloc, place_of_two(rank)).ok();
+    match both(engine, runner) {
+        Some((engine, runner)) => Some(Rank { engine, runner }),
+        None => None,
+    }
 }
 
 /// A transport of rank 0 behind which rank 1 runs, and which fails from its call of a given number on.
 #[derive(Drop)]
 pub struct Pair {
-    engine: Engine,
-    runner: ScriptRunner,
+    rank: Rank,
     /// What the runner is told next, if it may go on.
     told: Option<Option<Reply>>,
     /// What rank 1 has sent.
@@ -58,14 +86,13 @@ pub struct Pair {
     failures: u64,
 }
 
-/// A pair whose rank 1 goes on by this runner and answers, or doesn't, and which fails from its call of this number on.
-fn pair_of(alloc: Global, runner: ScriptRunner, fails_at: u64, answers: bool) -> Option<Pair>
+/// A pair whose rank 1 runs this script and answers, or doesn't, and which fails from its call of this number on.
+pub fn new_pair(alloc: Global, text: &[u8], fails_at: u64, answers: bool) -> Option<Pair>
     ensures { IfSome result (λ p. p.failures ≡ 0) }
 {
-    match Engine::new(alloc, place_of_two(1)) {
-        Ok(engine) => Some(Pair {
-            engine,
-            runner,
+    match rank_of(alloc, text, 1) {
+        Some(rank) => Some(Pair {
+            rank,
             told: Some(None),
             to_us: VecDeque::new(alloc),
             answers,
@@ -74,37 +101,43 @@ fn pair_of(alloc: Global, runner: ScriptRunner, fails_at: u64, answers: bool) ->
             fails_at,
             failures: 0,
         }),
-        Err(_) => None,
+        None => None,
     }
 }
 
-/// A pair whose rank 1 runs this script and answers, or doesn't, and which fails from its call of this number on.
-pub fn new_pair(alloc: Global, text: &[u8], fails_at: u64, answers: bool) -> Option<Pair>
-    ensures { IfSome result (λ p. p.failures ≡ 0) }
-{
-    match runner_of(alloc, text, 1) {
-        Some(runner) => pair_of(alloc, runner, fails_at, answers),
-        None => None,
+/// What the runner is told of this answer of a blocked call.
+fn reply_of(completion: Completion) -> Reply {
+    match completion {
+        Completion::Requests(answer) => Reply::Done(answer),
+        Completion::Collective(ending) => Reply::Left(ending),
     }
 }
 
 /// What the runner is told once this answer of a blocked call, or none, has come.
 fn told_with(told: Option<Option<Reply>>, completion: Option<Completion>) -> Option<Option<Reply>> {
-    match completion {
-        Some(Completion::Requests(answer)) => Some(Some(Reply::Done(answer))),
-        Some(Completion::Collective(ending)) => Some(Some(Reply::Left(ending))),
-        None => told,
+    let Some(completion) = completion else {
+        return told;
+    };
+    drop(told);
+    Some(Some(reply_of(completion)))
+}
+
+/// What the runner is told of a reply at once, unless its call is blocked.
+fn told_unless_blocked(reply: Reply) -> Option<Option<Reply>> {
+    match reply {
+        Reply::Blocked => None,
+        reply => Some(Some(reply)),
     }
 }
 
 /// What the runner is told after its step, if it may go on.
 fn told_after(engine: &mut Engine, step: Step) -> Option<Option<Reply>> {
     match step {
-        Step::Call(call) => match engine.call(call) {
-            Reply::Blocked => None,
-            reply => Some(Some(reply)),
-        },
-        Step::Print(_) => Some(None),
+        Step::Call(call) => told_unless_blocked(engine.call(call)),
+        Step::Print(line) => {
+            drop(line);
+            Some(None)
+        }
         Step::End(_, _) => None,
     }
 }
@@ -140,17 +173,17 @@ impl Pair {
     fn tell(&mut self, told: Option<Option<Reply>>)
         ensures { self.new.failures ≡ self.old.failures }
     {
-        self.told = told;
+        drop(mem::replace(&mut self.told, told));
     }
 
     /// Rank 1 does what comes next, if it may go on.
     fn go_on(&mut self)
         ensures { self.new.failures ≡ self.old.failures }
     {
-        let told = told_with(self.told.take(), self.engine.take_completion());
+        let told = told_with(self.told.take(), self.rank.engine.take_completion());
         if let Some(reply) = told {
-            let step = self.runner.next(reply);
-            let told = told_after(&mut self.engine, step);
+            let step = self.rank.runner.next(reply);
+            let told = told_after(&mut self.rank.engine, step);
             self.tell(told);
         }
     }
@@ -159,10 +192,11 @@ impl Pair {
     fn hand_over(&mut self)
         ensures { self.new.failures ≡ self.old.failures }
     {
-        let mut out = self.engine.take_out();
+        let mut out = self.rank.engine.take_out();
         if self.answers {
             take_bytes(&mut self.to_us, &mut out);
         }
+        drop(out);
     }
 }
 
@@ -203,7 +237,7 @@ impl Transport for Pair {
         if self.is_faulty() {
             return Err(self.fail());
         }
-        let _ = self.engine.on_datagram(bytes);
+        let _ = self.rank.engine.on_datagram(bytes);
         Ok(())
     }
 

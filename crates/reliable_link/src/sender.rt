@@ -18,7 +18,7 @@ use std::ops::Range;
 /// it is acknowledged, and lets at most 64 be out at one time; later ones wait in order.
 ///
 /// Contracts see it as a `SenderState`.
-#[derive(Debug, Drop)]
+#[derive(Drop)]
 pub struct Sender {
     /// The frames from number `lowest` on.
     frames: VecDeque<OutFrame>,

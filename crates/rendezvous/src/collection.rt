@@ -12,7 +12,7 @@ use std::marker::Model;
 use vocabulary::{BasicType, OutOfMemory};
 
 /// A message for which this rank asked, and of whose data so much has come.
-#[derive(Debug, Drop)]
+#[derive(Drop)]
 pub struct Collection {
     source: u16,
     transfer: u32,
@@ -42,7 +42,7 @@ impl Model for Collection {
 }
 
 /// A message whose data have all come.
-#[derive(Debug, Drop)]
+#[derive(Drop)]
 pub struct Collected {
     /// The key of the request that waited for it, in the rank's table of requests.
     pub request: usize,

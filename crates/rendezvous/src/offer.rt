@@ -6,7 +6,7 @@ ghost use Rattle.rendezvous.specs.Offers.{is_to};
 use datatypes::Buffer;
 
 /// A message that this rank announced, and whose data it keeps until they are asked for.
-#[derive(Debug, Drop)]
+#[derive(Drop)]
 pub struct Offer {
     /// The rank to which it goes.
     pub target: u16,

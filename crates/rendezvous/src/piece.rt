@@ -10,7 +10,7 @@ use std::alloc::Global;
 use vocabulary::{EAGER_LIMIT, OutOfMemory};
 
 /// A piece of a message's data.
-#[derive(Clone, Copy, Debug)]
+#[derive(Clone, Copy)]
 pub struct Piece<'a> {
     /// How many bytes of the data stand before it.
     pub offset: u32,

@@ -23,7 +23,7 @@ pub struct Numbers {
 }
 
 /// What a rank knows of its transfers: their numbers, the messages that it announced and those that come to it.
-#[derive(Debug, Drop)]
+#[derive(Drop)]
 pub struct Transfers {
     numbers: Vec<Numbers>,
     offers: Vec<Offer>,

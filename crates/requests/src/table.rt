@@ -32,7 +32,7 @@ pub struct Request {
 }
 
 /// A receive that waits for its message.
-#[derive(Debug, Drop)]
+#[derive(Drop)]
 pub struct Posted {
     /// Where the data go.
     pub into: ReceiveRegion,
@@ -41,7 +41,7 @@ pub struct Posted {
 }
 
 /// A receive that was matched with an announced message, and waits for its data.
-#[derive(Debug, Drop)]
+#[derive(Drop)]
 pub struct Matched {
     /// Where the data go.
     pub into: ReceiveRegion,
@@ -50,7 +50,7 @@ pub struct Matched {
 }
 
 /// How far an operation is.
-#[derive(Debug, Drop)]
+#[derive(Drop)]
 pub enum Progress {
     /// This receive waits for its message.
     Receiving(Posted),
@@ -63,7 +63,7 @@ pub enum Progress {
 }
 
 /// What stands under a key.
-#[derive(Debug, Drop)]
+#[derive(Drop)]
 pub struct Entry {
     /// The number of its request in the order of starting.
     pub serial: u64,
@@ -72,7 +72,7 @@ pub struct Entry {
 }
 
 /// What a test of a request answers.
-#[derive(Debug, Drop)]
+#[derive(Drop)]
 pub enum Tested {
     /// There is no such request, or it has ended.
     Absent,
@@ -110,8 +110,16 @@ impl Entry {
     fn set_progress(&mut self, progress: Progress)
         ensures { self.new ≡ record self.old { progress = progress } }
     {
-        self.progress = progress;
+        give_way(&mut self.progress, progress);
     }
+}
+
+/// What stood here gives way to this, and is dropped. Where its type is open, its drop is one step of a proof, and not one for
+/// each variant.
+fn give_way<T: Drop>(place: &mut T, next: T)
+    ensures { place.new ≡ next }
+{
+    *place = next;
 }
 
 /// How far a request is once the message came that was matched with it.

@@ -7,7 +7,7 @@ use std::alloc::{AllocFailed, Global};
 use std::marker::Model;
 
 /// A rank, or one incarnation of it.
-#[derive(Clone, Copy, Debug, PartialEq, Eq)]
+#[derive(Clone, Copy, PartialEq, Eq)]
 pub struct Member {
     /// The rank; one that 16 bits don't hold stands as the greatest number that they hold, which is no rank either.
     pub rank: u16,
@@ -30,7 +30,7 @@ impl Member {
 }
 
 /// Ranks that lines are for, in the order in which they were named.
-#[derive(Debug, Drop)]
+#[derive(Drop)]
 pub struct Members {
     items: Vec<Member>,
 }
@@ -88,7 +88,7 @@ fn are_meant(members: &[Member], rank: u16, incarnation: u16) -> bool
 }
 
 /// Whom lines are for.
-#[derive(Debug, Drop)]
+#[derive(Drop)]
 pub enum Audience {
     /// `on all`: for every rank, as the lines before the first `on` are.
     All,

@@ -12,7 +12,7 @@ use std::collections::VecDeque;
 use std::marker::Model;
 
 /// What a line of a script asks a rank to do.
-#[derive(Debug, Drop)]
+#[derive(Drop)]
 pub enum Statement {
     /// What a line of a file of events asks for as well.
     Action(Action),
@@ -33,7 +33,7 @@ pub enum Statement {
 }
 
 /// What a line of a script says.
-#[derive(Debug, Drop)]
+#[derive(Drop)]
 pub enum Item {
     /// `on ..`: whom the lines behind it are for, up to the next `on`.
     On(Audience),
@@ -42,7 +42,7 @@ pub enum Item {
 }
 
 /// A line that isn't skipped.
-#[derive(Debug, Drop)]
+#[derive(Drop)]
 pub struct Line {
     /// The number of the line; the first line is 1, and skipped ones count.
     pub number: usize,
@@ -51,7 +51,7 @@ pub struct Line {
 }
 
 /// A line that is for one rank.
-#[derive(Debug, Drop)]
+#[derive(Drop)]
 pub struct RankLine {
     /// The number of the line in the script; the first line is 1, and skipped ones count.
     pub number: usize,
@@ -60,7 +60,7 @@ pub struct RankLine {
 }
 
 /// A script, read whole. Contracts see it as the list of its lines that aren't skipped.
-#[derive(Debug, Drop)]
+#[derive(Drop)]
 pub struct Script {
     lines: Vec<Line>,
 }
@@ -130,7 +130,7 @@ fn lines_among(
 }
 
 /// The lines for one rank that are left, in order. Contracts see them as a list.
-#[derive(Debug, Drop)]
+#[derive(Drop)]
 pub struct RankLines {
     lines: VecDeque<RankLine>,
 }

@@ -6,7 +6,7 @@ ghost use Rattle.script_files.specs.Reading.{verb_of};
 use line_words::is;
 
 /// What a line that only scripts have says, by its first word.
-#[derive(Clone, Copy, Debug, PartialEq, Eq)]
+#[derive(Clone, Copy)]
 pub(crate) enum Verb {
     /// `on`
     On,

@@ -5,7 +5,7 @@ use datagram::Frame;
 use vocabulary::Endpoint;
 
 /// What a datagram says to its session.
-#[derive(Clone, Copy, Debug)]
+#[derive(Clone, Copy)]
 pub enum Word<'a> {
     /// All frames below this number came to its source.
     Acknowledges(u64),
@@ -18,7 +18,7 @@ pub enum Word<'a> {
 }
 
 /// What was heard in the bytes of a datagram.
-#[derive(Clone, Copy, Debug)]
+#[derive(Clone, Copy)]
 pub struct Heard<'a> {
     /// Who sent it.
     pub source: Endpoint,
@@ -29,7 +29,7 @@ pub struct Heard<'a> {
 }
 
 /// Why nothing was heard, and whom a reset is to tell of the present incarnation.
-#[derive(Clone, Copy, Debug, PartialEq, Eq)]
+#[derive(Clone, Copy)]
 pub struct Unheard {
     /// Why.
     pub refused: Refused,
@@ -38,7 +38,7 @@ pub struct Unheard {
 }
 
 /// A frame that is to go to another rank.
-#[derive(Clone, Copy, Debug)]
+#[derive(Clone, Copy)]
 pub struct Outgoing<'a> {
     /// For which rank it is.
     pub target: u16,

@@ -15,7 +15,7 @@ use std::mem;
 use std::ops::Range;
 
 /// Both directions of the session with one rank. That with the rank itself stays empty.
-#[derive(Debug, Drop)]
+#[derive(Drop)]
 pub struct Peer {
     /// What goes there.
     pub sender: Sender,

@@ -1,6 +1,6 @@
 //! What lines of collectives do that make no communicator: barrier, bcast, gather, scatter, reduce and allreduce.
 
-use crate::names::Gives;
+use crate::names::Giving;
 use crate::running::Simulation;
 use engine::{Block, Elements, Entry, Question, Rooted};
 use event_lines::{SimulateError, print_refusal};
@@ -27,25 +27,30 @@ impl Simulation {
     }
 
     /// A buffer that is to be set. One that is lent makes the line faulty.
-    fn gives_to(&self, rank: u16, line: usize, name: &Name) -> Result<Gives, SimulateError> {
+    fn gives_to<'a>(
+        &self,
+        rank: u16,
+        line: usize,
+        name: &'a Name,
+    ) -> Result<Giving<'a>, SimulateError> {
         match self.ranks.get(&rank) {
             Some(names) if names.is_lent(name) => Err(SimulateError::Script(line)),
-            _ => Ok(Gives::Elements(name.try_clone(self.alloc)?)),
+            _ => Ok(Giving::Elements(name)),
         }
     }
 
     /// The same at the root; elsewhere the buffer isn't looked at, and nothing is given.
-    fn gives_at_root(
+    fn gives_at_root<'a>(
         &self,
         rank: u16,
         line: usize,
         is_root: bool,
-        name: &Name,
-    ) -> Result<Gives, SimulateError> {
+        name: &'a Name,
+    ) -> Result<Giving<'a>, SimulateError> {
         if is_root {
             self.gives_to(rank, line, name)
         } else {
-            Ok(Gives::Nothing)
+            Ok(Giving::Nothing)
         }
     }
 
@@ -83,7 +88,7 @@ impl Simulation {
         out: &mut W,
     ) -> Result<(), SimulateError> {
         let comm = self.place_of(rank, line, communicator)?;
-        self.enter(rank, comm, Entry::Barrier, Gives::Nothing, out)
+        self.enter(rank, comm, Entry::Barrier, Giving::Nothing, out)
     }
 
     pub(crate) fn bcast<W: Write>(
@@ -205,9 +210,8 @@ impl Simulation {
             (None, true) => return Err(SimulateError::Script(line)),
             (_, false) => None,
         };
-        let gives = Gives::Elements(said.into.try_clone(self.alloc)?);
         let root = u32::from(said.root);
         let entry = Entry::Scatter(Rooted { elements, root }, all);
-        self.enter(rank, comm, entry, gives, out)
+        self.enter(rank, comm, entry, Giving::Elements(&said.into), out)
     }
 }

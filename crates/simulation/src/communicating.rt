@@ -1,12 +1,11 @@
 //! What lines on communicators do: dup, split, who, members and compare.
 
-use crate::names::{Gives, Seat};
+use crate::names::{Gives, Giving, Seat, give_way};
 use crate::running::Simulation;
 use engine::{Call, Choice, Entry, Fact, Question, Reply};
 use event_lines::{SimulateError, print_position, print_refusal};
 use statements::{Communicator, Name, Splitting};
 use std::io::Write;
-use std::mem;
 use world::Event;
 
 impl Simulation {
@@ -28,10 +27,18 @@ impl Simulation {
     }
 
     /// The collective that the rank enters gives this. Answers what the one before gives.
-    fn set_gives(&mut self, rank: u16, gives: Gives) -> Gives {
+    fn give(&mut self, rank: u16, giving: Giving<'_>) -> Result<Gives, SimulateError> {
         match self.ranks.get_mut(&rank) {
-            Some(names) => mem::replace(&mut names.gives, gives),
-            None => gives,
+            Some(names) => Ok(names.give(self.alloc, giving)?),
+            None => Ok(Gives::Nothing),
+        }
+    }
+
+    /// The collective that the rank was to enter is refused: the one before gives what it gave.
+    fn give_again(&mut self, rank: u16, earlier: Gives) {
+        match self.ranks.get_mut(&rank) {
+            Some(names) => give_way(&mut names.gives, earlier),
+            None => drop(earlier),
         }
     }
 
@@ -41,39 +48,54 @@ impl Simulation {
         rank: u16,
         comm: Option<usize>,
         entry: Entry,
-        gives: Gives,
+        giving: Giving<'_>,
         out: &mut W,
     ) -> Result<(), SimulateError> {
-        let earlier = self.set_gives(rank, gives);
-        let call = Call::Enter(comm, entry);
-        if self.happen(Event::Call(rank, call), out)?.is_some() {
-            let _ = self.set_gives(rank, earlier);
+        match self.give(rank, giving) {
+            Ok(earlier) => {
+                let call = Call::Enter(comm, entry);
+                match self.runs(Event::Call(rank, call), out) {
+                    Ok(true) => Ok(drop(earlier)),
+                    Ok(false) => Ok(self.give_again(rank, earlier)),
+                    Err(e) => {
+                        drop(earlier);
+                        Err(e)
+                    }
+                }
+            }
+            Err(e) => {
+                drop(entry);
+                Err(e)
+            }
         }
-        Ok(())
     }
 
-    /// A collective on a communicator makes another one, which has this name once it is there.
-    fn make<W: Write>(
+    /// What a rank tells of a communicator, if that is a number; or the number of its refusal. It emits nothing.
+    fn ask(
         &mut self,
         rank: u16,
-        name: &Name,
         comm: Option<usize>,
-        entry: Entry,
-        out: &mut W,
-    ) -> Result<(), SimulateError> {
-        let gives = Gives::Communicator(name.try_clone(self.alloc)?);
-        self.enter(rank, comm, entry, gives, out)
+        question: Question,
+    ) -> Result<Option<usize>, u8> {
+        match self
+            .world
+            .step(Event::Call(rank, Call::Ask(comm, question)))
+        {
+            Ok(_) => Ok(self.last_number()),
+            Err(failed) => {
+                let number = failed.refused.number();
+                drop(failed);
+                Err(number)
+            }
+        }
     }
 
     /// The rank got the communicator at this place, and has a rank in it, which the engine is asked for; then it has its name.
     pub(crate) fn take_seat(&mut self, rank: u16, place: usize) -> Result<(), SimulateError> {
-        let call = Call::Ask(Some(place), Question::Rank);
-        if self.world.step(Event::Call(rank, call)).is_err() {
-            return Err(SimulateError::OutOfMemory);
-        }
-        let seat = match self.last_number() {
-            Some(rank) => Some(Seat { place, rank }),
-            None => None,
+        let seat = match self.ask(rank, Some(place), Question::Rank) {
+            Ok(Some(rank)) => Some(Seat { place, rank }),
+            Ok(None) => None,
+            Err(_) => return Err(SimulateError::OutOfMemory),
         };
         let alloc = self.alloc;
         if let Some(names) = self.ranks.get_mut(&rank) {
@@ -91,7 +113,7 @@ impl Simulation {
         out: &mut W,
     ) -> Result<(), SimulateError> {
         let comm = self.place_of(rank, line, communicator)?;
-        self.make(rank, name, comm, Entry::Dup, out)
+        self.enter(rank, comm, Entry::Dup, Giving::Communicator(name), out)
     }
 
     pub(crate) fn split<W: Write>(
@@ -107,7 +129,7 @@ impl Simulation {
             colour: splitting.colour,
             key: splitting.key,
         });
-        self.make(rank, name, comm, entry, out)
+        self.enter(rank, comm, entry, Giving::Communicator(name), out)
     }
 
     /// The number that the last event told of, if it told of one.
@@ -131,13 +153,10 @@ impl Simulation {
         question: Question,
         out: &mut W,
     ) -> Result<Option<usize>, SimulateError> {
-        match self
-            .world
-            .step(Event::Call(rank, Call::Ask(comm, question)))
-        {
-            Ok(_) => Ok(self.last_number()),
-            Err(failed) => {
-                print_refusal(failed.refused.number(), out)?;
+        match self.ask(rank, comm, question) {
+            Ok(number) => Ok(number),
+            Err(refusal) => {
+                print_refusal(refusal, out)?;
                 Ok(None)
             }
         }
@@ -170,7 +189,7 @@ impl Simulation {
     ) -> Result<(), SimulateError> {
         let comm = self.place_of(rank, line, communicator)?;
         let call = Call::Ask(comm, Question::Group);
-        let _ = self.happen(Event::Call(rank, call), out)?;
+        self.runs(Event::Call(rank, call), out)?;
         Ok(())
     }
 
@@ -185,7 +204,7 @@ impl Simulation {
         let comm = self.place_of(rank, line, one)?;
         let other = self.place_of(rank, line, other)?;
         let call = Call::Ask(comm, Question::Compare(other));
-        let _ = self.happen(Event::Call(rank, call), out)?;
+        self.runs(Event::Call(rank, call), out)?;
         Ok(())
     }
 }

@@ -8,15 +8,6 @@ use std::collections::BTreeMap;
 use std::mem;
 use vocabulary::BasicType;
 
-/// What a name of a buffer stands for.
-#[derive(Drop)]
-pub enum Slot {
-    /// The buffer is here.
-    Here(Buffer),
-    /// It is lent to a receive until the outcome.
-    Lent,
-}
-
 /// What a name of a request stands for.
 #[derive(Drop)]
 pub struct Held {
@@ -35,7 +26,18 @@ pub struct Seat {
     pub rank: usize,
 }
 
-/// What the present collective gives, by its name.
+/// What a collective gives, by the name that its line has for it.
+#[derive(Clone, Copy)]
+pub enum Giving<'a> {
+    /// Nothing that the line names.
+    Nothing,
+    /// A communicator.
+    Communicator(&'a Name),
+    /// The elements of a buffer.
+    Elements(&'a Name),
+}
+
+/// The same, with a name of its own: what the present collective gives.
 #[derive(Drop)]
 pub enum Gives {
     /// Nothing that a line named.
@@ -49,8 +51,8 @@ pub enum Gives {
 /// The names of one rank. Each kind of thing has its own.
 #[derive(Drop)]
 pub struct Names {
-    /// The buffers that were set, by name.
-    pub buffers: BTreeMap<Vec<u8>, Slot>,
+    /// The buffers that were set, by name; none is lent to a receive until the outcome.
+    pub buffers: BTreeMap<Vec<u8>, Option<Buffer>>,
     /// The layouts that were set, by name.
     pub layouts: BTreeMap<Vec<u8>, Layout>,
     /// The requests that were started, by name.
@@ -61,6 +63,23 @@ pub struct Names {
     pub communicators: BTreeMap<Vec<u8>, Option<Seat>>,
     /// What the last collective gives.
     pub gives: Gives,
+}
+
+/// What stood here gives way to this, and is dropped.
+pub fn give_way<T: Drop>(place: &mut T, next: T) {
+    *place = next;
+}
+
+/// A name stands for this from now on.
+pub fn set<T: Drop>(
+    names: &mut BTreeMap<Vec<u8>, T>,
+    alloc: Global,
+    name: &Name,
+    value: T,
+) -> Result<(), AllocError> {
+    let key = Vec::from_slice(alloc, name.as_bytes())?;
+    names.insert(key, value).map_err(AllocError::from)?;
+    Ok(())
 }
 
 impl Names {
@@ -77,13 +96,13 @@ impl Names {
 
     /// Whether the buffer of this name is lent.
     pub fn is_lent(&self, name: &Name) -> bool {
-        matches!(self.buffers.get(name.as_bytes()), Some(Slot::Lent))
+        matches!(self.buffers.get(name.as_bytes()), Some(None))
     }
 
     /// A copy of the buffer of this name, if it is here.
     pub fn copy_of(&self, alloc: Global, name: &Name) -> Result<Option<Buffer>, AllocError> {
         match self.buffers.get(name.as_bytes()) {
-            Some(Slot::Here(buffer)) => Ok(Some(buffer.try_clone(alloc)?)),
+            Some(Some(buffer)) => Ok(Some(buffer.try_clone(alloc)?)),
             _ => Ok(None),
         }
     }
@@ -91,7 +110,7 @@ impl Names {
     /// The type of the buffer of this name and how many elements it has, if it is here.
     pub fn shape_of(&self, name: &Name) -> Option<(BasicType, usize)> {
         match self.buffers.get(name.as_bytes()) {
-            Some(Slot::Here(buffer)) => Some((buffer.basic(), buffer.len())),
+            Some(Some(buffer)) => Some((buffer.basic(), buffer.len())),
             _ => None,
         }
     }
@@ -104,68 +123,57 @@ impl Names {
         }
     }
 
-    pub fn set_layout(
-        &mut self,
-        name: &Name,
-        alloc: Global,
-        layout: Layout,
-    ) -> Result<(), AllocError> {
-        let key = Vec::from_slice(alloc, name.as_bytes())?;
-        self.layouts.insert(key, layout).map_err(AllocError::from)?;
-        Ok(())
-    }
-
     /// Lends the buffer of this name, if it is here.
     pub fn lend(&mut self, name: &Name) -> Option<Buffer> {
         match self.buffers.get_mut(name.as_bytes()) {
-            Some(slot) => match mem::replace(slot, Slot::Lent) {
-                Slot::Here(buffer) => Some(buffer),
-                Slot::Lent => None,
-            },
+            Some(buffer) => buffer.take(),
             None => None,
         }
     }
 
-    /// A buffer that was lent is here again.
-    pub fn give_back(&mut self, name: &Name, buffer: Buffer) {
-        if let Some(slot) = self.buffers.get_mut(name.as_bytes()) {
-            *slot = Slot::Here(buffer);
-        }
+    /// The buffer of this name is a copy of this one.
+    pub fn set_buffer(
+        &mut self,
+        name: &Name,
+        alloc: Global,
+        buffer: &Buffer,
+    ) -> Result<(), AllocError> {
+        let copy = buffer.try_clone(alloc)?;
+        set(&mut self.buffers, alloc, name, Some(copy))
     }
 
-    pub fn set_buffer(&mut self, name: &Name, alloc: Global, slot: Slot) -> Result<(), AllocError> {
-        let key = Vec::from_slice(alloc, name.as_bytes())?;
-        self.buffers.insert(key, slot).map_err(AllocError::from)?;
-        Ok(())
-    }
-
+    /// The name is this request's, to which the buffer of that name is lent, if there is one.
     pub fn set_request(
         &mut self,
         name: &Name,
         alloc: Global,
-        held: Held,
+        request: Request,
+        lent: Option<&Name>,
     ) -> Result<(), AllocError> {
-        let key = Vec::from_slice(alloc, name.as_bytes())?;
-        self.requests.insert(key, held).map_err(AllocError::from)?;
-        Ok(())
+        let buffer = match lent {
+            Some(lent) => Some(lent.try_clone(alloc)?),
+            None => None,
+        };
+        let held = Held {
+            request: Some(request),
+            buffer,
+        };
+        set(&mut self.requests, alloc, name, held)
     }
 
     /// The request of this name got its outcome: the name is null now, and the receive's buffer is here again.
     fn end(&mut self, name: &Name, alloc: Global, outcome: &Outcome) -> Result<(), AllocError> {
-        let null = Held {
-            request: None,
-            buffer: None,
-        };
-        let key = Vec::from_slice(alloc, name.as_bytes())?;
-        let held = self.requests.insert(key, null).map_err(AllocError::from)?;
-        let Some(held) = held else {
+        let Some(held) = self.requests.get_mut(name.as_bytes()) else {
             return Ok(());
         };
-        if let (Some(lent), Some(buffer)) = (held.buffer, buffer_of(outcome)) {
-            let copy = buffer.try_clone(alloc)?;
-            self.set_buffer(&lent, alloc, Slot::Here(copy))?;
+        held.request = None;
+        let Some(lent) = held.buffer.take() else {
+            return Ok(());
+        };
+        match buffer_of(outcome) {
+            Some(buffer) => self.set_buffer(&lent, alloc, buffer),
+            None => Ok(()),
         }
-        Ok(())
     }
 
     /// The same of the request at this place among those that the last completing call is about.
@@ -203,50 +211,68 @@ impl Names {
         }
     }
 
+    /// The collective that the rank enters gives this. Answers what the one before gives.
+    pub fn give(&mut self, alloc: Global, giving: Giving<'_>) -> Result<Gives, AllocError> {
+        let gives = match giving {
+            Giving::Nothing => Gives::Nothing,
+            Giving::Communicator(name) => Gives::Communicator(name.try_clone(alloc)?),
+            Giving::Elements(name) => Gives::Elements(name.try_clone(alloc)?),
+        };
+        Ok(mem::replace(&mut self.gives, gives))
+    }
+
     /// The last collective has ended: what it gives is this communicator; none is MPI_COMM_NULL.
     pub fn note_communicator(
         &mut self,
         alloc: Global,
         seat: Option<Seat>,
     ) -> Result<(), AllocError> {
-        let Gives::Communicator(name) = self.take_gives() else {
-            return Ok(());
-        };
-        let key = Vec::from_slice(alloc, name.as_bytes())?;
-        self.communicators
-            .insert(key, seat)
-            .map_err(AllocError::from)?;
-        Ok(())
+        match mem::replace(&mut self.gives, Gives::Nothing) {
+            Gives::Communicator(name) => set(&mut self.communicators, alloc, &name, seat),
+            other => {
+                drop(other);
+                Ok(())
+            }
+        }
     }
 
     /// The last collective has ended: what it gives are these elements.
     pub fn note_elements(&mut self, alloc: Global, buffer: &Buffer) -> Result<(), AllocError> {
-        let Gives::Elements(name) = self.take_gives() else {
-            return Ok(());
-        };
-        let copy = buffer.try_clone(alloc)?;
-        self.set_buffer(&name, alloc, Slot::Here(copy))
+        match mem::replace(&mut self.gives, Gives::Nothing) {
+            Gives::Elements(name) => self.set_buffer(&name, alloc, buffer),
+            other => {
+                drop(other);
+                Ok(())
+            }
+        }
     }
 
-    /// What the last collective gives, which is noted now.
-    pub fn take_gives(&mut self) -> Gives {
-        mem::replace(&mut self.gives, Gives::Nothing)
+    /// The last completing call was answered so, and was about these names.
+    fn end_all(
+        &mut self,
+        names: &[Option<Name>],
+        alloc: Global,
+        answer: &Answer,
+    ) -> Result<(), AllocError> {
+        match answer {
+            Answer::One(outcome) => self.end_at(names, 0, alloc, outcome),
+            Answer::Index(place, outcome) => self.end_at(names, *place, alloc, outcome),
+            Answer::IndexUndefined => Ok(()),
+            Answer::All(outcomes) => {
+                for (place, outcome) in outcomes.as_slice().iter().enumerate() {
+                    self.end_at(names, place, alloc, outcome)?;
+                }
+                Ok(())
+            }
+        }
     }
 
     /// The last completing call was answered so.
     pub fn note(&mut self, alloc: Global, answer: &Answer) -> Result<(), AllocError> {
         let names = mem::replace(&mut self.waiting, Vec::new(alloc));
-        match answer {
-            Answer::One(outcome) => self.end_at(&names, 0, alloc, outcome),
-            Answer::Index(place, outcome) => self.end_at(&names, *place, alloc, outcome),
-            Answer::IndexUndefined => Ok(()),
-            Answer::All(outcomes) => {
-                for (place, outcome) in outcomes.as_slice().iter().enumerate() {
-                    self.end_at(&names, place, alloc, outcome)?;
-                }
-                Ok(())
-            }
-        }
+        let noted = self.end_all(names.as_slice(), alloc, answer);
+        drop(names);
+        noted
     }
 }
 

@@ -1,6 +1,6 @@
 //! Running a file of events.
 
-use crate::names::{Held, Names, Slot};
+use crate::names::{Names, give_way, set};
 use crate::printing::{print_emitted, print_event};
 use datatypes::{Buffer, Layout, Refusal};
 use engine::{Call, Completion, Ending, Receive, Reply, Send};
@@ -13,8 +13,8 @@ use statements::{
 use std::alloc::{AllocError, Global};
 use std::collections::BTreeMap;
 use std::io::Write;
-use std::{mem, slice};
-use world::{Entry, Event, World};
+use std::{io, mem, slice};
+use world::{Entry, Event, Failed, Stepped, World};
 
 /// A world, and the names of its ranks' lines.
 #[derive(Drop)]
@@ -84,15 +84,51 @@ fn note_answer(
     Ok(None)
 }
 
+/// The buffer that was lent to a receive, if the event is one.
+fn buffer_of(event: Event) -> Option<Buffer> {
+    match event {
+        Event::Call(_, Call::Irecv(receive)) => Some(receive.into.buffer),
+        other => {
+            drop(other);
+            None
+        }
+    }
+}
+
 impl Simulation {
     /// Sees to it that a rank has names.
     fn begin(&mut self, rank: u16) -> Result<(), SimulateError> {
         if self.ranks.get(&rank).is_none() {
-            self.ranks
-                .insert(rank, Names::new(self.alloc))
-                .map_err(AllocError::from)?;
+            let names = Names::new(self.alloc);
+            let earlier = self.ranks.insert(rank, names).map_err(AllocError::from)?;
+            drop(earlier);
         }
         Ok(())
+    }
+
+    /// An event that ran, with what it prints.
+    fn ran<W: Write>(&mut self, stepped: Stepped, out: &mut W) -> Result<(), SimulateError> {
+        let got = match self.world.history().last() {
+            Some(entry) => {
+                let (first, count) = (stepped.first, stepped.count);
+                print_event(self.alloc, &self.world, entry, first, count, out)?;
+                note_answer(self.alloc, &mut self.ranks, entry)?
+            }
+            None => None,
+        };
+        match got {
+            Some(got) => self.take_seat(got.rank, got.place),
+            None => Ok(()),
+        }
+    }
+
+    /// What is printed of an event that was refused.
+    fn print_refused<W: Write>(&self, failed: &Failed, out: &mut W) -> io::Result<()> {
+        print_refusal(failed.refused.number(), out)?;
+        match failed.reset {
+            Some(number) => print_emitted(&self.world, number, 1, out),
+            None => Ok(()),
+        }
     }
 
     /// One event, with what it prints. Answers the event that was refused, if it was.
@@ -101,27 +137,31 @@ impl Simulation {
         event: Event,
         out: &mut W,
     ) -> Result<Option<Event>, SimulateError> {
-        let (first, count) = match self.world.step(event) {
-            Ok(stepped) => (stepped.first, stepped.count),
-            Err(failed) => {
-                print_refusal(failed.refused.number(), out)?;
-                if let Some(number) = failed.reset {
-                    print_emitted(&self.world, number, 1, out)?;
+        match self.world.step(event) {
+            Ok(stepped) => match self.ran(stepped, out) {
+                Ok(()) => Ok(None),
+                Err(e) => Err(e),
+            },
+            Err(failed) => match self.print_refused(&failed, out) {
+                Ok(()) => Ok(Some(failed.event)),
+                Err(e) => {
+                    drop(failed);
+                    Err(SimulateError::from(e))
                 }
-                return Ok(Some(failed.event));
-            }
-        };
-        let got = match self.world.history().last() {
-            Some(entry) => {
-                print_event(self.alloc, &self.world, entry, first, count, out)?;
-                note_answer(self.alloc, &mut self.ranks, entry)?
-            }
-            None => None,
-        };
-        if let Some(got) = got {
-            self.take_seat(got.rank, got.place)?;
+            },
         }
-        Ok(None)
+    }
+
+    /// One event, with what it prints. Answers whether it ran.
+    pub(crate) fn runs<W: Write>(
+        &mut self,
+        event: Event,
+        out: &mut W,
+    ) -> Result<bool, SimulateError> {
+        let refused = self.happen(event, out)?;
+        let runs = refused.is_none();
+        drop(refused);
+        Ok(runs)
     }
 
     /// The request that the last event started, if it started one.
@@ -144,40 +184,29 @@ impl Simulation {
         name: &Name,
         value: &Buffer,
     ) -> Result<(), SimulateError> {
-        let copy = value.try_clone(self.alloc)?;
         let alloc = self.alloc;
-        if let Some(names) = self.ranks.get_mut(&rank) {
-            if names.is_lent(name) {
-                return Err(SimulateError::Script(line));
-            }
-            names.set_buffer(name, alloc, Slot::Here(copy))?;
+        match self.ranks.get_mut(&rank) {
+            Some(names) if names.is_lent(name) => Err(SimulateError::Script(line)),
+            Some(names) => Ok(names.set_buffer(name, alloc, value)?),
+            None => Ok(()),
         }
-        Ok(())
     }
 
-    /// Names the request that was just started.
+    /// Names the request that was just started, to which this buffer is lent, if it is a receive.
     fn name_request(
         &mut self,
         rank: u16,
         name: &Name,
-        buffer: Option<&Name>,
+        lent: Option<&Name>,
     ) -> Result<(), SimulateError> {
         let Some(request) = self.last_started() else {
             return Ok(());
         };
         let alloc = self.alloc;
-        let buffer = match buffer {
-            Some(buffer) => Some(buffer.try_clone(alloc)?),
-            None => None,
-        };
-        let held = Held {
-            request: Some(request),
-            buffer,
-        };
-        if let Some(names) = self.ranks.get_mut(&rank) {
-            names.set_request(name, alloc, held)?;
+        match self.ranks.get_mut(&rank) {
+            Some(names) => Ok(names.set_request(name, alloc, request, lent)?),
+            None => Ok(()),
         }
-        Ok(())
     }
 
     /// A copy of a buffer that is here.
@@ -208,28 +237,15 @@ impl Simulation {
     }
 
     /// A buffer comes back from a receive that was refused.
-    fn give_back(&mut self, rank: u16, name: &Name, event: Event) {
-        if let Event::Call(_, Call::Irecv(receive)) = event {
-            if let Some(names) = self.ranks.get_mut(&rank) {
-                names.give_back(name, receive.into.buffer);
+    fn give_back(&mut self, rank: u16, name: &Name, refused: Event) {
+        let buffer = buffer_of(refused);
+        if let Some(names) = self.ranks.get_mut(&rank) {
+            if let Some(place) = names.buffers.get_mut(name.as_bytes()) {
+                give_way(place, buffer);
+                return;
             }
         }
-    }
-
-    /// The request of a name; none is the null request.
-    fn request_of(
-        &self,
-        rank: u16,
-        line: usize,
-        name: &Name,
-    ) -> Result<Option<Request>, SimulateError> {
-        match self.ranks.get(&rank) {
-            Some(names) => match names.requests.get(name.as_bytes()) {
-                Some(held) => Ok(held.request),
-                None => Err(SimulateError::Script(line)),
-            },
-            None => Err(SimulateError::Script(line)),
-        }
+        drop(buffer);
     }
 
     fn isend<W: Write>(
@@ -249,7 +265,7 @@ impl Simulation {
                 buffer: self.copy_of(rank, line, &send.buffer)?,
             },
         });
-        if self.happen(Event::Call(rank, call), out)?.is_none() {
+        if self.runs(Event::Call(rank, call), out)? {
             self.name_request(rank, request, None)?;
         }
         Ok(())
@@ -272,11 +288,11 @@ impl Simulation {
                 buffer: self.lend(rank, line, &receive.buffer)?,
             },
         });
-        match self.happen(Event::Call(rank, call), out)? {
-            Some(refused) => self.give_back(rank, &receive.buffer, refused),
-            None => self.name_request(rank, request, Some(&receive.buffer))?,
+        match self.happen(Event::Call(rank, call), out) {
+            Ok(Some(refused)) => Ok(self.give_back(rank, &receive.buffer, refused)),
+            Ok(None) => self.name_request(rank, request, Some(&receive.buffer)),
+            Err(e) => Err(e),
         }
-        Ok(())
     }
 
     /// A completing call that is about these names.
@@ -288,10 +304,14 @@ impl Simulation {
         out: &mut W,
     ) -> Result<(), SimulateError> {
         let earlier = self.set_waiting(rank, about);
-        if self.happen(Event::Call(rank, call), out)?.is_some() {
-            self.set_waiting(rank, earlier);
+        match self.runs(Event::Call(rank, call), out) {
+            Ok(true) => Ok(drop(earlier)),
+            Ok(false) => Ok(drop(self.set_waiting(rank, earlier))),
+            Err(e) => {
+                drop(earlier);
+                Err(e)
+            }
         }
-        Ok(())
     }
 
     /// The rank's last completing call is about these names. Answers what the one before was about.
@@ -309,9 +329,15 @@ impl Simulation {
         line: usize,
         requested: &Requested,
     ) -> Result<Option<Request>, SimulateError> {
-        match requested {
-            Requested::Null => Ok(None),
-            Requested::Named(name) => self.request_of(rank, line, name),
+        let Requested::Named(name) = requested else {
+            return Ok(None);
+        };
+        match self.ranks.get(&rank) {
+            Some(names) => match names.requests.get(name.as_bytes()) {
+                Some(held) => Ok(held.request),
+                None => Err(SimulateError::Script(line)),
+            },
+            None => Err(SimulateError::Script(line)),
         }
     }
 
@@ -329,28 +355,23 @@ impl Simulation {
         Ok(names)
     }
 
-    fn wait<W: Write>(
+    /// A wait, which blocks until the request is finished, or a test.
+    fn complete_one<W: Write>(
         &mut self,
         rank: u16,
         line: usize,
         requested: &Requested,
+        blocks: bool,
         out: &mut W,
     ) -> Result<(), SimulateError> {
         let request = self.requested(rank, line, requested)?;
         let about = self.names_of(slice::from_ref(requested))?;
-        self.complete(rank, about, Call::Wait(request), out)
-    }
-
-    fn test<W: Write>(
-        &mut self,
-        rank: u16,
-        line: usize,
-        requested: &Requested,
-        out: &mut W,
-    ) -> Result<(), SimulateError> {
-        let request = self.requested(rank, line, requested)?;
-        let about = self.names_of(slice::from_ref(requested))?;
-        self.complete(rank, about, Call::Test(request), out)
+        let call = if blocks {
+            Call::Wait(request)
+        } else {
+            Call::Test(request)
+        };
+        self.complete(rank, about, call, out)
     }
 
     fn cancel<W: Write>(
@@ -361,7 +382,7 @@ impl Simulation {
         out: &mut W,
     ) -> Result<(), SimulateError> {
         let request = self.requested(rank, line, requested)?;
-        let _ = self.happen(Event::Call(rank, Call::Cancel(request)), out)?;
+        self.runs(Event::Call(rank, Call::Cancel(request)), out)?;
         Ok(())
     }
 
@@ -380,28 +401,23 @@ impl Simulation {
         Ok(RequestList::new(self.alloc, requests)?)
     }
 
-    fn wait_any<W: Write>(
+    /// A wait for all of these requests, or for one of them.
+    fn complete_several<W: Write>(
         &mut self,
         rank: u16,
         line: usize,
         several: &[Requested],
+        all: bool,
         out: &mut W,
     ) -> Result<(), SimulateError> {
         let list = self.list_of(rank, line, several)?;
         let about = self.names_of(several)?;
-        self.complete(rank, about, Call::Waitany(list), out)
-    }
-
-    fn wait_all<W: Write>(
-        &mut self,
-        rank: u16,
-        line: usize,
-        several: &[Requested],
-        out: &mut W,
-    ) -> Result<(), SimulateError> {
-        let list = self.list_of(rank, line, several)?;
-        let about = self.names_of(several)?;
-        self.complete(rank, about, Call::Waitall(list), out)
+        let call = if all {
+            Call::Waitall(list)
+        } else {
+            Call::Waitany(list)
+        };
+        self.complete(rank, about, call, out)
     }
 
     /// A copy of a layout that is set.
@@ -446,13 +462,16 @@ impl Simulation {
                 Err(_) => return Err(SimulateError::OutOfMemory),
             },
         };
-        match line.form.layout_made(alloc, &old) {
-            Ok(layout) => {
-                if let Some(names) = self.ranks.get_mut(&rank) {
-                    names.set_layout(&line.name, alloc, layout)?;
+        let made = line.form.layout_made(alloc, &old);
+        drop(old);
+        match made {
+            Ok(layout) => match self.ranks.get_mut(&rank) {
+                Some(names) => Ok(set(&mut names.layouts, alloc, &line.name, layout)?),
+                None => {
+                    drop(layout);
+                    Ok(())
                 }
-                Ok(())
-            }
+            },
             Err(Refusal::OutOfMemory) => Err(SimulateError::OutOfMemory),
             Err(refusal) => Ok(print_refusal(refusal.number(), out)?),
         }
@@ -471,11 +490,15 @@ impl Simulation {
             Action::Isend(request, send) => self.isend(rank, line, request, send, out),
             Action::Irecv(request, receive) => self.irecv(rank, line, request, receive, out),
             Action::Layout(layout) => self.set_layout(rank, line, layout, out),
-            Action::Wait(requested) => self.wait(rank, line, requested, out),
-            Action::Test(requested) => self.test(rank, line, requested, out),
+            Action::Wait(requested) => self.complete_one(rank, line, requested, true, out),
+            Action::Test(requested) => self.complete_one(rank, line, requested, false, out),
             Action::Cancel(requested) => self.cancel(rank, line, requested, out),
-            Action::Waitany(several) => self.wait_any(rank, line, several.as_slice(), out),
-            Action::Waitall(several) => self.wait_all(rank, line, several.as_slice(), out),
+            Action::Waitany(several) => {
+                self.complete_several(rank, line, several.as_slice(), false, out)
+            }
+            Action::Waitall(several) => {
+                self.complete_several(rank, line, several.as_slice(), true, out)
+            }
             Action::Barrier(communicator) => self.barrier(rank, line, communicator, out),
             Action::Bcast(said) => self.bcast(rank, line, said, out),
             Action::Gather(said) => self.gather(rank, line, said, out),
@@ -492,9 +515,9 @@ impl Simulation {
 
     /// A rank is started anew, and its names stand for nothing any more.
     fn restart<W: Write>(&mut self, rank: u16, out: &mut W) -> Result<(), SimulateError> {
-        if self.happen(Event::Restart(rank), out)?.is_none() {
+        if self.runs(Event::Restart(rank), out)? {
             if let Some(names) = self.ranks.get_mut(&rank) {
-                *names = Names::new(self.alloc);
+                give_way(names, Names::new(self.alloc));
             }
         }
         Ok(())
@@ -503,13 +526,24 @@ impl Simulation {
     fn run<W: Write>(&mut self, line: Line, out: &mut W) -> Result<(), SimulateError> {
         let number = line.number;
         let event = match line.statement {
-            Statement::Rank(rank, action) => return self.act(rank, number, &action, out),
+            Statement::Rank(rank, action) => {
+                let acted = self.act(rank, number, &action, out);
+                drop(action);
+                return acted;
+            }
             Statement::Deliver(number) => Event::Deliver(number),
             Statement::Tick(rank, now) => Event::Tick(rank, now),
             Statement::Stray(rank, bytes) => Event::Stray(rank, bytes),
             Statement::Restart(rank) => return self.restart(rank, out),
         };
-        let _ = self.happen(event, out)?;
+        self.runs(event, out)?;
+        Ok(())
+    }
+
+    fn run_all<W: Write>(&mut self, lines: Vec<Line>, out: &mut W) -> Result<(), SimulateError> {
+        for line in lines {
+            self.run(line, out)?;
+        }
         Ok(())
     }
 }
@@ -524,18 +558,21 @@ pub fn simulate<W: Write>(alloc: Global, text: &[u8], out: &mut W) -> Result<(),
         Err(ParseError::Line(line)) => return Err(SimulateError::Script(line)),
         Err(ParseError::OutOfMemory) => return Err(SimulateError::OutOfMemory),
     };
-    let size = file.size;
-    let Ok(world) = World::new(alloc, size) else {
-        return Err(SimulateError::OutOfMemory);
-    };
-    let mut simulation = Simulation {
-        alloc,
-        size,
-        world,
-        ranks: BTreeMap::new(alloc),
-    };
-    for line in file.lines.into_vec() {
-        simulation.run(line, out)?;
+    match World::new(alloc, file.size) {
+        Ok(world) => {
+            let mut simulation = Simulation {
+                alloc,
+                size: file.size,
+                world,
+                ranks: BTreeMap::new(alloc),
+            };
+            let ended = simulation.run_all(file.lines.into_vec(), out);
+            drop(simulation);
+            ended
+        }
+        Err(_) => {
+            drop(file);
+            Err(SimulateError::OutOfMemory)
+        }
     }
-    Ok(())
 }

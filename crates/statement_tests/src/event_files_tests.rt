@@ -1,5 +1,6 @@
 //! Each line of a file of events is read, and a faulty line is named.
 
+use crate::rows::{Language, first_wrong, is_refused};
 use datatypes::Block;
 use event_files::*;
 use std::alloc::Global;
@@ -79,24 +80,73 @@ fn is_as_said(place: usize, statement: &Statement) -> bool {
     }
 }
 
-/// How many ranks the row asks for, how many lines there are, the sum of their numbers, and how many are as the row says.
-fn every_statement(alloc: Global) -> Option<(u16, usize, usize, usize)> {
-    let file = parse(alloc, EVERY_STATEMENT.as_bytes()).ok()?;
+/// The sum of the lines' numbers, and how many are as the row says.
+fn sum_and_good(lines: &[Line]) -> (usize, usize) {
     let mut sum = 0;
     let mut good = 0;
-    for (place, line) in file.lines.as_slice().iter().enumerate() {
+    for (place, line) in lines.iter().enumerate() {
         sum = line.number.saturating_add(sum);
         if is_as_said(place, &line.statement) {
             good = 1_usize.saturating_add(good);
         }
     }
-    let size = file.size;
-    Some((size, file.lines.into_vec().len(), sum, good))
+    (sum, good)
+}
+
+/// How many ranks the row asks for, how many lines there are, the sum of their numbers, and how many are as the row says.
+fn every_statement(alloc: Global) -> Option<(u16, usize, usize, usize)> {
+    let EventFile { size, lines } = parse(alloc, EVERY_STATEMENT.as_bytes()).ok()?;
+    let (sum, good) = sum_and_good(lines.as_slice());
+    let lines = lines.into_vec();
+    let count = lines.len();
+    drop(lines);
+    Some((size, count, sum, good))
 }
 
 #[test]
 fn every_statement_is_read(rt: HostRuntime) {
     assert_eq!(rt; every_statement(rt.alloc()), Some((3, 10, 87, 10)));
+}
+
+/// What the lines of a row are about.
+#[derive(Clone, Copy)]
+enum Rows {
+    /// Layouts, and all that there is to do with requests.
+    LayoutsAndRequests,
+    /// Collectives that move elements, and a barrier.
+    Collectives,
+    /// Communicators.
+    Communicators,
+}
+
+/// Whether what the rank does at this place of the row is as the row says.
+fn is_of(rows: Rows, place: usize, action: &Action) -> bool {
+    match rows {
+        Rows::LayoutsAndRequests => is_action_said(place, action),
+        Rows::Collectives => is_of_collectives(place, action),
+        Rows::Communicators => is_of_communicators(place, action),
+    }
+}
+
+/// How many of the lines are as their row says.
+fn good_lines(rows: Rows, lines: &[Line]) -> usize {
+    let mut good = 0;
+    for (place, line) in lines.iter().enumerate() {
+        if let Statement::Rank(0, action) = &line.statement {
+            if is_of(rows, place, action) {
+                good = 1_usize.saturating_add(good);
+            }
+        }
+    }
+    good
+}
+
+/// How many of the text's lines are as their row says.
+fn good_of(alloc: Global, rows: Rows, text: &str) -> Option<usize> {
+    let file = parse(alloc, text.as_bytes()).ok()?;
+    let good = good_lines(rows, file.lines.as_slice());
+    drop(file);
+    Some(good)
 }
 
 /// Lines of layouts, and of all that there is to do with requests.
@@ -180,23 +230,12 @@ fn is_action_said(place: usize, action: &Action) -> bool {
     }
 }
 
-/// How many of the lines are as the row says.
-fn layouts_and_requests(alloc: Global) -> Option<usize> {
-    let file = parse(alloc, LAYOUTS_AND_REQUESTS.as_bytes()).ok()?;
-    let mut good = 0;
-    for (place, line) in file.lines.as_slice().iter().enumerate() {
-        if let Statement::Rank(0, action) = &line.statement {
-            if is_action_said(place, action) {
-                good = 1_usize.saturating_add(good);
-            }
-        }
-    }
-    Some(good)
-}
-
 #[test]
 fn layouts_and_requests_are_read(rt: HostRuntime) {
-    assert_eq!(rt; layouts_and_requests(rt.alloc()), Some(10));
+    assert_eq!(rt;
+        good_of(rt.alloc(), Rows::LayoutsAndRequests, LAYOUTS_AND_REQUESTS),
+        Some(10)
+    );
 }
 
 /// Lines of collectives that move elements, and of a barrier.
@@ -242,23 +281,12 @@ fn is_of_collectives(place: usize, action: &Action) -> bool {
     }
 }
 
-/// How many of the lines are as the row says.
-fn collectives(alloc: Global) -> Option<usize> {
-    let file = parse(alloc, COLLECTIVES.as_bytes()).ok()?;
-    let mut good = 0;
-    for (place, line) in file.lines.as_slice().iter().enumerate() {
-        if let Statement::Rank(0, action) = &line.statement {
-            if is_of_collectives(place, action) {
-                good = 1_usize.saturating_add(good);
-            }
-        }
-    }
-    Some(good)
-}
-
 #[test]
 fn collectives_are_read(rt: HostRuntime) {
-    assert_eq!(rt; collectives(rt.alloc()), Some(9));
+    assert_eq!(rt;
+        good_of(rt.alloc(), Rows::Collectives, COLLECTIVES),
+        Some(9)
+    );
 }
 
 /// The operations by their words, in the order of their codes.
@@ -276,20 +304,30 @@ const OPERATIONS: [(&str, Operation); 11] = [
     ("affine", Operation::Affine),
 ];
 
-/// The operation of a line that reduces by this word.
-fn operation_read(alloc: Global, word: &str) -> Option<Operation> {
-    let text = format!(in alloc; "world 1\n0 allreduce world {word} a b").ok()?;
-    let file = parse(alloc, text.as_bytes()).ok()?;
-    match &file.lines.as_slice().first()?.statement {
+/// The operation of the first line, if that reduces for all.
+fn operation_of(lines: &[Line]) -> Option<Operation> {
+    match &lines.first()?.statement {
         Statement::Rank(0, Action::Allreduce(line)) => Some(line.operation),
         _ => None,
     }
 }
 
+/// The operation of a line that reduces by this word.
+fn operation_read(alloc: Global, word: &str) -> Option<Operation> {
+    let text = format!(in alloc; "world 1\n0 allreduce world {word} a b").ok()?;
+    let file = parse(alloc, text.as_bytes()).ok()?;
+    let operation = operation_of(file.lines.as_slice());
+    drop(file);
+    operation
+}
+
 #[test]
 fn operations_are_read(rt: HostRuntime) {
     for (word, operation) in OPERATIONS {
-        assert_eq!(rt; operation_read(rt.alloc(), word), Some(operation), "{word}");
+        assert!(rt;
+            operation_read(rt.alloc(), word) == Some(operation),
+            "{word}"
+        );
     }
 }
 
@@ -330,123 +368,91 @@ fn is_of_communicators(place: usize, action: &Action) -> bool {
     }
 }
 
-/// How many of the lines are as the row says.
-fn communicators(alloc: Global) -> Option<usize> {
-    let file = parse(alloc, COMMUNICATORS.as_bytes()).ok()?;
-    let mut good = 0;
-    for (place, line) in file.lines.as_slice().iter().enumerate() {
-        if let Statement::Rank(0, action) = &line.statement {
-            if is_of_communicators(place, action) {
-                good = 1_usize.saturating_add(good);
-            }
-        }
-    }
-    Some(good)
-}
-
 #[test]
 fn lines_on_communicators_are_read(rt: HostRuntime) {
-    assert_eq!(rt; communicators(rt.alloc()), Some(9));
+    assert_eq!(rt;
+        good_of(rt.alloc(), Rows::Communicators, COMMUNICATORS),
+        Some(9)
+    );
 }
 
-/// The line that the text is faulty at.
-fn faulty_line(alloc: Global, text: &str) -> Option<usize> {
-    match parse(alloc, text.as_bytes()) {
-        Err(ParseError::Line(line)) => Some(line),
-        _ => None,
-    }
-}
+/// Rows `NUMBER|TEXT`: the line that the text is faulty at; `;` stands for the end of a line.
+const FAULTY: &str = "\
+    1|\n\
+    2|;\n\
+    2|# nothing;\n\
+    3|# nothing;#\n\
+    1|world 0;\n\
+    1|world 257;\n\
+    1|restart 0;\n\
+    2|world 2;world 2;\n\
+    2|world 2;restart;\n\
+    2|world 2;restart 0 1;\n\
+    3|world 2;;restart 00;\n\
+    2|world 2;restart any;\n\
+    2|world 2;restart -1;\n\
+    2|world 2;0 restart;\n\
+    2|world 2;tick 0;\n\
+    2|world 2;tick 0 18446744073709551616;\n\
+    2|world 2;stray 0 4;\n\
+    2|world 2;stray 0 4F;\n\
+    2|world 2;0 buf a uint8 256;\n\
+    2|world 2;0 isend q world 1 7 a as int32 1;\n\
+    2|world 2;0 count l;\n\
+    2|world 2;0 irecv q world 1 x a;restart;";
+
+/// Rows `NUMBER|TEXT` of collectives.
+const FAULTY_COLLECTIVES: &str = "\
+    2|world 2;0 barrier;\n\
+    2|world 2;0 barrier null;\n\
+    2|world 2;0 barrier world self;\n\
+    2|world 2;0 bcast world 0;\n\
+    2|world 2;0 bcast world any a;\n\
+    2|world 2;0 bcast world 0 -;\n\
+    2|world 2;0 bcast world 0 a b;\n\
+    2|world 2;0 gather world 0 a;\n\
+    2|world 2;0 gather world 0 - b;\n\
+    2|world 2;0 gather world -1 a b;\n\
+    2|world 2;0 scatter world 0 a;\n\
+    2|world 2;0 scatter world 0 a -;\n\
+    2|world 2;0 scatter world 0 -- b;\n\
+    2|world 2;0 scatter world 0 null b;\n\
+    2|world 2;0 reduce world 0 a b;\n\
+    2|world 2;0 reduce world sum 0 a b;\n\
+    2|world 2;0 reduce world 0 SUM a b;\n\
+    2|world 2;0 reduce world 0 minloc a b;\n\
+    2|world 2;0 allreduce world a b;\n\
+    2|world 2;0 allreduce world 0 sum a b;\n\
+    2|world 2;0 allreduce world null a b;";
+
+/// Rows `NUMBER|TEXT` of communicators.
+const FAULTY_COMMUNICATORS: &str = "\
+    2|world 2;0 dup d world self;\n\
+    2|world 2;0 dup world self;\n\
+    2|world 2;0 dup d null;\n\
+    2|world 2;0 split d world 0;\n\
+    2|world 2;0 split d world 4294967296 0;\n\
+    2|world 2;0 split d world -1 0;\n\
+    2|world 2;0 split d world any 0;\n\
+    2|world 2;0 split d world 0 2147483648;\n\
+    2|world 2;0 split d world 0 -2147483649;\n\
+    2|world 2;0 split d world 0 undefined;\n\
+    2|world 2;0 who;\n\
+    2|world 2;0 members world world;\n\
+    2|world 2;0 compare world;";
 
 #[test]
 fn faulty_lines_answer_their_number(rt: HostRuntime) {
-    for (text, line) in [
-        ("", 1),
-        ("\n", 2),
-        ("# nothing\n", 2),
-        ("# nothing\n#", 3),
-        ("world 0\n", 1),
-        ("world 257\n", 1),
-        ("restart 0\n", 1),
-        ("world 2\nworld 2\n", 2),
-        ("world 2\nrestart\n", 2),
-        ("world 2\nrestart 0 1\n", 2),
-        ("world 2\n\nrestart 00\n", 3),
-        ("world 2\nrestart any\n", 2),
-        ("world 2\nrestart -1\n", 2),
-        ("world 2\n0 restart\n", 2),
-        ("world 2\ntick 0\n", 2),
-        ("world 2\ntick 0 18446744073709551616\n", 2),
-        ("world 2\nstray 0 4\n", 2),
-        ("world 2\nstray 0 4F\n", 2),
-        ("world 2\n0 buf a uint8 256\n", 2),
-        ("world 2\n0 isend q world 1 7 a as int32 1\n", 2),
-        ("world 2\n0 count l\n", 2),
-        ("world 2\n0 irecv q world 1 x a\nrestart\n", 2),
-    ] {
-        assert_eq!(rt; faulty_line(rt.alloc(), text), Some(line), "{text}");
+    for rows in [FAULTY, FAULTY_COLLECTIVES, FAULTY_COMMUNICATORS] {
+        assert_eq!(rt; first_wrong(rt.alloc(), Language::Events, rows), None);
     }
-}
-
-#[test]
-fn faulty_collectives_answer_their_number(rt: HostRuntime) {
-    for (text, line) in [
-        ("world 2\n0 barrier\n", 2),
-        ("world 2\n0 barrier null\n", 2),
-        ("world 2\n0 barrier world self\n", 2),
-        ("world 2\n0 bcast world 0\n", 2),
-        ("world 2\n0 bcast world any a\n", 2),
-        ("world 2\n0 bcast world 0 -\n", 2),
-        ("world 2\n0 bcast world 0 a b\n", 2),
-        ("world 2\n0 gather world 0 a\n", 2),
-        ("world 2\n0 gather world 0 - b\n", 2),
-        ("world 2\n0 gather world -1 a b\n", 2),
-        ("world 2\n0 scatter world 0 a\n", 2),
-        ("world 2\n0 scatter world 0 a -\n", 2),
-        ("world 2\n0 scatter world 0 -- b\n", 2),
-        ("world 2\n0 scatter world 0 null b\n", 2),
-        ("world 2\n0 reduce world 0 a b\n", 2),
-        ("world 2\n0 reduce world sum 0 a b\n", 2),
-        ("world 2\n0 reduce world 0 SUM a b\n", 2),
-        ("world 2\n0 reduce world 0 minloc a b\n", 2),
-        ("world 2\n0 allreduce world a b\n", 2),
-        ("world 2\n0 allreduce world 0 sum a b\n", 2),
-        ("world 2\n0 allreduce world null a b\n", 2),
-    ] {
-        assert_eq!(rt; faulty_line(rt.alloc(), text), Some(line), "{text}");
-    }
-}
-
-#[test]
-fn faulty_communicators_answer_their_number(rt: HostRuntime) {
-    for (text, line) in [
-        ("world 2\n0 dup d world self\n", 2),
-        ("world 2\n0 dup world self\n", 2),
-        ("world 2\n0 dup d null\n", 2),
-        ("world 2\n0 split d world 0\n", 2),
-        ("world 2\n0 split d world 4294967296 0\n", 2),
-        ("world 2\n0 split d world -1 0\n", 2),
-        ("world 2\n0 split d world any 0\n", 2),
-        ("world 2\n0 split d world 0 2147483648\n", 2),
-        ("world 2\n0 split d world 0 -2147483649\n", 2),
-        ("world 2\n0 split d world 0 undefined\n", 2),
-        ("world 2\n0 who\n", 2),
-        ("world 2\n0 members world world\n", 2),
-        ("world 2\n0 compare world\n", 2),
-    ] {
-        assert_eq!(rt; faulty_line(rt.alloc(), text), Some(line), "{text}");
-    }
-}
-
-/// Whether memory was refused for the text.
-fn is_refused(alloc: Global, text: &str) -> bool {
-    matches!(parse(alloc, text.as_bytes()), Err(ParseError::OutOfMemory))
 }
 
 #[test]
 fn refused_growths_are_told(rt: HostRuntime) {
     // No memory holds so many elements.
     let text = "world 2\n0 buf a uint64 9223372036854775807*0\n";
-    assert!(rt; is_refused(rt.alloc(), text));
+    assert!(rt; is_refused(parse(rt.alloc(), text.as_bytes())));
     let text = "world 2\n0 buf a uint64 18446744073709551616*0\n";
-    assert!(rt; is_refused(rt.alloc(), text));
+    assert!(rt; is_refused(parse(rt.alloc(), text.as_bytes())));
 }

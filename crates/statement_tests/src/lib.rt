@@ -10,4 +10,6 @@ mod line_tests;
 #[cfg(test)]
 mod name_table_tests;
 #[cfg(test)]
+mod rows;
+#[cfg(test)]
 mod script_files_tests;

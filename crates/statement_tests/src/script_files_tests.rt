@@ -1,8 +1,25 @@
 //! Each line of a script is read, the lines for a rank are found, and a faulty line is named.
 
+use crate::rows::{Language, faulty_line, first_wrong};
 use script_files::*;
 use std::alloc::Global;
 use vocabulary::Source;
+
+/// Whether so many lines are left, of these numbers in order.
+fn are_numbered(lines: &mut RankLines, numbers: &[usize]) -> bool {
+    let mut same = lines.len() == numbers.len();
+    for number in numbers {
+        same = same && number_of(lines.next()) == Some(*number);
+    }
+    same
+}
+
+/// The number of the line, which is dropped.
+fn number_of(line: Option<RankLine>) -> Option<usize> {
+    let RankLine { number, statement } = line?;
+    drop(statement);
+    Some(number)
+}
 
 /// Whether the lines for this rank have these numbers, in order.
 fn are_lines_for(
@@ -14,21 +31,9 @@ fn are_lines_for(
 ) -> Option<bool> {
     let script = parse(alloc, text.as_bytes()).ok()?;
     let mut lines = script.into_lines_for(alloc, rank, incarnation).ok()?;
-    if lines.len() != numbers.len() {
-        return Some(false);
-    }
-    let mut same = true;
-    for number in numbers {
-        same = same && is_line(lines.next(), *number);
-    }
+    let same = are_numbered(&mut lines, numbers);
+    drop(lines);
     Some(same)
-}
-
-fn is_line(line: Option<RankLine>, number: usize) -> bool {
-    match line {
-        Some(line) => line.number == number,
-        None => false,
-    }
 }
 
 const FOR_SOME: &str =
@@ -36,25 +41,16 @@ const FOR_SOME: &str =
 
 #[test]
 fn lines_are_for_their_ranks(rt: HostRuntime) {
+    let alloc = rt.alloc();
     assert_eq!(rt;
-        are_lines_for(rt.alloc(), FOR_SOME, 0, 5, &[1, 3, 9]),
-        Some(true)
-    );
-    assert_eq!(rt;
-        are_lines_for(rt.alloc(), FOR_SOME, 1, 0, &[1, 6, 9]),
-        Some(true)
-    );
-    assert_eq!(rt;
-        are_lines_for(rt.alloc(), FOR_SOME, 2, 0, &[1, 9]),
-        Some(true)
-    );
-    assert_eq!(rt;
-        are_lines_for(rt.alloc(), FOR_SOME, 2, 1, &[1, 3, 9]),
-        Some(true)
-    );
-    assert_eq!(rt;
-        are_lines_for(rt.alloc(), FOR_SOME, 1, 65_535, &[1, 6, 9]),
-        Some(true)
+        [
+            are_lines_for(alloc, FOR_SOME, 0, 5, &[1, 3, 9]),
+            are_lines_for(alloc, FOR_SOME, 1, 0, &[1, 6, 9]),
+            are_lines_for(alloc, FOR_SOME, 2, 0, &[1, 9]),
+            are_lines_for(alloc, FOR_SOME, 2, 1, &[1, 3, 9]),
+            are_lines_for(alloc, FOR_SOME, 1, 65_535, &[1, 6, 9]),
+        ],
+        [Some(true); 5]
     );
 }
 
@@ -85,17 +81,24 @@ fn is_as_said(number: usize, statement: &Statement) -> bool {
     }
 }
 
-/// How many lines are as the row says.
-fn every_statement(alloc: Global) -> Option<usize> {
-    let script = parse(alloc, EVERY_STATEMENT.as_bytes()).ok()?;
+/// How many of the lines are as the row says.
+fn good_lines(lines: &[Line]) -> usize {
     let mut good = 0;
-    for line in script.lines() {
+    for line in lines {
         if let Item::Does(statement) = &line.item {
             if is_as_said(line.number, statement) {
                 good = 1_usize.saturating_add(good);
             }
         }
     }
+    good
+}
+
+/// How many lines are as the row says.
+fn every_statement(alloc: Global) -> Option<usize> {
+    let script = parse(alloc, EVERY_STATEMENT.as_bytes()).ok()?;
+    let good = good_lines(script.lines());
+    drop(script);
     Some(good)
 }
 
@@ -104,44 +107,36 @@ fn every_statement_is_read(rt: HostRuntime) {
     assert_eq!(rt; every_statement(rt.alloc()), Some(14));
 }
 
-/// The line that the text is faulty at.
-fn faulty_line(alloc: Global, text: &str) -> Option<usize> {
-    match parse(alloc, text.as_bytes()) {
-        Err(ParseError::Line(line)) => Some(line),
-        _ => None,
-    }
-}
+/// Rows `NUMBER|TEXT`: the line that the text is faulty at; `;` stands for the end of a line.
+const FAULTY: &str = "\
+    1|on;\n\
+    1|on all 1;\n\
+    1|on 1.;\n\
+    1|on .1;\n\
+    1|on 1.2.3;\n\
+    1|on 01;\n\
+    1|say;\n\
+    1|status a;\n\
+    2|;fail 5;\n\
+    1|print;\n\
+    1|print a b;\n\
+    1|print world;\n\
+    1|send world 1 2;\n\
+    1|recv world 1 2 a b;\n\
+    1|0 wait q;\n\
+    1|count;\n\
+    1|count int8;\n\
+    1|count l m;\n\
+    1|send world 1 2 a as l;\n\
+    1|barrier;\n\
+    1|bcast world 0 world;\n\
+    1|scatter world 0 - -;\n\
+    1|fail\t;\n\
+    1|#\ta;\n\
+    1|fail\r;";
 
 #[test]
 fn faulty_lines_answer_their_number(rt: HostRuntime) {
-    for (text, line) in [
-        ("on\n", 1),
-        ("on all 1\n", 1),
-        ("on 1.\n", 1),
-        ("on .1\n", 1),
-        ("on 1.2.3\n", 1),
-        ("on 01\n", 1),
-        ("say\n", 1),
-        ("status a\n", 1),
-        ("\nfail 5\n", 2),
-        ("print\n", 1),
-        ("print a b\n", 1),
-        ("print world\n", 1),
-        ("send world 1 2\n", 1),
-        ("recv world 1 2 a b\n", 1),
-        ("0 wait q\n", 1),
-        ("count\n", 1),
-        ("count int8\n", 1),
-        ("count l m\n", 1),
-        ("send world 1 2 a as l\n", 1),
-        ("barrier\n", 1),
-        ("bcast world 0 world\n", 1),
-        ("scatter world 0 - -\n", 1),
-        ("fail\t\n", 1),
-        ("#\ta\n", 1),
-        ("fail\r\n", 1),
-    ] {
-        assert_eq!(rt; faulty_line(rt.alloc(), text), Some(line), "{text}");
-    }
-    assert_eq!(rt; faulty_line(rt.alloc(), ""), None);
+    assert_eq!(rt; first_wrong(rt.alloc(), Language::Script, FAULTY), None);
+    assert_eq!(rt; faulty_line(rt.alloc(), Language::Script, b""), None);
 }

@@ -11,7 +11,7 @@ use std::marker::Model;
 use vocabulary::Source;
 
 /// The communicator that a line names.
-#[derive(Debug, Drop)]
+#[derive(Drop)]
 pub enum Communicator {
     /// `world`: all ranks (MPI_COMM_WORLD).
     World,
@@ -22,7 +22,7 @@ pub enum Communicator {
 }
 
 /// The request that a line names.
-#[derive(Debug, Drop)]
+#[derive(Drop)]
 pub enum Requested {
     /// `null`: the null request (MPI 3.1, 3.7.3).
     Null,
@@ -31,7 +31,7 @@ pub enum Requested {
 }
 
 /// Requests that a line names, in order. Contracts see them as a list.
-#[derive(Debug, Drop)]
+#[derive(Drop)]
 pub struct RequestedList {
     items: Vec<Requested>,
 }
@@ -78,7 +78,7 @@ impl RequestedList {
 }
 
 /// `B TYPE V ..`: a buffer's name and elements.
-#[derive(Debug, Drop)]
+#[derive(Drop)]
 pub struct BufferLine {
     /// The buffer's name.
     pub name: Name,
@@ -87,7 +87,7 @@ pub struct BufferLine {
 }
 
 /// `as L N`: the places of a buffer that hold a message's data.
-#[derive(Debug, Drop)]
+#[derive(Drop)]
 pub struct Through {
     /// The name of the layout.
     pub layout: Name,
@@ -96,7 +96,7 @@ pub struct Through {
 }
 
 /// `COMM DEST TAG B`, and `as L N` if it stands there: the arguments of a send (MPI 3.1, 3.2.1).
-#[derive(Debug, Drop)]
+#[derive(Drop)]
 pub struct Sending {
     /// The communicator in which the message goes.
     pub communicator: Communicator,
@@ -113,7 +113,7 @@ pub struct Sending {
 }
 
 /// `COMM SRC TAG B`, and `as L N` if it stands there: the arguments of a receive (MPI 3.1, 3.2.4).
-#[derive(Debug, Drop)]
+#[derive(Drop)]
 pub struct Receiving {
     /// The communicator in which the message comes.
     pub communicator: Communicator,
@@ -129,7 +129,7 @@ pub struct Receiving {
 }
 
 /// `COMM COLOUR KEY`: the arguments of a split (MPI 3.1, 6.4.2).
-#[derive(Debug, Drop)]
+#[derive(Drop)]
 pub struct Splitting {
     /// The communicator that is split.
     pub communicator: Communicator,
@@ -140,7 +140,7 @@ pub struct Splitting {
 }
 
 /// What a line asks a rank to do, in a file of events as in a script.
-#[derive(Debug, Drop)]
+#[derive(Drop)]
 pub enum Action {
     /// `buf B TYPE V ..` sets a buffer.
     Buffer(BufferLine),

@@ -5,7 +5,7 @@ use line_words::Name;
 use payload::Operation;
 
 /// `COMM ROOT B`: the arguments of a broadcast (MPI 3.1, 5.4).
-#[derive(Debug, Drop)]
+#[derive(Drop)]
 pub struct Broadcasting {
     /// The communicator whose members take part.
     pub communicator: Communicator,
@@ -17,7 +17,7 @@ pub struct Broadcasting {
 }
 
 /// `COMM ROOT B INTO`: the arguments of a gather (MPI 3.1, 5.5).
-#[derive(Debug, Drop)]
+#[derive(Drop)]
 pub struct Gathering {
     /// The communicator whose members take part.
     pub communicator: Communicator,
@@ -31,7 +31,7 @@ pub struct Gathering {
 }
 
 /// `COMM ROOT B INTO`: the arguments of a scatter (MPI 3.1, 5.6).
-#[derive(Debug, Drop)]
+#[derive(Drop)]
 pub struct Scattering {
     /// The communicator whose members take part.
     pub communicator: Communicator,
@@ -45,7 +45,7 @@ pub struct Scattering {
 }
 
 /// `COMM ROOT OP B INTO`: the arguments of a reduction for the root (MPI 3.1, 5.9.1).
-#[derive(Debug, Drop)]
+#[derive(Drop)]
 pub struct Reducing {
     /// The communicator whose members take part.
     pub communicator: Communicator,
@@ -61,7 +61,7 @@ pub struct Reducing {
 }
 
 /// `COMM OP B INTO`: the arguments of a reduction for all members (MPI 3.1, 5.9.6).
-#[derive(Debug, Drop)]
+#[derive(Drop)]
 pub struct ReducingToAll {
     /// The communicator whose members take part.
     pub communicator: Communicator,

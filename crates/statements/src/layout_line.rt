@@ -11,7 +11,7 @@ use std::marker::Model;
 use vocabulary::BasicType;
 
 /// What a layout is made of.
-#[derive(Debug, Drop)]
+#[derive(Drop)]
 pub enum OldLayout {
     /// A basic type: the layout of one element of it.
     Basic(BasicType),
@@ -21,7 +21,7 @@ pub enum OldLayout {
 
 /// `C B S`: blocks that stand equally far apart, counted in copies of what the layout is made of. A number that 64 bits
 /// don't hold stands as the greatest that they hold.
-#[derive(Clone, Copy, Debug, PartialEq, Eq)]
+#[derive(Clone, Copy, PartialEq, Eq)]
 pub struct Stripes {
     /// How many blocks.
     pub count: u64,
@@ -32,7 +32,7 @@ pub struct Stripes {
 }
 
 /// Blocks, in order. Contracts see them as a list. A number that 64 bits don't hold stands as the greatest that they hold.
-#[derive(Debug, Drop)]
+#[derive(Drop)]
 pub struct Blocks {
     items: Vec<Block>,
 }
@@ -72,7 +72,7 @@ impl Blocks {
 }
 
 /// How a layout is made of another one (MPI 3.1, 4.1.2).
-#[derive(Debug, Drop)]
+#[derive(Drop)]
 pub enum LayoutForm {
     /// `contiguous N`: so many copies, one after the other. A number that 64 bits don't hold stands as the greatest that they
     /// hold.
@@ -100,7 +100,7 @@ impl LayoutForm {
 }
 
 /// `L contiguous N OLD`, `L vector C B S OLD` or `L indexed LEN:DISP .. OLD`: a layout's name, and how it is made.
-#[derive(Debug, Drop)]
+#[derive(Drop)]
 pub struct LayoutLine {
     /// The layout's name.
     pub name: Name,

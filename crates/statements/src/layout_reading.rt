@@ -15,7 +15,7 @@ use line_words::{LineError, Word, basic_type_of, is, large_of, name_of, required
 use std::alloc::Global;
 
 /// How a layout is made, by its word.
-#[derive(Clone, Copy, Debug, PartialEq, Eq)]
+#[derive(Clone, Copy)]
 enum FormWord {
     /// `contiguous`
     Contiguous,

@@ -6,7 +6,7 @@ ghost use Rattle.statements.specs.Words.{communicator_verb_of, verb_of};
 use line_words::is;
 
 /// What a rank does, by its first word.
-#[derive(Clone, Copy, Debug, PartialEq, Eq)]
+#[derive(Clone, Copy)]
 pub(crate) enum Verb {
     /// `buf`
     Buffer,

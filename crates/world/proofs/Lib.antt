@@ -3,6 +3,7 @@ pub mod Places
 pub mod QuietPairs
 pub mod Ranks
 pub mod Asked
+pub mod Called
 pub mod Runs
 pub mod Sound
 pub mod Strays

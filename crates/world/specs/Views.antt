@@ -1,5 +1,8 @@
 -- What a function of the program gave, as the definitions see it.
-use Rattle.std.specs.Prelude.{Result, Ok, Err}
+use Rattle.std.specs.Prelude.{Option, Some, None, Result, Ok, Err}
+use Rattle.engine_parts.specs.declared.reply.Reply.{Reply}
+use Rattle.engine_parts.specs.declared.reply.Reply.TheVariants as replies
+use Rattle.rank_calls.specs.declared.refused.Refused.{Refused}
 use Rattle.world.specs.declared.one_engine.Given.{Given}
 use Rattle.world.specs.declared.one_engine.Rejected.{Rejected}
 use Rattle.world.specs.Steps.{Gave, Refusal}
@@ -16,3 +19,14 @@ refusal_in e = record { refused = e.refused; out = e.out.items }
 abbrev pub gave_of : Result Given Rejected → Result Gave Refusal
 gave_of (Ok g) = Ok (gave_in g)
 gave_of (Err e) = Err (refusal_in e)
+
+-- why a call was refused, if it was
+abbrev pub refusal_of : Reply → Option Refused
+refusal_of (replies.Refused why back) = Some why
+refusal_of (replies.Started request) = None
+refusal_of (replies.Done answer) = None
+refusal_of replies.Pending = None
+refusal_of replies.Accepted = None
+refusal_of replies.Blocked = None
+refusal_of (replies.Left ending) = None
+refusal_of (replies.Fact fact) = None

@@ -10,7 +10,7 @@ use std::alloc::{AllocError, Global};
 use vocabulary::Endpoint;
 
 /// What may happen in a world.
-#[derive(Debug, Drop)]
+#[derive(Drop)]
 pub enum Event {
     /// A rank is called.
     Call(u16, Call),
@@ -27,7 +27,7 @@ pub enum Event {
 }
 
 /// What the history holds of an event.
-#[derive(Debug, Drop)]
+#[derive(Drop)]
 pub struct Entry {
     /// The endpoint at which it happened: the rank, at the incarnation that it had. Of a restart that is the former one.
     pub endpoint: Endpoint,
@@ -51,7 +51,7 @@ pub struct Stepped {
 }
 
 /// A refusal, with the event that was handed in.
-#[derive(Debug, Drop)]
+#[derive(Drop)]
 pub struct Failed {
     /// Why the event was refused.
     pub refused: Refused,
@@ -62,7 +62,7 @@ pub struct Failed {
 }
 
 /// The events of a run that did not begin.
-#[derive(Debug, Drop)]
+#[derive(Drop)]
 pub struct FailedRun {
     /// Why it did not begin: room for the answers was wanting.
     pub refused: Refused,

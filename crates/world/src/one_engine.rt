@@ -6,7 +6,7 @@ ghost use Rattle.engine_parts.specs.Faults.{fault_of};
 ghost use Rattle.world.specs.Faults.{target_of};
 ghost use Rattle.world.specs.WorldState.{IsReady};
 ghost use Rattle.world.specs.Steps.{CallRuns, DatagramRuns, TickRuns, RestartRuns, EventRuns, asked_fault, emitted, restart_fault};
-ghost use Rattle.world.specs.Views.{gave_of};
+ghost use Rattle.world.specs.Views.{gave_of, refusal_of};
 
 use crate::event::Event;
 use datagram::Bytes;
@@ -114,6 +114,22 @@ fn take_given(engine: &mut Engine, reply: Option<Reply>) -> Given
     }
 }
 
+/// Why a call was refused, if it was.
+fn refusal_of(reply: &Reply) -> Option<engine::Refused>
+    ensures { result ≡ refusal_of reply.now }
+{
+    match reply {
+        Reply::Refused(refused, _) => Some(*refused),
+        Reply::Started(_) => None,
+        Reply::Done(_) => None,
+        Reply::Pending => None,
+        Reply::Accepted => None,
+        Reply::Blocked => None,
+        Reply::Left(_) => None,
+        Reply::Fact(_) => None,
+    }
+}
+
 /// The engine is called.
 fn call(alloc: Global, engine: &mut Engine, call: Call) -> Result<Given, Rejected>
     requires { IsReady engine.old }
@@ -122,15 +138,13 @@ fn call(alloc: Global, engine: &mut Engine, call: Call) -> Result<Given, Rejecte
     ensures ready { IsReady engine.new }
     ensures size { engine.new.sessions.place.size ≡ engine.old.sessions.place.size }
 {
-    match engine.call(call) {
-        Reply::Refused(refused, _call) => Err(plain(alloc, refused)),
-        Reply::Started(request) => Ok(take_given(engine, Some(Reply::Started(request)))),
-        Reply::Done(answer) => Ok(take_given(engine, Some(Reply::Done(answer)))),
-        Reply::Pending => Ok(take_given(engine, Some(Reply::Pending))),
-        Reply::Accepted => Ok(take_given(engine, Some(Reply::Accepted))),
-        Reply::Blocked => Ok(take_given(engine, Some(Reply::Blocked))),
-        Reply::Left(ending) => Ok(take_given(engine, Some(Reply::Left(ending)))),
-        Reply::Fact(fact) => Ok(take_given(engine, Some(Reply::Fact(fact)))),
+    let reply = engine.call(call);
+    match refusal_of(&reply) {
+        Some(refused) => {
+            drop(reply);
+            Err(plain(alloc, refused))
+        }
+        None => Ok(take_given(engine, Some(reply))),
     }
 }
 

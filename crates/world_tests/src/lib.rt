@@ -1,10 +1,7 @@
-//! What a world shows of what happened in it.
+//! What a world shows of what happened in it, the bytes that its ranks send, and when it is quiet. What files of events can show
+//! stands as rows of `mpisim_cases`.
 #![tactic(auto)]
 
-#[cfg(test)]
-mod collective_tests;
-#[cfg(test)]
-mod communicator_tests;
 #[cfg(test)]
 mod row_tests;
 #[cfg(test)]

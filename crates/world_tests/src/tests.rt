@@ -1,7 +1,8 @@
 //! What a world shows of what happened in it, and what its text can't show.
 
+use crate::steps::{End, Told, WORLD, deliver, enter};
 use datatypes::Buffer;
-use engine::{Call, Send};
+use engine::{Call, Entry, Send};
 use requests::Region;
 use std::alloc::Global;
 use vocabulary::{BasicType, Source};
@@ -222,6 +223,30 @@ fn session_with_a_former_incarnation_leaves_the_world_quiet(rt: HostRuntime) {
     assert_eq!(rt;
         quiet_after_a_restart(rt.alloc(), &mut world),
         Some((false, true, Some((29, Some(1))), true, false))
+    );
+}
+
+/// Three ranks meet in a barrier: what the last one tells, and the last delivery, and whether the world is quiet then.
+fn barrier_of_three(world: &mut World) -> ([Told; 3], bool) {
+    enter(world, 1, WORLD, Entry::Barrier);
+    enter(world, 2, WORLD, Entry::Barrier);
+    deliver(world, 0);
+    deliver(world, 1);
+    let last = enter(world, 0, WORLD, Entry::Barrier);
+    let told = [last, deliver(world, 4), deliver(world, 5)];
+    deliver(world, 2);
+    deliver(world, 3);
+    deliver(world, 6);
+    deliver(world, 7);
+    (told, world.is_quiet())
+}
+
+#[test]
+fn three_ranks_leave_a_barrier(rt: HostRuntime) {
+    let mut world = World::new(rt.alloc(), 3).expect(&rt, "a world");
+    assert_eq!(rt;
+        barrier_of_three(&mut world),
+        ([Told::Ended(End::Left); 3], true)
     );
 }
 

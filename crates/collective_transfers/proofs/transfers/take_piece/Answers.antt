@@ -1,5 +1,7 @@
 -- Answered so that a wrong body is refused soon.
-use Rattle.std.proofs.Common.{rules}
+use Rattle.std.proofs.Common.{rules, arith}
+use Rattle.std.proofs.lemmas.Grind.{common_steps}
+use Rattle.collective_transfers.proofs.Steps.{remove_set}
 use Rattle.collective_transfers.proofs.transfers.take_piece.Goals as goal
 
 pub as_slice-requires : goal.as_slice-requires
@@ -40,3 +42,6 @@ returns-in_default-clause-bound c = search rules
 
 pub returns-in_default-clause-capacity : goal.returns-in_default-clause-capacity
 returns-in_default-clause-capacity c = search rules
+
+pub returns-then-push_piece-clause-rest : goal.returns-then-push_piece-clause-rest
+returns-then-push_piece-clause-rest c = grind (arith, common_steps, remove_set)

@@ -1,8 +1,25 @@
 use Rattle.std.proofs.Common.{◌≡◌, ℕ, ◌+◌, ◌<◌, ◌/◌, List, length, get_or, set, sym, ap, ◌∙◌, arith}
 use Rattle.datatypes.specs.Contents.{values_of}
 use Rattle.datatypes.specs.ContentLaws.{length-values_of, get_or-values_of}
+use Rattle.datatypes.proofs.BufferSteps.{element_fits}
 use Rattle.datatypes.proofs.CombinationLaws.{combined_to, combined_to-at, combined_to-more, combined_to-all}
 use Rattle.datatypes.proofs.combining.combine_sized.Goals as goal
+
+pub number_at-first-requires-clause-room : goal.number_at-first-requires-clause-room
+number_at-first-requires-clause-room g c =
+    let a = c.args in
+    let same = ap (λ (n : ℕ). n / a.size) c.loop-place.invariant.len in
+    let like = ap (λ (n : ℕ). n / a.size) c.requires.like in
+    let lt : c.loop-place.place < length a.next.now / a.size = omega arith in
+    element_fits a.size c.loop-place.all c.loop-place.place c.loop-place.invariant.whole (omega (arith, length-values_of a.size c.loop-place.all))
+
+pub number_at-second-requires-clause-room : goal.number_at-second-requires-clause-room
+number_at-second-requires-clause-room g c =
+    let a = c.args in
+    let same = ap (λ (n : ℕ). n / a.size) c.loop-place.invariant.len in
+    let like = ap (λ (n : ℕ). n / a.size) c.requires.like in
+    let lt : c.loop-place.place < length a.next.now / a.size = omega arith in
+    element_fits a.size a.next.now c.loop-place.place c.requires.next (omega (arith, length-values_of a.size a.next.now))
 
 pub put_number_at-requires-clause-place : goal.put_number_at-requires-clause-place
 put_number_at-requires-clause-place g c =

@@ -6,6 +6,18 @@ use Rattle.derived_types.specs.Layouts.{moved}
 use Rattle.datatypes.proofs.BlockLaws.{block_there, block_near, block_in_bytes, block_piece}
 use Rattle.datatypes.proofs.gathering.append_blocks.Goals as goal
 
+pub overflow_mul-first : goal.overflow_mul-first
+overflow_mul-first c =
+    let xs = c.args.offsets.now in
+    let there = block_there c.args.block c.loop-number.number (length xs) (omega arith) in
+    omega arith
+
+pub bounds-offsets-number : goal.bounds-offsets-number
+bounds-offsets-number c =
+    let xs = c.args.offsets.now in
+    let there = block_there c.args.block c.loop-number.number (length xs) (omega arith) in
+    omega arith
+
 pub overflow_add-first : goal.overflow_add-first
 overflow_add-first c =
     let a = c.args in

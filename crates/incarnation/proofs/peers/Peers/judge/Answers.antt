@@ -12,14 +12,6 @@ pub returns-then-header-self-clause-exact : goal.returns-then-header-self-clause
 unfolding judgement
 returns-then-header-self-clause-exact c = search rules
 
-pub returns-then-target-own-clause-rule : goal.returns-then-target-own-clause-rule
-unfolding judgement
-returns-then-target-own-clause-rule c = search rules
-
-pub returns-then-target-own-clause-exact : goal.returns-then-target-own-clause-exact
-unfolding judgement
-returns-then-target-own-clause-exact c = search rules
-
 pub overflow_cast-source : goal.overflow_cast-source
 unfolding judgement
 overflow_cast-source c = search rules
@@ -36,13 +28,13 @@ pub returns-then-source-known-clause-exact : goal.returns-then-source-known-clau
 unfolding judgement
 returns-then-source-known-clause-exact c = grind (arith, common_steps)
 
-pub returns-then-target-own-3-clause-rule : goal.returns-then-target-own-3-clause-rule
+pub returns-then-target-own-clause-rule : goal.returns-then-target-own-clause-rule
 unfolding judgement
-returns-then-target-own-3-clause-rule c = grind (arith, common_steps)
+returns-then-target-own-clause-rule c = grind (arith, common_steps)
 
-pub returns-then-target-own-3-clause-exact : goal.returns-then-target-own-3-clause-exact
+pub returns-then-target-own-clause-exact : goal.returns-then-target-own-clause-exact
 unfolding judgement
-returns-then-target-own-3-clause-exact c = grind (arith, common_steps)
+returns-then-target-own-clause-exact c = grind (arith, common_steps)
 
 pub returns-then-source-known-2-clause-rule : goal.returns-then-source-known-2-clause-rule
 unfolding judgement
