@@ -2,8 +2,6 @@
 #![tactic(auto)]
 
 #[cfg(test)]
-mod data_tests;
-#[cfg(test)]
 mod ranks;
 #[cfg(test)]
 mod refusal_tests;

@@ -224,9 +224,4 @@ impl Job {
             None => None,
         }
     }
-
-    /// How many messages are on their way.
-    pub(crate) fn on_way_count(&self) -> usize {
-        self.on_way.len()
-    }
 }
