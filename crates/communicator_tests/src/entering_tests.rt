@@ -1,8 +1,8 @@
 //! Entries of collectives, messages of others, and lessons.
 
 use crate::ranks::{End, Step, TURNED, arrive, end_of, enter, rank_of, split};
-use communicators::{Communicators, Entry, Fault};
-use payload::{Direction, Part, Payload, Record};
+use communicators::{Communicators, Entry};
+use payload::{Part, Payload, Record};
 
 /// What a barrier of the rank alone and a copy of its communicator give, and whether it holds the copy.
 fn enter_alone(rank: &mut Communicators) -> ([Step; 2], bool) {
@@ -67,41 +67,4 @@ fn a_lesson_ends_the_collective_of_a_former_member(rt: HostRuntime) {
     let mut rank = rank_of(rt.alloc(), 1, 2).expect(&rt, "a rank");
     let lessons = [None, Some(End::Replaced)];
     assert_eq!(rt; learn_inside(&mut rank), (Ok((1, None)), lessons, false));
-}
-
-/// The message that ends a barrier.
-const ALL_HAVE_ENTERED: Payload<'static> = Payload {
-    entered: Record::Barrier,
-    part: Part::Nothing(Direction::FromRoot),
-};
-
-#[test]
-fn a_record_that_differs_ends_the_collective_and_is_told(rt: HostRuntime) {
-    let mut rank = rank_of(rt.alloc(), 1, 2).expect(&rt, "a rank");
-    let steps = [Ok((1, None)), Ok((1, Some(End::Mismatch)))];
-    assert_eq!(rt;
-        enter_and_hear(&mut rank, Entry::Dup, ALL_HAVE_ENTERED),
-        (steps, [false, true, false])
-    );
-}
-
-/// How many of 4,094 further copies of the rank's own communicator are made, and what a copy and a barrier break then.
-fn fill(rank: &mut Communicators) -> (u32, [Option<Fault>; 2]) {
-    let mut made = 0u32;
-    for _ in 2..4096u32 {
-        if enter(rank, 1, Entry::Dup).is_ok() {
-            made = made.wrapping_add(1);
-        }
-    }
-    let faults = [
-        rank.fault_of_entry(false, &[], Some(1), &Entry::Dup),
-        rank.fault_of_entry(false, &[], Some(1), &Entry::Barrier),
-    ];
-    (made, faults)
-}
-
-#[test]
-fn a_copy_beyond_4096_communicators_is_refused(rt: HostRuntime) {
-    let mut rank = rank_of(rt.alloc(), 0, 1).expect(&rt, "a rank");
-    assert_eq!(rt; fill(&mut rank), (4094, [Some(Fault::Limit), None]));
 }

@@ -13,38 +13,18 @@ use vocabulary::{BasicType, Source};
 enum Said {
     Started(Request),
     Blocked,
-    Pending,
-    Accepted,
     /// The number of a refusal.
     Refused(u8),
     Sent,
     /// How many elements a receive got.
     Received(u64),
-    /// A receive's source was started anew, and its buffer came back.
-    Replaced,
-    Cancelled,
-    /// A send at this place of a list has ended.
-    SentAt(usize),
-    /// So many requests have ended.
-    All(usize),
     Other,
-}
-
-fn said_by_outcome(outcome: &Outcome) -> Said {
-    match outcome {
-        Outcome::Sent => Said::Sent,
-        Outcome::Received(status, _buffer) => Said::Received(status.count),
-        Outcome::Replaced(Some(_buffer)) => Said::Replaced,
-        Outcome::Cancelled(_buffer) => Said::Cancelled,
-        _ => Said::Other,
-    }
 }
 
 fn said_by_answer(answer: &Answer) -> Said {
     match answer {
-        Answer::One(outcome) => said_by_outcome(outcome),
-        Answer::Index(place, Outcome::Sent) => Said::SentAt(*place),
-        Answer::All(outcomes) => Said::All(outcomes.as_slice().len()),
+        Answer::One(Outcome::Sent) => Said::Sent,
+        Answer::One(Outcome::Received(status, _buffer)) => Said::Received(status.count),
         _ => Said::Other,
     }
 }
@@ -53,8 +33,6 @@ fn said_by_reply(reply: &Reply) -> Said {
     match reply {
         Reply::Started(request) => Said::Started(*request),
         Reply::Done(answer) => said_by_answer(answer),
-        Reply::Pending => Said::Pending,
-        Reply::Accepted => Said::Accepted,
         Reply::Blocked => Said::Blocked,
         Reply::Refused(refused, _call) => Said::Refused(refused.number()),
         _ => Said::Other,
@@ -131,28 +109,6 @@ fn send_to_itself(alloc: Global) -> Call {
     })
 }
 
-/// How many datagrams were refused as ones for a former incarnation.
-fn stale_count(from: &mut Engine, to: &mut Engine) -> usize {
-    let mut refused = 0usize;
-    let emitted = from.take_out();
-    for (_target, bytes) in emitted.as_slice() {
-        if to.on_datagram(bytes.as_slice()).err() == Some(Refused::StaleTarget) {
-            refused = refused.wrapping_add(1);
-        }
-    }
-    refused
-}
-
-/// Each datagram comes twice.
-fn deliver_twice(from: &mut Engine, to: &mut Engine) -> Option<()> {
-    let emitted = from.take_out();
-    for (_target, bytes) in emitted.as_slice() {
-        to.on_datagram(bytes.as_slice()).ok()?;
-        to.on_datagram(bytes.as_slice()).ok()?;
-    }
-    Some(())
-}
-
 /// How many datagrams an engine emitted.
 fn emitted_count(engine: &mut Engine) -> usize {
     let emitted = engine.take_out();
@@ -167,10 +123,6 @@ fn is_blocked_by(engine: &mut Engine, call: Call) -> bool {
 /// Whether a wait for the request is not answered at once.
 fn is_blocked(engine: &mut Engine, request: Request) -> bool {
     is_blocked_by(engine, Call::Wait(Some(request)))
-}
-
-fn incarnation_of(session: Option<Session>) -> Option<u16> {
-    Some(session?.incarnation)
 }
 
 fn is_clean(session: Option<Session>) -> bool {
@@ -224,71 +176,6 @@ fn clock(alloc: Global) -> Option<(u16, bool, bool, Option<u8>)> {
 #[test]
 fn a_clock_does_not_go_back(rt: HostRuntime) {
     assert_eq!(rt; clock(rt.alloc()), Some((1, true, true, Some(41))));
-}
-
-/// Whether a receive that names the restarted sender waited and ended, how many elements one from any got, the sender's
-/// incarnation as it is known, and whether the sender is idle.
-fn learn_by_message(
-    alloc: Global,
-    sender: &mut Engine,
-    receiver: &mut Engine,
-) -> Option<(bool, bool, Option<u64>, Option<u16>, bool)> {
-    let named = start_receive(alloc, receiver, Source::Rank(0))?;
-    let any = start_receive(alloc, receiver, Source::Any)?;
-    let _sent = start_send(alloc, sender)?;
-    let blocked = is_blocked(receiver, named);
-    deliver(sender, receiver)?;
-    deliver(receiver, sender)?;
-    let replaced = matches!(completed(receiver), Said::Replaced);
-    let count = received_count(ask(receiver, Call::Wait(Some(any))));
-    let incarnation = incarnation_of(receiver.session(0));
-    Some((blocked, replaced, count, incarnation, sender.is_idle()))
-}
-
-fn learnt(alloc: Global) -> Option<(bool, bool, Option<u64>, Option<u16>, bool)> {
-    let mut ranks = two_ranks(alloc, 1, 0)?;
-    match ranks.as_mut_slice() {
-        [sender, receiver] => learn_by_message(alloc, sender, receiver),
-        _ => None,
-    }
-}
-
-#[test]
-fn a_restarted_sender_is_learnt(rt: HostRuntime) {
-    assert_eq!(rt;
-        learnt(rt.alloc()),
-        Some((true, true, Some(1), Some(1), true))
-    );
-}
-
-/// How many datagrams the restarted rank refused, what the sender knows of it then, and how many answers a second message
-/// has.
-fn learn_by_reset(
-    alloc: Global,
-    sender: &mut Engine,
-    restarted: &mut Engine,
-) -> Option<(usize, Option<u16>, bool, usize)> {
-    let _first = start_send(alloc, sender)?;
-    let stale = stale_count(sender, restarted);
-    deliver_twice(restarted, sender)?;
-    let incarnation = incarnation_of(sender.session(1));
-    let clean = is_clean(sender.session(1));
-    let _second = start_send(alloc, sender)?;
-    deliver(sender, restarted)?;
-    Some((stale, incarnation, clean, emitted_count(restarted)))
-}
-
-fn reset(alloc: Global) -> Option<(usize, Option<u16>, bool, usize)> {
-    let mut ranks = two_ranks(alloc, 0, 1)?;
-    match ranks.as_mut_slice() {
-        [sender, restarted] => learn_by_reset(alloc, sender, restarted),
-        _ => None,
-    }
-}
-
-#[test]
-fn a_reset_teaches_a_sender(rt: HostRuntime) {
-    assert_eq!(rt; reset(rt.alloc()), Some((1, Some(1), true, 1)));
 }
 
 /// Starts so many sends of a rank to itself, and answers the last one's request.

@@ -32,17 +32,13 @@ fn number_of_no_world(alloc: Global, size: u16) -> Option<u8> {
 }
 
 fn send_to_rank_1(alloc: Global) -> Option<Event> {
-    send_to(alloc, 1)
-}
-
-fn send_to(alloc: Global, target: u16) -> Option<Event> {
     let mut elements = Buffer::new(alloc, BasicType::Int32);
     elements.push_copies(1, 1).ok()?;
     Some(Event::Call(
         0,
         Call::Isend(Send {
             comm: Some(0),
-            target: Source::Rank(target),
+            target: Source::Rank(1),
             tag: Some(7),
             from: Region::whole(elements),
         }),
@@ -146,29 +142,6 @@ fn run_answers_each_event(rt: HostRuntime) {
     assert_eq!(rt;
         refused_between(rt.alloc(), &mut world),
         Some((5, (Some(41), Some(62), Some(61)), Some((0, 0, 1)), 2))
-    );
-}
-
-/// How a send to the last of 256 ranks goes: the rank of its datagram, and whether the world is quiet before the delivery
-/// and once all is acknowledged.
-fn across_256_ranks(alloc: Global, world: &mut World) -> Option<(u16, bool, bool)> {
-    let sent = send_to(alloc, 255)?;
-    run(world, vec![in alloc; sent].ok()?)?;
-    let target = world.datagram(0)?.0;
-    let busy = world.is_quiet();
-    run(
-        world,
-        vec![in alloc; Event::Deliver(0), Event::Deliver(1)].ok()?,
-    )?;
-    Some((target, busy, world.is_quiet()))
-}
-
-#[test]
-fn the_last_of_256_ranks_is_reached(rt: HostRuntime) {
-    let mut world = World::new(rt.alloc(), 256).expect(&rt, "a world");
-    assert_eq!(rt;
-        across_256_ranks(rt.alloc(), &mut world),
-        Some((255, false, true))
     );
 }
 
