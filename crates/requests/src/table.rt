@@ -110,16 +110,9 @@ impl Entry {
     fn set_progress(&mut self, progress: Progress)
         ensures { self.new ≡ record self.old { progress = progress } }
     {
-        give_way(&mut self.progress, progress);
+        // What stood there is dropped by std's `drop`, which is one step of the proof, and not one for each variant.
+        drop(mem::replace(&mut self.progress, progress));
     }
-}
-
-/// What stood here gives way to this, and is dropped. Where its type is open, its drop is one step of a proof, and not one for
-/// each variant.
-fn give_way<T: Drop>(place: &mut T, next: T)
-    ensures { place.new ≡ next }
-{
-    *place = next;
 }
 
 /// How far a request is once the message came that was matched with it.
