@@ -1,6 +1,9 @@
-//! Each call on the communicators of a rank on its happy path, the rules that it breaks, and groups that are shared.
+//! Each call on the communicators of a rank on its happy path, the rules that it breaks, groups that are shared, and what refuses or ends
+//! a collective.
 #![tactic(auto)]
 
+#[cfg(test)]
+mod collective_tests;
 #[cfg(test)]
 mod entering_tests;
 #[cfg(test)]

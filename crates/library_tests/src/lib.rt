@@ -1,4 +1,4 @@
-//! Each call of the lowest libraries on its happy path, and worked rows.
+//! Each call of the lowest libraries on its happy path, worked rows, and the words of the launcher and of a rank.
 #![tactic(auto)]
 
 #[cfg(test)]
@@ -6,6 +6,10 @@ mod datagram_tests;
 #[cfg(test)]
 mod frame_tests;
 #[cfg(test)]
+mod launch_tests;
+#[cfg(test)]
 mod perfect_queues_tests;
+#[cfg(test)]
+mod settings_tests;
 #[cfg(test)]
 mod vocabulary_tests;

@@ -1,3 +1,5 @@
+//! The loop of a running rank over transports in memory: how it ends, and what it has printed then.
+
 ghost use Rattle.std.specs.Prelude.{◌≡◌};
 
 use crate::two_ranks::{COLLECTIVES, PING_PONG, Pair, Rank, new_pair, rank_of};

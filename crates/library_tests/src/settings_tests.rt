@@ -1,3 +1,5 @@
+//! The words of a rank.
+
 use rank_settings::{Refused, settings_of};
 use std::alloc::Global;
 use std::process::Abort;

@@ -1,12 +1,37 @@
 //! What refuses an entry or a message, and what ends a collective from outside.
 
-use crate::ranks::{End, Rank, end_of, rank_of};
+use crate::ranks::{End, end_of};
 use collective_notes::{Address, Entry};
-use context_agreement::Context;
+use collectives::Collective;
+use context_agreement::{Context, Contexts};
 use groups::Group;
 use payload::{Choice, Direction, NewGroup, Part, Payload, Record};
 use std::alloc::Global;
 use vocabulary::Endpoint;
+
+/// A rank's contexts, and its part in collectives.
+#[derive(Drop)]
+struct Rank {
+    alloc: Global,
+    endpoint: Endpoint,
+    contexts: Contexts,
+    collective: Collective,
+}
+
+/// A rank of a job with so many ranks.
+fn rank_of(alloc: Global, rank: u16, size: u16) -> Option<Rank> {
+    let endpoint = Endpoint {
+        rank,
+        incarnation: 0,
+    };
+    let contexts = Contexts::new(alloc, rank, 0, size).ok()?;
+    Some(Rank {
+        alloc,
+        endpoint,
+        contexts,
+        collective: Collective::new(alloc, endpoint),
+    })
+}
 
 /// A split in which all have one colour and one key.
 fn split() -> Entry {

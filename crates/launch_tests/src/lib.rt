@@ -1,5 +1,0 @@
-//! Worked rows of the launcher's words.
-#![tactic(auto)]
-
-#[cfg(test)]
-mod tests;
