@@ -1,11 +1,8 @@
-//! Each call of the libraries below an engine's links on its happy path, and worked rows.
+//! Worked rows of links, and of acknowledgements that are kept back. What an engine shows of links, incarnations and sessions stands as
+//! rows of `mpisim_cases`.
 #![tactic(auto)]
 
 #[cfg(test)]
 mod acknowledgement_tests;
 #[cfg(test)]
-mod incarnation_tests;
-#[cfg(test)]
 mod reliable_link_tests;
-#[cfg(test)]
-mod sessions_tests;

@@ -1,6 +1,6 @@
-//! Entries of collectives, messages of others, and lessons.
+//! Entries of collectives, and messages of others.
 
-use crate::ranks::{End, Step, TURNED, arrive, end_of, enter, rank_of, split};
+use crate::ranks::{End, Step, TURNED, arrive, enter, rank_of, split};
 use communicators::{Communicators, Entry};
 use payload::{Part, Payload, Record};
 
@@ -52,19 +52,4 @@ fn a_part_of_another_record_is_refused(rt: HostRuntime) {
         enter_and_hear(&mut rank, Entry::Barrier, payload),
         (steps, [false, true, true])
     );
-}
-
-/// What a barrier on world gives, what a lesson of rank 0 at incarnations 0 and 1 ends, and whether the rank is in the barrier
-/// then.
-fn learn_inside(rank: &mut Communicators) -> (Step, [Option<End>; 2], bool) {
-    let entered = enter(rank, 0, Entry::Barrier);
-    let lessons = [end_of(rank.learn(0, 0)), end_of(rank.learn(0, 1))];
-    (entered, lessons, rank.is_inside())
-}
-
-#[test]
-fn a_lesson_ends_the_collective_of_a_former_member(rt: HostRuntime) {
-    let mut rank = rank_of(rt.alloc(), 1, 2).expect(&rt, "a rank");
-    let lessons = [None, Some(End::Replaced)];
-    assert_eq!(rt; learn_inside(&mut rank), (Ok((1, None)), lessons, false));
 }
