@@ -2,7 +2,8 @@
 """Where the gate's processor time goes, by crate: its proof, its tests, and its must-fail edits.
 
     python3 tools/gate_times/gate_times.py watch LOG [FOLDER] &   # before rt ci; end it with kill
-    python3 tools/gate_times/gate_times.py show LOG               # minutes of processor time, and how many runs
+    python3 tools/gate_times/gate_times.py show LOG..             # minutes of processor time, and how many runs; of a gate that was
+                                                                  # stopped and begun again: all its logs
 
 It looks at /proc once a second, so runs of less than that may be missing. With a folder only what a process that works in just that
 folder has started is counted, such as `rt ci` there: else let nothing else of Rattle run meanwhile.
@@ -71,12 +72,13 @@ def watch(log, top=None):
             time.sleep(1)
 
 
-def show(log):
+def show(*logs):
     times = collections.defaultdict(lambda: collections.defaultdict(list))
-    with open(log, encoding="utf-8") as it:
-        for line in it:
-            crate, kind, seconds = line.split()
-            times[crate][kind].append(float(seconds) / 60)
+    for log in logs:
+        with open(log, encoding="utf-8") as it:
+            for line in it:
+                crate, kind, seconds = line.split()
+                times[crate][kind].append(float(seconds) / 60)
     total = {crate: sum(map(sum, kinds.values())) for crate, kinds in times.items()}
     for crate in sorted(total, key=total.get, reverse=True):
         parts = [f"{kind} {sum(all_of):5.1f} ({len(all_of)})" for kind, all_of in sorted(times[crate].items())]
@@ -85,6 +87,6 @@ def show(log):
 
 
 if __name__ == "__main__":
-    if len(sys.argv) not in (3, 4) or sys.argv[1] not in ("watch", "show"):
+    if len(sys.argv) < 3 or sys.argv[1] not in ("watch", "show") or sys.argv[1] == "watch" and len(sys.argv) > 4:
         sys.exit(__doc__)
     {"watch": watch, "show": show}[sys.argv[1]](*sys.argv[2:])
