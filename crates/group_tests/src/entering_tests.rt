@@ -1,7 +1,7 @@
-//! Entries of collectives, and messages of others.
+//! Entries of collectives, messages of others, and the numbers of faults.
 
 use crate::ranks::{End, Step, TURNED, arrive, enter, rank_of, split};
-use communicators::{Communicators, Entry};
+use communicators::{Communicators, Entry, Fault, calls_are_routed};
 use payload::{Part, Payload, Record};
 
 /// What a barrier of the rank alone and a copy of its communicator give, and whether it holds the copy.
@@ -52,4 +52,16 @@ fn a_part_of_another_record_is_refused(rt: HostRuntime) {
         enter_and_hear(&mut rank, Entry::Barrier, payload),
         (steps, [false, true, true])
     );
+}
+
+#[test]
+fn faults_have_numbers(rt: HostRuntime) {
+    let numbers = [
+        Fault::Blocked.number(),
+        Fault::NoCommunicator.number(),
+        Fault::Replaced.number(),
+        Fault::Limit.number(),
+    ];
+    assert_eq!(rt; numbers, [6, 4, 11, 13]);
+    calls_are_routed();
 }
