@@ -1,7 +1,11 @@
-//! Each call of the libraries of data and payloads on its happy path, and worked rows.
+//! Each call of the libraries of data, payloads and messages that go in pieces on its happy path, worked rows, and what is refused.
 #![tactic(auto)]
 
 #[cfg(test)]
 mod datatypes_tests;
 #[cfg(test)]
 mod payload_tests;
+#[cfg(test)]
+mod pieces_tests;
+#[cfg(test)]
+mod transfers_tests;

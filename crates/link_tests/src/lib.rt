@@ -1,5 +1,4 @@
-//! Worked rows of links, of acknowledgements that are kept back, of the end of incarnations, and of groups that several owners share. What
-//! an engine shows of links, incarnations and sessions stands as rows of `mpisim_cases`.
+//! Each call of the libraries below an engine's links on its happy path, and worked rows.
 #![tactic(auto)]
 
 #[cfg(test)]
@@ -7,6 +6,6 @@ mod acknowledgement_tests;
 #[cfg(test)]
 mod incarnation_tests;
 #[cfg(test)]
-mod members_tests;
-#[cfg(test)]
 mod reliable_link_tests;
+#[cfg(test)]
+mod sessions_tests;

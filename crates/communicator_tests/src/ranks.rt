@@ -92,3 +92,8 @@ pub(crate) fn arrive(rank: &mut Communicators, payload: Payload<'_>) -> Step {
         Err(refused) => Err(refused.number()),
     }
 }
+
+/// Rank 1 of two gets the communicator of ranks 1 and 0 at place 2; whether it did.
+pub(crate) fn turn(rank: &mut Communicators) -> bool {
+    enter(rank, 0, split()).is_ok() && arrive(rank, TURNED).is_ok() && !rank.lacks(Some(2))
+}

@@ -1,7 +1,7 @@
-//! Entries of collectives, messages of others, and the numbers of faults.
+//! Entries of collectives, messages of others, and lessons.
 
-use crate::ranks::{End, Step, TURNED, arrive, enter, rank_of, split};
-use communicators::{Communicators, Entry, Fault, calls_are_routed};
+use crate::ranks::{End, Step, TURNED, arrive, end_of, enter, rank_of, split};
+use communicators::{Communicators, Entry};
 use payload::{Part, Payload, Record};
 
 /// What a barrier of the rank alone and a copy of its communicator give, and whether it holds the copy.
@@ -54,14 +54,17 @@ fn a_part_of_another_record_is_refused(rt: HostRuntime) {
     );
 }
 
+/// What a barrier on world gives, what a lesson of rank 0 at incarnations 0 and 1 ends, and whether the rank is in the barrier
+/// then.
+fn learn_inside(rank: &mut Communicators) -> (Step, [Option<End>; 2], bool) {
+    let entered = enter(rank, 0, Entry::Barrier);
+    let lessons = [end_of(rank.learn(0, 0)), end_of(rank.learn(0, 1))];
+    (entered, lessons, rank.is_inside())
+}
+
 #[test]
-fn faults_have_numbers(rt: HostRuntime) {
-    let numbers = [
-        Fault::Blocked.number(),
-        Fault::NoCommunicator.number(),
-        Fault::Replaced.number(),
-        Fault::Limit.number(),
-    ];
-    assert_eq!(rt; numbers, [6, 4, 11, 13]);
-    calls_are_routed();
+fn a_lesson_ends_the_collective_of_a_former_member(rt: HostRuntime) {
+    let mut rank = rank_of(rt.alloc(), 1, 2).expect(&rt, "a rank");
+    let lessons = [None, Some(End::Replaced)];
+    assert_eq!(rt; learn_inside(&mut rank), (Ok((1, None)), lessons, false));
 }

@@ -1,0 +1,16 @@
+//! Each call on the communicators of a rank on its happy path, the rules that it breaks, groups that are shared, and what refuses or ends
+//! a collective.
+#![tactic(auto)]
+
+#[cfg(test)]
+mod collective_tests;
+#[cfg(test)]
+mod entering_tests;
+#[cfg(test)]
+mod members_tests;
+#[cfg(test)]
+mod naming_tests;
+#[cfg(test)]
+mod ranks;
+#[cfg(test)]
+mod rules_tests;

@@ -1,0 +1,138 @@
+//! The rules that a call breaks by its communicator.
+
+use crate::ranks::{enter, rank_of, turn};
+use communicators::{Communicators, Entry, Fault, Question};
+use vocabulary::Source;
+
+/// Whether a communicator is missing at each of these places, and at none.
+fn lacking(rank: &Communicators) -> [bool; 4] {
+    [
+        rank.lacks(Some(0)),
+        rank.lacks(Some(1)),
+        rank.lacks(Some(2)),
+        rank.lacks(None),
+    ]
+}
+
+#[test]
+fn a_rank_begins_with_world_and_self(rt: HostRuntime) {
+    let rank = rank_of(rt.alloc(), 1, 2).expect(&rt, "a rank");
+    assert_eq!(rt; lacking(&rank), [false, false, true, true]);
+}
+
+/// Whether world has no such target, and whether it has no such source.
+fn missing(rank: &Communicators, named: Source) -> (bool, bool) {
+    (
+        rank.has_no_target(Some(0), named),
+        rank.has_no_source(Some(0), named),
+    )
+}
+
+#[test]
+fn ranks_behind_the_last_are_missing(rt: HostRuntime) {
+    let rank = rank_of(rt.alloc(), 1, 2).expect(&rt, "a rank");
+    let answers = [
+        missing(&rank, Source::Any),
+        missing(&rank, Source::Null),
+        missing(&rank, Source::Rank(1)),
+        missing(&rank, Source::Rank(2)),
+    ];
+    assert_eq!(rt;
+        answers,
+        [(true, false), (false, false), (false, false), (true, true)]
+    );
+}
+
+/// Rank 0 of world is known at incarnation 1: whether it is replaced where world and the communicator of ranks 1 and 0 name it,
+/// where the latter names rank 1, and for collectives of world, of self and of the latter.
+fn replaced(rank: &mut Communicators) -> (bool, [bool; 3], [bool; 3]) {
+    let turned = turn(rank);
+    let known = [1u16, 0].as_slice();
+    let named = [
+        rank.names_replaced(known, Some(0), Source::Rank(0)),
+        rank.names_replaced(known, Some(2), Source::Rank(1)),
+        rank.names_replaced(known, Some(2), Source::Rank(0)),
+    ];
+    let collectives = [
+        rank.has_replaced(known, Some(0)),
+        rank.has_replaced(known, Some(1)),
+        rank.has_replaced(known, Some(2)),
+    ];
+    (turned, named, collectives)
+}
+
+#[test]
+fn a_replaced_member_counts_off_world_and_in_collectives(rt: HostRuntime) {
+    let mut rank = rank_of(rt.alloc(), 1, 2).expect(&rt, "a rank");
+    assert_eq!(rt;
+        replaced(&mut rank),
+        (true, [false, true, false], [true, false, true])
+    );
+}
+
+/// What a barrier on world breaks where rank 0 is known at this incarnation.
+fn barrier(rank: &Communicators, is_blocked: bool, incarnation: u16) -> Option<Fault> {
+    rank.fault_of_entry(is_blocked, &[incarnation, 0], Some(0), &Entry::Barrier)
+}
+
+/// What an entry breaks: blocked on requests, with no communicator, with a member that was replaced, and with none of these; and
+/// then in a collective.
+fn entries(rank: &mut Communicators) -> ([Option<Fault>; 4], bool, Option<Fault>) {
+    let faults = [
+        barrier(rank, true, 1),
+        rank.fault_of_entry(false, &[1, 0], Some(2), &Entry::Dup),
+        barrier(rank, false, 1),
+        barrier(rank, false, 0),
+    ];
+    let entered = enter(rank, 0, Entry::Barrier).is_ok();
+    (faults, entered, barrier(rank, false, 1))
+}
+
+#[test]
+fn entries_are_judged_in_order(rt: HostRuntime) {
+    let mut rank = rank_of(rt.alloc(), 1, 2).expect(&rt, "a rank");
+    let faults = [
+        Some(Fault::Blocked),
+        Some(Fault::NoCommunicator),
+        Some(Fault::Replaced),
+        None,
+    ];
+    assert_eq!(rt; entries(&mut rank), (faults, true, Some(Fault::Blocked)));
+}
+
+/// What a question breaks: blocked on requests, with no communicator, compared with none, and with none of these; and then in a
+/// collective.
+fn questions(rank: &mut Communicators) -> ([Option<Fault>; 4], bool, Option<Fault>) {
+    let faults = [
+        rank.fault_of_question(true, None, Question::Rank),
+        rank.fault_of_question(false, None, Question::Size),
+        rank.fault_of_question(false, Some(0), Question::Compare(None)),
+        rank.fault_of_question(false, Some(0), Question::Group),
+    ];
+    let entered = enter(rank, 0, Entry::Barrier).is_ok();
+    let inside = rank.fault_of_question(false, Some(0), Question::Size);
+    (faults, entered, inside)
+}
+
+#[test]
+fn questions_are_judged_in_order(rt: HostRuntime) {
+    let mut rank = rank_of(rt.alloc(), 1, 2).expect(&rt, "a rank");
+    let faults = [
+        Some(Fault::Blocked),
+        Some(Fault::NoCommunicator),
+        Some(Fault::NoCommunicator),
+        None,
+    ];
+    assert_eq!(rt; questions(&mut rank), (faults, true, Some(Fault::Blocked)));
+}
+
+#[test]
+fn faults_have_numbers(rt: HostRuntime) {
+    let numbers = [
+        Fault::Blocked.number(),
+        Fault::NoCommunicator.number(),
+        Fault::Replaced.number(),
+        Fault::Limit.number(),
+    ];
+    assert_eq!(rt; numbers, [6, 4, 11, 13]);
+}
