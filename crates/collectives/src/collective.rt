@@ -3,17 +3,17 @@
 //! Each event goes in two steps, so that what carries messages may refuse it in between: what it needs is made ready, which
 //! changes nothing but room, and then it is carried out, which can't fail.
 
-ghost use Rattle.std.specs.Prelude.{◌≡◌, ◌<◌, ◌≤◌, ◌+◌, ◌^◌, [], if◌then◌else◌, vec_len, vec_capacity};
+ghost use Rattle.std.specs.Prelude.{◌≡◌, ◌<◌, ◌≤◌, ◌+◌, ◌^◌, ◌==◌, IfErr, IfOk, None, Some, [], if◌then◌else◌, vec_len, vec_capacity};
 ghost use Rattle.std.specs.Option.{option_copied};
-ghost use Rattle.collectives.specs.Calls.{entered, entry_rule, inside_of, is_ended, kept_with, learned, lesson_ending, limit_at, most_collectives, present_met, with_note};
+ghost use Rattle.collectives.specs.Calls.{entered, entry_rule, inside_in, inside_of, is_ended, kept_with, learned, lesson_ending, limit_at, most_collectives, present_met, with_note};
 ghost use Rattle.collective_notes.specs.Tallies.{count_in};
-ghost use Rattle.collectives.specs.State.{after_step, left, opening, was_left};
-ghost use Rattle.collective_steps.specs.Steps.{MeetsLimit, contexts_after, ending_of};
+ghost use Rattle.collectives.specs.State.{after_step, has_told, left, opening, told_in, was_left};
+ghost use Rattle.collective_steps.specs.Steps.{MeetsLimit, contexts_after, ending_of, is_waiting};
 
 use crate::limits::{has_former, is_limited, members_incarnation};
-use collective_notes::{Entry, Inside, Note, Refused, Tally, count_in, drop_notes, raise};
+use collective_notes::{Entry, Inside, Note, Refused, Tally, count_in, drop_notes, raise, role_of};
 use collective_steps::{Ending, Outcome, Step};
-use context_agreement::Contexts;
+use context_agreement::{Communicator, Contexts};
 use std::alloc::Global;
 use std::marker::Model;
 use vocabulary::Endpoint;
@@ -127,20 +127,55 @@ impl Collective {
         }
     }
 
-    /// What the rank is in once it has entered.
-    pub(crate) fn inside_of(&self, contexts: &Contexts, place: usize, entry: Entry) -> Inside
-        ensures { result ≡ inside_of self.now.state contexts.now.state place entry }
+    /// What the rank is in once it has entered a collective of this communicator, which it holds at this place.
+    fn inside_in(
+        &self,
+        communicator: &Communicator,
+        place: usize,
+        entry: Entry,
+    ) -> Result<Inside, RefusedEntry>
+        ensures ok { IfOk result (λ inside. inside ≡ inside_in self.now.state (Some communicator.now) place entry) }
+        ensures err { IfErr result (λ back. back.refused ≡ Refused.OutOfMemory) }
+        ensures handed { IfErr result (λ back. back.entry ≡ entry) }
     {
-        let context = match contexts.communicator(place) {
-            Some(communicator) => communicator.context.number(),
-            None => 0,
-        };
-        Inside {
-            place,
-            context,
-            incarnation: members_incarnation(self.own, context),
-            number: count_in(&self.tallies, context),
-            entry,
+        let context = communicator.context.number();
+        let incarnation = members_incarnation(self.own, context);
+        let entered = entry.record();
+        match role_of(
+            self.alloc,
+            self.own,
+            incarnation,
+            &communicator.group,
+            entered,
+        ) {
+            Ok(role) => Ok(Inside {
+                place,
+                context,
+                incarnation,
+                number: count_in(&self.tallies, context),
+                entry,
+                role,
+                told: false,
+            }),
+            Err(_) => Err(lacking(entry)),
+        }
+    }
+
+    /// What the rank is in once it has entered. The only error is want of memory; what was handed in comes back.
+    pub(crate) fn inside_of(
+        &self,
+        contexts: &Contexts,
+        place: usize,
+        entry: Entry,
+    ) -> Result<Inside, RefusedEntry>
+        requires { entry_rule self.now.state contexts.now.state place ≡ None }
+        ensures ok { IfOk result (λ inside. inside ≡ inside_of self.now.state contexts.now.state place entry) }
+        ensures err { IfErr result (λ back. back.refused ≡ Refused.OutOfMemory) }
+        ensures handed { IfErr result (λ back. back.entry ≡ entry) }
+    {
+        match contexts.communicator(place) {
+            Some(communicator) => self.inside_in(communicator, place, entry),
+            None => Err(lacking(entry)),
         }
     }
 
@@ -180,16 +215,21 @@ impl Collective {
         ensures contexts { contexts.new.state ≡ contexts_after contexts.old.state step.drawn step.outcome }
         ensures ending { result ≡ ending_of contexts.old.state step.outcome }
     {
+        let waits = step.outcome.waits();
         let ending = take_contexts(contexts, step.outcome, step.drawn);
-        self.leave_if(ending.is_some());
+        self.leave_if(ending.is_some(), waits);
         ending
     }
 
-    /// The rank leaves the collective that it is in where that ends: what it was told of it is dropped.
-    fn leave_if(&mut self, ends: bool)
-        ensures { self.new.state ≡ (if ends then left self.old.state else self.old.state) }
+    /// The rank leaves the collective that it is in where that ends: what it was told of it is dropped. Where it waits on, it has
+    /// told that it and those below it have entered.
+    fn leave_if(&mut self, ends: bool, waits: bool)
+        ensures { self.new.state ≡ (if ends then left self.old.state else (if waits then has_told self.old.state else self.old.state)) }
     {
         if !ends {
+            if waits {
+                set_told(&mut self.present);
+            }
             return;
         }
         if let Some(inside) = &self.present {
@@ -218,6 +258,24 @@ fn set_present(present: &mut Option<Inside>, inside: Option<Inside>)
     ensures { present.new ≡ inside }
 {
     *present = inside;
+}
+
+/// The rank has told that it and those below it have entered.
+fn set_told(present: &mut Option<Inside>)
+    ensures { present.new ≡ told_in present.old }
+{
+    if let Some(inside) = present {
+        inside.told = true;
+    }
+}
+
+/// There is no memory for what a rank would have entered with.
+pub(crate) fn lacking(entry: Entry) -> RefusedEntry
+    ensures refused { result.refused ≡ Refused.OutOfMemory }
+    ensures handed { result.entry ≡ entry }
+{
+    let refused = Refused::OutOfMemory;
+    RefusedEntry { entry, refused }
 }
 
 /// The collective that the rank is in once a lesson is learnt: a message is judged by it, since the lesson that it teaches comes
@@ -281,7 +339,7 @@ fn take_contexts(contexts: &mut Contexts, outcome: Outcome, drawn: u64) -> Optio
     ensures ending { result ≡ ending_of contexts.old.state outcome }
 {
     match outcome {
-        Outcome::Stays => None,
+        Outcome::Stays | Outcome::Waits => None,
         Outcome::Breaks => Some(Ending::Mismatch),
         Outcome::Leaves(block) => {
             contexts.draw(drawn);

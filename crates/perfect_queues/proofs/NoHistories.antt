@@ -1,13 +1,14 @@
--- Four histories that no run has: followed entry by entry, up to the answer that can't come.
+-- Histories that no run has: followed entry by entry, up to the answer that can't come.
 use Rattle.std.proofs.Common.{◌≡◌, ℕ, zero, suc, Bool, List, [], ◌∷◌, ◌++◌, Option, Some, None, if◌then◌else◌, slice_get, option_map, refl, sym, ap, subst, ◌∙◌, arith}
 use Rattle.std.specs.List.{AllByRecursion}
 use Rattle.layouts.specs.Layouts.{copies_at}
+use Rattle.vocabulary.specs.BasicTypes.{code_of}
 use Rattle.vocabulary.specs.declared.envelope.Source.TheVariants.{Rank}
 use Rattle.perfect_queues.specs.Calls.{Call, Isend, Irecv, Wait, Started, Done, Blocked, ready_answer, after_settling, after_answer}
 use Rattle.perfect_queues.specs.Completions.{Awaited, One, Answer, ForOne, outcome_at}
-use Rattle.perfect_queues.specs.CounterExamples.{IsNoHistory, received_twice, overtaken, other_data, replaced_by_nobody, sends, receives, waits, arrives}
+use Rattle.perfect_queues.specs.CounterExamples.{IsNoHistory, received_twice, overtaken, other_data, other_type, one_message, replaced_by_nobody, sends, receives, waits, arrives, arrives_in}
 use Rattle.perfect_queues.specs.Events.{At, Entry, Called, start, settle, told, after_event}
-use Rattle.perfect_queues.specs.Example.{rank_0, rank_1, numbers, three_from_0}
+use Rattle.perfect_queues.specs.Example.{rank_0, rank_1, holds, numbers, three_from_0}
 use Rattle.perfect_queues.specs.Messages.{Message}
 use Rattle.perfect_queues.specs.Outcomes.{Outcome, Sent, Received, Replaced, outcome}
 use Rattle.perfect_queues.specs.Refusals.{world}
@@ -16,7 +17,7 @@ use Rattle.perfect_queues.specs.State.{Local, State, opening, put, with_message,
 use Rattle.perfect_queues.specs.Steps.{Step, AreSteps, steps_at}
 use Rattle.perfect_queues.proofs.Following.{Stands, IsKept, Next, follow, steps_stand, settle_stands}
 use Rattle.perfect_queues.proofs.Waiting.{Holds, IsStill, still_kept, Receiving, Waits, HasIt, HasEnded, receiving_kept}
-use Rattle.vocabulary.specs.declared.basic_type.BasicType.TheVariants.{Int32}
+use Rattle.vocabulary.specs.declared.basic_type.BasicType.TheVariants.{Int32, Uint32}
 
 -- THE CALLS
 
@@ -162,7 +163,7 @@ free m rest l (HasEnded h) = h.blocked
 
 -- the elements of what was received
 abbrev values_in : Outcome → List ℕ
-values_in (Received s b) = b
+values_in (Received s b) = b.values
 values_in _ = []
 
 abbrev first : List ℕ → ℕ
@@ -190,21 +191,36 @@ then_receives n a b c rest o differs s steps vs h are tells run q =
     (after_post [] (three a b c ∷ rest) (Receiving three_from_0 (three a b c) rest None)
     (receiving_kept three_from_0 (three a b c) rest None refl refl refl) (λ l k. Waits k) (free (three a b c) rest) s steps h are) run q
 
--- DATA THAT NOBODY SENT
+-- DATA THAT NOBODY SENT, AND A BUFFER OF ANOTHER TYPE
 
-other_sent : (n : ℕ) → Next n (Holds None [] []) (receives 0 ∷ waits 0 (arrives (1 ∷ 2 ∷ 4 ∷ [])) ∷ []) (Started 0) rank_0 (send_of 1 2 3)
+other_sent : (o : Outcome) → (outcome three_from_0 (three 1 2 3) ≡ o → ⊥) → (n : ℕ) →
+    Next n (Holds None [] []) (receives 0 ∷ waits 0 o ∷ []) (Started 0) rank_0 (send_of 1 2 3)
 unfolding copies_at
-other_sent n s steps vs h are tells run q =
-    follow n (Holds None [] (three 1 2 3 ∷ [])) (kept None [] (three 1 2 3 ∷ []) tt) (waits 0 (arrives (1 ∷ 2 ∷ 4 ∷ [])) ∷ []) (Started 0) rank_1
-    (Irecv three_from_0)
-    (then_receives n 1 2 3 [] (arrives (1 ∷ 2 ∷ 4 ∷ []))
-    (λ e. let f : 3 ≡ 4 = ap (λ (o : Outcome). third (values_in o)) e in absurd (omega arith))) vs
-    (after_event s (At rank_0 (Some (send_of 1 2 3)) steps)) (after_send [] [] 1 2 3 (kept None [] (three 1 2 3 ∷ []) tt) s steps h are) run q
+other_sent o differs n s steps vs h are tells run q =
+    follow n (Holds None [] (three 1 2 3 ∷ [])) (kept None [] (three 1 2 3 ∷ []) tt) (waits 0 o ∷ []) (Started 0) rank_1 (Irecv three_from_0)
+    (then_receives n 1 2 3 [] o differs) vs (after_event s (At rank_0 (Some (send_of 1 2 3)) steps))
+    (after_send [] [] 1 2 3 (kept None [] (three 1 2 3 ∷ []) tt) s steps h are) run q
+
+-- one message comes, and its receive ends as it doesn't end with it
+other_end : (o : Outcome) → (outcome three_from_0 (three 1 2 3) ≡ o → ⊥) → IsNoHistory (one_message o)
+other_end o differs n h =
+    follow n (Holds None [] []) (kept None [] [] tt) (receives 0 ∷ waits 0 o ∷ []) (Started 0) rank_0 (send_of 1 2 3) (other_sent o differs n) h.0 opening opens
+    h.1 h.2
 
 pub none_is_invented : IsNoHistory other_data
-none_is_invented n h =
-    follow n (Holds None [] []) (kept None [] [] tt) (receives 0 ∷ waits 0 (arrives (1 ∷ 2 ∷ 4 ∷ [])) ∷ []) (Started 0) rank_0 (send_of 1 2 3)
-    (other_sent n) h.0 opening opens h.1 h.2
+unfolding copies_at
+none_is_invented = other_end (arrives (1 ∷ 2 ∷ 4 ∷ [])) (λ e. let f : 3 ≡ 4 = ap (λ (o : Outcome). third (values_in o)) e in absurd (omega arith))
+
+-- the code of the basic type of what was received
+abbrev type_in : Outcome → ℕ
+type_in (Received s b) = code_of b.basic
+type_in _ = 0
+
+pub none_is_retyped : IsNoHistory other_type
+unfolding copies_at
+none_is_retyped =
+    other_end (arrives_in (record { basic = Uint32; values = 1 ∷ 2 ∷ 3 ∷ [] }))
+    (λ e. let f : 3 ≡ 7 = ap type_in e in absurd (omega arith))
 
 -- A MESSAGE THAT OVERTAKES ANOTHER
 
@@ -253,8 +269,8 @@ then_waits n k rs serial o still none s steps vs h are tells run q =
 
 pub none_is_replaced_by_nobody : IsNoHistory replaced_by_nobody
 none_is_replaced_by_nobody n h =
-    follow n (Holds None [] []) (kept None [] [] tt) (waits 0 (Replaced (Some (0 ∷ 0 ∷ 0 ∷ []))) ∷ []) (Started 0) rank_1 (Irecv three_from_0)
-    (then_waits n 0 [] 0 (Replaced (Some (0 ∷ 0 ∷ 0 ∷ []))) (refl, tt) refl) h.0 opening opens h.1 h.2
+    follow n (Holds None [] []) (kept None [] [] tt) (waits 0 (Replaced (Some (holds (0 ∷ 0 ∷ 0 ∷ [])))) ∷ []) (Started 0) rank_1 (Irecv three_from_0)
+    (then_waits n 0 [] 0 (Replaced (Some (holds (0 ∷ 0 ∷ 0 ∷ [])))) (refl, tt) refl) h.0 opening opens h.1 h.2
 
 -- A MESSAGE THAT IS RECEIVED TWICE
 

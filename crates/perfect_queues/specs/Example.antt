@@ -1,5 +1,6 @@
 -- Examples: rank 0 sends 1, 2 and 3 with tag 7 to rank 1, which receives and waits for them.
 use Rattle.std.specs.Prelude.{ℕ, List, [], ◌∷◌, Some, None}
+use Rattle.layouts.specs.Buffers.{Contents}
 use Rattle.perfect_queues.specs.Buffers.{Handed, whole}
 use Rattle.perfect_queues.specs.Calls.{Isend, Irecv, Wait, Started, Done}
 use Rattle.perfect_queues.specs.Completions.{One, ForOne}
@@ -19,9 +20,13 @@ rank_0 = record { rank = 0; incarnation = 0 }
 abbrev pub rank_1 : Endpoint
 rank_1 = record { rank = 1; incarnation = 0 }
 
--- a buffer of these numbers, handed in whole
+-- a buffer of these numbers
+abbrev pub holds : List ℕ → Contents
+holds values = record { basic = Int32; values = values }
+
+-- it is handed in whole
 abbrev pub numbers : List ℕ → Handed
-numbers values = whole (record { basic = Int32; values = values })
+numbers values = whole (holds values)
 
 -- a receive of three elements from rank 0 with tag 7
 abbrev pub three_from_0 : Receive
@@ -40,13 +45,13 @@ received_once =
     Called rank_0 (Isend world (Rank 1) (Some 7) (numbers (1 ∷ 2 ∷ 3 ∷ []))) (Started 0) ∷
     Called rank_1 (Irecv three_from_0) (Started 0) ∷
     Called rank_1 (Wait (One (Some 0)))
-    (Done (ForOne (Received (record { source = Rank 0; tag = Some 7; count = 3 }) (1 ∷ 2 ∷ 3 ∷ [])))) ∷ []
+    (Done (ForOne (Received (record { source = Rank 0; tag = Some 7; count = 3 }) (holds (1 ∷ 2 ∷ 3 ∷ []))))) ∷ []
 
 -- four elements, of which one copy of the offsets 0 and 3 is sent
 abbrev pub first_and_last : Handed
 first_and_last =
     record {
-      buffer = record { basic = Int32; values = 1 ∷ 2 ∷ 3 ∷ 4 ∷ [] };
+      buffer = holds (1 ∷ 2 ∷ 3 ∷ 4 ∷ []);
       layout = record { basic = Int32; offsets = 0 ∷ 3 ∷ [] };
       copies = 1;
     }
@@ -60,7 +65,7 @@ blocks_from_0 =
       context = world;
       group = None;
       into = record {
-        buffer = record { basic = Int32; values = 0 ∷ 0 ∷ 0 ∷ 0 ∷ 0 ∷ 0 ∷ [] };
+        buffer = holds (0 ∷ 0 ∷ 0 ∷ 0 ∷ 0 ∷ 0 ∷ []);
         layout = record { basic = Int32; offsets = 1 ∷ 2 ∷ 5 ∷ [] };
         copies = 1;
       };
@@ -72,4 +77,4 @@ received_through_layouts =
     Called rank_0 (Isend world (Rank 1) (Some 7) first_and_last) (Started 0) ∷
     Called rank_1 (Irecv blocks_from_0) (Started 0) ∷
     Called rank_1 (Wait (One (Some 0)))
-    (Done (ForOne (Received (record { source = Rank 0; tag = Some 7; count = 2 }) (0 ∷ 1 ∷ 4 ∷ 0 ∷ 0 ∷ 0 ∷ [])))) ∷ []
+    (Done (ForOne (Received (record { source = Rank 0; tag = Some 7; count = 2 }) (holds (0 ∷ 1 ∷ 4 ∷ 0 ∷ 0 ∷ 0 ∷ []))))) ∷ []

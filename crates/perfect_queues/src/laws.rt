@@ -7,6 +7,7 @@ ghost use Rattle.perfect_queues.specs.CounterExamples.{
   received_twice,
   overtaken,
   other_data,
+  other_type,
   replaced_by_nobody,
 };
 ghost use Rattle.perfect_queues.specs.Example.{received_once, received_through_layouts};
@@ -47,6 +48,7 @@ pub fn definitions_hold_together()
     ensures none_is_received_twice { IsNoHistory received_twice }
     ensures none_is_overtaken { IsNoHistory overtaken }
     ensures none_is_invented { IsNoHistory other_data }
+    ensures none_is_retyped { IsNoHistory other_type }
     ensures none_is_replaced_by_nobody { IsNoHistory replaced_by_nobody }
     ensures their_twins_are_histories { AreHistories }
     ensures opening_is_at_rest { IsAtRest opening }

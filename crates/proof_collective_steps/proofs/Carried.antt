@@ -1,24 +1,21 @@
 -- What a rank does by its verdict is what its member does.
-use Rattle.std.proofs.Common.{◌≡◌, ℕ, suc, ◌+◌, ◌*◌, ◌^◌, ◌≤◌, Bool, true, false, cond, ◌&&◌, ◌||◌, List, [], ◌∷◌, length, map, Option, Some, None, if◌then◌else◌, ◌==◌, slice_index_or, option_map, inl, inr, refl, sym, ap, ◌∙◌, subst, arith}
+use Rattle.std.proofs.Common.{◌≡◌, ℕ, suc, ◌+◌, ◌*◌, ◌^◌, ◌≤◌, Bool, true, false, cond, ◌&&◌, ◌||◌, List, [], ◌∷◌, ◌++◌, length, map, Option, Some, None, if◌then◌else◌, ◌==◌, slice_index_or, option_map, inl, inr, refl, sym, ap, ◌∙◌, subst, arith}
 use Rattle.std.specs.List.{AllByRecursion, list_any}
 use Rattle.std.proofs.lemmas.Bool.{eq-eqb, eqb-true}
 use Rattle.std.proofs.lemmas.List.{length-map}
-use Rattle.collective_blocks.specs.Operations.{op_of}
 use Rattle.std.proofs.Math.ListN.{get_or-map}
 use Rattle.collective_notes.specs.Entering as entering
 use Rattle.collective_notes.specs.Entering.{agrees}
-use Rattle.collective_notes.specs.Notes as notes
 use Rattle.collective_notes.specs.Notes.{is_result, member_at}
 use Rattle.collectives.specs.State.{State, after_step, members_incarnation}
 use Rattle.collective_steps.specs.Steps as steps
-use Rattle.collective_steps.specs.Steps.{HasHeard, IsCarriedOut, IsHeard, IsPrepared, IsPreparedIn, Prepared, contexts_after, difference_messages, ending_of, given_of, group_of_part, made_by, message_to, outcome_of}
+use Rattle.collective_steps.specs.Steps.{HasHeard, IsCarriedOut, IsHeard, IsPrepared, IsPreparedIn, Prepared, contexts_after, difference_messages, ending_of, word_messages, given_of, group_of_part, made_by, message_to, outcome_of}
 use Rattle.collective_notes.specs.Verdicts.{is_at, is_first}
 use Rattle.collective_notes.specs.Verdicts as verdicts
 use Rattle.collective_notes.specs.declared.entry.Entry.{Entry}
 use Rattle.collective_notes.specs.declared.entry.Entry.TheVariants as entries
 use Rattle.collective_notes.specs.declared.entry.Inside.{Inside}
 use Rattle.collective_notes.specs.declared.message.Given.TheVariants as given
-use Rattle.collective_notes.specs.declared.ways.Ways.TheVariants.{Both}
 use Rattle.collective_notes.specs.declared.note.Note.{Note}
 use Rattle.collective_notes.specs.declared.note.Said.{Said}
 use Rattle.collective_notes.specs.declared.note.Said.TheVariants as said
@@ -35,60 +32,40 @@ use Rattle.context_agreement.specs.Splits.{IsSplitPlan}
 use Rattle.context_agreement.specs.declared.communicator.Communicator as held
 use Rattle.groups.specs.Groups as groups
 use Rattle.groups.specs.Groups.{HasNoRepeats}
+use Rattle.payload.specs.declared.payload.Choice.{Choice}
 use Rattle.payload.specs.declared.payload.Direction.TheVariants.{FromRoot, TowardsRoot}
 use Rattle.payload.specs.declared.record.Record as payload
 use Rattle.payload.specs.declared.record.Record.TheVariants as records
-use Rattle.perfect_groups.specs.Collectives.{Part, bare_part, barrier, dup, split}
+use Rattle.perfect_groups.specs.Collectives.{Part, bare_part, dup, split}
 use Rattle.perfect_groups.specs.Communicators.{Communicator, context_number}
 use Rattle.perfect_groups.specs.Machine.{mismatch}
-use Rattle.perfect_groups.specs.Membership.{Failed, Inside as Within, Out, Present, got, mine, numbered}
-use Rattle.perfect_groups.specs.Operations.{combined_by}
-use Rattle.perfect_groups.specs.Results.{gathered, new_groups, reduced}
-use Rattle.proof_collective_steps.proofs.Agreement.{entered_same}
-use Rattle.proof_collective_steps.proofs.KeptNotes.{GroupIs, PartsAre, found_same}
-use Rattle.proof_collective_steps.proofs.Verdicts.{Alike, DecidesBy, DecidesIs, here, verdicts_alike}
+use Rattle.perfect_groups.specs.Membership.{Failed, Inside as Member_within, Out, Present, got, mine, numbered}
+use Rattle.perfect_groups.specs.Results.{new_groups}
+use Rattle.proof_collective_steps.proofs.KeptNotes.{GroupIs, PartsAre}
+use Rattle.proof_collective_steps.proofs.Verdicts.{Alike, Knows, has_role, verdicts_alike}
 use Rattle.proof_collective_steps.specs.Counterparts.{AreSaid, GivenStandsFor, HandsIn, IsSaid, SaidFits, StandsFor, communicator_of, members_of, part_of, record_of}
-use Rattle.proof_collective_steps.specs.Shown.{IsPresent, IsShown, or_given}
+use Rattle.proof_collective_steps.specs.Shown.{HasTold, IsInside, IsPresent, IsShown, or_given}
 use Rattle.proof_group_network.specs.Copies.{CopiesHaveTheirGroup}
 use Rattle.proof_group_network.proofs.SortedOnce.{IsIn, all_more, all_there}
 use Rattle.proof_group_network.proofs.SplitPlans.{flipped}
 use Rattle.proof_group_network.proofs.SplitPlans.{splits_follow}
 use Rattle.proof_group_network.specs.Notices as network
-use Rattle.proof_group_network.specs.Notices.{HasDifference, HasMade, HasResult, Member, attempt, attempt_in, carried_out, differences_to, left_by, notice, tells_difference}
+use Rattle.proof_group_network.specs.Notices.{HasDifference, HasMade, HasResult, Member, attempt, attempt_in, carried_out, differences_to, left_by, notice, results_to, making_new, Notice}
 use Rattle.proof_group_network.specs.Splits.{members_of_part}
 use Rattle.vocabulary.specs.Endpoints.{is_same}
 use Rattle.vocabulary.specs.declared.endpoint.Endpoint.{Endpoint}
-use Rattle.proof_collective_steps.proofs.Leaving.{Follows, every, gets, inside, leaves, leaves_telling, leaving, others_said, said_to, some_said}
-use Rattle.proof_collective_steps.proofs.Moving.{decides_allreduce, decides_bcast, decides_inwards, decides_scatter, gathered_by, reduced_by}
-
--- A DIFFERENCE
-
-tells : (y : Entry) (b : Bool) → (tells_difference (part_of y).record_is.kind && b) ≡ (entering.tells_difference y && b)
-tells entries.Barrier b = refl
-tells (entries.Bcast root x) b = refl
-tells (entries.Gather root x) b = refl
-tells (entries.Scatter r all) b = refl
-tells (entries.Reduce o root x) b = refl
-tells (entries.Allreduce o x) b = refl
-tells entries.Dup b = refl
-tells (entries.Split a) b = refl
-
-breaks : (e : Endpoint) (s : State) (h : ContextsState) (m : Member) → IsShown e s h m None → (i : Inside) → s.present ≡ Some i → (ranks : List ℕ) →
-    Follows e s h (record { outcome = outcomes.Breaks; drawn = 0; messages = difference_messages e i ranks s.kept }) (carried_out e m (here i ranks) i.number (part_of i.entry) network.Breaks)
-breaks e s h m b i at ranks = (
-  leaving e s h m b i at h m.serial (record m.membership { present = Some (Out (Failed mismatch)) }) endings.Mismatch b.rank b.incarnation b.serial b.two b.held (λ c. refl) refl,
-  subst (λ (v : Bool). AreSaid e (difference_messages e i ranks s.kept) (differences_to e (here i ranks) i.number (part_of i.entry) v))
-      (sym (tells i.entry (network.found_in i.context i.number (part_of i.entry).record_is m.kept)
-      ∙ ap (λ (v : Bool). entering.tells_difference i.entry && v) (found_same e i.entry i.context i.number s.kept m.kept b.kept)))
-      (go (entering.tells_difference i.entry && notes.found_in i.context i.number i.entry s.kept)),
-)
-  where
-    go : (v : Bool) → AreSaid e (if v then steps.to_others e i (λ r. given.RecordsDiffer) ranks else []) (differences_to e (here i ranks) i.number (part_of i.entry) v)
-    go false = tt
-    go true =
-        others_said e i (λ r. given.RecordsDiffer) (λ z. notice i.context i.number (HasDifference (part_of i.entry).record_is)) ranks
-        (every (λ r. IsSaid e (message_to i given.RecordsDiffer r) (member_at i.incarnation r, notice i.context i.number (HasDifference (part_of i.entry).record_is)))
-        (λ r. said_to e i given.RecordsDiffer r (HasDifference (part_of i.entry).record_is) (ap HasDifference (sym (entered_same i.entry)))) ranks)
+use Rattle.proof_collective_steps.proofs.Leaving.{Follows, gets, inside, leaves, leaving}
+use Rattle.proof_collective_steps.proofs.Telling.{every, others_said, said_to}
+use Rattle.proof_collective_steps.proofs.Moving.{Decided, Ready, decides_allreduce, decides_barrier, decides_bcast, decides_gather, decides_reduce, decides_scatter}
+use Rattle.proof_collective_steps.proofs.Relays.{relays_follow, warnings_follow}
+use Rattle.proof_collective_steps.proofs.Words.{words_follow}
+use Rattle.proof_collective_steps.specs.Following.{here}
+use Rattle.proof_roles.proofs.RolesJoin.{first_same}
+use Rattle.proof_roles.specs.Meeting.{named}
+use Rattle.proof_group_network.specs.Roles as roles
+use Rattle.collective_notes.specs.Roles.{RoleState, all_or_own, role_of}
+use Rattle.collectives.specs.State.{told_in}
+use Rattle.collective_notes.specs.declared.message.Message.{Message}
 
 -- MEMBERS
 
@@ -181,49 +158,37 @@ given_made : (e : Endpoint) (o : Option held.Communicator) → GivenStandsFor e 
 given_made e None = refl
 given_made e (Some c) = (refl, refl)
 
--- who decides where messages go both ways is member 0, and knows the parts of all
-both_first : (t : Bool) (e : Endpoint) (i : Inside) (ranks : List ℕ) (ns : List Note) (ps : List Part) → is_at e i.incarnation ranks 0 ≡ t → DecidesBy Both t e i ranks ns ps → (is_at e i.incarnation ranks 0 ≡ true) × PartsAre e i ns ranks ps
-both_first true e i ranks ns ps u d = (u, d)
-both_first false e i ranks ns ps u d = absurd d
+-- member 0 of a star knows the parts of all
+all_parts_are : (e : Endpoint) (i : Inside) (inc : ℕ) (ranks : List ℕ) (ns : List Note) (ps : List Part) → is_first e inc ranks ≡ true → i.role.feeders ≡ all_or_own (is_first e inc ranks) e ranks →
+    PartsAre e i ns i.role.feeders ps → PartsAre e i ns ranks ps
+all_parts_are e i inc ranks ns ps first fed are =
+    subst (λ (fs : List ℕ). PartsAre e i ns fs ps) (fed ∙ ap (λ (t : Bool). if t then ranks else e.rank ∷ []) first) are
 
-decides : (e : Endpoint) (s : State) (h : ContextsState) (m : Member) → IsShown e s h m None → (place c inc k : ℕ) (y : Entry) → s.present ≡ Some (inside place c inc k y) → e.incarnation ≡ inc →
-    (ranks : List ℕ) → HasNoRepeats ranks → HandsIn e ranks y → (ps : List Part) → DecidesIs e (inside place c inc k y) ranks s.kept ps → (step : Prepared) → steps.IsDecided e (inside place c inc k y) h ranks s.kept y step →
-    Follows e s h step (carried_out e m (here (inside place c inc k y) ranks) k (part_of y) (network.Decides ps))
-decides e s h m b place c inc k entries.Barrier at own ranks once hands ps d step q =
-    subst (λ (st : Prepared). Follows e s h st (carried_out e m (here I ranks) k (part_of entries.Barrier) (network.Decides ps))) (sym q)
-    (leaves_telling e s h m b I at None None refl _ _ (some_said e I (given.Nothing FromRoot) (HasResult (bare_part barrier).record_is None) refl ranks))
-  where
-    I : Inside
-    I = inside place c inc k entries.Barrier
-decides e s h m b place c inc k (entries.Bcast root x) at own ranks once hands ps d step q = decides_bcast e s h m b place c inc k root x at ranks ps d.0 d.1 d.2 step q
-decides e s h m b place c inc k (entries.Gather root x) at own ranks once hands ps d step q =
-    decides_inwards e s h m b I at ranks root (steps.gathered e I s.kept ranks x) (record { basic = x.basic; values = gathered ps }) d.0 d.1 (gathered_by e I ranks s.kept root x ps refl d.0 d.2) step q
-  where
-    I : Inside
-    I = inside place c inc k (entries.Gather root x)
-decides e s h m b place c inc k (entries.Scatter r x) at own ranks once hands ps d step q =
-    decides_scatter e s h m b place c inc k r x at own ranks once hands ps d.0 d.1 d.2 step q
-decides e s h m b place c inc k (entries.Reduce o root x) at own ranks once hands ps d step q =
-    decides_inwards e s h m b I at ranks root (steps.reduced e I s.kept ranks o x) (record { basic = x.basic; values = reduced (combined_by (Some (op_of o)) (Some x.basic)) ps }) d.0 d.1
-    (reduced_by e I ranks s.kept o root x ps hands refl d.0 d.2) step q
-  where
-    I : Inside
-    I = inside place c inc k (entries.Reduce o root x)
-decides e s h m b place c inc k (entries.Allreduce o x) at own ranks once hands ps d step q =
-    decides_allreduce e s h m b place c inc k o x at ranks hands ps d.0 d.2 step q
-decides e s h m b place c inc k entries.Dup at own ranks once hands ps d step q =
-    subst (λ (st : Prepared). Follows e s h st (carried_out e m (here I ranks) k (part_of entries.Dup) (network.Decides ps))) (sym q) (
-      subst (λ (o : Option Communicator). IsShown e (after_step s (outcomes.Gets X)) (contexts_after h 1 (outcomes.Gets X)) (record { membership = got m.membership o; serial = m.serial + 1; kept = network.without c k m.kept }) (ending_of h (outcomes.Gets X)))
-          (sym (is_mine e (first_member e inc ranks (both_first d.0 e I ranks s.kept ps d.1 d.2).0))) (gets e s h m b I at (Some X) 1 (m.serial + 1) (ap (λ (x : ℕ). x + 1) b.serial)),
-      others_said e I (λ r. given.Context (number_of (coming_context h 0))) (λ z. notice c k (HasMade (bare_part dup).record_is (mine z new))) ranks
+-- a copy: the group is the old one
+decides_dup : (e : Endpoint) (s : State) (h : ContextsState) (m : Member) (place c inc k : ℕ) (role : RoleState) (told : Bool) → e.incarnation ≡ inc → (ranks : List ℕ) (ps : List Part) →
+    Ready e s h m place c inc k entries.Dup role told ranks ps → (step : Prepared) → step ≡ steps.copy_step e (inside place c inc k entries.Dup role told) h ranks →
+    Decided e s h m (inside place c inc k entries.Dup role told) entries.Dup ranks ps step
+decides_dup e s h m place c inc k role told own ranks ps r step q =
+    subst (λ (st : Prepared). Decided e s h m I entries.Dup ranks ps st) (sym q) (
+      subst (λ (o : Option Communicator). IsShown e (after_step s (outcomes.Gets X)) (contexts_after h 1 (outcomes.Gets X)) (record { membership = got m.membership o; serial = m.serial + 1; kept = network.without c k m.kept; told = m.told }) (ending_of h (outcomes.Gets X)))
+          (sym (is_mine e (first_member e inc ranks first))) (gets e s h m b I r.at_present (Some X) 1 (m.serial + 1) (ap (λ (x : ℕ). x + 1) b.serial)),
+      subst (λ (zs : List Endpoint). AreSaid e (steps.to_others e I (λ r. given.Context (number_of (coming_context h 0))) ranks) (network.to_others e (λ z. notice c k (HasMade (bare_part dup).record_is (mine z new))) zs))
+          (sym (ap (λ (t : Bool). if t then named inc ranks else []) (r.role_is.decides ∙ r.deciding)))
+          (others_said e I (λ r. given.Context (number_of (coming_context h 0))) (λ z. notice c k (HasMade (bare_part dup).record_is (mine z new))) ranks
           (all_more (λ r. IsIn r ranks) (λ r. IsSaid e (message_to I (given.Context (number_of (coming_context h 0))) r) (member_at inc r, notice c k (HasMade (bare_part dup).record_is (mine (member_at inc r) new)))) ranks
           (λ r there. said_to e I (given.Context (number_of (coming_context h 0))) r (HasMade (bare_part dup).record_is (mine (member_at inc r) new))
           ((communicator_of e X).members, ap (HasMade (bare_part dup).record_is) (is_mine (member_at inc r) (in_members inc r ranks there))))
-          (all_there ranks)),
+          (all_there ranks))),
     )
   where
     I : Inside
-    I = inside place c inc k entries.Dup
+    I = inside place c inc k entries.Dup role told
+
+    b : IsShown e s h m None
+    b = r.shown
+
+    first : is_first e inc ranks ≡ true
+    first = sym (first_same e inc ranks) ∙ (r.role_is.decides ∙ r.deciding)
 
     X : held.Communicator
     X = record { context = coming_context h 0; group = ranks }
@@ -235,19 +200,34 @@ decides e s h m b place c inc k entries.Dup at own ranks once hands ps d step q 
     is_mine z there =
         ap (λ (t : Bool). if t then Some (record { context = context_number e m.serial; members = map (member_at inc) ranks }) else None) there
         ∙ ap (λ (x : Communicator). Some x) (new_comm e h inc b.two b.rank b.incarnation own 0 m.serial (let z : h.next_serial ≡ h.next_serial + 0 = omega arith in b.serial ∙ z) ranks)
-decides e s h m b place c inc k (entries.Split a) at own ranks once hands ps d step q =
-    subst (λ (st : Prepared). Follows e s h st (carried_out e m (here I ranks) k (part_of (entries.Split a)) (network.Decides ps))) (sym q.2)
+
+-- a split: one communicator for each part of the plan
+decides_split : (e : Endpoint) (s : State) (h : ContextsState) (m : Member) (place c inc k : ℕ) (a : Choice) (role : RoleState) (told : Bool) → e.incarnation ≡ inc → (ranks : List ℕ) (ps : List Part) →
+    role.feeders ≡ all_or_own (is_first e inc ranks) e ranks →
+    Ready e s h m place c inc k (entries.Split a) role told ranks ps → (step : Prepared) → steps.IsSplit e (inside place c inc k (entries.Split a) role told) h ranks s.kept step →
+    Decided e s h m (inside place c inc k (entries.Split a) role told) (entries.Split a) ranks ps step
+decides_split e s h m place c inc k a role told own ranks ps fed r step q =
+    subst (λ (st : Prepared). Decided e s h m I (entries.Split a) ranks ps st) (sym q.2)
     (subst (λ (new : List Communicator).
     IsShown e (after_step s (outcome_of (steps.mine e.rank made))) (contexts_after h (length plan) (outcome_of (steps.mine e.rank made)))
-    (record { membership = got m.membership (mine e new); serial = m.serial + length new; kept = network.without c k m.kept }) (ending_of h (outcome_of (steps.mine e.rank made)))
-    × AreSaid e (steps.to_others e I (λ r. given_of (steps.mine r made)) ranks) (network.to_others e (λ z. notice c k (HasMade (bare_part split).record_is (mine z new))) (map (member_at inc) ranks)))
-    (sym all_new) (shown, told))
+    (record { membership = got m.membership (mine e new); serial = m.serial + length new; kept = network.without c k m.kept; told = m.told }) (ending_of h (outcome_of (steps.mine e.rank made)))
+    × AreSaid e (steps.to_others e I (λ r. given_of (steps.mine r made)) ranks)
+    (network.to_others e (λ z. notice c k (HasMade (bare_part split).record_is (mine z new))) (if roles.is_first e (named inc ranks) then named inc ranks else [])))
+    (sym all_new) (
+      shown,
+      subst (λ (zs : List Endpoint). AreSaid e (steps.to_others e I (λ r. given_of (steps.mine r made)) ranks)
+          (network.to_others e (λ z. notice c k (HasMade (bare_part split).record_is (mine z (map (communicator_of e) made)))) zs))
+          (sym (ap (λ (t : Bool). if t then named inc ranks else []) (r.role_is.decides ∙ r.deciding))) all_told,
+    ))
   where
     I : Inside
-    I = inside place c inc k (entries.Split a)
+    I = inside place c inc k (entries.Split a) role told
+
+    b : IsShown e s h m None
+    b = r.shown
 
     known : PartsAre e I s.kept ranks ps
-    known = (both_first d.0 e I ranks s.kept ps d.1 d.2).1
+    known = all_parts_are e I inc ranks s.kept ps (sym (first_same e inc ranks) ∙ (r.role_is.decides ∙ r.deciding)) fed r.parts
 
     plan : List SplitPart
     plan = q.0
@@ -268,26 +248,39 @@ decides e s h m b place c inc k (entries.Split a) at own ranks once hands ps d s
     own_is = λ t. record { rank = e.rank; incarnation = own t }
 
     shown : IsShown e (after_step s (outcome_of (steps.mine e.rank made))) (contexts_after h (length plan) (outcome_of (steps.mine e.rank made)))
-        (record { membership = got m.membership (mine e (map (communicator_of e) made)); serial = m.serial + length (map (communicator_of e) made); kept = network.without c k m.kept }) (ending_of h (outcome_of (steps.mine e.rank made)))
+        (record { membership = got m.membership (mine e (map (communicator_of e) made)); serial = m.serial + length (map (communicator_of e) made); kept = network.without c k m.kept; told = m.told }) (ending_of h (outcome_of (steps.mine e.rank made)))
     shown =
         subst (λ (o : Option Communicator). IsShown e (after_step s (outcome_of (steps.mine e.rank made))) (contexts_after h (length plan) (outcome_of (steps.mine e.rank made)))
-        (record { membership = got m.membership o; serial = m.serial + length (map (communicator_of e) made); kept = network.without c k m.kept }) (ending_of h (outcome_of (steps.mine e.rank made))))
+        (record { membership = got m.membership o; serial = m.serial + length (map (communicator_of e) made); kept = network.without c k m.kept; told = m.told }) (ending_of h (outcome_of (steps.mine e.rank made))))
         (sym (ap (λ (z : Endpoint). mine z (map (communicator_of e) made)) own_is ∙ mine_made e inc e.rank made incs))
-        (gets e s h m b I at (steps.mine e.rank made) (length plan) (m.serial + length (map (communicator_of e) made))
+        (gets e s h m b I r.at_present (steps.mine e.rank made) (length plan) (m.serial + length (map (communicator_of e) made))
         (λ t. b.serial t + (length-map made (communicator_of e) ∙ made_length h ranks 0 plan) t))
 
-    told : AreSaid e (steps.to_others e I (λ r. given_of (steps.mine r made)) ranks) (network.to_others e (λ z. notice c k (HasMade (bare_part split).record_is (mine z (map (communicator_of e) made)))) (map (member_at inc) ranks))
-    told =
+    all_told : AreSaid e (steps.to_others e I (λ r. given_of (steps.mine r made)) ranks) (network.to_others e (λ z. notice c k (HasMade (bare_part split).record_is (mine z (map (communicator_of e) made)))) (map (member_at inc) ranks))
+    all_told =
         others_said e I (λ r. given_of (steps.mine r made)) (λ z. notice c k (HasMade (bare_part split).record_is (mine z (map (communicator_of e) made)))) ranks
         (every (λ r. IsSaid e (message_to I (given_of (steps.mine r made)) r) (member_at inc r, notice c k (HasMade (bare_part split).record_is (mine (member_at inc r) (map (communicator_of e) made)))))
         (λ r. said_to e I (given_of (steps.mine r made)) r (HasMade (bare_part split).record_is (mine (member_at inc r) (map (communicator_of e) made)))
         (subst (λ (o : Option Communicator). GivenStandsFor e records.Split (given_of (steps.mine r made)) (HasMade (bare_part split).record_is o)) (sym (mine_made e inc r made incs)) (given_made e (steps.mine r made)))) ranks)
 
+-- all eight
+decides : (e : Endpoint) (s : State) (h : ContextsState) (m : Member) (place c inc k : ℕ) (y : Entry) (role : RoleState) (told : Bool) → e.incarnation ≡ inc → (ranks : List ℕ) → HasNoRepeats ranks → HandsIn e ranks y → (ps : List Part) →
+    role.feeders ≡ (role_of e inc ranks (entering.record_of y)).feeders → Ready e s h m place c inc k y role told ranks ps → (step : Prepared) → steps.IsDecided e (inside place c inc k y role told) h ranks s.kept y step →
+    Decided e s h m (inside place c inc k y role told) y ranks ps step
+decides e s h m place c inc k entries.Barrier role told own ranks once hands ps fed r step q = decides_barrier e s h m place c inc k role told ranks ps r step q
+decides e s h m place c inc k (entries.Bcast root x) role told own ranks once hands ps fed r step q = decides_bcast e s h m place c inc k root x role told ranks ps r step q
+decides e s h m place c inc k (entries.Gather root x) role told own ranks once hands ps fed r step q = decides_gather e s h m place c inc k root x role told ranks ps r step q
+decides e s h m place c inc k (entries.Scatter z x) role told own ranks once hands ps fed r step q = decides_scatter e s h m place c inc k z x role told own ranks once hands ps r step q
+decides e s h m place c inc k (entries.Reduce o root x) role told own ranks once hands ps fed r step q = decides_reduce e s h m place c inc k root o x role told ranks ps r hands fed step q
+decides e s h m place c inc k (entries.Allreduce o x) role told own ranks once hands ps fed r step q = decides_allreduce e s h m place c inc k o x role told ranks ps r hands fed step q
+decides e s h m place c inc k entries.Dup role told own ranks once hands ps fed r step q = decides_dup e s h m place c inc k role told own ranks ps r step q
+decides e s h m place c inc k (entries.Split a) role told own ranks once hands ps fed r step q = decides_split e s h m place c inc k a role told own ranks ps fed r step q
+
 -- A RESULT IS HEARD
 
 abbrev HeardLeaves : Endpoint → State → ContextsState → Member → Inside → network.Said → Outcome → Type 0
 HeardLeaves e s h m i w o =
-    IsShown e (after_step s o) (contexts_after h 0 o) (record { membership = left_by m.membership w; serial = m.serial; kept = network.without i.context i.number m.kept }) (ending_of h o)
+    IsShown e (after_step s o) (contexts_after h 0 o) (record { membership = left_by m.membership w; serial = m.serial; kept = network.without i.context i.number m.kept; told = m.told }) (ending_of h o)
 
 hears : (e : Endpoint) (s : State) (h : ContextsState) (m : Member) → IsShown e s h m None → (i : Inside) → s.present ≡ Some i → e.incarnation ≡ i.incarnation → (ranks : List ℕ) →
     (r : payload.Record) (x : Said) (w : network.Said) → StandsFor e r x w → is_result x ≡ true → SaidFits r x → agrees i.entry r ≡ true → GroupIs (here i ranks) w →
@@ -304,7 +297,7 @@ hears e s h m b i at own ranks r (said.Elements FromRoot c) w st res fits ag g o
 hears e s h m b i at own ranks r (said.Context number) w st res fits ag g o q =
     subst (λ (v : Outcome). HeardLeaves e s h m i w v) (sym q.2)
     (subst (λ (v : network.Said). HeardLeaves e s h m i v (outcomes.Gets X)) (sym st.1)
-    (subst (λ (c : Communicator). IsShown e (after_step s (outcomes.Gets X)) (contexts_after h 0 (outcomes.Gets X)) (record { membership = got m.membership (Some c); serial = m.serial; kept = network.without i.context i.number m.kept }) (ending_of h (outcomes.Gets X)))
+    (subst (λ (c : Communicator). IsShown e (after_step s (outcomes.Gets X)) (contexts_after h 0 (outcomes.Gets X)) (record { membership = got m.membership (Some c); serial = m.serial; kept = network.without i.context i.number m.kept; told = m.told }) (ending_of h (outcomes.Gets X)))
     same (gets e s h m b i at (Some X) 0 m.serial (let z : h.next_serial ≡ h.next_serial + 0 = omega arith in b.serial ∙ z))))
   where
     X : held.Communicator
@@ -326,7 +319,7 @@ hears e s h m b i at own ranks r said.NullCommunicator w st res fits ag g o q =
 hears e s h m b i at own ranks r (said.NewGroup number group) w st res fits ag g o q =
     subst (λ (v : Outcome). HeardLeaves e s h m i w v) (sym q.2)
     (subst (λ (v : network.Said). HeardLeaves e s h m i v (outcomes.Gets X)) (sym st)
-    (subst (λ (c : Communicator). IsShown e (after_step s (outcomes.Gets X)) (contexts_after h 0 (outcomes.Gets X)) (record { membership = got m.membership (Some c); serial = m.serial; kept = network.without i.context i.number m.kept }) (ending_of h (outcomes.Gets X)))
+    (subst (λ (c : Communicator). IsShown e (after_step s (outcomes.Gets X)) (contexts_after h 0 (outcomes.Gets X)) (record { membership = got m.membership (Some c); serial = m.serial; kept = network.without i.context i.number m.kept; told = m.told }) (ending_of h (outcomes.Gets X)))
     same (gets e s h m b i at (Some X) 0 m.serial (let z : h.next_serial ≡ h.next_serial + 0 = omega arith in b.serial ∙ z))))
   where
     X : held.Communicator
@@ -337,22 +330,99 @@ hears e s h m b i at own ranks r (said.NewGroup number group) w st res fits ag g
 
 -- ALL VERDICTS
 
-carried : (e : Endpoint) (s : State) (h : ContextsState) (m : Member) → IsShown e s h m None → (i : Inside) → s.present ≡ Some i → e.incarnation ≡ i.incarnation → (ranks : List ℕ) → HasNoRepeats ranks → HandsIn e ranks i.entry →
-    (v : Verdict) (w : network.Verdict) → Alike e i ranks s.kept v w → (step : Prepared) → IsCarriedOut e i h ranks s.kept v step →
-    Follows e s h step (carried_out e m (here i ranks) i.number (part_of i.entry) w)
-carried e s h m b i at own ranks once hands code.Stays network.Stays a step q =
-    subst (λ (st : Prepared). Follows e s h st (carried_out e m (here i ranks) i.number (part_of i.entry) network.Stays)) (sym q) (b, tt)
-carried e s h m b i at own ranks once hands code.Breaks network.Breaks a step q =
-    subst (λ (st : Prepared). Follows e s h st (carried_out e m (here i ranks) i.number (part_of i.entry) network.Breaks)) (sym q) (breaks e s h m b i at ranks)
-carried e s h m b i at own ranks once hands code.Decides (network.Decides ps) a step q =
-    decides e s h m b i.place i.context i.incarnation i.number i.entry at own ranks once hands ps a step q
-carried e s h m b i at own ranks once hands (code.Hears place) (network.Hears w) a step q =
-    subst (λ (st : Prepared). Follows e s h st (carried_out e m (here i ranks) i.number (part_of i.entry) (network.Hears w))) (sym heard.2)
-    (hears e s h m b i at own ranks a.0.entered a.0.said w a.2.stands a.2.result a.2.fits a.2.agreeing a.2.group heard.0 heard.1, tt)
+both_said : (e : Endpoint) (ms ns : List Message) (xs ys : List (Endpoint × Notice)) → AreSaid e ms xs → AreSaid e ns ys → AreSaid e (ms ++ ns) (xs ++ ys)
+both_said e [] ns [] ys a b = b
+both_said e [] ns (x ∷ xs) ys a b = absurd a
+both_said e (m ∷ ms) ns [] ys a b = absurd a
+both_said e (m ∷ ms) ns (x ∷ xs) ys a b = (a.0, both_said e ms ns xs ys a.1 b)
+
+-- what is known of the collective that a rank is in
+pub record Within (e : Endpoint) (s : State) (h : ContextsState) (m : Member) (i : Inside) (ranks : List ℕ) : Type 0 where
+  pub shown : IsShown e s h m None
+  pub at_present : s.present ≡ Some i
+  pub own : e.incarnation ≡ i.incarnation
+  pub once : HasNoRepeats ranks
+  pub hands : HandsIn e ranks i.entry
+  pub role : i.role ≡ role_of e i.incarnation ranks (entering.record_of i.entry)
+
+told_same : (e : Endpoint) (s : State) (h : ContextsState) (m : Member) (i : Inside) (ranks : List ℕ) → Within e s h m i ranks → m.told ≡ i.told
+told_same e s h m i ranks w = subst (λ (p : Option Inside). HasTold p m.told) w.at_present w.shown.told
+
+-- the word, as the member says it
+word : (e : Endpoint) (s : State) (h : ContextsState) (m : Member) (i : Inside) (ranks : List ℕ) → Within e s h m i ranks → (ps : List Part) → Knows e i ranks s.kept m.kept ps →
+    AreSaid e (word_messages e i s.kept) (network.entries_to e (here i ranks) i.number (part_of i.entry) ps m.told)
+word e s h m i ranks w ps k =
+    subst (λ (t : Bool). AreSaid e (word_messages e i s.kept) (network.entries_to e (here i ranks) i.number (part_of i.entry) ps t)) (sym (told_same e s h m i ranks w))
+    (words_follow e i ranks s.kept m.kept ps w.own w.role w.hands w.shown.kept k.same k.known)
+
+-- a rank that waits has told its word
+waits : (e : Endpoint) (s : State) (h : ContextsState) (m : Member) (i : Inside) (ranks : List ℕ) → Within e s h m i ranks →
+    IsShown e (after_step s outcomes.Waits) h (record { membership = m.membership; serial = m.serial; kept = m.kept; told = true }) None
+waits e s h m i ranks w =
+    record {
+      own = b.own;
+      rank = b.rank;
+      incarnation = b.incarnation;
+      serial = b.serial;
+      two = b.two;
+      held = b.held;
+      count = b.count;
+      present = subst (λ (p : Option Inside). IsPresent e h (told_in p) m.membership.present) (sym w.at_present) (so (subst (λ (p : Option Inside). IsPresent e h p m.membership.present) w.at_present b.present));
+      told = subst (λ (p : Option Inside). HasTold (told_in p) true) (sym w.at_present) refl;
+      kept = b.kept;
+    }
   where
-    heard : IsHeard ranks (Some a.0) step
-    heard = subst (λ (o : Option Note). IsHeard ranks o step) a.1 q
-carried e s h m b i at own ranks once hands v w a step q = absurd a
+    b : IsShown e s h m None
+    b = w.shown
+
+    so : IsInside e h i m.membership.present → IsInside e h (record i { told = true }) m.membership.present
+    so p =
+        record {
+          comm = p.comm;
+          at_place = p.at_place;
+          context = p.context;
+          incarnation = p.incarnation;
+          own = p.own;
+          once = p.once;
+          hands = p.hands;
+          role = p.role;
+          is = p.is;
+        }
+
+breaks : (e : Endpoint) (s : State) (h : ContextsState) (m : Member) (i : Inside) (ranks : List ℕ) → Within e s h m i ranks →
+    Follows e s h (record { outcome = outcomes.Breaks; drawn = 0; messages = difference_messages e i ranks s.kept }) (carried_out e m (here i ranks) i.number (part_of i.entry) network.Breaks)
+breaks e s h m i ranks w = (
+  leaving e s h m w.shown i w.at_present h m.serial (record m.membership { present = Some (Out (Failed mismatch)) }) endings.Mismatch w.shown.rank w.shown.incarnation w.shown.serial w.shown.two w.shown.held (λ c. refl) refl,
+  warnings_follow e i ranks s.kept m.kept w.own w.role w.shown.kept,
+)
+
+pub carried : (e : Endpoint) (s : State) (h : ContextsState) (m : Member) (i : Inside) (ranks : List ℕ) → Within e s h m i ranks →
+    (v : Verdict) (w : network.Verdict) → Alike e i ranks s.kept m.kept v w → (step : Prepared) → IsCarriedOut e i h ranks s.kept v step →
+    Follows e s h step (carried_out e m (here i ranks) i.number (part_of i.entry) w)
+carried e s h m i ranks b code.Stays network.Stays a step q =
+    subst (λ (st : Prepared). Follows e s h st (carried_out e m (here i ranks) i.number (part_of i.entry) network.Stays)) (sym q) (b.shown, tt)
+carried e s h m i ranks b code.Breaks network.Breaks a step q =
+    subst (λ (st : Prepared). Follows e s h st (carried_out e m (here i ranks) i.number (part_of i.entry) network.Breaks)) (sym q) (breaks e s h m i ranks b)
+carried e s h m i ranks b code.Waits (network.Waits ps) a step q =
+    subst (λ (st : Prepared). Follows e s h st (carried_out e m (here i ranks) i.number (part_of i.entry) (network.Waits ps))) (sym q) (waits e s h m i ranks b, word e s h m i ranks b ps a)
+carried e s h m i ranks b code.Decides (network.Decides ps) a step q =
+    subst (λ (st : Prepared). Follows e s h st (carried_out e m (here i ranks) i.number (part_of i.entry) (network.Decides ps))) (sym q.2)
+    (decided.0, both_said e (word_messages e i s.kept) q.0.messages _ _ (word e s h m i ranks b ps a.0) decided.1)
+  where
+    decided : Decided e s h m i i.entry ranks ps q.0
+    decided =
+        decides e s h m i.place i.context i.incarnation i.number i.entry i.role i.told b.own ranks b.once b.hands ps (ap (λ (r : RoleState). r.feeders) b.role)
+        (record { shown = b.shown; at_present = b.at_present; role_is = has_role e i ranks b.own b.role; deciding = a.1; parts = a.0.parts; known = a.0.known }) q.0 q.1
+carried e s h m i ranks b (code.Hears place) (network.Hears ps w) a step q =
+    subst (λ (st : Prepared). Follows e s h st (carried_out e m (here i ranks) i.number (part_of i.entry) (network.Hears ps w))) (sym (q.2 ∙ ap (λ (st : Prepared). record st { messages = word_messages e i s.kept ++ st.messages }) heard.2)) (
+      hears e s h m b.shown i b.at_present b.own ranks a.1.note.entered a.1.note.said w a.1.is.stands a.1.is.result a.1.is.fits a.1.is.agreeing a.1.is.group heard.0 heard.1,
+      both_said e (word_messages e i s.kept) _ _ _ (word e s h m i ranks b ps a.0)
+          (relays_follow e i ranks a.1.note w b.own b.role a.1.waiting a.1.is.stands a.1.is.result a.1.is.fits a.1.is.agreeing),
+    )
+  where
+    heard : IsHeard e i ranks (Some a.1.note) q.0
+    heard = subst (λ (o : Option Note). IsHeard e i ranks o q.0) a.1.there q.1
+carried e s h m i ranks b v w a step q = absurd a
 
 -- WHAT A RANK DOES OF ITSELF
 
@@ -371,12 +441,12 @@ attempt_follows e s h m None b g step q = go s.present refl b.present
         (subst (λ (st : Prepared). Follows e s h st (record { member = m; out = [] })) (sym (subst (λ (o : Option Inside). IsPrepared e o h s.kept step) at q)) (b, tt))
     go (Some i) at p =
         subst (λ (p : Option Present). Follows e s h step (attempt_in e m p)) (sym present)
-        (carried e s h m b i at p.own p.comm.group p.once p.hands (verdicts.verdict e i p.comm.group s.kept) (network.verdict e (here i p.comm.group) i.number (part_of i.entry) m.kept)
-        (verdicts_alike e i p.comm.group s.kept m.kept b.kept (subst (λ (z : Option Present). CopiesHaveTheirGroup z m.kept) present g)) step
+        (carried e s h m i p.comm.group (record { shown = b; at_present = at; own = p.own; once = p.once; hands = p.hands; role = p.role }) (verdicts.verdict e i s.kept) (network.verdict e (here i p.comm.group) i.number (part_of i.entry) m.kept)
+        (verdicts_alike e i p.comm.group s.kept m.kept (has_role e i p.comm.group p.own p.role) b.kept (subst (λ (z : Option Present). CopiesHaveTheirGroup z m.kept) present g)) step
         (subst (λ (c : Option held.Communicator). IsPreparedIn e i h s.kept c step) p.at_place (subst (λ (o : Option Inside). IsPrepared e o h s.kept step) at q)))
       where
         same : communicator_of e p.comm ≡ here i p.comm.group
         same = λ t. record { context = sym p.context t; members = map (member_at ((ap (members_incarnation e) (sym p.context) ∙ sym p.incarnation) t)) p.comm.group }
 
-        present : m.membership.present ≡ Some (Within (here i p.comm.group) i.number (part_of i.entry))
-        present = p.is ∙ ap (λ (c : Communicator). Some (Within c i.number (part_of i.entry))) same
+        present : m.membership.present ≡ Some (Member_within (here i p.comm.group) i.number (part_of i.entry))
+        present = p.is ∙ ap (λ (c : Communicator). Some (Member_within c i.number (part_of i.entry))) same

@@ -39,16 +39,16 @@ handed_buffer r = same_buffer r.buffer r.places
 
 -- by whether the types are one and whether there is room
 ends_so : (p : Receive) (r : Region) (h : Held) (st : Status) (n : ℕ) (same room : Bool) → IsMatched (record { into = r; status = st }) p h →
-    machine.status_by p h.sender.rank h.tag n ≡ st → p.into.buffer.values ≡ r.buffer.values → is_same_type p.into.buffer.basic h.basic ≡ same →
+    machine.status_by p h.sender.rank h.tag n ≡ st → p.into.buffer ≡ r.buffer → is_same_type p.into.buffer.basic h.basic ≡ same →
     Fits (if same && room then Collecting (record { into = r; status = st }) else Finished (outcomes.Ended (if same then Truncated else WrongType) st r.buffer))
     (matched_part p h n (same && room))
 ends_so p r h st n true true m s v e = m
 ends_so p r h st n true false m s v e =
-    ap (λ (t : Bool). machine.Ended (if t then 10 else 2) (machine.status_by p h.sender.rank h.tag n) p.into.buffer.values) e
-    ∙ ap₂ (λ (x : Status) (ys : List ℕ). machine.Ended 10 x ys) s v
+    ap (λ (t : Bool). machine.Ended (if t then 10 else 2) (machine.status_by p h.sender.rank h.tag n) p.into.buffer) e
+    ∙ ap₂ (λ (x : Status) (c : Contents). machine.Ended 10 x c) s v
 ends_so p r h st n false room m s v e =
-    ap (λ (t : Bool). machine.Ended (if t then 10 else 2) (machine.status_by p h.sender.rank h.tag n) p.into.buffer.values) e
-    ∙ ap₂ (λ (x : Status) (ys : List ℕ). machine.Ended 2 x ys) s v
+    ap (λ (t : Bool). machine.Ended (if t then 10 else 2) (machine.status_by p h.sender.rank h.tag n) p.into.buffer) e
+    ∙ ap₂ (λ (x : Status) (c : Contents). machine.Ended 2 x c) s v
 
 -- a message with this body
 abbrev with_body : Message → Body → Message
@@ -70,7 +70,7 @@ announced_fits from p w m a is accepts =
     (ends_so p r h told a.count (is_same_type r.buffer.basic a.basic) (nat_le a.count (length (places_in (handed_of r))))
     (record { into = is.into; accepts = accepts; status = sym same })
     same
-    (ap (λ (x : Handed). x.buffer.values) is.into ∙ ap (λ (b : Contents). b.values) (handed_buffer r))
+    (ap (λ (x : Handed). x.buffer) is.into ∙ handed_buffer r)
     (ap (λ (x : Handed). is_same_type x.buffer.basic a.basic) is.into ∙ ap (λ (b : Contents). is_same_type b.basic a.basic) (handed_buffer r)))
   where
     h : Held

@@ -1,7 +1,7 @@
 -- A receive ends alike.
-use Rattle.std.proofs.Common.{◌≡◌, ℕ, Bool, true, false, ◌&&◌, nat_le, List, length, refl, sym, subst, if◌then◌else◌}
-use Rattle.layouts.specs.Buffers.{is_same_type, put_at}
-use Rattle.perfect_queues.specs.Buffers.{places_in}
+use Rattle.std.proofs.Common.{◌≡◌, Bool, true, false, ◌&&◌, nat_le, List, length, refl, sym, subst, if◌then◌else◌}
+use Rattle.layouts.specs.Buffers.{is_same_type}
+use Rattle.perfect_queues.specs.Buffers.{filled, places_in}
 use Rattle.perfect_queues.specs.Outcomes as machine
 use Rattle.perfect_queues.specs.Receives.{Receive}
 use Rattle.datatypes.specs.Contents.{Contents}
@@ -14,7 +14,6 @@ use Rattle.shared_groups.specs.Statuses.{status_in}
 use Rattle.proof_engine_view.specs.Rows.{held_of}
 use Rattle.vocabulary.specs.declared.endpoint.Endpoint.{Endpoint}
 use Rattle.proof_engine_view.specs.Transfers.{Transfer}
-use Rattle.vocabulary.specs.declared.basic_type.BasicType.{BasicType}
 use Rattle.vocabulary.specs.declared.envelope.Status.{Status}
 use Rattle.requests.specs.declared.outcome.Failure.TheVariants.{WrongType, Truncated}
 use Rattle.requests.specs.declared.outcome.Outcome.TheVariants as outcomes
@@ -23,12 +22,12 @@ use Rattle.proof_engine_view.specs.Seen.{outcome_seen}
 use Rattle.proof_engine_matching.specs.Matches.{OutcomesAgree}
 
 -- by whether the types are one and whether the message has room
-ends : (same room : Bool) (basic : BasicType) (status : Status) (told buffer : List ℕ) →
+ends : (same room : Bool) (status : Status) (told buffer : Contents) →
     ◌≡◌ {A = machine.Outcome} (if same && room then machine.Received status told else machine.Ended (if same then 10 else 2) status buffer)
-    (outcome_seen (if same then (if room then outcomes.Received status (record { basic = basic; values = told }) else outcomes.Ended Truncated status (record { basic = basic; values = buffer })) else outcomes.Ended WrongType status (record { basic = basic; values = buffer })))
-ends true true basic status told buffer = refl
-ends true false basic status told buffer = refl
-ends false room basic status told buffer = refl
+    (outcome_seen (if same then (if room then outcomes.Received status told else outcomes.Ended Truncated status buffer) else outcomes.Ended WrongType status buffer))
+ends true true status told buffer = refl
+ends true false status told buffer = refl
+ends false room status told buffer = refl
 
 -- a message with this body
 abbrev with_body : Message → Body → Message
@@ -40,7 +39,7 @@ whole_ends : (from : Endpoint → List Transfer) (p : Receive) (m : Message) (c 
     ≡ outcome_seen (outcome_of p.into (status_in p.group (status_of (with_body m (Whole c)))) c)
 whole_ends from p m c =
     ends (is_same_type p.into.buffer.basic c.basic) (nat_le (length c.values) (length (places_in p.into)))
-    p.into.buffer.basic (status_in p.group (status_of (with_body m (Whole c)))) (put_at p.into.buffer.values (places_in p.into) c.values) p.into.buffer.values
+    (status_in p.group (status_of (with_body m (Whole c)))) (filled p.into c.values) p.into.buffer
 
 -- the law of outcomes
 pub outcomes_agree : OutcomesAgree

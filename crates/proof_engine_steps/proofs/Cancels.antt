@@ -50,7 +50,7 @@ use Rattle.proof_engine_steps.proofs.Waking.{Holding, holding_of}
 -- ---- the jobs
 
 -- a receive that waits is dropped
-dropped_waiting : (js : List Job) (k : ℕ) (p : receives.Receive) → slice_get js k ≡ Some (Waiting p) → changed dropped js k ≡ slice_set js k (Over (ends.Cancelled p.into.buffer.values))
+dropped_waiting : (js : List Job) (k : ℕ) (p : receives.Receive) → slice_get js k ≡ Some (Waiting p) → changed dropped js k ≡ slice_set js k (Over (ends.Cancelled p.into.buffer))
 dropped_waiting [] k p h = absurd (none-some (Waiting p) h)
 dropped_waiting (j ∷ js) zero p h = ap (λ (y : Job). dropped y ∷ js) (same_Some j (Waiting p) h)
 dropped_waiting (j ∷ js) (suc k) p h = ap (λ (ys : List Job). j ∷ ys) (dropped_waiting js k p h)
@@ -201,7 +201,7 @@ after_dropping c q b =
 
 -- both hold the same once a receive that waits is cancelled
 cancel_holds : (links : Announcements) (old : CoreState) (known : List ℕ) (core : Core) (q : Request) (b : Posted) → (shown : IsShown links old known core) → (w : IsWaiting shown.rows q b) →
-    Holding links (after_dropping old q b) known (core_cancels core (Some q.serial)) (slice_set shown.rows q.serial (record { key = q.key; job = Over (ends.Cancelled w.receive.into.buffer.values) }))
+    Holding links (after_dropping old q b) known (core_cancels core (Some q.serial)) (slice_set shown.rows q.serial (record { key = q.key; job = Over (ends.Cancelled w.receive.into.buffer) }))
 cancel_holds links old known core q b shown w =
     record {
       jobs = dropped_waiting core.jobs q.serial w.receive job ∙ (ap (λ (js : List Job). slice_set js q.serial (Over x)) shown.jobs ∙ sym (set_jobs shown.rows q.serial q.key (Over x)));
@@ -217,7 +217,7 @@ cancel_holds links old known core q b shown w =
     }
   where
     x : ends.Outcome
-    x = ends.Cancelled w.receive.into.buffer.values
+    x = ends.Cancelled w.receive.into.buffer
 
     over : Row
     over = record { key = q.key; job = Over x }
@@ -232,7 +232,7 @@ cancel_holds links old known core q b shown w =
     job = ap (λ (js : List Job). slice_get js q.serial) shown.jobs ∙ job_at shown.rows q.serial q.key (Waiting w.receive) w.there
 
     values_same : x ≡ outcome_seen (outcomes.Cancelled b.into.buffer)
-    values_same = ap (λ (h : Handed). ends.Cancelled h.buffer.values) w.into ∙ ap (λ (c : Contents). ends.Cancelled c.values) (handed_buffer b.into)
+    values_same = ap (λ (h : Handed). ends.Cancelled h.buffer) w.into ∙ ap (λ (c : Contents). ends.Cancelled c) (handed_buffer b.into)
 
 -- a receive that waits is cancelled
 cancel_waiting : (links : Announcements) (old : CoreState) (known : List ℕ) (core : Core) (q : Request) (b : Posted) → IsShown links old known core → old.blocked ≡ None → cancel_fault old (Some q) ≡ None →
@@ -245,7 +245,7 @@ cancel_waiting links old known core q b shown free fine g =
       place = refl;
       completion = refl;
       shown = subst (λ (c : Core). IsShown links (after_dropping old q b) known c) (sym (settled_free (core_cancels core (Some q.serial)) core_is))
-          (shown_free links (after_dropping old q b) known (core_cancels core (Some q.serial)) (slice_set shown.rows q.serial (record { key = q.key; job = Over (ends.Cancelled w.receive.into.buffer.values) }))
+          (shown_free links (after_dropping old q b) known (core_cancels core (Some q.serial)) (slice_set shown.rows q.serial (record { key = q.key; job = Over (ends.Cancelled w.receive.into.buffer) }))
           (cancel_holds links old known core q b shown w) free core_is);
       sends = refl;
       tells = refl;

@@ -87,12 +87,12 @@ collecting_there s k (y ∷ ys) (suc i) x h c one =
 ended_collecting : (r i : ℕ) (s : Endpoint) (k : ℕ) (j : Job) → is_collecting s k (ended r i j) ≡ true → is_collecting s k j ≡ true
 ended_collecting r i s k (Waiting p) h = go (names p.source r) h
   where
-    go : (b : Bool) → is_collecting s k (if b then Over (machine.Replaced (Some p.into.buffer.values)) else Waiting p) ≡ true → is_collecting s k (Waiting p) ≡ true
+    go : (b : Bool) → is_collecting s k (if b then Over (machine.Replaced (Some p.into.buffer)) else Waiting p) ≡ true → is_collecting s k (Waiting p) ≡ true
     go true e = absurd (grind arith)
     go false e = e
 ended_collecting r i s k (jobs.Collecting p g got) h = go (names p.source r || is_former r i g.sender) h
   where
-    go : (b : Bool) → is_collecting s k (if b then Over (machine.Replaced (Some p.into.buffer.values)) else jobs.Collecting p g got) ≡ true → is_collecting s k (jobs.Collecting p g got) ≡ true
+    go : (b : Bool) → is_collecting s k (if b then Over (machine.Replaced (Some p.into.buffer)) else jobs.Collecting p g got) ≡ true → is_collecting s k (jobs.Collecting p g got) ≡ true
     go true e = absurd (grind arith)
     go false e = e
 ended_collecting r i s k (Offering d basic values) h = go (d.rank == r) h

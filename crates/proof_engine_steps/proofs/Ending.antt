@@ -39,13 +39,13 @@ posted_ended r i key (Waiting p) = go (names p.source r)
   where
     go : (b : Bool) →
         cond (not b) (posted_job key (Waiting p)) []
-        ≡ posted_job key (if b then Over (machine.Replaced (Some p.into.buffer.values)) else Waiting p)
+        ≡ posted_job key (if b then Over (machine.Replaced (Some p.into.buffer)) else Waiting p)
     go true = refl
     go false = refl
 posted_ended r i key (Collecting p h got) = go (names p.source r || is_former r i h.sender)
   where
     go : (b : Bool) →
-        ◌≡◌ {A = List queued.Receive} [] (posted_job key (if b then Over (machine.Replaced (Some p.into.buffer.values)) else Collecting p h got))
+        ◌≡◌ {A = List queued.Receive} [] (posted_job key (if b then Over (machine.Replaced (Some p.into.buffer)) else Collecting p h got))
     go true = refl
     go false = refl
 posted_ended r i key (Offering d basic values) = go (d.rank == r)

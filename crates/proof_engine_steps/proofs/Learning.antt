@@ -233,8 +233,8 @@ known_other known r v x n = ap (λ (i : ℕ). record { rank = x; incarnation = i
 
 -- a job that doesn't end stays
 job_stays : (r i : ℕ) (job : Job) → ends_by r i job ≡ false → ended r i job ≡ job
-job_stays r i (Waiting p) e = ap (λ (b : Bool). if b then Over (machine.Replaced (Some p.into.buffer.values)) else Waiting p) e
-job_stays r i (Collecting p h got) e = ap (λ (b : Bool). if b then Over (machine.Replaced (Some p.into.buffer.values)) else Collecting p h got) e
+job_stays r i (Waiting p) e = ap (λ (b : Bool). if b then Over (machine.Replaced (Some p.into.buffer)) else Waiting p) e
+job_stays r i (Collecting p h got) e = ap (λ (b : Bool). if b then Over (machine.Replaced (Some p.into.buffer)) else Collecting p h got) e
 job_stays r i (Offering d basic values) e = ap (λ (b : Bool). if b then Over (machine.Replaced None) else Offering d basic values) e
 job_stays r i (Over x) e = refl
 job_stays r i Closed e = refl
@@ -252,12 +252,12 @@ pub record WasUnderWay (rows : List Row) (r i k key : ℕ) (job : Job) : Type 0 
 job_before : (r i : ℕ) (j job : Job) → IsTransfer job → ended r i j ≡ job → (j ≡ job) × (ends_by r i j ≡ false)
 job_before r i (Waiting p) job t e = go (names p.source r) refl e
   where
-    go : (b : Bool) → names p.source r ≡ b → (if b then Over (machine.Replaced (Some p.into.buffer.values)) else Waiting p) ≡ job → (Waiting p ≡ job) × (names p.source r ≡ false)
+    go : (b : Bool) → names p.source r ≡ b → (if b then Over (machine.Replaced (Some p.into.buffer)) else Waiting p) ≡ job → (Waiting p ≡ job) × (names p.source r ≡ false)
     go true n g = absurd (subst IsTransfer (sym g) t)
     go false n g = (g, n)
 job_before r i (Collecting p h got) job t e = go (names p.source r || is_former r i h.sender) refl e
   where
-    go : (b : Bool) → (names p.source r || is_former r i h.sender) ≡ b → (if b then Over (machine.Replaced (Some p.into.buffer.values)) else Collecting p h got) ≡ job →
+    go : (b : Bool) → (names p.source r || is_former r i h.sender) ≡ b → (if b then Over (machine.Replaced (Some p.into.buffer)) else Collecting p h got) ≡ job →
         (Collecting p h got ≡ job) × ((names p.source r || is_former r i h.sender) ≡ false)
     go true n g = absurd (subst IsTransfer (sym g) t)
     go false n g = (g, n)

@@ -34,12 +34,12 @@ use Rattle.proof_engine_steps.proofs.Waking.{Holding, holding_of}
 ended_closed : (r i : ℕ) (j : Job) → ended r i j ≡ Closed → j ≡ Closed
 ended_closed r i (Waiting p) h = go (names p.source r) h
   where
-    go : (b : Bool) → (if b then Over (machine.Replaced (Some p.into.buffer.values)) else Waiting p) ≡ Closed → Waiting p ≡ Closed
+    go : (b : Bool) → (if b then Over (machine.Replaced (Some p.into.buffer)) else Waiting p) ≡ Closed → Waiting p ≡ Closed
     go true e = absurd cc
     go false e = e
 ended_closed r i (Collecting p g got) h = go (names p.source r || is_former r i g.sender) h
   where
-    go : (b : Bool) → (if b then Over (machine.Replaced (Some p.into.buffer.values)) else Collecting p g got) ≡ Closed → Collecting p g got ≡ Closed
+    go : (b : Bool) → (if b then Over (machine.Replaced (Some p.into.buffer)) else Collecting p g got) ≡ Closed → Collecting p g got ≡ Closed
     go true e = absurd cc
     go false e = e
 ended_closed r i (Offering d basic values) h = go (d.rank == r) h

@@ -317,7 +317,7 @@ nothing_shown links old new known core v q shown free fine null h =
     (ap (λ (s : Source). matching.receives core (receive_seen v) s) null)
     (holding_started links links old new known core after.core shown.rows q.key (Finished (outcomes.Received ends.null_status v.into.buffer)) (Over x)
     (holding_of links old known core shown) h.fresh h.entry
-    (ap (λ (b : Contents). ends.Received ends.null_status b.values) (handed_buffer v.into)) refl (ap (λ (e : CoreState). e.serial) h.rest)
+    (ap (λ (b : Contents). ends.Received ends.null_status b) (handed_buffer v.into)) refl (ap (λ (e : CoreState). e.serial) h.rest)
     (ap (λ (e : CoreState). e.queues.posted) h.rest ∙ (shown.posted ∙ sym (append-nil (posted_rows shown.rows))))
     (shown.held ∙ ap (λ (e : CoreState). map (held_of links.from) e.queues.unexpected) (sym h.rest))
     (under_way_still links known old.place new.place shown.rows (shown.rows ++ row_of q.key (Over x) ∷ []) old.transfers new.transfers old.queues.unexpected new.queues.unexpected shown.under_way
@@ -326,7 +326,7 @@ nothing_shown links old new known core v q shown free fine null h =
     refl stays (given_nothing links known old.place (receive_frame v.source old v) (ap (λ (s : Source). receive_frame s old v) null))
   where
     x : ends.Outcome
-    x = ends.Received ends.null_status (handed_of v.into).buffer.values
+    x = ends.Received ends.null_status (handed_of v.into).buffer
 
     after : Effect
     after = matching.receives core (receive_seen v) sources.Null

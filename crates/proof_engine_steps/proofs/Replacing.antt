@@ -84,16 +84,16 @@ replaces_among (x ∷ xs) slots key h = go (cases_eq key x) (cases_among key xs)
 -- how far it is says that it has ended, where it ends
 fits_replaced : (g : Progress) (r i : ℕ) (job : Job) → Fits g job → ends_by r i job ≡ true → Fits (replaced_progress g) (ended r i job)
 fits_replaced (Receiving b) r i (Waiting p) f e =
-    subst (λ (x : Bool). Fits (replaced_progress (Receiving b)) (if x then Over (machine.Replaced (Some p.into.buffer.values)) else Waiting p)) (sym e)
-    (ap (λ (h : Handed). machine.Replaced (Some h.buffer.values)) f.into ∙ ap (λ (c : Contents). machine.Replaced (Some c.values)) (handed_buffer b.into))
+    subst (λ (x : Bool). Fits (replaced_progress (Receiving b)) (if x then Over (machine.Replaced (Some p.into.buffer)) else Waiting p)) (sym e)
+    (ap (λ (h : Handed). machine.Replaced (Some h.buffer)) f.into ∙ ap (λ (c : Contents). machine.Replaced (Some c)) (handed_buffer b.into))
 fits_replaced (Receiving b) r i (Collecting p h got) f e = absurd f
 fits_replaced (Receiving b) r i (Offering d basic values) f e = absurd f
 fits_replaced (Receiving b) r i (Over x) f e = absurd f
 fits_replaced (Receiving b) r i Closed f e = absurd f
 fits_replaced (progresses.Collecting w) r i (Waiting p) f e = absurd f
 fits_replaced (progresses.Collecting w) r i (Collecting p h got) f e =
-    subst (λ (x : Bool). Fits (replaced_progress (progresses.Collecting w)) (if x then Over (machine.Replaced (Some p.into.buffer.values)) else Collecting p h got)) (sym e)
-    (ap (λ (y : Handed). machine.Replaced (Some y.buffer.values)) f.into ∙ ap (λ (c : Contents). machine.Replaced (Some c.values)) (handed_buffer w.into))
+    subst (λ (x : Bool). Fits (replaced_progress (progresses.Collecting w)) (if x then Over (machine.Replaced (Some p.into.buffer)) else Collecting p h got)) (sym e)
+    (ap (λ (y : Handed). machine.Replaced (Some y.buffer)) f.into ∙ ap (λ (c : Contents). machine.Replaced (Some c)) (handed_buffer w.into))
 fits_replaced (progresses.Collecting w) r i (Offering d basic values) f e = absurd f
 fits_replaced (progresses.Collecting w) r i (Over x) f e = absurd f
 fits_replaced (progresses.Collecting w) r i Closed f e = absurd f
@@ -111,9 +111,9 @@ fits_replaced (Finished o) r i Closed f e = absurd f
 
 -- a request that doesn't end stays as it was
 ended_kept : (r i : ℕ) (job : Job) → ends_by r i job ≡ false → ended r i job ≡ job
-ended_kept r i (Waiting p) e = ap (λ (x : Bool). if x then Over (machine.Replaced (Some p.into.buffer.values)) else Waiting p) e
+ended_kept r i (Waiting p) e = ap (λ (x : Bool). if x then Over (machine.Replaced (Some p.into.buffer)) else Waiting p) e
 ended_kept r i (Collecting p h got) e =
-    ap (λ (x : Bool). if x then Over (machine.Replaced (Some p.into.buffer.values)) else Collecting p h got) e
+    ap (λ (x : Bool). if x then Over (machine.Replaced (Some p.into.buffer)) else Collecting p h got) e
 ended_kept r i (Offering d basic values) e = ap (λ (x : Bool). if x then Over (machine.Replaced None) else Offering d basic values) e
 ended_kept r i (Over x) e = refl
 ended_kept r i Closed e = refl

@@ -1,5 +1,5 @@
 -- What the machine of perfect queues sees of a rank's calls, replies and outcomes.
-use Rattle.std.specs.Prelude.{ℕ, Bool, false, not, ◌&&◌, List, [], ◌∷◌, Option, Some, None, if◌then◌else◌, ◌==◌, map, option_map}
+use Rattle.std.specs.Prelude.{ℕ, Bool, false, not, ◌&&◌, List, [], ◌∷◌, Option, Some, None, if◌then◌else◌, ◌==◌, map}
 use Rattle.std.specs.List.{list_any}
 use Rattle.vocabulary.specs.declared.endpoint.Endpoint.{Endpoint}
 use Rattle.requests.specs.declared.answer.Answer.{Answer}
@@ -29,10 +29,10 @@ use Rattle.perfect_queues.specs.Events.{Entry, Called, Completed}
 -- how an operation ended
 abbrev pub outcome_seen : Outcome → machine_outcomes.Outcome
 outcome_seen outcomes.Sent = machine_outcomes.Sent
-outcome_seen (outcomes.Received status b) = machine_outcomes.Received status b.values
-outcome_seen (outcomes.Ended why status b) = machine_outcomes.Ended (number_of_failure why) status b.values
-outcome_seen (outcomes.Replaced b) = machine_outcomes.Replaced (option_map (λ c. c.values) b)
-outcome_seen (outcomes.Cancelled b) = machine_outcomes.Cancelled b.values
+outcome_seen (outcomes.Received status b) = machine_outcomes.Received status b
+outcome_seen (outcomes.Ended why status b) = machine_outcomes.Ended (number_of_failure why) status b
+outcome_seen (outcomes.Replaced b) = machine_outcomes.Replaced b
+outcome_seen (outcomes.Cancelled b) = machine_outcomes.Cancelled b
 outcome_seen outcomes.Empty = machine_outcomes.Empty
 
 -- what a completing call answers

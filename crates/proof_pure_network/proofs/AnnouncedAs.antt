@@ -164,7 +164,7 @@ called_as told said e core (Isend c (Rank to) (Some tag) from) out old = go (is_
 called_as told said e core (Irecv p) out old = go p.source
   where
     go : (src : Source) → CoreAs told said (receives core p src).core
-    go Null = over_as told said core (Received (record { source = Null; tag = None; count = 0 }) p.into.buffer.values) old
+    go Null = over_as told said core (Received (record { source = Null; tag = None; count = 0 }) p.into.buffer) old
     go Any = posted_as told said core p old
     go (Rank r) = posted_as told said core p old
 called_as told said e core (Wait a) out old = record { held = old.held; jobs = old.jobs }

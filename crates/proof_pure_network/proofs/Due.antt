@@ -189,7 +189,7 @@ called_offers e core (Isend c (Rank to) (Some tag) from) k d basic values h = go
 called_offers e core (Irecv p) k d basic values h = inl (go p.source h)
   where
     go : (src : Source) → Offers (receives core p src).core k d basic values → Offers core k d basic values
-    go Null h = push_back core (Over (Received (record { source = Null; tag = None; count = 0 }) p.into.buffer.values)) (over_offer (Received (record { source = Null; tag = None; count = 0 }) p.into.buffer.values)) k d basic values h
+    go Null h = push_back core (Over (Received (record { source = Null; tag = None; count = 0 }) p.into.buffer)) (over_offer (Received (record { source = Null; tag = None; count = 0 }) p.into.buffer)) k d basic values h
     go Any h = posted_back core p k d basic values h
     go (Rank r) h = posted_back core p k d basic values h
 called_offers e core (Wait a) k d basic values h = inl h
@@ -207,8 +207,8 @@ offer_only true o j d basic values e = absurd (over_offer o d basic values e)
 offer_only false o j d basic values e = (refl, e)
 
 left_over : (r i : ℕ) (j : Job) (d : Endpoint) (basic : BasicType) (values : List ℕ) → ended r i j ≡ Offering d basic values → (d.rank == r) ≡ false
-left_over r i (Waiting p) d basic values e = let n : Waiting p ≡ Offering d basic values = (offer_only (names p.source r) (Replaced (Some p.into.buffer.values)) (Waiting p) d basic values e).1 in absurd (grind arith)
-left_over r i (Collecting p u got) d basic values e = let n : Collecting p u got ≡ Offering d basic values = (offer_only (names p.source r || is_former r i u.sender) (Replaced (Some p.into.buffer.values)) (Collecting p u got) d basic values e).1 in absurd (grind arith)
+left_over r i (Waiting p) d basic values e = let n : Waiting p ≡ Offering d basic values = (offer_only (names p.source r) (Replaced (Some p.into.buffer)) (Waiting p) d basic values e).1 in absurd (grind arith)
+left_over r i (Collecting p u got) d basic values e = let n : Collecting p u got ≡ Offering d basic values = (offer_only (names p.source r || is_former r i u.sender) (Replaced (Some p.into.buffer)) (Collecting p u got) d basic values e).1 in absurd (grind arith)
 left_over r i (Offering x kind vs) d basic values e =
     let q = offer_only (x.rank == r) (Replaced None) (Offering x kind vs) d basic values e in
     let n : Offering x kind vs ≡ Offering d basic values = q.1 in

@@ -60,7 +60,7 @@ isend_steps V e core c (Rank to) (Some tag) from quiet = go (is_same d e) refl (
     go false a false b = rw (a, b) (none_steps (with_request (view V core) (Sending d)) (view V (with_jobs core (core.jobs ++ Offering d from.buffer.basic (data_of from) ∷ []))) (push_view V core (Offering d from.buffer.basic (data_of from))))
 
 pub receive_steps : (V : Values) (core : Core) (p : Receive) (src : Source) → AllByRecursion (IsHonestHeld V) core.held → NoneFits core → Steps (with_request (view V core) (receive_request src p)) (view V (receives core p src).core)
-receive_steps V core p Null honest quiet = none_steps (with_request (view V core) (receive_request Null p)) (view V (receives core p Null).core) (push_view V core (Over (Received (record { source = Null; tag = None; count = 0 }) p.into.buffer.values)))
+receive_steps V core p Null honest quiet = none_steps (with_request (view V core) (receive_request Null p)) (view V (receives core p Null).core) (push_view V core (Over (Received (record { source = Null; tag = None; count = 0 }) p.into.buffer)))
 receive_steps V core p Any honest quiet = post_steps V core p honest quiet
 receive_steps V core p (Rank r) honest quiet = post_steps V core p honest quiet
 
@@ -259,8 +259,8 @@ test_same V true o j x e = refl
 test_same V false o j x e = e
 
 pub ended_learnt : (V : Values) (r i : ℕ) (j : Job) → request_of V (ended r i j) ≡ learnt_request r i (request_of V j)
-ended_learnt V r i (Waiting p) = test_same V (names p.source r) (Replaced (Some p.into.buffer.values)) (Waiting p) (Posted p) refl
-ended_learnt V r i (Collecting p h got) = test_same V (names p.source r || is_former r i h.sender) (Replaced (Some p.into.buffer.values)) (Collecting p h got) (Matched p (fill V h)) refl
+ended_learnt V r i (Waiting p) = test_same V (names p.source r) (Replaced (Some p.into.buffer)) (Waiting p) (Posted p) refl
+ended_learnt V r i (Collecting p h got) = test_same V (names p.source r || is_former r i h.sender) (Replaced (Some p.into.buffer)) (Collecting p h got) (Matched p (fill V h)) refl
 ended_learnt V r i (Offering d basic values) = test_same V (d.rank == r) (Replaced None) (Offering d basic values) (Sending d) refl
 ended_learnt V r i (Over o) = refl
 ended_learnt V r i Closed = refl

@@ -61,7 +61,7 @@ push_over_collects : (s : Endpoint) (k : ℕ) (core : Core) (o : Outcome) → co
 push_over_collects s k core o = omega (arith, count_append (is_collecting s k) core.jobs (Over o ∷ []))
 
 receives_collects : (s : Endpoint) (k : ℕ) (core : Core) (p : Receive) (src : Source) → collects s k (receives core p src).core + parts s k (receives core p src).core ≤ collects s k core + parts s k core
-receives_collects s k core p Null = omega (arith, push_over_collects s k core (Received (record { source = Null; tag = None; count = 0 }) p.into.buffer.values))
+receives_collects s k core p Null = omega (arith, push_over_collects s k core (Received (record { source = Null; tag = None; count = 0 }) p.into.buffer))
 receives_collects s k core p Any = posted_collects s k core p
 receives_collects s k core p (Rank r) = posted_collects s k core p
 
@@ -212,7 +212,7 @@ called_since s k e core (Isend c (Rank to) (Some tag) from) j p u got x i = go (
 called_since s k e core (Irecv q) j p u got x i = go q.source x
   where
     go : (src : Source) → slice_get (receives core q src).core.jobs j ≡ Some (Collecting p u got) → CollectsSince s k core j p u got (receives core q src).out
-    go Null x = inl (pushed_since core.jobs (Received (record { source = Null; tag = None; count = 0 }) q.into.buffer.values) j p u got x)
+    go Null x = inl (pushed_since core.jobs (Received (record { source = Null; tag = None; count = 0 }) q.into.buffer) j p u got x)
     go Any x = posted_since s k core q j p u got x i
     go (Rank r) x = posted_since s k core q j p u got x i
 called_since s k e core (Wait a) j p u got x i = inl x

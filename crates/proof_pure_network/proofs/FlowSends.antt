@@ -188,7 +188,7 @@ called_keeps e core (Isend c (Rank to) (Some tag) from) k d basic values x = go 
 called_keeps e core (Irecv p) k d basic values x = go p.source
   where
     go : (src : Source) → Offers (receives core p src).core k d basic values
-    go Null = get_push core.jobs k (Offering d basic values) (Over (Received (record { source = Null; tag = None; count = 0 }) p.into.buffer.values)) x
+    go Null = get_push core.jobs k (Offering d basic values) (Over (Received (record { source = Null; tag = None; count = 0 }) p.into.buffer)) x
     go Any = posted_keeps core p k d basic values x
     go (Rank r) = posted_keeps core p k d basic values x
 called_keeps e core (Wait a) k d basic values x = x

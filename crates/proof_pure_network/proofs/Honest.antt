@@ -110,7 +110,7 @@ called_honest V e core (Isend c (Rank to) (Some tag) from) is hc = go (is_same (
 called_honest V e core (Irecv p) is hc = go p.source
   where
     go : (src : Source) → HonestCore V e (receives core p src).core
-    go Null = push_over V e core (Received (record { source = Null; tag = None; count = 0 }) p.into.buffer.values) hc
+    go Null = push_over V e core (Received (record { source = Null; tag = None; count = 0 }) p.into.buffer) hc
     go Any = posted_honest V e core p hc
     go (Rank r) = posted_honest V e core p hc
 called_honest V e core (Wait a) is hc = record { held = hc.held; jobs = hc.jobs }

@@ -170,8 +170,8 @@ by_test true o y x l h = absurd (subst IsLive (sym h) l)
 by_test false o y x l h = h
 
 pub ended_ends : (r i : ℕ) (y x : Job) → IsLive x → ended r i y ≡ x → y ≡ x
-ended_ends r i (Waiting p) x l h = by_test (names p.source r) (Replaced (Some p.into.buffer.values)) (Waiting p) x l h
-ended_ends r i (Collecting p m got) x l h = by_test (names p.source r || is_former r i m.sender) (Replaced (Some p.into.buffer.values)) (Collecting p m got) x l h
+ended_ends r i (Waiting p) x l h = by_test (names p.source r) (Replaced (Some p.into.buffer)) (Waiting p) x l h
+ended_ends r i (Collecting p m got) x l h = by_test (names p.source r || is_former r i m.sender) (Replaced (Some p.into.buffer)) (Collecting p m got) x l h
 ended_ends r i (Offering d basic values) x l h = by_test (d.rank == r) (Replaced None) (Offering d basic values) x l h
 ended_ends r i (Over o) x l h = h
 ended_ends r i Closed x l h = h

@@ -58,7 +58,7 @@ posted_quiet core p quiet = go (found p core.held) refl
             All_append (λ b. fits q b ≡ false) t.0 t.2 (All_left (λ b. fits q b ≡ false) t.0 (t.1 ∷ t.2) b) (All_right (λ b. fits q b ≡ false) t.0 (t.1 ∷ t.2) b).1
 
 pub receives_quiet : (core : Core) (p : Receive) (src : Source) → NoneFits core → NoneFits (receives core p src).core
-receives_quiet core p Null quiet = push_quiet core (Over (Received (record { source = Null; tag = None; count = 0 }) p.into.buffer.values)) (over_isnt (Received (record { source = Null; tag = None; count = 0 }) p.into.buffer.values)) quiet
+receives_quiet core p Null quiet = push_quiet core (Over (Received (record { source = Null; tag = None; count = 0 }) p.into.buffer)) (over_isnt (Received (record { source = Null; tag = None; count = 0 }) p.into.buffer)) quiet
 receives_quiet core p Any quiet = posted_quiet core p quiet
 receives_quiet core p (Rank r) quiet = posted_quiet core p quiet
 

@@ -298,7 +298,7 @@ called_length e core (Isend c (Rank to) (Some tag) from) = go (is_same (receiver
 called_length e core (Irecv p) = go p.source
   where
     go : (src : Source) → length (receives core p src).core.jobs ≡ length core.jobs + 1
-    go Null = length-append core.jobs (Over (Received (record { source = Null; tag = None; count = 0 }) p.into.buffer.values) ∷ [])
+    go Null = length-append core.jobs (Over (Received (record { source = Null; tag = None; count = 0 }) p.into.buffer) ∷ [])
     go Any = posted_length core p
     go (Rank r) = posted_length core p
 called_length e core (Wait a) = omega arith

@@ -74,7 +74,7 @@ closed Closed = Closed
 
 -- only a receive that waits is cancelled (MPI 3.1, 3.8.4)
 abbrev pub dropped : Job → Job
-dropped (Waiting p) = Over (Cancelled p.into.buffer.values)
+dropped (Waiting p) = Over (Cancelled p.into.buffer)
 dropped (Collecting p h got) = Collecting p h got
 dropped (Offering d basic values) = Offering d basic values
 dropped (Over o) = Over o
@@ -101,9 +101,9 @@ with_more p h got = if length got == count_of h.body then Over (outcome p (full 
 -- a higher incarnation of a rank is learnt: what names the rank ends, and so does a receive that collects what one of
 -- its former endpoints sent
 abbrev pub ended : ℕ → ℕ → Job → Job
-ended r i (Waiting p) = if names p.source r then Over (Replaced (Some p.into.buffer.values)) else Waiting p
+ended r i (Waiting p) = if names p.source r then Over (Replaced (Some p.into.buffer)) else Waiting p
 ended r i (Collecting p h got) =
-    if names p.source r || is_former r i h.sender then Over (Replaced (Some p.into.buffer.values)) else Collecting p h got
+    if names p.source r || is_former r i h.sender then Over (Replaced (Some p.into.buffer)) else Collecting p h got
 ended r i (Offering d basic values) = if d.rank == r then Over (Replaced None) else Offering d basic values
 ended r i (Over o) = Over o
 ended r i Closed = Closed

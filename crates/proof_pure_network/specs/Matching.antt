@@ -43,6 +43,6 @@ posted core p = posted_at core p (found p core.held)
 
 -- a receive from the null process is over at once (MPI 3.1, 3.11); any other one is posted
 abbrev pub receives : Core → Receive → Source → Effect
-receives core p Null = effect (with_jobs core (core.jobs ++ Over (Received null_status p.into.buffer.values) ∷ [])) []
+receives core p Null = effect (with_jobs core (core.jobs ++ Over (Received null_status p.into.buffer) ∷ [])) []
 receives core p Any = posted core p
 receives core p (Rank r) = posted core p
