@@ -58,10 +58,10 @@ KEYS = [0, 0, 1, -1, 5, 2**31 - 1, -2**31]
 class Maker(collecting.Collecting):
     """A file of events that is being made."""
 
-    def __init__(self, random, theme):
+    def __init__(self, random, theme, size=None):
         self.random = random
         self.theme = theme
-        self.size = self.a_size()
+        self.size = self.a_size() if size is None else size
         self.world = rules.World(self.size)
         self.lines = [f"world {self.size}"]
         self.is_over = False
