@@ -1,7 +1,8 @@
-/* What a barrier takes over plain UDP sockets between processes on 127.0.0.1, with blocking receives, in the form of a star: each of the others sends
- * process 0 a datagram, and process 0 answers all once it has those of all.
+/* What a barrier takes over plain UDP sockets between processes on 127.0.0.1, with blocking receives. In the form of a star each of the others sends
+ * process 0 a datagram, and process 0 answers all once it has those of all. In the form of a tree, as ranks have it, the process above r is r without
+ * its lowest digit 1 in base two: each tells that one once it has the datagrams of those below it, and answers them once it is answered.
  *
- *   barrier_floor COUNT RANKS ACKS     how long a barrier takes, in microseconds
+ *   barrier_floor COUNT RANKS ACKS FORM     how long a barrier takes, in microseconds; FORM is star or tree
  *
  * A datagram has 68 bytes, as a rank's in a barrier has. With ACKS 1 each is answered by one of 32 bytes, as ranks acknowledge. Nothing is sent again: on the own
  * machine nothing gets lost here. */
@@ -9,6 +10,7 @@
 #include <netinet/in.h>
 #include <stdio.h>
 #include <stdlib.h>
+#include <string.h>
 #include <sys/socket.h>
 #include <sys/wait.h>
 #include <time.h>
@@ -39,9 +41,26 @@ static void take(int at, int count, int acks) {
     }
 }
 
+/* Process r is in one barrier; those below it stand `reach - 1` numbers behind it at most. */
+static void barrier(int r, int ranks, int acks, int tree) {
+    int reach = 1, below = 0;
+    if (!tree && r == 0) {
+        take(0, ranks - 1, acks);
+        for (int other = 1; other < ranks; other++) give(0, other, ENTRY);
+        return;
+    }
+    for (; tree && r % (2 * reach) == 0 && r + reach < ranks; reach *= 2) below++;
+    take(r, below, acks);
+    if (r > 0) {
+        give(r, tree ? r & (r - 1) : 0, ENTRY);
+        take(r, 1, acks);
+    }
+    for (int step = 1; step < reach; step *= 2) give(r, r + step, ENTRY);
+}
+
 int main(int count, char **words) {
-    if (count != 4) return 2;
-    int turns = atoi(words[1]), ranks = atoi(words[2]), acks = atoi(words[3]);
+    if (count != 5) return 2;
+    int turns = atoi(words[1]), ranks = atoi(words[2]), acks = atoi(words[3]), tree = strcmp(words[4], "tree") == 0;
     if (ranks < 2 || ranks > MOST) return 2;
     for (int r = 0; r < ranks; r++) {
         socklen_t size = sizeof addresses[r];
@@ -52,17 +71,11 @@ int main(int count, char **words) {
     }
     for (int r = 1; r < ranks; r++) {
         if (fork() != 0) continue;
-        for (int i = 0; i < turns; i++) {
-            give(r, 0, ENTRY);
-            take(r, 1, acks);
-        }
+        for (int i = 0; i < turns; i++) barrier(r, ranks, acks, tree);
         _exit(0);
     }
     double start = now();
-    for (int i = 0; i < turns; i++) {
-        take(0, ranks - 1, acks);
-        for (int r = 1; r < ranks; r++) give(0, r, ENTRY);
-    }
+    for (int i = 0; i < turns; i++) barrier(0, ranks, acks, tree);
     printf("%.3f\n", (now() - start) / turns * 1e6);
     while (wait(NULL) > 0) {}
     return 0;

@@ -6,6 +6,7 @@ import reductions
 from reading import OPERATIONS, TYPES
 
 KINDS = ["barrier", "bcast", "bcast", "gather", "scatter", "reduce", "reduce", "allreduce", "allreduce"]
+KINDS_IN_TREES = ["barrier", "barrier", "bcast", "bcast", "bcast", "reduce", "reduce", "reduce", "reduce", "allreduce", "gather", "scatter"]
 LARGE_BYTES = [1008, 1009, 1024, 1025, 2048, 2049, 5000]
 
 
@@ -25,7 +26,7 @@ class Collecting:
 
     def a_plan(self, members):
         """A collective of so many members: mostly one that they can enter."""
-        kind = self.random.choice(KINDS)
+        kind = self.random.choice(KINDS_IN_TREES if self.theme == "trees" else KINDS)
         operation = self.random.choice(OPERATIONS)
         is_defined = kind in ("reduce", "allreduce") and self.random.random() < 0.95
         basic = self.random.choice(sorted(reductions.DEFINED[operation])) if is_defined else self.a_type()
@@ -74,21 +75,35 @@ class Collecting:
             return
         for _ in range(self.random.choice([1, 1, 1, 2])):
             self.enter_all(entering, until)
+        if self.theme == "trees":
+            self.deliver_all(entering)
+            return
         for _ in range(self.random.choice([0, 2 * len(entering), 6 * len(entering)])):
             self.deliver_new()
 
     def enter_all(self, entering, until):
+        differing = 0.05
+        if self.theme == "trees":
+            differing = self.random.choice([0, 0, 0, 0.4 / max(1, len(entering)), 2 / max(1, len(entering))])
         for number, (rank, name) in enumerate(entering):
             if self.is_over or number == until:
                 return
             ranks = self.ranks_of(rank, name)
             if number == 0:
                 plan = self.a_plan(len(ranks))
-            own = self.another_plan(plan, len(ranks)) if self.random.random() < 0.05 else plan
+            own = self.another_plan(plan, len(ranks)) if self.random.random() < differing else plan
             if self.is_free(rank):
                 self.enter_planned(rank, name, own, len(ranks), own.root < len(ranks) and ranks[own.root] == rank)
             for _ in range(self.random.choice([0, 0, 1, 3])):
-                self.deliver_new()
+                self.deliver_of_any_pair() if self.theme == "trees" else self.deliver_new()
+
+    def deliver_all(self, entering):
+        """The network brings all that is on its way, or only some of it, each pair of ranks as it likes; then all clocks go on, now and then."""
+        for _ in range(self.random.choice([len(entering), 20 * len(entering), 20 * len(entering), 20 * len(entering)])):
+            self.deliver_of_any_pair()
+        if self.random.random() < 0.1:
+            for rank, _ in entering:
+                self.add(f"tick {rank} {self.world.ranks[rank].clock + 20}")
 
     def enter_one(self):
         """One rank enters a collective that moves elements, whatever the others do; of self, now and then."""

@@ -1,8 +1,9 @@
 """The communicators of a rank, and their collectives: barrier, those that move elements (MPI 3.1, 5), dup and split (6.4).
 
 Nothing here knows requests or messages of point to point: a rank holds communicators, enters a collective of one of them, and hears
-notices of other members. What a rank gives out are notices, each with the rank of world that it goes to. Notices go in the form of a
-star: to the root and from it, which is member 0 where a collective has no root.
+notices of other members. What a rank gives out are notices, each with the rank of world that it goes to. Those of a barrier, a broadcast
+and a reduction go along a binomial tree of the members; those of the others go in the form of a star: to the root and from it, which is
+member 0 where a collective has no root.
 """
 
 from dataclasses import dataclass, field
@@ -26,6 +27,22 @@ TOWARDS, BACK, DIFFERS = "towards", "back", "differs"
 
 # The collectives that all members wait for; one that finds a difference in these tells the others.
 FOR_ALL = ("barrier", "allreduce", "dup", "split")
+
+# The collectives whose notices go along a tree.
+IN_TREES = ("barrier", "bcast", "reduce")
+
+
+def parent(position):
+    """The place above one in a tree: the same number without its lowest digit 1 in base two. Place 0 stands above all."""
+    digit = 1
+    while position % (2 * digit) == 0:
+        digit *= 2
+    return position - digit
+
+
+def children(position, size):
+    """The places right below one, rising, in a tree of so many."""
+    return [below for below in range(position + 1, size) if parent(below) == position]
 
 
 @dataclass(frozen=True)
@@ -100,6 +117,28 @@ class Present:
         """The rank of world of the member to which and from which notices go."""
         return self.communicator.ranks()[self.record.center()]
 
+    def is_in_a_tree(self):
+        return self.record.kind in IN_TREES
+
+    def top(self):
+        """The member that stands at the top of the tree: the root of a broadcast, else member 0."""
+        return self.record.root if self.record.kind == "bcast" else 0
+
+    def below(self, rank):
+        """The ranks right below a rank in the tree, in the order of their places."""
+        ranks = self.communicator.ranks()
+        place = (ranks.index(rank) - self.top()) % len(ranks)
+        return [ranks[(child + self.top()) % len(ranks)] for child in children(place, len(ranks))]
+
+    def above(self, rank):
+        """The rank right above a rank in the tree."""
+        ranks = self.communicator.ranks()
+        place = (ranks.index(rank) - self.top()) % len(ranks)
+        return ranks[(parent(place) + self.top()) % len(ranks)]
+
+    def is_top(self, rank):
+        return self.communicator.ranks()[self.top()] == rank
+
 
 @dataclass
 class Communicators:
@@ -137,22 +176,23 @@ class Communicators:
         if any(notice.phase != DIFFERS and notice.record != record for notice in held):
             return self.differ()
         if any(notice.phase == DIFFERS for notice in held):
-            self.present.answer = "error 12"
-            return []
+            return self.is_told()
+        if self.present.is_in_a_tree():
+            return self.enter_tree(held)
         if self.present.center() == self.rank:
             self.present.parts = {notice.source: notice.brings for notice in held} | {self.rank: handed}
             return self.lead()
         return self.follow(held)
 
     def follow(self, held):
-        """A member that isn't the root gives its part to it, or waits for its part from it."""
+        """A member that isn't the middle of a star gives its part to it, or waits for its part from it."""
         present = self.present
         kind = present.record.kind
-        if kind in ("bcast", "scatter"):
+        if kind == "scatter":
             for notice in held:
                 self.get(notice.brings)
             return []
-        if kind in ("gather", "reduce"):
+        if kind == "gather":
             present.answer = "done"
         return [(present.center(), self.notice(TOWARDS, present.handed))]
 
@@ -164,13 +204,14 @@ class Communicators:
                 self.waiting.append(notice)
             return []
         if notice.phase == DIFFERS:
-            present.answer = "error 12"
-            return []
+            return self.is_told()
         if notice.record != present.record:
             return self.differ()
         if notice.phase == TOWARDS:
             present.parts[notice.source] = notice.brings
-            return self.lead()
+            return self.climb() if present.is_in_a_tree() else self.lead()
+        if present.is_in_a_tree():
+            return self.descend(notice.brings)
         if present.record.kind in ("dup", "split"):
             self.install(notice.brings)
         else:
@@ -186,39 +227,90 @@ class Communicators:
 
     def differ(self):
         """The member finds that another one entered something else, and leaves with 12; where all wait for one another, it tells all."""
-        self.present.answer = "error 12"
         if self.present.record.kind not in FOR_ALL:
-            return []
+            return self.is_told()
+        self.present.answer = "error 12"
         return [(rank, self.notice(DIFFERS)) for rank in self.others()]
 
+    def is_told(self):
+        """The member hears of a difference, and leaves with 12. In a broadcast it tells those below it, and in a reduction the one above it,
+        or member 0 the root; so does one that finds the difference."""
+        present = self.present
+        present.answer = "error 12"
+        told = []
+        if present.record.kind == "bcast":
+            told = present.below(self.rank)
+        elif present.record.kind == "reduce":
+            told = [present.center() if present.is_top(self.rank) else present.above(self.rank)]
+        return [(rank, self.notice(DIFFERS)) for rank in told if rank != self.rank]
+
+    # Trees.
+
+    def enter_tree(self, held):
+        """A member enters a barrier, a broadcast or a reduction, with nothing known that differs."""
+        present = self.present
+        if present.record.kind != "bcast":
+            present.parts = {notice.source: notice.brings for notice in held if notice.phase == TOWARDS}
+            return self.climb()
+        if present.is_top(self.rank):
+            return self.descend(present.handed)
+        return [told for notice in held for told in self.descend(notice.brings)]
+
+    def climb(self):
+        """A member of a barrier or a reduction goes on once those below it have: it tells the one above it, with what the operation makes of
+        its own part and of theirs. In a reduction only the root waits then, and member 0 tells it what is made of all."""
+        present = self.present
+        below = present.below(self.rank)
+        if any(rank not in present.parts for rank in below):
+            return []
+        if present.record.kind == "barrier":
+            made = None
+        else:
+            made = reductions.fold(present.record.operation, present.record.type, [present.handed] + [present.parts[rank] for rank in below])
+        if not present.is_top(self.rank):
+            if present.record.kind == "reduce" and present.center() != self.rank:
+                present.answer = "done"
+            return [(present.above(self.rank), self.notice(TOWARDS, made))]
+        if present.record.kind == "reduce" and present.center() != self.rank:
+            present.answer = "done"
+            return [(present.center(), self.notice(BACK, made))]
+        return self.descend(made)
+
+    def descend(self, values):
+        """A member leaves with what came from above it, or with what it is at the top; in a barrier and a broadcast it tells those below it."""
+        present = self.present
+        if present.record.kind == "bcast" and present.is_top(self.rank):
+            present.answer = "done"
+        else:
+            self.get(values)
+        if present.record.kind == "reduce":
+            return []
+        return [(rank, self.notice(BACK, values)) for rank in present.below(self.rank)]
+
+    # Stars.
+
     def lead(self):
-        """The root goes on: with its own part where it gives, else once it has the parts of all members."""
+        """The middle of a star goes on: with its own part where it gives, else once it has the parts of all members."""
         present = self.present
         kind = present.record.kind
         ranks = present.communicator.ranks()
-        if kind in ("bcast", "scatter"):
+        if kind == "scatter":
             return self.give(ranks)
         if len(present.parts) < len(ranks):
             return []
         if kind in ("dup", "split"):
             return self.make(ranks)
         blocks = [present.parts[rank] for rank in ranks]
-        if kind == "barrier":
-            self.get(None)
-            return [(rank, self.notice(BACK)) for rank in self.others()]
         if kind == "gather":
             self.get([value for block in blocks for value in block])
             return []
         folded = reductions.fold(present.record.operation, present.record.type, blocks)
         self.get(folded)
-        return [(rank, self.notice(BACK, folded)) for rank in self.others()] if kind == "allreduce" else []
+        return [(rank, self.notice(BACK, folded)) for rank in self.others()]
 
     def give(self, ranks):
-        """The root of a broadcast gives all to each; that of a scatter gives each its block, itself too."""
+        """The root of a scatter gives each its block, itself too."""
         present = self.present
-        if present.record.kind == "bcast":
-            present.answer = "done"
-            return [(rank, self.notice(BACK, present.handed)) for rank in self.others()]
         count = present.record.count
         block = {rank: present.handed[place * count:(place + 1) * count] for place, rank in enumerate(ranks)}
         self.get(block[self.rank])

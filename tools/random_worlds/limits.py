@@ -59,6 +59,18 @@ def whole_crowd(random):
     return lines + ["tick 7 20", "tick 255 19", "restart 255", "deliver 254"]
 
 
+def crowd_in_collectives(random):
+    """Many ranks enter three collectives of world, mostly alike, while the network brings what is on its way, each pair as it likes."""
+    maker = making.Maker(random, "trees", random.choice([65, 100, 255, 256]))
+    for _ in range(3):
+        entering = [(rank, "world") for rank in range(maker.size)]
+        random.shuffle(entering)
+        maker.enter_all(entering, None)
+        while maker.new:
+            maker.deliver_of_any_pair()
+    return maker.lines
+
+
 def largest_messages(random):
     """Messages of the greatest length both ways at once; now and then a datagram is lost, and sent again."""
     maker = making.Maker(random, "queues")
@@ -84,5 +96,5 @@ def largest_messages(random):
 
 def a_long_file(random):
     kinds = [many_communicators] if communicators.ARE_THERE else []
-    lines = random.choice(kinds + [many_requests, many_restarts, many_frames, whole_crowd, largest_messages])(random)
+    lines = random.choice(kinds + [many_requests, many_restarts, many_frames, whole_crowd, crowd_in_collectives, largest_messages])(random)
     return ("\n".join(lines) + "\n").encode()

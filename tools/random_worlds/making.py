@@ -42,12 +42,14 @@ THEMES = {
                          "restart_in_a_collective": 2}),
     "replaced": (14, {"make_communicator": 14, "enter_alone": 3, "ask": 6, "deliver_new": 30, "restart": 5, "restart_in_a_collective": 8,
                       "refused_call": 5}),
+    "trees": (30, {"move_elements": 90, "make_communicator": 5, "enter_one": 1, "refused_collective": 2, "restart_in_a_collective": 4, "lose": 2,
+                   "send": 4, "receive": 4, "wait": 4, "deliver_new": 10, "restart": 0.3}),
     "large_restarts": (8, {"send": 14, "receive": 16, "deliver_new": 30, "bring_some": 8, "deliver_any": 12, "restart": 5, "deliver_late": 6,
                            "restart_in_the_middle": 12}),
 }
 SHARE_OF_LARGE = {"large": 0.65, "large_restarts": 0.65, "restarts": 0.2, "losses": 0.15, "several": 0.1, "wildcards": 0.1, "window": 0.1}
 LARGE_BYTES = [1025, 1025, 1026, 1032, 2048, 2049, 3072, 5000, 5000]
-SHARE_OFF_WORLD = {"communicators": 0.8, "collectives": 0.3, "replaced": 0.7, "mixed": 0.3, "large": 0.2, "large_restarts": 0.2, "restarts": 0.2, "wildcards": 0.2}
+SHARE_OFF_WORLD = {"communicators": 0.8, "collectives": 0.3, "replaced": 0.7, "mixed": 0.3, "trees": 0.3, "large": 0.2, "large_restarts": 0.2, "restarts": 0.2, "wildcards": 0.2}
 TAGS = [0, 1, 2, 7]
 COLOURS = ["undefined", 0, 1, 7, 2**32 - 1]
 KEYS = [0, 0, 1, -1, 5, 2**31 - 1, -2**31]
@@ -56,10 +58,10 @@ KEYS = [0, 0, 1, -1, 5, 2**31 - 1, -2**31]
 class Maker(collecting.Collecting):
     """A file of events that is being made."""
 
-    def __init__(self, random, theme):
+    def __init__(self, random, theme, size=None):
         self.random = random
         self.theme = theme
-        self.size = self.a_size()
+        self.size = self.a_size() if size is None else size
         self.world = rules.World(self.size)
         self.lines = [f"world {self.size}"]
         self.is_over = False
@@ -69,6 +71,8 @@ class Maker(collecting.Collecting):
     def a_size(self):
         if self.theme == "crowd":
             return self.random.choice([6, 8, 16, 40, 100, 255, 256])
+        if self.theme == "trees":
+            return self.random.choice([3, 4, 4, 5, 6, 7, 8, 9, 12, 15, 16, 17, 24, 31, 33, 40])
         if self.theme in ("window", "queues"):
             return self.random.choice([2, 2, 3])
         return self.random.choices([1, 2, 3, 4, 5], [1, 8, 6, 3, 2])[0]
@@ -622,6 +626,16 @@ class Maker(collecting.Collecting):
             place = 0 if self.random.random() < 0.75 else self.random.randrange(len(self.new))
             self.deliver(self.new.pop(place))
 
+    def deliver_of_any_pair(self):
+        """The oldest datagram that is on its way from one rank to another one, whichever they are."""
+        if not self.new or self.is_over:
+            return
+        drawn = self.world.datagrams[self.random.choice(self.new)]
+        number = next(number for number in self.new
+                      if (self.world.datagrams[number].source, self.world.datagrams[number].target) == (drawn.source, drawn.target))
+        self.new.remove(number)
+        self.deliver(number)
+
     def deliver_any(self):
         """Any datagram of the last ones, which may have been delivered before."""
         count = len(self.world.datagrams)
@@ -717,7 +731,7 @@ def a_world(random):
         fill_window(maker)
     if theme == "queues":
         fill_queues(maker)
-    for _ in range(random.choice([5, 20, 40, 80, 120])):
+    for _ in range(random.choice([4, 10, 20, 30] if theme == "trees" else [5, 20, 40, 80, 120])):
         if not maker.is_over:
             maker.a_line()
     if not maker.is_over:

@@ -1,5 +1,5 @@
-//! Each call on the communicators of a rank on its happy path, the rules that it breaks, groups that are shared, and what refuses or ends
-//! a collective.
+//! Each call on the communicators of a rank on its happy path, the rules that it breaks, groups that are shared, what refuses or ends a
+//! collective, and what a rank inside a tree tells.
 #![tactic(auto)]
 
 #[cfg(test)]
@@ -14,3 +14,5 @@ mod naming_tests;
 mod ranks;
 #[cfg(test)]
 mod rules_tests;
+#[cfg(test)]
+mod tree_tests;

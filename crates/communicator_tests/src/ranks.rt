@@ -76,9 +76,14 @@ pub(crate) fn enter(rank: &mut Communicators, place: usize, entry: Entry) -> Ste
 
 /// A message of rank 0 of the first collective on world comes to the rank.
 pub(crate) fn arrive(rank: &mut Communicators, payload: Payload<'_>) -> Step {
+    arrive_from(rank, 0, payload)
+}
+
+/// A message of another rank of the first collective on world comes to the rank.
+pub(crate) fn arrive_from(rank: &mut Communicators, sender: u16, payload: Payload<'_>) -> Step {
     let address = Address {
         sender: Endpoint {
-            rank: 0,
+            rank: sender,
             incarnation: 0,
         },
         context: 0,
