@@ -1,0 +1,145 @@
+"""What pages and examples show is run here, and compared with what they say."""
+
+import difflib
+import os
+import re
+import shlex
+import socket
+import subprocess
+from contextlib import ExitStack, contextmanager
+from itertools import count
+from threading import Lock
+
+# What stands on a page for anything that differs from run to run: within a line, or as a line for any number of lines.
+ANYTHING = "…"
+SECONDS = 90
+# The base port that a page shows: the launcher's own.
+SHOWN_PORT, MOST_RANKS = 47000, 256
+
+
+class Ports:
+    """Ports in a row that nobody holds and that no other run of this check has."""
+
+    def __init__(self):
+        self.lock, self.next = Lock(), 20000 + os.getpid() % 40 * 300
+
+    @staticmethod
+    def are_free(first, ranks):
+        with ExitStack() as held:
+            try:
+                for port in range(first, first + ranks):
+                    held.enter_context(socket.socket(socket.AF_INET, socket.SOCK_DGRAM)).bind(("127.0.0.1", port))
+                held.enter_context(socket.socket(socket.AF_INET, socket.SOCK_STREAM)).bind(("127.0.0.1", first))
+            except OSError:
+                return False
+        return True
+
+    def take(self, ranks):
+        with self.lock:
+            for _ in range(1000):
+                first = self.next
+                self.next = first + ranks if first + 2 * ranks < 32000 else 20000
+                if self.are_free(first, ranks):
+                    return first
+        raise OSError("no %d ports in a row are free" % ranks)
+
+
+class Ended:
+    """How a run ended."""
+
+    def __init__(self, status, output, errors):
+        self.status, self.output, self.errors = status, output, errors
+
+
+class Runner:
+    """Runs the programs."""
+
+    def __init__(self, programs, top):
+        self.programs, self.top, self.ports, self.jobs = programs, top, Ports(), count(os.getpid() * 1000)
+
+    def run(self, words, folder, environment=None):
+        try:
+            done = subprocess.run(
+                [str(it) for it in words], cwd=folder, env=environment, stdin=subprocess.DEVNULL, stdout=subprocess.PIPE,
+                stderr=subprocess.PIPE, timeout=SECONDS,
+            )
+        except subprocess.TimeoutExpired as late:
+            return Ended("none within %d s" % SECONDS, (late.stdout or b"").decode("latin-1"), (late.stderr or b"").decode("latin-1"))
+        return Ended(done.returncode, *(it.decode("utf-8", "replace") for it in (done.stdout, done.stderr)))
+
+    def ranks(self, size, options, script, folder):
+        """A script on so many ranks; options of its own stand in place of the job number and the base port."""
+        given = {"-job": next(self.jobs), "-baseport": None, **dict(zip(options[::2], options[1::2]))}
+        given["-baseport"] = given["-baseport"] or self.ports.take(int(size))
+        words = [str(it) for pair in given.items() for it in pair]
+        return self.run([self.programs["mpiexec"], *words, "-n", size, self.programs["rank_main"], script], folder)
+
+    def events(self, file, folder):
+        return self.run([self.programs["mpisim"], file], folder)
+
+    @contextmanager
+    def commands(self, folder):
+        """A folder as a page's commands see it; yields their environment and the base port that they get."""
+        port, bin_folder = self.ports.take(MOST_RANKS), folder / ".bin"
+        bin_folder.mkdir()
+        for name in ("rank_main", "mpisim"):
+            (bin_folder / name).symlink_to(self.programs[name])
+        launcher = shlex.quote(str(self.programs["mpiexec"]))
+        (bin_folder / "mpiexec").write_text(
+            '#!/bin/sh\ncase " $* " in *" -baseport "*) exec %s "$@" ;; esac\n'
+            'case "$1" in -n | -job | -restart | -patience | -configfile) exec %s -baseport %d "$@" ;; esac\nexec %s "$@"\n'
+            % (launcher, launcher, port, launcher)
+        )
+        (bin_folder / "mpiexec").chmod(0o755)
+        for name in ("run", "examples"):
+            (folder / name).symlink_to(self.top / name)
+        path = "%s%s%s" % (bin_folder, os.pathsep, os.environ["PATH"])
+        folders = {str(it.parent) for it in self.programs.values()}
+        own = {"RUN_PROGRAMS": folders.pop()} if len(folders) == 1 else {}
+        yield {**os.environ, "PATH": path, **own}, port
+
+
+def pattern(line):
+    return ".*".join(re.escape(it) for it in line.split(ANYTHING))
+
+
+def is_text(shown, text):
+    """Whether a text is what these lines show, in their order."""
+    wanted = "".join("(?:.*\n)*" if it == ANYTHING else pattern(it) + "\n" for it in shown)
+    return re.fullmatch(wanted, text) is not None
+
+
+def left_over(shown, lines):
+    """The lines that are left of `lines` where each line shown has taken one that is like it; None where one finds none."""
+    left = list(lines)
+    for it in sorted((it for it in shown if it != ANYTHING), key=lambda it: ANYTHING in it):
+        like = next((one for one in left if re.fullmatch(pattern(it), one)), None)
+        if like is None:
+            return None
+        left.remove(like)
+    return left
+
+
+def are_lines(shown, text):
+    """Whether a text has these lines, in any order."""
+    left = left_over(shown, text.splitlines())
+    return left == [] or (left is not None and ANYTHING in shown)
+
+
+def difference(shown, text):
+    """What a page shows and what was printed, side by side."""
+    return "\n".join("    " + it for it in list(difflib.unified_diff(shown, text.splitlines(), "shown", "printed", lineterm="", n=2)))
+
+
+def faults_of_run(ended, output, errors, status):
+    """How a run differs from what is shown of it; output and errors are lines, errors None where they aren't shown."""
+    found = []
+    if ended.status != status:
+        found.append("status %s, and not %d as shown\n%s" % (ended.status, status, difference([], ended.errors)))
+    if not is_text(output, ended.output):
+        found.append("standard output:\n" + difference(output, ended.output))
+    if errors is not None and not are_lines(errors, ended.errors):
+        found.append("standard error:\n" + difference(sorted(errors), "\n".join(sorted(ended.errors.splitlines()))))
+    if errors is None and status == 0 and ended.errors:
+        found.append("standard error, which isn't shown:\n" + difference([], ended.errors))
+    return found
