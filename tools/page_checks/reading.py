@@ -6,7 +6,7 @@ from functools import lru_cache
 from pathlib import Path
 
 MOST_IN_LINE, MOST_IN_CELL, MOST_LINES_OF_README = 120, 200, 120
-RUN = ("script", "events", "answers", "shell", "file", "output", "errors")
+RUN = ("script", "events", "answers", "sh", "shell", "file", "output", "errors")
 EXCERPTS = ("rattle", "antt")
 KINDS = (*RUN, *EXCERPTS, "text")
 # A path of the repository; those with a wildcard or a word in capitals for a name aren't seen as one.
