@@ -6,8 +6,10 @@ import re
 import shlex
 import socket
 import subprocess
+import tempfile
 from contextlib import ExitStack, contextmanager
 from itertools import count
+from pathlib import Path
 from threading import Lock
 
 # What stands on a page for anything that differs from run to run: within a line, or as a line for any number of lines.
@@ -15,6 +17,13 @@ ANYTHING = "…"
 SECONDS = 90
 # The base port that a page shows: the launcher's own.
 SHOWN_PORT, MOST_RANKS = 47000, 256
+# The launcher, with a free base port where it gets none.
+LAUNCHER = """#!/bin/sh
+launcher=%s
+case " $* " in *" -baseport "*) exec "$launcher" "$@" ;; esac
+case "$1" in -n | -job | -restart | -patience | -configfile) exec "$launcher" -baseport %d "$@" ;; esac
+exec "$launcher" "$@"
+"""
 
 
 class Ports:
@@ -79,24 +88,84 @@ class Runner:
 
     @contextmanager
     def commands(self, folder):
-        """A folder as a page's commands see it; yields their environment and the base port that they get."""
+        """A folder as a page's commands see it, with the programs, ./run and examples/ in it."""
         port, bin_folder = self.ports.take(MOST_RANKS), folder / ".bin"
         bin_folder.mkdir()
         for name in ("rank_main", "mpisim"):
             (bin_folder / name).symlink_to(self.programs[name])
-        launcher = shlex.quote(str(self.programs["mpiexec"]))
-        (bin_folder / "mpiexec").write_text(
-            '#!/bin/sh\ncase " $* " in *" -baseport "*) exec %s "$@" ;; esac\n'
-            'case "$1" in -n | -job | -restart | -patience | -configfile) exec %s -baseport %d "$@" ;; esac\nexec %s "$@"\n'
-            % (launcher, launcher, port, launcher)
-        )
+        (bin_folder / "mpiexec").write_text(LAUNCHER % (shlex.quote(str(self.programs["mpiexec"])), port))
         (bin_folder / "mpiexec").chmod(0o755)
         for name in ("run", "examples"):
             (folder / name).symlink_to(self.top / name)
+        # `run` is to take these very programs.
+        taken = folder / ".programs"
+        taken.mkdir()
+        for name, program in self.programs.items():
+            (taken / name).symlink_to(program)
         path = "%s%s%s" % (bin_folder, os.pathsep, os.environ["PATH"])
-        folders = {str(it.parent) for it in self.programs.values()}
-        own = {"RUN_PROGRAMS": folders.pop()} if len(folders) == 1 else {}
-        yield {**os.environ, "PATH": path, **own}, port
+        yield Shell(self, folder, {**os.environ, "PATH": path, "RUN_PROGRAMS": str(taken)}, port)
+
+
+class Shell:
+    """Runs the commands of a page in its folder."""
+
+    def __init__(self, runner, folder, environment, port):
+        self.runner, self.folder, self.environment, self.port = runner, folder, environment, port
+
+    def shown(self, text):
+        """A text with the ports of a launch as a page shows them."""
+        first, last = self.port, self.port + MOST_RANKS
+        return re.sub(r"\b\d{5}\b", lambda it: str(int(it[0]) - first + SHOWN_PORT) if first <= int(it[0]) < last else it[0], text)
+
+    def pasted(self, lines):
+        """Runs lines as they are; what ./run itself says is left out of the standard error."""
+        ended = self.runner.run(["bash", "-c", "\n".join(lines)], self.folder, self.environment)
+        errors = re.sub(r"(?m)^run: .*\n", "", ended.errors)
+        return Ended(ended.status, self.shown(ended.output), self.shown(errors))
+
+    def prompted(self, lines):
+        """Runs the commands behind '$ ' in one shell, and compares what each prints with the lines behind it."""
+        commands = commands_of(lines)
+        if commands is None:
+            return ["the first line is no command"]
+        with tempfile.TemporaryDirectory() as room:
+            script = []
+            for number, (command, _) in enumerate(commands):
+                Path(room, "%d.sh" % number).write_text(command + "\n")
+                script.append(". {0}/{1}.sh > {0}/{1}.out 2> {0}/{1}.err".format(room, number))
+            ended = self.runner.run(["bash", "-c", "\n".join(script)], self.folder, self.environment)
+            found = ["status %s" % ended.status] if isinstance(ended.status, str) else []
+            for number, (command, shown) in enumerate(commands):
+                files = (Path(room, "%d.%s" % (number, it)) for it in ("out", "err"))
+                out, errors = (self.shown(it.read_text(errors="replace")) if it.exists() else "" for it in files)
+                if not is_shown(shown, out, errors):
+                    found.append("$ %s\n%s" % (command, difference(shown, out + errors)))
+        return found
+
+
+def commands_of(lines):
+    """Each command behind '$ ', and behind '> ' where it goes on, with the lines that are shown of what it prints."""
+    commands = []
+    for line in lines:
+        if line.startswith("$ "):
+            commands.append((line[2:], []))
+        elif not commands:
+            return None
+        elif line.startswith("> ") and not commands[-1][1]:
+            commands[-1] = (commands[-1][0] + "\n" + line[2:], [])
+        else:
+            commands[-1][1].append(line)
+    return commands
+
+
+def is_shown(shown, out, errors):
+    """Whether lines show a command's standard output alone, or all that it wrote, its standard error's lines in any place."""
+    if is_text(shown, out):
+        return True
+    if any(ANYTHING in it for it in shown):
+        return are_lines(shown, out + errors)
+    rest = left_over(errors.splitlines(), shown)
+    return rest is not None and is_text(rest, out)
 
 
 def pattern(line):
@@ -140,6 +209,6 @@ def faults_of_run(ended, output, errors, status):
         found.append("standard output:\n" + difference(output, ended.output))
     if errors is not None and not are_lines(errors, ended.errors):
         found.append("standard error:\n" + difference(sorted(errors), "\n".join(sorted(ended.errors.splitlines()))))
-    if errors is None and status == 0 and ended.errors:
+    if errors is None and status == ended.status == 0 and ended.errors:
         found.append("standard error, which isn't shown:\n" + difference([], ended.errors))
     return found
