@@ -128,16 +128,15 @@ class Checks:
 
     def commands(self, page, folder):
         """Runs the commands of a page one after the other."""
-        found = []
-        with self.runner.commands(folder) as shell:
-            for place, fence in enumerate(page.fences):
-                if fence.kind == "shell":
-                    faults = shell.prompted(fence.lines)
-                elif fence.kind == "sh":
-                    faults = running.faults_of_run(shell.pasted(fence.lines), *shown_of(page.fences, place))
-                else:
-                    continue
-                found += ["the commands of line %d: %s" % (fence.number, it) for it in faults]
+        found, shell = [], self.runner.shell(folder)
+        for place, fence in enumerate(page.fences):
+            if fence.kind == "shell":
+                faults = shell.prompted(fence.lines)
+            elif fence.kind == "sh":
+                faults = running.faults_of_run(shell.pasted(fence.lines), *shown_of(page.fences, place))
+            else:
+                continue
+            found += ["the commands of line %d: %s" % (fence.number, it) for it in faults]
         return found
 
     def excerpt(self, fence):

@@ -7,7 +7,7 @@ import shlex
 import socket
 import subprocess
 import tempfile
-from contextlib import ExitStack, contextmanager
+from contextlib import ExitStack
 from itertools import count
 from pathlib import Path
 from threading import Lock
@@ -34,6 +34,7 @@ class Ports:
 
     @staticmethod
     def are_free(first, ranks):
+        """Whether nobody holds these ports of 127.0.0.1 for datagrams, nor the first one for connections."""
         with ExitStack() as held:
             try:
                 for port in range(first, first + ranks):
@@ -44,6 +45,7 @@ class Ports:
         return True
 
     def take(self, ranks):
+        """Returns the first of so many ports."""
         with self.lock:
             for _ in range(1000):
                 first = self.next
@@ -67,11 +69,10 @@ class Runner:
         self.programs, self.top, self.ports, self.jobs = programs, top, Ports(), count(os.getpid() * 1000)
 
     def run(self, words, folder, environment=None):
+        """Runs a command in a folder; one that doesn't end in time has no status."""
+        how = {"cwd": folder, "env": environment, "stdin": subprocess.DEVNULL, "timeout": SECONDS}
         try:
-            done = subprocess.run(
-                [str(it) for it in words], cwd=folder, env=environment, stdin=subprocess.DEVNULL, stdout=subprocess.PIPE,
-                stderr=subprocess.PIPE, timeout=SECONDS,
-            )
+            done = subprocess.run([str(it) for it in words], stdout=subprocess.PIPE, stderr=subprocess.PIPE, **how)
         except subprocess.TimeoutExpired as late:
             return Ended("none within %d s" % SECONDS, (late.stdout or b"").decode("latin-1"), (late.stderr or b"").decode("latin-1"))
         return Ended(done.returncode, *(it.decode("utf-8", "replace") for it in (done.stdout, done.stderr)))
@@ -84,11 +85,11 @@ class Runner:
         return self.run([self.programs["mpiexec"], *words, "-n", size, self.programs["rank_main"], script], folder)
 
     def events(self, file, folder):
+        """A file of events."""
         return self.run([self.programs["mpisim"], file], folder)
 
-    @contextmanager
-    def commands(self, folder):
-        """A folder as a page's commands see it, with the programs, ./run and examples/ in it."""
+    def shell(self, folder):
+        """Lays the programs, ./run and examples/ into a page's folder, and returns what runs its commands there."""
         port, bin_folder = self.ports.take(MOST_RANKS), folder / ".bin"
         bin_folder.mkdir()
         for name in ("rank_main", "mpisim"):
@@ -103,7 +104,7 @@ class Runner:
         for name, program in self.programs.items():
             (taken / name).symlink_to(program)
         path = "%s%s%s" % (bin_folder, os.pathsep, os.environ["PATH"])
-        yield Shell(self, folder, {**os.environ, "PATH": path, "RUN_PROGRAMS": str(taken)}, port)
+        return Shell(self, folder, {**os.environ, "PATH": path, "RUN_PROGRAMS": str(taken)}, port)
 
 
 class Shell:
