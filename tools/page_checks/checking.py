@@ -6,6 +6,7 @@ import tempfile
 from concurrent.futures import ThreadPoolExecutor
 from pathlib import Path
 
+import answered
 from page_checks import reading, running
 
 # What may stand behind a run, before the next one.
@@ -113,18 +114,14 @@ class Checks:
             file = path.read_text().splitlines()
         elif before is not None and before.kind == "events":
             file = before.lines
-        told, shown = [left for left, _ in rows], []
+        told = [left for left, _ in rows]
         if file is not None and told != statements(file):
             return ["the lines aren't those of the file\n" + running.difference(told, "\n".join(statements(file)))]
-        with tempfile.TemporaryDirectory(dir=self.room) as folder:
-            beginning = Path(folder) / "beginning.txt"
-            for end, (left, answers) in enumerate(rows, 1):
-                beginning.write_text("".join(it + "\n" for it in told[:end]))
-                shown += answers
-                faults = running.faults_of_run(self.runner.events(beginning, folder), shown, None, 0)
-                if faults:
-                    return ["up to '%s': %s" % (left, it) for it in faults]
-        return []
+        given = list(answered.answered(self.runner.programs["mpisim"], told))
+        if len(given) < len(told):
+            return ["the line '%s' is faulty" % told[len(given)]]
+        texts = [(left, shown, "".join(it + "\n" for it in answers)) for (left, shown), (_, answers) in zip(rows, given)]
+        return ["%s\n%s" % (left, running.difference(shown, text)) for left, shown, text in texts if not running.is_text(shown, text)]
 
     def commands(self, page, folder):
         """Runs the commands of a page one after the other."""
