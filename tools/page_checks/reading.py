@@ -108,6 +108,6 @@ def anchors(page):
 
 def pages_of(top):
     """The pages whose fences are run, and those that are only read."""
-    run = [top / it for it in ("README.md", "CONTRIBUTING.md", "CHANGELOG.md") if (top / it).exists()]
+    run = [top / it for it in ("README.md", "CONTRIBUTING.md", "CHANGELOG.md", "examples/README.md") if (top / it).exists()]
     run += sorted((top / "docs").glob("*.md"))
     return run, sorted(Path(top / "docs" / "internal").glob("*.md"))
