@@ -169,11 +169,14 @@ class Checks:
         self.add(name, self.script, file, size, [it for pair in pairs.items() for it in pair], self.top, shown)
 
     def examples(self):
-        """Checks all examples."""
+        """Checks all examples, and that their page has each."""
+        listed = (self.top / "examples" / "README.md").read_text()
         for kind in ("scripts", "events"):
             folder = self.top / "examples" / kind
             for file in sorted(folder.glob("*.txt")):
                 self.example(file, kind)
+                if "(%s/%s)" % (kind, file.name) not in listed:
+                    self.faults.append("examples/README.md: it lacks %s/%s" % (kind, file.name))
             alone = [it for it in folder.iterdir() if not it.with_suffix(".txt").exists()]
             self.faults += ["%s: there is no example beside it" % it.relative_to(self.top) for it in sorted(alone)]
 
