@@ -4,13 +4,13 @@ import difflib
 import os
 import re
 import shlex
-import socket
 import subprocess
 import tempfile
-from contextlib import ExitStack
 from itertools import count
 from pathlib import Path
 from threading import Lock
+
+import ports
 
 # What stands on a page for anything that differs from run to run: within a line, or as a line for any number of lines.
 ANYTHING = "…"
@@ -30,27 +30,16 @@ class Ports:
     """Ports in a row that nobody holds and that no other run of this check has."""
 
     def __init__(self):
-        self.lock, self.next = Lock(), 20000 + os.getpid() % 40 * 300
-
-    @staticmethod
-    def are_free(first, ranks):
-        """Whether nobody holds these ports of 127.0.0.1 for datagrams, nor the first one for connections."""
-        with ExitStack() as held:
-            try:
-                for port in range(first, first + ranks):
-                    held.enter_context(socket.socket(socket.AF_INET, socket.SOCK_DGRAM)).bind(("127.0.0.1", port))
-                held.enter_context(socket.socket(socket.AF_INET, socket.SOCK_STREAM)).bind(("127.0.0.1", first))
-            except OSError:
-                return False
-        return True
+        # Two checks at one time begin at different ones.
+        self.lock, self.next = Lock(), ports.LOWEST + os.getpid() % 40 * 300
 
     def take(self, ranks):
         """Returns the first of so many ports."""
         with self.lock:
             for _ in range(1000):
                 first = self.next
-                self.next = first + ranks if first + 2 * ranks < 32000 else 20000
-                if self.are_free(first, ranks):
+                self.next = first + ranks if first + ranks + MOST_RANKS <= ports.BEHIND else ports.LOWEST
+                if ports.are_free(first, ranks):
                     return first
         raise OSError("no %d ports in a row are free" % ranks)
 
