@@ -11,6 +11,8 @@ from page_checks import reading, running
 
 # What may stand behind a run, before the next one.
 SHOWN = ("output", "errors", "answers", "text")
+# So many faults of a page's form are told.
+MOST_TOLD = 20
 
 
 def run_before(fences, place):
@@ -231,4 +233,10 @@ def check(top, paths, programs):
         if not paths:
             checks.examples()
         done = checks.finish()
-    return done, [fault for page, _ in pages for fault in page.faults] + checks.faults
+    return done, [fault for page, _ in pages for fault in beginning(page)] + checks.faults
+
+
+def beginning(page):
+    """A page's faults of form: the first ones, and how many more there are."""
+    more = len(page.faults) - MOST_TOLD
+    return page.faults if more <= 1 else [*page.faults[:MOST_TOLD], "%s: %d more of this kind" % (page.name, more)]
