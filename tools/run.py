@@ -17,7 +17,7 @@ options, as mpiexec has them:
 
 Scripts are run by mpiexec and rank_main, files of events by mpisim. The proved programs are taken
 where `rt ci` or `./run --proved` has left them and no source has changed since. Else programs of
-the same sources are taken, of which nothing is proved: they are built once, in about two minutes,
+the same sources are taken, of which nothing is proved: they are built once, in two to three minutes,
 and kept in out/unproved. RUN_PROGRAMS may name a folder whose programs are taken as they are.
 
 What `run` itself says stands on standard error behind 'run:'. The status is that of mpiexec or
