@@ -1,0 +1,215 @@
+"""Runs ranks as processes, or a world of ranks from a file of events.
+
+usage: ./run                            two ranks play ping-pong
+       ./run [-n N] [OPTION ..] SCRIPT  N ranks run a script; without -n as many as it names
+       ./run FILE                       a file of events: its first line is 'world N'
+       ./run --lines FILE               the same, each line with its answers
+       ./run --picture FILE             the same as a picture, a column a rank
+       ./run build                      builds the programs, and runs nothing
+       ./run --proved [..]              as above, by proved programs alone; proves them first
+       ./run --help
+
+options, as mpiexec has them:
+       -restart K      how often a rank may be started again (0)
+       -patience MS    how long nothing may move until a rank gives up (10000)
+       -job J          the job's number (one at random)
+       -baseport P     the port of rank 0; the others have the ports behind it (free ones)
+
+Scripts are run by mpiexec and rank_main, files of events by mpisim. The proved programs are taken
+where `rt ci` or `./run --proved` has left them and no source has changed since. Else programs of
+the same sources are taken, of which nothing is proved: they are built once, in two to three minutes,
+and kept in out/unproved. RUN_PROGRAMS may name a folder whose programs are taken as they are.
+
+What `run` itself says stands on standard error behind 'run:'. The status is that of mpiexec or
+mpisim; 125 where `run` itself fails. Begin with docs/TUTORIAL.md.
+"""
+
+import os
+import shlex
+import signal
+import subprocess
+import sys
+from pathlib import Path
+
+sys.dont_write_bytecode = True
+sys.path.insert(0, str(Path(__file__).resolve().parent))
+import ports
+import programs
+
+TOP = programs.TOP
+PINGPONG = TOP / "examples" / "scripts" / "pingpong.txt"
+OWN_FAILURE = 125
+VIEWS = ("--lines", "--picture")
+PASSED_ON = ("-job", "-baseport", "-restart", "-patience")
+
+
+class Fault(Exception):
+    """Why `run` itself can't go on."""
+
+
+def say(text):
+    print("\n".join("run: " + it for it in str(text).splitlines()), file=sys.stderr, flush=True)
+
+
+class Request:
+    """What the words of the command line ask for."""
+
+    def __init__(self, words):
+        self.ranks, self.options, self.file = None, {}, None
+        words = list(words)
+        self.is_proved = words[:1] == ["--proved"]
+        words = words[self.is_proved :]
+        self.view = words.pop(0) if words[:1] and words[0] in VIEWS else None
+        self.builds_only = words == ["build"]
+        while words and words[0].startswith("-"):
+            self.take_option(words)
+        if self.builds_only:
+            return
+        if len(words) > 1:
+            raise Fault("'%s': one file is run, and nothing stands behind its name (./run --help)" % words[1])
+        self.file = Path(words[0]) if words else PINGPONG
+        if self.view and not words:
+            raise Fault("behind '%s' a file of events is missing" % self.view)
+
+    def take_option(self, words):
+        option = words.pop(0)
+        if option not in ("-n", "-np", *PASSED_ON):
+            raise Fault("'%s': no such option (./run --help)" % option)
+        if not words:
+            raise Fault("behind '%s' a number is missing" % option)
+        if option in ("-n", "-np"):
+            self.ranks = words.pop(0)
+        else:
+            self.options[option] = words.pop(0)
+
+
+def lines_of(file):
+    """The words of each line of a file that isn't empty and no comment."""
+    try:
+        text = file.read_bytes().decode("latin-1")
+    except OSError as why:
+        raise Fault("%s can't be read: %s" % (file, why.strerror))
+    lines = (it.split() for it in text.split("\n"))
+    return [it for it in lines if it and not it[0].startswith("#")]
+
+
+def is_events(lines):
+    return bool(lines) and lines[0][0] == "world"
+
+
+def ranks_named(lines):
+    """How many ranks a script names: one more than the highest number behind an `on`."""
+    numbers = [it.partition(".")[0] for line in lines if line[0] == "on" for it in line[1:]]
+    return max((int(it) + 1 for it in numbers if it.isascii() and it.isdigit() and len(it) < 10), default=None)
+
+
+def random_below(bound):
+    """A number from 0 on below a bound that is far below 2^64."""
+    return int.from_bytes(os.urandom(8), "little") % bound
+
+
+def free_ports(count):
+    """The first of so many ports in a row that are free."""
+    for _ in range(200):
+        first = ports.LOWEST + random_below(ports.BEHIND - ports.LOWEST - count)
+        if ports.are_free(first, count):
+            return first
+    raise Fault("no %d ports in a row are free from %d to %d: give -baseport" % (count, ports.LOWEST, ports.BEHIND - 1))
+
+
+def find(names, is_proved):
+    """These programs: proved ones where all of them are there, else, unless proved ones are asked for, unproved ones."""
+    if given := os.environ.get("RUN_PROGRAMS"):
+        say("the programs in %s" % given)
+        return {it: Path(given) / it for it in names}
+    found = programs.proved_folders(names)
+    if found is None and is_proved:
+        if programs.kit() is None:
+            raise programs.NotBuilt(programs.NO_TOOLCHAIN)
+        # It says itself what it does, and why it fails.
+        if subprocess.run([TOP / "tools" / "proved_build", *names]).returncode != 0:
+            raise Fault("the programs aren't proved")
+        found = programs.proved_folders(names)
+        if found is None:
+            raise Fault("a source changed while the programs were proved: run it again")
+    if found is not None:
+        say("the proved programs")
+        return found
+    if programs.unproved_folders(names) is None:
+        programs.build_unproved(say)
+    found = programs.unproved_folders(names)
+    if found is None:
+        raise Fault("a source changed while the programs were built: run it again")
+    say("nothing is proved of these programs: they were built before any proof ('./run --proved' proves them first)")
+    return found
+
+
+def short(path):
+    """A path as it is shortest from here."""
+    return min(str(path), os.path.relpath(path), key=len)
+
+
+def command(request):
+    """The words to run."""
+    lines = lines_of(request.file)
+    if is_events(lines):
+        if request.ranks or request.options:
+            raise Fault("%s is a file of events, which takes no options: its first line says how many ranks there are" % request.file)
+        return [short(find(["mpisim"], request.is_proved)["mpisim"]), short(request.file)]
+    if request.view:
+        raise Fault("%s is no file of events" % request.file)
+    ranks = request.ranks or ranks_named(lines)
+    if ranks is None:
+        say("the script names no rank, so one runs it: '-n N' for more")
+        ranks = 1
+    found = find(["mpiexec", "rank_main"], request.is_proved)
+    options = {"-job": random_below(10**15), **request.options}
+    if "-baseport" not in options:
+        # Numbers that are none are mpiexec's to refuse.
+        options["-baseport"] = free_ports(min(max(int(ranks), 1), 256)) if str(ranks).isdigit() else ports.LOWEST
+    words = [short(found["mpiexec"])]
+    for option, value in options.items():
+        words += [option, str(value)]
+    return words + ["-n", str(ranks), short(found["rank_main"]), short(request.file)]
+
+
+def show(program, file, view):
+    """Shows a file of events with its answers; what a fault is, and the status, the program itself tells."""
+    import answered
+    import picture
+
+    ended = subprocess.run([program, file], stdin=subprocess.DEVNULL, stdout=subprocess.PIPE)
+    if ended.stdout or not ended.returncode:
+        rows = picture.rows if view == "--picture" else answered.rows
+        for it in rows(program, file.read_bytes().decode("latin-1").split("\n")):
+            print(it)
+    return ended.returncode
+
+
+def main(words):
+    if words[:1] in (["-h"], ["--help"], ["help"]):
+        print(__doc__, end="")
+        return 0
+    signal.signal(signal.SIGTERM, lambda *_: sys.exit(128 + signal.SIGTERM))
+    try:
+        request = Request(words)
+        if request.builds_only:
+            found = find(programs.NAMES, request.is_proved)
+            folders = sorted({str(it.parent) for it in found.values()})
+            say("they stand in %s (a shell finds them after: export PATH=%s:$PATH)" % (", ".join(folders), ":".join(folders)))
+            return 0
+        chosen = command(request)
+    except (Fault, programs.NotBuilt) as why:
+        say(why)
+        return OWN_FAILURE
+    except KeyboardInterrupt:
+        return 128 + signal.SIGINT
+    say(shlex.join(chosen))
+    program = chosen[0] if os.sep in chosen[0] else os.path.join(".", chosen[0])
+    if request.view:
+        return show(program, request.file, request.view)
+    signal.signal(signal.SIGTERM, signal.SIG_DFL)
+    os.execv(program, chosen)
+
+
+sys.exit(main(sys.argv[1:]))
