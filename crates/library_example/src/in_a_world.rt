@@ -27,28 +27,31 @@ fn start(world: &mut World, rank: u16, call: Call) -> Result<Request, anyhow::Er
     }
 }
 
-/// Rank 0 sends, its datagram is lost, and its clock sends it again. Rank 1 receives it, whatever else is delivered.
-pub fn run(rt: &(impl Print + AllocGlobal)) -> Result<(), anyhow::Error> {
-    let alloc = rt.alloc();
-    let mut world = World::new(alloc, 2)?;
-    let request = start(&mut world, 1, receive(alloc, 0)?)?;
-
-    let sent = step(&mut world, Event::Call(0, send(alloc, 1)?))?;
+/// Rank 0 sends, its datagram is lost, and its clock sends it again. Rank 1 receives it once, though it comes twice.
+fn lose_the_first(rt: &(impl Print + AllocGlobal), world: &mut World) -> Result<(), anyhow::Error> {
+    let request = start(world, 1, receive(rt.alloc(), 0)?)?;
+    let sent = step(world, Event::Call(0, send(rt.alloc(), 1)?))?;
     println!(rt; "  datagram {} is lost", sent.first)?;
-    let again = step(&mut world, Event::Tick(0, 20))?;
+    let again = step(world, Event::Tick(0, 20))?;
     println!(rt;
-        "  datagram {} goes out at 20 ms, and is delivered twice",
+        "  datagram {} goes out at 20 ms, and comes twice",
         again.first
     )?;
-    let taken = step(&mut world, Event::Deliver(again.first))?;
-    let _repeated = step(&mut world, Event::Deliver(again.first))?;
+    let taken = step(world, Event::Deliver(again.first))?;
+    let _repeated = step(world, Event::Deliver(again.first))?;
 
-    let waited = step(&mut world, Event::Call(1, Call::Wait(Some(request))))?;
-    if let Some(Reply::Done(answer)) = reply_of(&world, waited) {
+    let waited = step(world, Event::Call(1, Call::Wait(Some(request))))?;
+    if let Some(Reply::Done(answer)) = reply_of(world, waited) {
         print_received(rt, answer)?;
     }
     println!(rt; "  quiet: {}", world.is_quiet())?;
-    let _acknowledged = step(&mut world, Event::Deliver(taken.first))?;
+    let _acknowledged = step(world, Event::Deliver(taken.first))?;
     println!(rt; "  quiet: {}", world.is_quiet())?;
     Ok(())
+}
+
+/// A world and what happens in it.
+pub fn run(rt: &(impl Print + AllocGlobal)) -> Result<(), anyhow::Error> {
+    let mut world = World::new(rt.alloc(), 2)?;
+    lose_the_first(rt, &mut world)
 }

@@ -40,23 +40,30 @@ fn carry(from: &mut Engine, to: &mut Engine) -> Result<(), Refused> {
 }
 
 /// Rank 0 sends, its datagram is lost, and its clock sends it again. Rank 1 waits for it meanwhile.
-pub fn run(rt: &(impl Print + AllocGlobal)) -> Result<(), anyhow::Error> {
-    let alloc = rt.alloc();
-    let mut sender = engine_of(alloc, 0)?;
-    let mut receiver = engine_of(alloc, 1)?;
-
-    let request = start(&mut receiver, receive(alloc, 0)?)?;
+fn lose_the_first(
+    rt: &(impl Print + AllocGlobal),
+    sender: &mut Engine,
+    receiver: &mut Engine,
+) -> Result<(), anyhow::Error> {
+    let request = start(receiver, receive(rt.alloc(), 0)?)?;
     let _blocked = receiver.call(Call::Wait(Some(request)));
-    let _sent = start(&mut sender, send(alloc, 1)?)?;
+    let _sent = start(sender, send(rt.alloc(), 1)?)?;
     let lost = sender.take_out().len();
     println!(rt; "  lost: {lost}, idle: {}", sender.is_idle())?;
 
     sender.tick(20)?;
-    carry(&mut sender, &mut receiver)?;
+    carry(sender, receiver)?;
     if let Some(Completion::Requests(answer)) = receiver.take_completion() {
         print_received(rt, &answer)?;
     }
-    carry(&mut receiver, &mut sender)?;
+    carry(receiver, sender)?;
     println!(rt; "  idle: {}", sender.is_idle())?;
     Ok(())
+}
+
+/// Two engines and the program between them.
+pub fn run(rt: &(impl Print + AllocGlobal)) -> Result<(), anyhow::Error> {
+    let mut sender = engine_of(rt.alloc(), 0)?;
+    let mut receiver = engine_of(rt.alloc(), 1)?;
+    lose_the_first(rt, &mut sender, &mut receiver)
 }
