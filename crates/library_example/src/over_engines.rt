@@ -4,6 +4,7 @@ use crate::calls::{print_received, receive, send};
 use anyhow::bail;
 use engine::{Call, Completion, Engine, Place, Refused, Reply, Request};
 use std::alloc::Global;
+use std::io;
 use vocabulary::Endpoint;
 
 /// The engine of a rank in a job of two, at the rank's first incarnation.
@@ -39,31 +40,57 @@ fn carry(from: &mut Engine, to: &mut Engine) -> Result<(), Refused> {
     Ok(())
 }
 
-/// Rank 0 sends, its datagram is lost, and its clock sends it again. Rank 1 waits for it meanwhile.
-fn lose_the_first(
-    rt: &(impl Print + AllocGlobal),
-    sender: &mut Engine,
-    receiver: &mut Engine,
-) -> Result<(), anyhow::Error> {
-    let request = start(receiver, receive(rt.alloc(), 0)?)?;
+/// Rank 1 starts a receive, and is blocked in a wait for it.
+fn await_message(alloc: Global, receiver: &mut Engine) -> Result<(), anyhow::Error> {
+    let request = start(receiver, receive(alloc, 0)?)?;
     let _blocked = receiver.call(Call::Wait(Some(request)));
+    Ok(())
+}
+
+/// Rank 0 sends, and what goes out is lost.
+fn send_in_vain(rt: &(impl Print + AllocGlobal), sender: &mut Engine) -> Result<(), anyhow::Error> {
     let _sent = start(sender, send(rt.alloc(), 1)?)?;
     let lost = sender.take_out().len();
     println!(rt; "  lost: {lost}, idle: {}", sender.is_idle())?;
+    Ok(())
+}
 
+/// Prints the answer of the wait, if it is there.
+fn print_answer(rt: &impl Print, completion: Option<Completion>) -> io::Result<()> {
+    match completion {
+        Some(Completion::Requests(answer)) => print_received(rt, &answer),
+        _ => Ok(()),
+    }
+}
+
+/// 20 ms later rank 0 sends again; rank 1 takes the message in and acknowledges it.
+fn send_again(
+    rt: &impl Print,
+    sender: &mut Engine,
+    receiver: &mut Engine,
+) -> Result<(), anyhow::Error> {
     sender.tick(20)?;
     carry(sender, receiver)?;
-    if let Some(Completion::Requests(answer)) = receiver.take_completion() {
-        print_received(rt, &answer)?;
-    }
+    print_answer(rt, receiver.take_completion())?;
     carry(receiver, sender)?;
     println!(rt; "  idle: {}", sender.is_idle())?;
     Ok(())
 }
 
-/// Two engines and the program between them.
+/// A message goes from rank 0 to rank 1, over a network that loses its first datagram.
+fn converse(
+    rt: &(impl Print + AllocGlobal),
+    sender: &mut Engine,
+    receiver: &mut Engine,
+) -> Result<(), anyhow::Error> {
+    await_message(rt.alloc(), receiver)?;
+    send_in_vain(rt, sender)?;
+    send_again(rt, sender, receiver)
+}
+
+/// Two engines, and what passes between them.
 pub fn run(rt: &(impl Print + AllocGlobal)) -> Result<(), anyhow::Error> {
     let mut sender = engine_of(rt.alloc(), 0)?;
     let mut receiver = engine_of(rt.alloc(), 1)?;
-    lose_the_first(rt, &mut sender, &mut receiver)
+    converse(rt, &mut sender, &mut receiver)
 }
