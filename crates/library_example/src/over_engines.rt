@@ -1,0 +1,96 @@
+//! Two engines, whose datagrams the program carries itself.
+
+use crate::calls::{print_received, receive, send};
+use anyhow::bail;
+use engine::{Call, Completion, Engine, Place, Refused, Reply, Request};
+use std::alloc::Global;
+use std::io;
+use vocabulary::Endpoint;
+
+/// The engine of a rank in a job of two, at the rank's first incarnation.
+fn engine_of(alloc: Global, rank: u16) -> Result<Engine, Refused> {
+    let endpoint = Endpoint {
+        rank,
+        incarnation: 0,
+    };
+    Engine::new(
+        alloc,
+        Place {
+            endpoint,
+            size: 2,
+            job: 1,
+        },
+    )
+}
+
+/// Calls an engine for an operation, and answers its request.
+fn start(engine: &mut Engine, call: Call) -> Result<Request, anyhow::Error> {
+    match engine.call(call) {
+        Reply::Started(request) => Ok(request),
+        Reply::Refused(refused, _) => Err(anyhow::Error::from(refused)),
+        _ => bail!("no request was answered"),
+    }
+}
+
+/// The network: brings to one engine all that the other one has emitted.
+fn carry(from: &mut Engine, to: &mut Engine) -> Result<(), Refused> {
+    for (_target, bytes) in from.take_out() {
+        to.on_datagram(bytes.as_slice())?;
+    }
+    Ok(())
+}
+
+/// Rank 1 starts a receive, and is blocked in a wait for it.
+fn await_message(alloc: Global, receiver: &mut Engine) -> Result<(), anyhow::Error> {
+    let request = start(receiver, receive(alloc, 0)?)?;
+    let _blocked = receiver.call(Call::Wait(Some(request)));
+    Ok(())
+}
+
+/// Rank 0 sends, and what goes out is lost.
+fn send_in_vain(rt: &(impl Print + AllocGlobal), sender: &mut Engine) -> Result<(), anyhow::Error> {
+    let _sent = start(sender, send(rt.alloc(), 1)?)?;
+    let lost = sender.take_out().len();
+    println!(rt; "  lost: {lost}, idle: {}", sender.is_idle())?;
+    Ok(())
+}
+
+/// Prints the answer of the wait, if it is there.
+fn print_answer(rt: &impl Print, completion: Option<Completion>) -> io::Result<()> {
+    match completion {
+        Some(Completion::Requests(answer)) => print_received(rt, &answer),
+        _ => Ok(()),
+    }
+}
+
+/// 20 ms later rank 0 sends again; rank 1 takes the message in and acknowledges it.
+fn send_again(
+    rt: &impl Print,
+    sender: &mut Engine,
+    receiver: &mut Engine,
+) -> Result<(), anyhow::Error> {
+    sender.tick(20)?;
+    carry(sender, receiver)?;
+    print_answer(rt, receiver.take_completion())?;
+    carry(receiver, sender)?;
+    println!(rt; "  idle: {}", sender.is_idle())?;
+    Ok(())
+}
+
+/// A message goes from rank 0 to rank 1, over a network that loses its first datagram.
+fn converse(
+    rt: &(impl Print + AllocGlobal),
+    sender: &mut Engine,
+    receiver: &mut Engine,
+) -> Result<(), anyhow::Error> {
+    await_message(rt.alloc(), receiver)?;
+    send_in_vain(rt, sender)?;
+    send_again(rt, sender, receiver)
+}
+
+/// Two engines, and what passes between them.
+pub fn run(rt: &(impl Print + AllocGlobal)) -> Result<(), anyhow::Error> {
+    let mut sender = engine_of(rt.alloc(), 0)?;
+    let mut receiver = engine_of(rt.alloc(), 1)?;
+    converse(rt, &mut sender, &mut receiver)
+}
