@@ -44,6 +44,10 @@ unreadable_text word = codes "mpiexec: '" ++ shown word ++ codes "' can't be rea
 abbrev pub may_stand : Due → List ℕ
 may_stand due = codes "': " ++ due_text due ++ codes " may stand here"
 
+-- the end of a line on an option that is left out: what may stand in its place
+abbrev pub is_left_out : Due → List ℕ
+is_left_out due = codes "': " ++ due_text due ++ codes " may stand here; this option is left out"
+
 -- the end of a line on a word that is missing behind another
 abbrev pub is_missing : Due → List ℕ
 is_missing due = codes "' " ++ due_text due ++ codes " is missing"
@@ -54,7 +58,7 @@ wrong_text word due = codes "mpiexec: '" ++ shown word ++ may_stand due
 
 -- an option that is left out, and what may stand in its place
 abbrev pub left_out_text : Word → Due → List ℕ
-left_out_text word due = codes "mpiexec: '" ++ shown word ++ may_stand due ++ codes "; this option is left out"
+left_out_text word due = codes "mpiexec: '" ++ shown word ++ is_left_out due
 
 -- what is missing behind the last word, if there is one
 abbrev pub missing_text : Option Word → Due → List ℕ

@@ -100,6 +100,24 @@ impl fmt::Display for MayStand {
     }
 }
 
+/// The end of a line on an option that is left out: what may stand in its place.
+#[derive(Clone, Copy)]
+struct IsLeftOut {
+    due: Due,
+}
+
+impl fmt::Display for IsLeftOut {
+    ghost use Rattle.std.specs.Prelude.{Some};
+    ghost use Rattle.launch_faults.specs.Explanations.{is_left_out};
+
+    ghost output = { λ l. Some (is_left_out l.due) };
+
+    fn fmt<W: fmt::Write>(&self, f: &mut fmt::Formatter<W>) -> fmt::Result {
+        let due = self.due;
+        write!(f, "': {due} may stand here; this option is left out")
+    }
+}
+
 /// The end of a line on a word that is missing behind another.
 #[derive(Clone, Copy)]
 struct IsMissing {
@@ -135,8 +153,8 @@ impl<'a> fmt::Display for Explanation<'a> {
                 write!(f, "mpiexec: '{name}' can't be read")
             }
             Explanation::LeftOut(word, due) => {
-                let (word, may) = (Shown { word }, MayStand { due: *due });
-                write!(f, "mpiexec: '{word}{may}; this option is left out")
+                let (word, left_out) = (Shown { word }, IsLeftOut { due: *due });
+                write!(f, "mpiexec: '{word}{left_out}")
             }
             Explanation::Wrong(word, due) => {
                 let (word, may) = (Shown { word }, MayStand { due: *due });

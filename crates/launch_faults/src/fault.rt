@@ -1,6 +1,6 @@
 //! Where words are at fault.
 
-ghost use Rattle.std.specs.Prelude.{◌≡◌, ◌≤◌, length, None, Some, MatchOption};
+ghost use Rattle.std.specs.Prelude.{◌≡◌, ◌≤◌, length, None, Some, IfSome, MatchOption};
 ghost use Rattle.std.specs.Option.{option_copied};
 ghost use Rattle.launch_faults.specs.Places.{rule_of, refusal_of, IsSettled, place_by, IsPlaced, IsFault};
 
@@ -60,7 +60,8 @@ fn settled(alloc: Global, words: &[Word], config: Option<&[u8]>, refused: Refuse
 /// How many words stand in front of the word at fault, where so many words settle the refusal and name no file. A missing word is
 /// missing behind those that settle it; any other fault is that of the last of them.
 fn place_by(refused: Refused, settled: usize) -> usize
-    ensures { result ≡ place_by refused settled }
+    ensures exact { result ≡ place_by refused settled }
+    ensures within { result ≤ settled }
 {
     match refused {
         Refused::NoSet | Refused::WrongValue | Refused::NoProgram => settled,
@@ -72,7 +73,8 @@ fn place_by(refused: Refused, settled: usize) -> usize
 /// of its name.
 fn place(words: &[Word], refused: Refused, settled: usize) -> usize
     requires { settled ≤ length words.now }
-    ensures { IsPlaced words.now refused settled result }
+    ensures exact { IsPlaced words.now refused settled result }
+    ensures within { result ≤ settled }
 {
     match config_name(&words[..settled]) {
         Some(_) => settled.saturating_sub(1),
@@ -86,8 +88,11 @@ fn place(words: &[Word], refused: Refused, settled: usize) -> usize
 /// A front of the words is judged as if it were all of them, so what is told is of `plan` itself: from the word at fault on, whatever
 /// of the words stands behind, the refusal is the same. The time grows with the words behind the fault times those in front.
 pub fn fault_place(alloc: Global, words: &[Word], config: Option<&[u8]>) -> Option<Fault>
-    ensures { MatchOption result (refusal_of words.now (option_copied config.entry) ≡ None)
+    // It is the word from which on the refusal stays.
+    ensures exact { MatchOption result (refusal_of words.now (option_copied config.entry) ≡ None)
         (λ fault. IsFault words.now (option_copied config.entry) fault) }
+    // No more words stand in front of it than there are.
+    ensures within { IfSome result (λ fault. fault.place ≤ length words.now) }
 {
     let refused = refusal_of(alloc, words, config)?;
     let settled = settled(alloc, words, config, refused);

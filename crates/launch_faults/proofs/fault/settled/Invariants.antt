@@ -1,6 +1,6 @@
-use Rattle.std.proofs.Common.{◌≡◌, ◌≤◌, ℕ, length, take, Some}
+use Rattle.std.proofs.Common.{◌≤◌, length}
 use Rattle.std.specs.Option.{option_copied}
-use Rattle.launch_faults.specs.Places.{refusal_of, StaysFrom}
+use Rattle.launch_faults.specs.Places.{StaysFrom}
 use Rattle.launch_faults.proofs.fault.settled.Given as goal
 
 abbrev pub invariant-loop-settled : goal.invariant-loop-settled
