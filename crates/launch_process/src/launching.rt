@@ -1,7 +1,9 @@
 //! The launcher: it starts a keeper for each rank, and prints what their ranks wrote.
 
 use crate::text::text_of;
-use keeping::{LostKeeperLine, Report, TakenPortsLine, Word, join_from, keeper_words, launch_status};
+use keeping::{
+    LostKeeperLine, Report, TakenPortsLine, Word, join_from, keeper_words, launch_status,
+};
 use launch::Plan;
 use std::alloc::{AllocError, Global};
 use std::io::{ErrorKind, Read, Write};

@@ -81,8 +81,14 @@ fn what_may_stand_there(rt: HostRuntime) {
         ("-n 1 a", ""),
         ("-n 1 :", "mpiexec: ':': a program may stand here"),
         ("-n 2", "mpiexec: behind '2' a program is missing"),
-        ("-n 1 a :", "mpiexec: behind ':' a set (-n N PROGRAM ..) is missing"),
-        ("-restart x", "mpiexec: 'x': a number from 0 to 65535 may stand here"),
+        (
+            "-n 1 a :",
+            "mpiexec: behind ':' a set (-n N PROGRAM ..) is missing",
+        ),
+        (
+            "-restart x",
+            "mpiexec: 'x': a number from 0 to 65535 may stand here",
+        ),
         ("-configfile f", "mpiexec: 'f' can't be read"),
     ];
     for (line, want) in rows {
@@ -107,11 +113,22 @@ fn lines_of_keepers(rt: HostRuntime) {
     let other = line(b"brank_main", Ending::Status(4), After::End(4));
     let killed = line(b"rank_main", Ending::Signal(9), After::End(128));
     let absent = line(b"./no\tne", Ending::NotStarted, After::End(127));
-    assert_eq!(rt; patient.as_deref(),
-        Some("mpiexec: rank 3 ended with status 4 (patience); started again as incarnation 1"));
-    assert_eq!(rt; other.as_deref(), Some("mpiexec: rank 3 ended with status 4"));
-    assert_eq!(rt; killed.as_deref(), Some("mpiexec: rank 3 was ended by signal 9"));
-    assert_eq!(rt; absent.as_deref(), Some("mpiexec: rank 3: ./no?ne can't be started"));
+    assert_eq!(rt;
+        patient.as_deref(),
+        Some("mpiexec: rank 3 ended with status 4 (patience); started again as incarnation 1")
+    );
+    assert_eq!(rt;
+        other.as_deref(),
+        Some("mpiexec: rank 3 ended with status 4")
+    );
+    assert_eq!(rt;
+        killed.as_deref(),
+        Some("mpiexec: rank 3 was ended by signal 9")
+    );
+    assert_eq!(rt;
+        absent.as_deref(),
+        Some("mpiexec: rank 3: ./no?ne can't be started")
+    );
     assert!(rt; Ending::Signal(9).is_failure() && !Ending::Status(0).is_failure());
 }
 
@@ -120,10 +137,16 @@ fn lines_of_the_launcher(rt: HostRuntime) {
     let alloc = rt.alloc();
     let lost = LostKeeperLine { rank: 2 };
     let taken = TakenPortsLine { base_port: 47_000 };
-    assert_eq!(rt; format!(in alloc; "{lost}").ok().as_deref(),
-        Some("mpiexec: the keeper of rank 2 ended before its report"));
-    assert_eq!(rt; format!(in alloc; "{taken}").ok().as_deref(),
-        Some("mpiexec: another job may use the ports from 47000 on: give each job its own -baseport and -job"));
+    assert_eq!(rt;
+        format!(in alloc; "{lost}").ok().as_deref(),
+        Some("mpiexec: the keeper of rank 2 ended before its report")
+    );
+    assert_eq!(rt;
+        format!(in alloc; "{taken}").ok().as_deref(),
+        Some(
+            "mpiexec: another job may use the ports from 47000 on: give each job its own -baseport and -job"
+        )
+    );
     let whole = Shown { word: &[97; 80] };
     let long = Shown { word: &[97; 81] };
     let cut = format!(in alloc; "{whole} ..");
