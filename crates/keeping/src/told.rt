@@ -217,7 +217,10 @@ impl fmt::Display for LostKeeperLine {
 
     fn fmt<W: fmt::Write>(&self, f: &mut fmt::Formatter<W>) -> fmt::Result {
         let rank = self.rank;
-        write!(f, "mpiexec: the keeper of rank {rank} ended before its report")
+        write!(
+            f,
+            "mpiexec: the keeper of rank {rank} ended before its report"
+        )
     }
 }
 
