@@ -4,3 +4,4 @@ pub mod Keepers
 pub mod Reports
 pub mod Roles
 pub mod Joined
+pub mod Told

@@ -7,6 +7,7 @@ use Rattle.keeping.specs.declared.ending.Ending.TheVariants as endings
 abbrev pub status_of_ending : Ending → ℕ
 status_of_ending endings.NotStarted = 127
 status_of_ending endings.WithoutStatus = 128
+status_of_ending (endings.Signal signal) = 128
 status_of_ending (endings.Status status) = status
 
 -- the first of these statuses, by rising rank, that isn't 0, else 0

@@ -1,6 +1,6 @@
 //! The statuses of programs, of ranks and of a launch.
 
-ghost use Rattle.std.specs.Prelude.{◌≡◌};
+ghost use Rattle.std.specs.Prelude.{◌≡◌, ◌==◌, not};
 ghost use Rattle.keeping.specs.Statuses.{status_of_ending, launch_status};
 
 /// How a rank's program ended.
@@ -8,8 +8,10 @@ ghost use Rattle.keeping.specs.Statuses.{status_of_ending, launch_status};
 pub enum Ending {
     /// It couldn't be started.
     NotStarted,
-    /// It ended without a status, as by a signal.
+    /// It ended without a status, and it isn't known why.
     WithoutStatus,
+    /// A signal of this number ended it, so that it has no status.
+    Signal(u8),
     /// It ended with this status.
     Status(u8),
 }
@@ -22,9 +24,16 @@ impl Ending {
     {
         match self {
             Ending::NotStarted => 127,
-            Ending::WithoutStatus => 128,
+            Ending::WithoutStatus | Ending::Signal(_) => 128,
             Ending::Status(status) => status,
         }
+    }
+
+    /// Whether the ending counts as a failure, which is told: its status isn't 0.
+    pub fn is_failure(self) -> bool
+        ensures { result ≡ not (status_of_ending self == 0) }
+    {
+        self.status() != 0
     }
 }
 

@@ -1,5 +1,5 @@
 //! What the launcher and its keepers share: words, a keeper's words, what it
-//! does after its program has ended and what it reports, and the outputs of the ranks as one text.
+//! does after its program has ended, what it reports and what it tells, and the outputs of the ranks as one text.
 #![tactic(auto)]
 
 mod ending;
@@ -7,6 +7,7 @@ mod joined;
 mod keeper;
 mod report;
 mod role;
+mod told;
 mod word;
 mod words;
 
@@ -15,5 +16,6 @@ pub use joined::{join, join_from};
 pub use keeper::{After, Keeper};
 pub use report::Report;
 pub use role::{Kept, keeper_words, kept_rank};
+pub use told::{EndingLine, LostKeeperLine, Shown, TakenPortsLine};
 pub use word::Word;
 pub use words::Words;

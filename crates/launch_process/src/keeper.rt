@@ -2,13 +2,14 @@
 
 use crate::text::text_of;
 use crate::watching::{await_end, collect};
-use keeping::{After, Ending, Keeper, Report, Words};
+use keeping::{After, Ending, EndingLine, Keeper, Report, Words};
 use launch::Plan;
 use std::alloc::Global;
 use std::io;
 use std::io::{ErrorKind, Write};
 use std::os::fd::AsRawFd;
-use std::process::{Child, Command, OpenProcess, Processes, Stdio};
+use std::os::unix::process::ExitStatusExt;
+use std::process::{Child, Command, ExitStatus, OpenProcess, Processes, Stdio};
 
 /// The command of these words.
 fn command_of(alloc: Global, words: &Words) -> io::Result<Command> {
@@ -24,6 +25,16 @@ fn command_of(alloc: Global, words: &Words) -> io::Result<Command> {
     Ok(command)
 }
 
+/// What became of a program that ended so.
+fn ending_of(status: ExitStatus) -> Ending {
+    let byte = |number: i32| u8::try_from(number).ok();
+    match (status.code().and_then(byte), status.signal().and_then(byte)) {
+        (Some(status), _) => Ending::Status(status),
+        (None, Some(signal)) => Ending::Signal(signal),
+        (None, None) => Ending::WithoutStatus,
+    }
+}
+
 /// Adds what the program writes to the output, and waits for its end.
 fn follow<P: OpenProcess<Stdout: AsRawFd>>(
     child: &mut Child<P>,
@@ -32,11 +43,7 @@ fn follow<P: OpenProcess<Stdout: AsRawFd>>(
     if let Some(mut pipe) = child.stdout.take() {
         collect(&mut pipe, output)?;
     }
-    let status = await_end(child)?;
-    match status.code().and_then(|code| u8::try_from(code).ok()) {
-        Some(status) => Ok(Ending::Status(status)),
-        None => Ok(Ending::WithoutStatus),
-    }
+    Ok(ending_of(await_end(child)?))
 }
 
 /// Runs the program of these words once, and adds what it writes to the output. The program is
@@ -59,8 +66,24 @@ fn run_once<R: Processes<Started: OpenProcess<Stdout: AsRawFd>>>(
     ending
 }
 
+/// Tells on the standard error that a rank's program failed, and whether it is started again. It is told at once.
+fn tell_ending(rt: &impl Eprint, rank: u16, words: &Words, ending: Ending, after: After) {
+    let Some(program) = words.as_slice().first() else {
+        return;
+    };
+    if ending.is_failure() {
+        let line = EndingLine {
+            rank,
+            program: program.as_bytes(),
+            ending,
+            after,
+        };
+        let _ = eprintln!(rt; "{line}");
+    }
+}
+
 /// Runs the program of a rank until it ends with status 0 or may not be started again.
-fn run_rank<R: Processes<Started: OpenProcess<Stdout: AsRawFd>>>(
+fn run_rank<R: Eprint + Processes<Started: OpenProcess<Stdout: AsRawFd>>>(
     rt: &R,
     alloc: Global,
     plan: &Plan,
@@ -73,8 +96,10 @@ fn run_rank<R: Processes<Started: OpenProcess<Stdout: AsRawFd>>>(
         let Some(words) = plan.words(alloc, rank, incarnation)? else {
             break;
         };
-        let status = run_once(rt, alloc, &words, &mut output)?.status();
-        match keeper.after(status, incarnation) {
+        let ending = run_once(rt, alloc, &words, &mut output)?;
+        let after = keeper.after(ending.status(), incarnation);
+        tell_ending(rt, rank, &words, ending, after);
+        match after {
             After::End(status) => return Ok(Report { output, status }),
             After::Again(next) => incarnation = next,
         }
@@ -83,7 +108,7 @@ fn run_rank<R: Processes<Started: OpenProcess<Stdout: AsRawFd>>>(
 }
 
 /// Keeps a rank, and writes the report of it.
-pub fn keep<R: Print + AllocGlobal + Processes<Started: OpenProcess<Stdout: AsRawFd>>>(
+pub fn keep<R: Print + Eprint + AllocGlobal + Processes<Started: OpenProcess<Stdout: AsRawFd>>>(
     rt: &R,
     plan: &Plan,
     rank: u16,

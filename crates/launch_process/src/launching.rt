@@ -1,9 +1,13 @@
 //! The launcher: it starts a keeper for each rank, and prints what their ranks wrote.
 
 use crate::text::text_of;
-use keeping::{Report, Word, join_from, keeper_words, launch_status};
+use keeping::{
+    LostKeeperLine, Report, TakenPortsLine, Word, join_from, keeper_words, launch_status,
+};
+use launch::Plan;
 use std::alloc::{AllocError, Global};
 use std::io::{ErrorKind, Read, Write};
+use std::net::{Ipv4Addr, Net, SocketAddr, TcpListener};
 use std::process::{Child, Command, OpenProcess, Processes, Stdio};
 use std::rt::{Env, Files};
 use std::{env, io};
@@ -46,34 +50,53 @@ fn start_all<R: Env + Files + AllocGlobal + Processes>(
     Ok(keepers)
 }
 
-/// What a keeper reports, once it has ended.
-fn report_of<P: OpenProcess + Drop>(alloc: Global, mut keeper: Child<P>) -> io::Result<Report> {
+/// Holds the TCP port that has the base port's number, so that a launch that begins meanwhile with the same one can tell so. The ranks
+/// use UDP alone. Where it is taken the launch goes on, and tells that.
+fn hold_port<R: Net + Eprint>(rt: &R, base_port: u16) -> Option<R::Listener> {
+    match TcpListener::bind(rt, SocketAddr::from((Ipv4Addr::LOCALHOST, base_port))) {
+        Ok(held) => Some(held),
+        Err(error) => {
+            if error.kind() == ErrorKind::AddrInUse {
+                let line = TakenPortsLine { base_port };
+                let _ = eprintln!(rt; "{line}");
+            }
+            None
+        }
+    }
+}
+
+/// What a keeper reports, once it has ended; `None` where it ended before that.
+fn report_of<P: OpenProcess + Drop>(
+    alloc: Global,
+    mut keeper: Child<P>,
+) -> io::Result<Option<Report>> {
     let mut bytes = Vec::new(alloc);
     if let Some(mut pipe) = keeper.stdout.take() {
         pipe.read_to_end(&mut bytes)?;
     }
     let is_whole = keeper.wait()?.success();
-    match Report::from_bytes(bytes) {
-        Some(report) if is_whole => Ok(report),
-        _ => Err(io::Error::from(ErrorKind::BrokenPipe)),
-    }
+    Ok(Report::from_bytes(bytes).filter(|_| is_whole))
 }
 
 /// Prints what a rank wrote, once its keeper has ended. Answers the rank's last status.
-fn print_rank<R: Print + AllocGlobal, P: OpenProcess + Drop>(
+fn print_rank<R: Print + Eprint + AllocGlobal, P: OpenProcess + Drop>(
     rt: &R,
     rank: usize,
     keeper: Child<P>,
 ) -> io::Result<u8> {
     let alloc = rt.alloc();
-    let report = report_of(alloc, keeper)?;
+    let Some(report) = report_of(alloc, keeper)? else {
+        let line = LostKeeperLine { rank };
+        let _ = eprintln!(rt; "{line}");
+        return Err(io::Error::from(ErrorKind::BrokenPipe));
+    };
     let text = join_from(alloc, rank, &report.output)?;
     io::writer(rt).write_all(&text)?;
     Ok(report.status)
 }
 
 /// Prints what the ranks of these keepers wrote, by rising rank. Answers their last statuses.
-fn print_all<R: Print + AllocGlobal, P: OpenProcess + Drop>(
+fn print_all<R: Print + Eprint + AllocGlobal, P: OpenProcess + Drop>(
     rt: &R,
     keepers: Vec<Child<P>>,
 ) -> io::Result<Vec<u8>> {
@@ -85,14 +108,15 @@ fn print_all<R: Print + AllocGlobal, P: OpenProcess + Drop>(
     Ok(statuses)
 }
 
-/// Launches so many ranks with these words, and prints what they wrote, by rising rank. Answers the
-/// status of the launch.
-pub fn launch<R: Env + Files + Print + AllocGlobal + Processes>(
+/// Launches the ranks of a plan, which these words ask for, and prints what they wrote, by rising rank. Answers the status of the
+/// launch.
+pub fn launch<R: Net + Env + Files + Print + Eprint + AllocGlobal + Processes>(
     rt: &R,
-    size: u16,
+    plan: &Plan,
     words: &[Word],
 ) -> io::Result<u8> {
-    let keepers = start_all(rt, size, words)?;
+    let _held = hold_port(rt, plan.base_port());
+    let keepers = start_all(rt, plan.size(), words)?;
     let statuses = print_all(rt, keepers)?;
     Ok(launch_status(&statuses))
 }

@@ -5,7 +5,9 @@ use crate::launching::launch;
 use keeping::{Word, kept_rank};
 use launch::planning::plan;
 use launch::{Outcome, Plan, Refused, config_name, spelled_out};
+use launch_faults::explain;
 use std::alloc::AllocError;
+use std::net::Net;
 use std::os::fd::AsRawFd;
 use std::process::{OpenProcess, Processes};
 use std::rt::{Env, Files};
@@ -40,37 +42,53 @@ fn config_of(rt: &(impl Files + AllocGlobal), words: &[Word]) -> Result<Option<V
     }
 }
 
-/// Tells a refusal on the standard error.
-fn tell(rt: &impl Eprint, outcome: Outcome) {
-    if let Outcome::Refused(refused) = outcome {
-        let number = refused.number();
-        let _ = eprintln!(rt; "mpiexec: refused {number}");
+/// Tells a refusal's number on the standard error.
+fn tell_number(rt: &impl Eprint, refused: Refused) -> Outcome {
+    let number = refused.number();
+    let _ = eprintln!(rt; "mpiexec: refused {number}");
+    Outcome::Refused(refused)
+}
+
+/// Tells why these words are refused: the number, and behind it which word is at fault and what may stand there.
+fn tell_refusal(
+    rt: &(impl Eprint + AllocGlobal),
+    words: &[Word],
+    config: Option<&[u8]>,
+    refused: Refused,
+) -> Outcome {
+    let outcome = tell_number(rt, refused);
+    if let Some(told) = explain(rt.alloc(), words, config) {
+        let _ = eprintln!(rt; "{told}");
     }
+    outcome
 }
 
 /// Plans what the words ask for, and launches it.
-fn run_launch<R: Env + Files + Print + AllocGlobal + Processes>(rt: &R, words: &[Word]) -> Outcome {
+fn run_launch<R: Net + Env + Files + Print + Eprint + AllocGlobal + Processes>(
+    rt: &R,
+    words: &[Word],
+) -> Outcome {
     let alloc = rt.alloc();
     let config = match config_of(rt, words) {
         Ok(config) => config,
-        Err(refused) => return Outcome::Refused(refused),
+        Err(refused) => return tell_number(rt, refused),
     };
     let config = config.as_deref();
     let plan = match plan(alloc, words, config) {
         Ok(plan) => plan,
-        Err(refused) => return Outcome::Refused(refused),
+        Err(refused) => return tell_refusal(rt, words, config, refused),
     };
     let Ok(words) = spelled_out(alloc, words, config) else {
         return Outcome::Failed;
     };
-    match launch(rt, plan.size(), words.as_slice()) {
+    match launch(rt, &plan, words.as_slice()) {
         Ok(status) => Outcome::Ended(status),
         Err(_) => Outcome::Failed,
     }
 }
 
 /// Plans the launch anew, and keeps the rank.
-fn run_keeper<R: Print + AllocGlobal + Processes<Started: OpenProcess<Stdout: AsRawFd>>>(
+fn run_keeper<R: Print + Eprint + AllocGlobal + Processes<Started: OpenProcess<Stdout: AsRawFd>>>(
     rt: &R,
     rank: u16,
     words: &[Word],
@@ -87,7 +105,8 @@ fn run_keeper<R: Print + AllocGlobal + Processes<Started: OpenProcess<Stdout: As
 /// Does what these words ask for, a launch or the keeping of one rank, tells a refusal on the standard error, and answers
 /// the status.
 pub fn run_words<
-    R: Env
+    R: Net
+        + Env
         + Files
         + Print
         + Eprint
@@ -98,13 +117,13 @@ pub fn run_words<
         Some(kept) => run_keeper(rt, kept.rank, kept.words),
         None => run_launch(rt, words),
     };
-    tell(rt, outcome);
     outcome.status()
 }
 
 /// Does what the words of this process ask for, and answers the status.
 pub fn run<
-    R: Env
+    R: Net
+        + Env
         + Files
         + Print
         + Eprint
@@ -113,10 +132,6 @@ pub fn run<
 >(rt: &R) -> u8 {
     match words_of(rt) {
         Ok(words) => run_words(rt, &words),
-        Err(_) => {
-            let outcome = Outcome::Refused(Refused::OutOfMemory);
-            tell(rt, outcome);
-            outcome.status()
-        }
+        Err(_) => tell_number(rt, Refused::OutOfMemory).status(),
     }
 }

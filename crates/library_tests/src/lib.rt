@@ -8,6 +8,8 @@ mod frame_tests;
 #[cfg(test)]
 mod launch_tests;
 #[cfg(test)]
+mod launch_told_tests;
+#[cfg(test)]
 mod perfect_queues_tests;
 #[cfg(test)]
 mod settings_tests;

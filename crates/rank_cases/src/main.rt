@@ -4,6 +4,7 @@
 //! `mpiexec` and `rank_main`, and starts itself; its first word says what it is, and without words it runs the rows.
 #![tactic(auto)]
 
+mod launch_fault_rows;
 mod ports;
 mod process;
 mod rows;
@@ -21,7 +22,8 @@ use std::{env, io};
 
 /// Runs the launcher, or a keeper, with these words.
 fn run_launcher<
-    R: Env
+    R: Net
+        + Env
         + Files
         + Print
         + Eprint
@@ -53,6 +55,7 @@ fn run<
     };
     let Some((first, rest)) = behind.split_first() else {
         run_rows(rt)?;
+        launch_fault_rows::run_rows(rt)?;
         return Ok(0);
     };
     match first.as_str() {

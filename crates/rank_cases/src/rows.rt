@@ -168,7 +168,20 @@ fn run_launches<R: Net + Clock + Print + AllocGlobal + Processes>(
         itself,
         "the words that programs get",
         &[
-            "launch", "-job", "5", "-n", "1", "echo", "hi", ":", "-n", "1", "echo", "ho",
+            "launch",
+            "-job",
+            "5",
+            "-baseport",
+            "61000",
+            "-n",
+            "1",
+            "echo",
+            "hi",
+            ":",
+            "-n",
+            "1",
+            "echo",
+            "ho",
         ],
     )
 }
