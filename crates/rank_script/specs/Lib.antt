@@ -2,3 +2,4 @@ pub mod NamesState
 pub mod Acting
 pub mod Heeding
 pub mod Running
+pub mod Standing

@@ -7,4 +7,4 @@ mod heeding;
 mod names;
 mod runner;
 
-pub use runner::ScriptRunner;
+pub use runner::{ScriptRunner, line_of_number, line_taken_last};

@@ -6,6 +6,7 @@ ghost use Rattle.name_tables.specs.Tables.{value_at};
 ghost use Rattle.rank_script.specs.NamesState.{no_names, here, is_lent, is_root, place_named, with_buffer, given_back};
 
 use datatypes::{Buffer, Layout};
+use fault_lines::{Holder, Slot};
 use name_tables::Table;
 use statement_calls::{Doing, Held, Seat, empty_status};
 use statements::{Communicator, Name};
@@ -154,5 +155,40 @@ impl Names {
         ensures rest { self.new ≡ record self.old { doing = free } }
     {
         mem::replace(&mut self.doing, Doing::free())
+    }
+}
+
+impl Holder for Names {
+    ghost use Rattle.rank_script.specs.NamesState.{holdings};
+
+    ghost held = { λ n. holdings n };
+
+    fn has_communicator(&self, name: &Name) -> bool {
+        self.communicators.get(name).is_some()
+    }
+
+    fn has_layout(&self, name: &Name) -> bool {
+        self.layouts.get(name).is_some()
+    }
+
+    fn has_request(&self, name: &Name) -> bool {
+        self.requests.get(name).is_some()
+    }
+
+    fn slot(&self, name: &Name) -> Slot {
+        match self.buffers.get(name) {
+            Some(slot) => {
+                if slot.is_some() {
+                    Slot::Here
+                } else {
+                    Slot::Lent
+                }
+            }
+            None => Slot::Unset,
+        }
+    }
+
+    fn is_member(&self, communicator: &Communicator, rank: u16) -> bool {
+        self.is_root(communicator, rank)
     }
 }
