@@ -6,6 +6,7 @@
 
 mod ports;
 mod process;
+mod rank_fault_rows;
 mod rows;
 
 use crate::rows::run_rows;

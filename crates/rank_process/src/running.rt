@@ -7,9 +7,9 @@ use crate::telling::{Told, tell, tell_of, tell_port, tell_unread, tell_usage, te
 use crate::udp::Udp;
 use engine::{Engine, Place};
 use rank_drive::{Ended, TransportFault, drive};
-use rank_script::ScriptRunner;
 use rank_settings::{Refused, Settings, settings_of};
 use script_files::{ParseError, Script, parse};
+use script_runner::ScriptRunner;
 use std::io::ErrorKind;
 use std::net::Net;
 use std::rt::{Env, Files};

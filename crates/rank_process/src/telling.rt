@@ -1,9 +1,9 @@
 //! What a rank tells on its standard error where it ends otherwise than its script does.
 
 use fault_lines::{explanation, gave_up_at, gave_up_behind, line_at, script_fault};
-use rank_script::{ScriptRunner, line_of_number, line_taken_last};
 use rank_settings::{Settings, asks_for_help, fault_in};
 use script_files::{RankLines, parse};
+use script_runner::{ScriptRunner, line_of_number, line_taken_last};
 use std::alloc::Global;
 use std::str;
 

@@ -17,14 +17,15 @@ use vocabulary::Status;
 
 /// What the names of a rank stand for, and what it waits for.
 #[derive(Drop)]
-pub(crate) struct Names {
-    pub alloc: Global,
-    pub rank: u16,
-    pub buffers: Table<Option<Buffer>>,
-    pub layouts: Table<Layout>,
-    pub requests: Table<Held>,
-    pub communicators: Table<Option<Seat>>,
-    pub last: Status,
+pub struct Names {
+    pub(crate) alloc: Global,
+    pub(crate) rank: u16,
+    pub(crate) buffers: Table<Option<Buffer>>,
+    pub(crate) layouts: Table<Layout>,
+    pub(crate) requests: Table<Held>,
+    pub(crate) communicators: Table<Option<Seat>>,
+    pub(crate) last: Status,
+    /// What the answer to the last call is for, and what it changes.
     pub doing: Doing,
 }
 
@@ -46,7 +47,7 @@ impl Model for Names {
 
 impl Names {
     /// No name is set at this rank of `world`.
-    pub(crate) fn new(alloc: Global, rank: u16) -> Names
+    pub fn new(alloc: Global, rank: u16) -> Names
         ensures { result ≡ no_names rank }
     {
         Names {

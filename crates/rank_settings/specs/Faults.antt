@@ -20,14 +20,9 @@ range_of option =
 -- what may stand in the place of a word
 abbrev pub wanted_text : Wanted → List ℕ
 wanted_text (wanted.Number low high) = codes "a number from " ++ decimal low ++ codes " to " ++ decimal high
-wanted_text (wanted.Rank size) = codes "a number below the size " ++ decimal size
-wanted_text (wanted.Port size) =
-    codes "a number by which each of the " ++ decimal size ++ codes " ranks has a port from 1 to 65535"
 wanted_text wanted.OptionOrScript = codes "one of --rank, --size, --inc, --job, --port and --patience, each once, or one script"
 
 -- a word that isn't what may stand in its place
 abbrev pub IsAtFault : List ℕ → Wanted → Type 0
 IsAtFault word (wanted.Number low high) = number_between word low high ≡ None
-IsAtFault word (wanted.Rank size) = Unit {0}
-IsAtFault word (wanted.Port size) = Unit {0}
 IsAtFault word wanted.OptionOrScript = Unit {0}

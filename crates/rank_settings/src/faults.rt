@@ -12,10 +12,6 @@ use std::fmt;
 pub enum Wanted {
     /// A number between these, themselves included.
     Number(u64, u64),
-    /// A rank of a job of this size.
-    Rank(u64),
-    /// A port that gives each rank of a job of this size a port.
-    Port(u64),
     /// An option that doesn't stand before it, or the script, once.
     OptionOrScript,
 }
@@ -29,13 +25,6 @@ impl fmt::Display for Wanted {
     fn fmt<W: fmt::Write>(&self, f: &mut fmt::Formatter<W>) -> fmt::Result {
         match self {
             Wanted::Number(low, high) => write!(f, "a number from {low} to {high}"),
-            Wanted::Rank(size) => write!(f, "a number below the size {size}"),
-            Wanted::Port(size) => {
-                write!(
-                    f,
-                    "a number by which each of the {size} ranks has a port from 1 to 65535"
-                )
-            }
             Wanted::OptionOrScript => f.write_str(
                 "one of --rank, --size, --inc, --job, --port and --patience, each once, or one script",
             ),
@@ -69,7 +58,9 @@ fn range_of(option: &str) -> Option<(u64, u64)>
 }
 
 /// The fault of a value that is to lie between these numbers.
-fn value_fault<'a>(word: &'a str, (low, high): (u64, u64)) -> Option<WordFault<'a>> {
+fn value_fault<'a>(word: &'a str, (low, high): (u64, u64)) -> Option<WordFault<'a>>
+    ensures { IfSome result (λ fault. IsAtFault fault.word.now fault.wanted) }
+{
     match number_between(word.as_bytes(), low, high) {
         Some(_) => None,
         None => Some(WordFault {
@@ -105,7 +96,9 @@ fn standing_of<S: AsStr>(words: &[S], place: usize, word: &str, has_script: bool
 }
 
 /// The first word, from the left, that no option and no value in its range may be.
-fn scanned_fault<'a, S: AsStr>(words: &'a [S]) -> Option<WordFault<'a>> {
+fn scanned_fault<'a, S: AsStr>(words: &'a [S]) -> Option<WordFault<'a>>
+    ensures { IfSome result (λ fault. IsAtFault fault.word.now fault.wanted) }
+{
     let mut range = None;
     let mut has_script = false;
     for (place, word) in words.iter().enumerate().skip(1) {
@@ -136,26 +129,18 @@ fn value_behind<'a, S: AsStr>(words: &'a [S], option: &str) -> Option<&'a str> {
     Some(words.get(place.checked_add(1)?)?.as_str())
 }
 
-/// A rank that isn't below the size, or a port by which some rank has none.
-fn bounds_fault<'a, S: AsStr>(words: &'a [S]) -> Option<WordFault<'a>> {
+/// A rank that isn't below the size, or a port by which some rank has none from 1 to 65,535.
+fn bounds_fault<'a, S: AsStr>(words: &'a [S]) -> Option<WordFault<'a>>
+    ensures { IfSome result (λ fault. IsAtFault fault.word.now fault.wanted) }
+{
     let rank_word = value_behind(words, "--rank")?;
     let port_word = value_behind(words, "--port")?;
     let size = number_between(value_behind(words, "--size")?.as_bytes(), 1, 256)?;
     let rank = number_between(rank_word.as_bytes(), 0, 255)?;
-    let port = number_between(port_word.as_bytes(), 1, 65_535)?;
-    if rank >= size {
-        return Some(WordFault {
-            word: rank_word,
-            wanted: Wanted::Rank(size),
-        });
+    match value_fault(rank_word, (0, size - 1)) {
+        Some(fault) => Some(fault),
+        None => value_fault(port_word, (rank + 1, 65_536 + rank - size)),
     }
-    if rank >= port || port + size > 65_536 + rank {
-        return Some(WordFault {
-            word: port_word,
-            wanted: Wanted::Port(size),
-        });
-    }
-    None
 }
 
 /// The word that is at fault where `settings_of` refuses these words with 64, and what may stand in its place: from the left the

@@ -5,14 +5,14 @@ ghost use Rattle.fault_lines.specs.Lacks.{lack_of_statement};
 ghost use Rattle.rank_script.specs.Acting.{states};
 ghost use Rattle.rank_script.specs.Heeding.{heeds};
 ghost use Rattle.rank_script.specs.NamesState.{holdings};
-ghost use Rattle.rank_script.specs.Running.{along, does_after, next_of, opening};
-ghost use Rattle.rank_script.specs.Standing.{StopsWhere, is_awaiting, numbered, taken_last};
+ghost use Rattle.script_runner.specs.Running.{along, does_after, next_of, opening};
+ghost use Rattle.script_runner.specs.Standing.{StopsWhere, is_awaiting};
 
-use crate::names::Names;
 use engine::Reply;
 use fault_lines::{Fault, lack_of_statement};
 use rank_drive::{Runner, Step};
-use script_files::{RankLine, RankLines, Script, Statement};
+use rank_script::Names;
+use script_files::{RankLines, Script, Statement};
 use statement_calls::Stage;
 use std::alloc::{AllocError, Global};
 use std::marker::Model;
@@ -25,7 +25,7 @@ pub struct ScriptRunner {
 }
 
 impl Model for ScriptRunner {
-    ghost use Rattle.rank_script.specs.Running.{RunnerState};
+    ghost use Rattle.script_runner.specs.Running.{RunnerState};
 
     ghost Value = { RunnerState };
 
@@ -101,6 +101,7 @@ impl ScriptRunner {
     /// Why a line can't be followed by what the names stand for now, in which case the script ends at it with 51: the first of
     /// the names that the line uses that isn't set, or whose buffer is lent. None where the line can be followed. The only error
     /// is want of memory.
+    #[tactic(auto, using(crate::proofs::StandingLaws::stops_where_lacking))]
     pub fn lack_of(
         &self,
         alloc: Global,
@@ -114,35 +115,8 @@ impl ScriptRunner {
     }
 }
 
-/// The line that is taken last where so many are left behind it; none where as many are left as there are. The runner of these
-/// lines stands at it.
-pub fn line_taken_last(lines: RankLines, left: usize) -> Option<RankLine>
-    ensures { result ≡ taken_last left lines }
-{
-    let mut lines = lines;
-    let mut last = None;
-    for _ in left..lines.len() {
-        last = lines.next();
-    }
-    last
-}
-
-/// The first line of this number.
-pub fn line_of_number(lines: RankLines, number: usize) -> Option<RankLine>
-    ensures { result ≡ numbered number lines }
-{
-    let mut lines = lines;
-    while let Some(line) = lines.next() {
-        if line.number == number {
-            return Some(line);
-        }
-        drop(line);
-    }
-    None
-}
-
 impl Runner for ScriptRunner {
-    ghost use Rattle.rank_script.specs.Running.{NextGives};
+    ghost use Rattle.script_runner.specs.Running.{NextGives};
 
     ghost does = { NextGives };
 
