@@ -79,7 +79,7 @@ lacks_request h (requested.Named name) = unset_unless (h.requests name) name
 abbrev pub lacks_two : Holdings → Communicator → Communicator → Option Fault
 lacks_two h one other = or_else (lacks_communicator h one) (lacks_communicator h other)
 
-unfoldable pub lacks_requests : Holdings → List Requested → Option Fault
+abbrev pub lacks_requests : Holdings → List Requested → Option Fault
 lacks_requests h [] = None
 lacks_requests h (r ∷ rs) = or_else (lacks_request h r) (lacks_requests h rs)
 

@@ -1,6 +1,6 @@
 //! Numbers that their types don't hold.
 
-ghost use Rattle.std.specs.Prelude.{◌≡◌, is_some};
+ghost use Rattle.std.specs.Prelude.{◌≡◌, ◌||◌, is_some};
 ghost use Rattle.std.specs.List.{list_any, position};
 ghost use Rattle.statements.specs.Reading.{is_star, key_of, value_of};
 ghost use Rattle.fault_lines.specs.Faults.{element_in, has_action_outside, has_element_outside, has_split_outside, has_tick_outside, is_colour_outside, is_integer, is_key_outside, is_outside};
@@ -125,14 +125,19 @@ fn is_key_outside(word: &[u8]) -> bool
     is_integer(word) && !is_key(word)
 }
 
+/// Whether one of them is a number that its type doesn't hold.
+fn is_either_outside(colour: &[u8], key: &[u8]) -> bool
+    ensures { result ≡ (is_colour_outside colour.now || is_key_outside key.now) }
+{
+    is_colour_outside(colour) || is_key_outside(key)
+}
+
 /// Whether a number of `NEW COMM COLOUR KEY` is one that its type doesn't hold.
 fn has_split_outside(words: &[Word]) -> bool
     ensures { result ≡ has_split_outside words.now }
 {
     match words {
-        [_, _, colour, key, ..] => {
-            is_colour_outside(colour.as_bytes()) || is_key_outside(key.as_bytes())
-        }
+        [_, _, colour, key, ..] => is_either_outside(colour.as_bytes(), key.as_bytes()),
         _ => false,
     }
 }

@@ -58,7 +58,7 @@ fn range_of(option: &str) -> Option<(u64, u64)>
 }
 
 /// The fault of a value that is to lie between these numbers.
-fn value_fault<'a>(word: &'a str, (low, high): (u64, u64)) -> Option<WordFault<'a>>
+fn value_fault<'a>(word: &'a str, low: u64, high: u64) -> Option<WordFault<'a>>
     ensures { IfSome result (λ fault. IsAtFault fault.word.now fault.wanted) }
 {
     match number_between(word.as_bytes(), low, high) {
@@ -70,15 +70,28 @@ fn value_fault<'a>(word: &'a str, (low, high): (u64, u64)) -> Option<WordFault<'
     }
 }
 
-/// Whether the word is among the words before the one at this place.
-fn is_repeated<S: AsStr>(words: &[S], place: usize, word: &str) -> bool {
-    words.iter().take(place).any(|one| one.as_str() == word)
+/// A word as it stands, or its front where `=` and a value stand behind an option.
+fn front_of(word: &str) -> &str {
+    match word.split_once('=') {
+        Some((front, _)) => front,
+        None => word,
+    }
+}
+
+/// Whether an option stands among the words before the one at this place.
+fn is_repeated<S: AsStr>(words: &[S], place: usize, option: &str) -> bool {
+    words
+        .iter()
+        .take(place)
+        .any(|one| front_of(one.as_str()) == option)
 }
 
 /// What a word stands for where an option or the script may stand.
-enum Standing {
+enum Standing<'a> {
     /// An option whose value is the next word, and between which numbers that lies.
     Option(u64, u64),
+    /// An option with its value behind `=`.
+    Valued(&'a str, u64, u64),
     /// The script.
     Script,
     /// Nothing.
@@ -86,16 +99,24 @@ enum Standing {
 }
 
 /// What the word at this place stands for, where no value does.
-fn standing_of<S: AsStr>(words: &[S], place: usize, word: &str, has_script: bool) -> Standing {
-    match range_of(word) {
-        Some(_) if is_repeated(words, place, word) => Standing::Fault,
-        Some((low, high)) => Standing::Option(low, high),
+fn standing_of<'a, S: AsStr>(
+    words: &[S],
+    place: usize,
+    word: &'a str,
+    has_script: bool,
+) -> Standing<'a> {
+    match range_of(front_of(word)) {
+        Some(_) if is_repeated(words, place, front_of(word)) => Standing::Fault,
+        Some((low, high)) => match word.split_once('=') {
+            Some((_, value)) => Standing::Valued(value, low, high),
+            None => Standing::Option(low, high),
+        },
         None if has_script || word.starts_with('-') => Standing::Fault,
         None => Standing::Script,
     }
 }
 
-/// The first word, from the left, that no option and no value in its range may be.
+/// The first word, from the left, that no option and no value in its range may be. Behind `--` none is looked at.
 fn scanned_fault<'a, S: AsStr>(words: &'a [S]) -> Option<WordFault<'a>>
     ensures { IfSome result (λ fault. IsAtFault fault.word.now fault.wanted) }
 {
@@ -103,14 +124,22 @@ fn scanned_fault<'a, S: AsStr>(words: &'a [S]) -> Option<WordFault<'a>>
     let mut has_script = false;
     for (place, word) in words.iter().enumerate().skip(1) {
         let word = word.as_str();
-        if let Some(bounds) = range.take() {
-            if let Some(fault) = value_fault(word, bounds) {
+        if let Some((low, high)) = range.take() {
+            if let Some(fault) = value_fault(word, low, high) {
                 return Some(fault);
             }
             continue;
         }
+        if word == "--" {
+            return None;
+        }
         match standing_of(words, place, word, has_script) {
             Standing::Option(low, high) => range = Some((low, high)),
+            Standing::Valued(value, low, high) => {
+                if let Some(fault) = value_fault(value, low, high) {
+                    return Some(fault);
+                }
+            }
             Standing::Script => has_script = true,
             Standing::Fault => {
                 return Some(WordFault {
@@ -123,23 +152,28 @@ fn scanned_fault<'a, S: AsStr>(words: &'a [S]) -> Option<WordFault<'a>>
     None
 }
 
-/// The word behind this option.
-fn value_behind<'a, S: AsStr>(words: &'a [S], option: &str) -> Option<&'a str> {
-    let place = words.iter().position(|word| word.as_str() == option)?;
-    Some(words.get(place.checked_add(1)?)?.as_str())
+/// The value of this option: behind `=`, or the next word.
+fn value_of<'a, S: AsStr>(words: &'a [S], option: &str) -> Option<&'a str> {
+    let place = words
+        .iter()
+        .position(|word| front_of(word.as_str()) == option)?;
+    match words.get(place)?.as_str().split_once('=') {
+        Some((_, value)) => Some(value),
+        None => Some(words.get(place.checked_add(1)?)?.as_str()),
+    }
 }
 
 /// A rank that isn't below the size, or a port by which some rank has none from 1 to 65,535.
 fn bounds_fault<'a, S: AsStr>(words: &'a [S]) -> Option<WordFault<'a>>
     ensures { IfSome result (λ fault. IsAtFault fault.word.now fault.wanted) }
 {
-    let rank_word = value_behind(words, "--rank")?;
-    let port_word = value_behind(words, "--port")?;
-    let size = number_between(value_behind(words, "--size")?.as_bytes(), 1, 256)?;
+    let rank_word = value_of(words, "--rank")?;
+    let port_word = value_of(words, "--port")?;
+    let size = number_between(value_of(words, "--size")?.as_bytes(), 1, 256)?;
     let rank = number_between(rank_word.as_bytes(), 0, 255)?;
-    match value_fault(rank_word, (0, size - 1)) {
+    match value_fault(rank_word, 0, size - 1) {
         Some(fault) => Some(fault),
-        None => value_fault(port_word, (rank + 1, 65_536 + rank - size)),
+        None => value_fault(port_word, rank + 1, 65_536 + rank - size),
     }
 }
 

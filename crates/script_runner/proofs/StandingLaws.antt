@@ -97,7 +97,6 @@ both_match (Some f) g (Some r) rest m n = absurd m
 both_match None g (Some r) rest m n = mapped_matches _ g rest n
 
 requests_match : (s : NamesState) (rs : List Requested) → Matches (lacks_requests (holdings s) rs) (requests_named s rs)
-unfolding lacks_requests
 requests_match s [] = tt
 requests_match s (r ∷ rs) =
     both_match (lacks_request (holdings s) r) (lacks_requests (holdings s) rs) (request_named s r) (requests_named s rs)
