@@ -38,7 +38,8 @@ fn shown(alloc: Global, line: &[u8]) -> Result<Vec<u8>, AllocError>
     if line.len() <= LONGEST {
         return shown_bytes(alloc, line);
     }
-    let mut text = shown_bytes(alloc, &line[..LONGEST])?;
+    let (front, _) = line.split_at(LONGEST);
+    let mut text = shown_bytes(alloc, front)?;
     text.extend_from_slice(b" ..")?;
     Ok(text)
 }
