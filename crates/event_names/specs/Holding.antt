@@ -37,5 +37,5 @@ holdings n = record {
   layouts = λ name. is_some (value_at n.layouts name);
   requests = λ name. is_some (value_at n.requests name);
   slots = λ name. slot_of (value_at n.buffers name);
-  members = λ communicator rank. is_member n communicator rank
+  members = λ communicator rank. is_member n communicator rank;
 }

@@ -163,10 +163,13 @@ impl Names {
             request: None,
             buffer: None,
         };
-        let Some(Held {
-            request: _,
-            buffer: Some(lent),
-        }) = self.requests.replace(name, null) else {
+        let Some(
+            Held {
+                request: _,
+                buffer: Some(lent),
+            },
+        ) = self.requests.replace(name, null)
+        else {
             return Ok(());
         };
         match buffer_of(outcome) {

@@ -260,14 +260,35 @@ fn lacks_together<H: Holder>(
         }
         Action::Gather(said) => {
             let sets = names.is_member(&said.communicator, said.root);
-            lacks_gathering(alloc, names, &said.communicator, sets, &said.into, &said.buffer)
+            lacks_gathering(
+                alloc,
+                names,
+                &said.communicator,
+                sets,
+                &said.into,
+                &said.buffer,
+            )
         }
         Action::Reduce(said) => {
             let sets = names.is_member(&said.communicator, said.root);
-            lacks_gathering(alloc, names, &said.communicator, sets, &said.into, &said.buffer)
+            lacks_gathering(
+                alloc,
+                names,
+                &said.communicator,
+                sets,
+                &said.into,
+                &said.buffer,
+            )
         }
         Action::Allreduce(said) => {
-            lacks_gathering(alloc, names, &said.communicator, true, &said.into, &said.buffer)
+            lacks_gathering(
+                alloc,
+                names,
+                &said.communicator,
+                true,
+                &said.into,
+                &said.buffer,
+            )
         }
         Action::Scatter(said) => lacks_scatter(alloc, names, said),
         _ => Ok(None),
@@ -288,10 +309,22 @@ pub fn lack_of_action<H: Holder>(
         Action::Buffer(line) => lacks_setting(alloc, names, &line.name),
         Action::Layout(line) => lacks_old(alloc, names, &line.made_of),
         Action::Isend(_, said) => {
-            lacks_place(alloc, names, &said.communicator, &said.through, &said.buffer)
+            lacks_place(
+                alloc,
+                names,
+                &said.communicator,
+                &said.through,
+                &said.buffer,
+            )
         }
         Action::Irecv(_, said) => {
-            lacks_place(alloc, names, &said.communicator, &said.through, &said.buffer)
+            lacks_place(
+                alloc,
+                names,
+                &said.communicator,
+                &said.through,
+                &said.buffer,
+            )
         }
         Action::Wait(requested) | Action::Test(requested) | Action::Cancel(requested) => {
             lacks_request(alloc, names, requested)
@@ -314,10 +347,22 @@ pub fn lack_of_statement<H: Holder>(
     match statement {
         Statement::Action(action) => lack_of_action(alloc, names, action),
         Statement::Send(said) => {
-            lacks_place(alloc, names, &said.communicator, &said.through, &said.buffer)
+            lacks_place(
+                alloc,
+                names,
+                &said.communicator,
+                &said.through,
+                &said.buffer,
+            )
         }
         Statement::Recv(said) => {
-            lacks_place(alloc, names, &said.communicator, &said.through, &said.buffer)
+            lacks_place(
+                alloc,
+                names,
+                &said.communicator,
+                &said.through,
+                &said.buffer,
+            )
         }
         Statement::Print(name) => lacks_buffer(alloc, names, name),
         Statement::Count(name) => lacks_layout(alloc, names, name),

@@ -131,14 +131,7 @@ fn meet<R: Wait + Print + Eprint + AllocGlobal + Clock>(
         Ok(clock) => clock,
         Err(error) => return Err(status_of(&error)),
     };
-    let ended = drive(
-        rt,
-        engine,
-        runner,
-        told.settings.patience,
-        udp,
-        &mut clock,
-    );
+    let ended = drive(rt, engine, runner, told.settings.patience, udp, &mut clock);
     end(rt, told, runner, udp, ended)
 }
 
@@ -149,12 +142,7 @@ fn open<R: Net + Wait + Print + Eprint + AllocGlobal + Clock>(
     runner: &mut ScriptRunner,
     engine: &mut Engine,
 ) -> Result<u8, u8> {
-    match Udp::new(
-        rt,
-        rt.alloc(),
-        told.settings.rank,
-        told.settings.port,
-    ) {
+    match Udp::new(rt, rt.alloc(), told.settings.rank, told.settings.port) {
         Ok(mut udp) => meet(rt, told, runner, engine, &mut udp),
         Err(error) => {
             let status = status_of(&error);

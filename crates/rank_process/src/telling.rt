@@ -112,12 +112,7 @@ impl<'a> Told<'a> {
     }
 
     /// Why the runner of the script can't follow its line of this number.
-    fn stopped_line(
-        &self,
-        alloc: Global,
-        runner: &ScriptRunner,
-        number: usize,
-    ) -> Option<Vec<u8>> {
+    fn stopped_line(&self, alloc: Global, runner: &ScriptRunner, number: usize) -> Option<Vec<u8>> {
         let reached = line_of_number(self.rank_lines(alloc)?, number)?;
         let fault = runner.lack_of(alloc, &reached.statement).ok()??;
         let line = self.line(alloc, number)?;

@@ -103,5 +103,5 @@ holdings s = record {
   layouts = λ name. is_some (value_at s.layouts name);
   requests = λ name. is_some (value_at s.requests name);
   slots = λ name. slot_of (value_at s.buffers name);
-  members = λ communicator rank. is_root s communicator rank
+  members = λ communicator rank. is_root s communicator rank;
 }

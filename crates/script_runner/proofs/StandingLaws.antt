@@ -186,7 +186,7 @@ layout_stops number s line =
     one_stops number s (λ (old : Option Shape). sets_layout_of number line old s) (old_layout s line.made_of) (lacks_old (holdings s) line.made_of)
     (old_matches s line.made_of) refl
     (λ (old : Shape). layout_goes_on (is_beyond (offsets_made line.form old.offsets)) line.name
-      (record { basic = old.basic; offsets = offsets_made line.form old.offsets }) s)
+    (record { basic = old.basic; offsets = offsets_made line.form old.offsets }) s)
 
 -- ---- lines
 

@@ -102,11 +102,7 @@ impl ScriptRunner {
     /// the names that the line uses that isn't set, or whose buffer is lent. None where the line can be followed. The only error
     /// is want of memory.
     #[tactic(auto, using(crate::proofs::StandingLaws::stops_where_lacking))]
-    pub fn lack_of(
-        &self,
-        alloc: Global,
-        statement: &Statement,
-    ) -> Result<Option<Fault>, AllocError>
+    pub fn lack_of(&self, alloc: Global, statement: &Statement) -> Result<Option<Fault>, AllocError>
         ensures exact { IfOk result (λ fault. fault ≡ lack_of_statement (holdings self.now.names) statement.now) }
         ensures stops { (number : ℕ) → IfOk result (λ fault.
             StopsWhere fault number (states number statement.now self.now.names) self.now.names) }

@@ -579,11 +579,7 @@ fn stopped(error: SimulateError) -> Stopped {
 /// The whole file is read before anything runs. `Script` names the first line that is no statement, or the line at
 /// which a name that isn't set, or a buffer that is lent, was used; what ran before that is printed. The fault says which name, where
 /// the line was reached.
-pub fn simulate_or_tell<W: Write>(
-    alloc: Global,
-    text: &[u8],
-    out: &mut W,
-) -> Result<(), Stopped> {
+pub fn simulate_or_tell<W: Write>(alloc: Global, text: &[u8], out: &mut W) -> Result<(), Stopped> {
     let file = match parse(alloc, text) {
         Ok(file) => file,
         Err(ParseError::Line(line)) => return Err(stopped(SimulateError::Script(line))),

@@ -1,6 +1,8 @@
 //! Why lines are faulty, and what is told of them.
 
-use fault_lines::{Fault, event_fault, explanation, gave_up_at, gave_up_behind, line_at, script_fault};
+use fault_lines::{
+    Fault, event_fault, explanation, gave_up_at, gave_up_behind, line_at, script_fault,
+};
 use std::alloc::{AllocError, Global};
 use std::str;
 
@@ -99,10 +101,34 @@ fn tells(alloc: Global, line: &[u8], wanted: &str) -> bool {
 #[test]
 fn bytes_are_judged_first(rt: HostRuntime) {
     let alloc = rt.alloc();
-    assert!(rt; tells(alloc, b"sya\thi", "me: a byte that isn't printable ASCII: sya?hi"));
-    assert!(rt; tells(alloc, b"say hi\r", "me: a byte that isn't printable ASCII: say hi?"));
-    assert!(rt; tells(alloc, b"# \x7f\xc3", "me: a byte that isn't printable ASCII: # ??"));
-    assert!(rt; tells(alloc, b"say \xc3\xbc\t", "me: a byte that isn't ASCII: say ???"));
+    assert!(rt;
+        tells(
+            alloc,
+            b"sya\thi",
+            "me: a byte that isn't printable ASCII: sya?hi"
+        )
+    );
+    assert!(rt;
+        tells(
+            alloc,
+            b"say hi\r",
+            "me: a byte that isn't printable ASCII: say hi?"
+        )
+    );
+    assert!(rt;
+        tells(
+            alloc,
+            b"# \x7f\xc3",
+            "me: a byte that isn't printable ASCII: # ??"
+        )
+    );
+    assert!(rt;
+        tells(
+            alloc,
+            b"say \xc3\xbc\t",
+            "me: a byte that isn't ASCII: say ???"
+        )
+    );
 }
 
 /// Whether the line of this number of three lines is this.
@@ -142,8 +168,10 @@ fn long_lines_are_cut(rt: HostRuntime) {
     if let Ok(wanted) = format!(in alloc; "me gave up after 10 ms at line 7: {row} ..") {
         assert!(rt; is_text(cut, wanted.as_str()));
     }
-    assert!(rt; is_text(
-        gave_up_behind(alloc, b"me", 500),
-        "me gave up after 500 ms behind the end of its script: what it sent is not all acknowledged",
-    ));
+    assert!(rt;
+        is_text(
+            gave_up_behind(alloc, b"me", 500),
+            "me gave up after 500 ms behind the end of its script: what it sent is not all acknowledged",
+        )
+    );
 }
