@@ -1,13 +1,16 @@
 //! What a line lacks now that it is reached.
 
-ghost use Rattle.std.specs.Prelude.{◌≡◌, IfOk, Some};
+ghost use Rattle.std.specs.Prelude.{◌≡◌, IfOk, Some, true};
 ghost use Rattle.fault_lines.specs.Lacks.{lacks_buffer, lacks_communicator, lacks_gathering, lacks_layout, lacks_old, lacks_place, lacks_places, lacks_block, lacks_request, lacks_requests, lacks_scatter, lacks_setting, lacks_together, lacks_two, lack_of_action, lack_of_statement};
 
 use crate::fault::Fault;
 use crate::holder::{Holder, Slot};
 use line_words::Name;
 use script_files::Statement;
-use statements::{Action, Communicator, OldLayout, Requested, Scattering, Through};
+use statements::{
+    Action, Communicator, Gathering, OldLayout, Reducing, ReducingToAll, Requested, Scattering,
+    Through,
+};
 use std::alloc::{AllocError, Global};
 
 /// The name isn't set.
@@ -240,6 +243,66 @@ fn lacks_scatter<H: Holder>(
     lacks_block(alloc, names, is_root, &said.buffer)
 }
 
+/// A gather sets a buffer at the root.
+fn lacks_gather<H: Holder>(
+    alloc: Global,
+    names: &H,
+    said: &Gathering,
+) -> Result<Option<Fault>, AllocError>
+    ensures { IfOk result (λ fault. fault ≡
+        lacks_gathering (H.held names.now) said.now.communicator ((H.held names.now).members said.now.communicator said.now.root) said.now.into said.now.buffer) }
+{
+    let sets = names.is_member(&said.communicator, said.root);
+    lacks_gathering(
+        alloc,
+        names,
+        &said.communicator,
+        sets,
+        &said.into,
+        &said.buffer,
+    )
+}
+
+/// A reduction sets a buffer at the root.
+fn lacks_reduce<H: Holder>(
+    alloc: Global,
+    names: &H,
+    said: &Reducing,
+) -> Result<Option<Fault>, AllocError>
+    ensures { IfOk result (λ fault. fault ≡
+        lacks_gathering (H.held names.now) said.now.communicator ((H.held names.now).members said.now.communicator said.now.root) said.now.into said.now.buffer) }
+{
+    let sets = names.is_member(&said.communicator, said.root);
+    lacks_gathering(
+        alloc,
+        names,
+        &said.communicator,
+        sets,
+        &said.into,
+        &said.buffer,
+    )
+}
+
+/// A reduction for all sets a buffer at each member.
+fn lacks_reduce_to_all<H: Holder>(
+    alloc: Global,
+    names: &H,
+    said: &ReducingToAll,
+) -> Result<Option<Fault>, AllocError>
+    ensures { IfOk result (λ fault. fault ≡
+        lacks_gathering (H.held names.now) said.now.communicator true said.now.into said.now.buffer) }
+{
+    let sets = true;
+    lacks_gathering(
+        alloc,
+        names,
+        &said.communicator,
+        sets,
+        &said.into,
+        &said.buffer,
+    )
+}
+
 /// What a line on a communicator lacks: a collective, or a question about it.
 fn lacks_together<H: Holder>(
     alloc: Global,
@@ -258,38 +321,9 @@ fn lacks_together<H: Holder>(
         Action::Bcast(said) => {
             lacks_place(alloc, names, &said.communicator, &None, &said.buffer)
         }
-        Action::Gather(said) => {
-            let sets = names.is_member(&said.communicator, said.root);
-            lacks_gathering(
-                alloc,
-                names,
-                &said.communicator,
-                sets,
-                &said.into,
-                &said.buffer,
-            )
-        }
-        Action::Reduce(said) => {
-            let sets = names.is_member(&said.communicator, said.root);
-            lacks_gathering(
-                alloc,
-                names,
-                &said.communicator,
-                sets,
-                &said.into,
-                &said.buffer,
-            )
-        }
-        Action::Allreduce(said) => {
-            lacks_gathering(
-                alloc,
-                names,
-                &said.communicator,
-                true,
-                &said.into,
-                &said.buffer,
-            )
-        }
+        Action::Gather(said) => lacks_gather(alloc, names, said),
+        Action::Reduce(said) => lacks_reduce(alloc, names, said),
+        Action::Allreduce(said) => lacks_reduce_to_all(alloc, names, said),
         Action::Scatter(said) => lacks_scatter(alloc, names, said),
         _ => Ok(None),
     }

@@ -8,10 +8,12 @@ use Rattle.engine_parts.specs.declared.call.Call.TheVariants as calls
 use Rattle.fault_lines.specs.declared.fault.Fault.{Fault}
 use Rattle.fault_lines.specs.Lacks.{lack_of_action, lack_of_statement, lacks_block, lacks_buffer, lacks_communicator, lacks_layout, lacks_old, lacks_places, lacks_request, lacks_requests, lacks_set, lacks_setting, lacks_slot, lent_slot, or_else, unset_unless}
 use Rattle.requests.specs.declared.region.Places.{Places}
+use Rattle.requests.specs.declared.region.Places.TheVariants as places
 use Rattle.requests.specs.declared.table.Request.{Request}
 use Rattle.script_files.specs.declared.script.Statement.{Statement}
 use Rattle.script_files.specs.declared.script.Statement.TheVariants as statements
-use Rattle.statement_calls.specs.declared.awaited.Doing.{Doing}
+use Rattle.statement_calls.specs.declared.awaited.Held.{Held}
+use Rattle.statement_calls.specs.declared.awaited.Seat.{Seat}
 use Rattle.statement_calls.specs.Awaited.{entering, making, starting}
 use Rattle.statement_calls.specs.Entries.{entry_with, split_by}
 use Rattle.statement_calls.specs.declared.awaited.Stage.TheVariants as stages
@@ -64,7 +66,8 @@ communicator_matches : (s : NamesState) (c : Communicator) → Matches (lacks_co
 communicator_matches s communicators.World = tt
 communicator_matches s communicators.Own = tt
 communicator_matches s (communicators.Named name) =
-    mapped_matches _ _ (value_at s.communicators name) (set_matches (value_at s.communicators name) name)
+    mapped_matches (λ (held : Option Seat). option_map (λ (seat : Seat). seat.place) held)
+    (unset_unless (is_some (value_at s.communicators name)) name) (value_at s.communicators name) (set_matches (value_at s.communicators name) name)
 
 slot_matches : (slot : Option (Option Contents)) (name : List ℕ) → Matches (lacks_slot (slot_of slot) name) (option_and_then (λ (b : Option Contents). b) slot)
 slot_matches None name = tt
@@ -83,18 +86,22 @@ old_matches s (olds.Named name) = layout_matches s name
 
 places_match : (s : NamesState) (through : Option Through) → Matches (lacks_places (holdings s) through) (places_named s through)
 places_match s None = tt
-places_match s (Some through) = mapped_matches _ _ (value_at s.layouts through.layout) (layout_matches s through.layout)
+places_match s (Some through) =
+    mapped_matches (λ (layout : Shape). places.Copies layout through.copies) (lacks_layout (holdings s) through.layout)
+    (value_at s.layouts through.layout) (layout_matches s through.layout)
 
 request_matches : (s : NamesState) (r : Requested) → Matches (lacks_request (holdings s) r) (request_named s r)
 request_matches s requested.Null = tt
-request_matches s (requested.Named name) = mapped_matches _ _ (value_at s.requests name) (set_matches (value_at s.requests name) name)
+request_matches s (requested.Named name) =
+    mapped_matches (λ (held : Held). held.request) (unset_unless (is_some (value_at s.requests name)) name) (value_at s.requests name)
+    (set_matches (value_at s.requests name) name)
 
 both_match : (f g : Option Fault) (one : Option (Option Request)) (rest : Option (List (Option Request))) → Matches f one → Matches g rest →
     Matches (or_else f g) (option_and_then (λ (r : Option Request). option_map (λ (rs : List (Option Request)). r ∷ rs) rest) one)
 both_match None g None rest m n = absurd m
 both_match (Some f) g None rest m n = tt
 both_match (Some f) g (Some r) rest m n = absurd m
-both_match None g (Some r) rest m n = mapped_matches _ g rest n
+both_match None g (Some r) rest m n = mapped_matches (λ (rs : List (Option Request)). r ∷ rs) g rest n
 
 requests_match : (s : NamesState) (rs : List Requested) → Matches (lacks_requests (holdings s) rs) (requests_named s rs)
 requests_match s [] = tt
@@ -117,7 +124,8 @@ set_tells s false name = tt
 blocks_match : (s : NamesState) (root : Bool) (name : Option (List ℕ)) → Matches (lacks_block (holdings s) root name) (blocks_named s root name)
 blocks_match s false name = tt
 blocks_match s true None = tt
-blocks_match s true (Some name) = mapped_matches _ _ (here s name) (buffer_matches s name)
+blocks_match s true (Some name) =
+    mapped_matches (λ (blocks : Contents). Some blocks) (lacks_buffer (holdings s) name) (here s name) (buffer_matches s name)
 
 -- ---- what a line asks for, where something isn't there
 
@@ -195,58 +203,70 @@ action_stops number (actions.Buffer line) s =
     set_stops number s line (lacks_setting (holdings s) line.name) (is_lent s line.name) (setting_tells s line.name)
 action_stops number (actions.Layout line) s = layout_stops number s line
 action_stops number (actions.Isend name x) s =
-    three_stop number s (λ comm named buffer. sends_from number (starting stages.Starting (Some name) None) x comm named buffer s)
-    (place_named s x.communicator) (places_named s x.through) (here s x.buffer) _ _ _
+    three_stop number s (λ (comm : Option (Option ℕ)) (named : Option Places) (buffer : Option Contents). sends_from number (starting stages.Starting (Some name) None) x comm named buffer s)
+    (place_named s x.communicator) (places_named s x.through) (here s x.buffer)
+    (lacks_communicator (holdings s) x.communicator) (lacks_places (holdings s) x.through) (lacks_buffer (holdings s) x.buffer)
     (communicator_matches s x.communicator) (places_match s x.through) (buffer_matches s x.buffer)
     (λ b c. refl) (λ a c. refl) (λ a b. refl) (λ a b c. refl)
 action_stops number (actions.Irecv name x) s =
-    three_stop number s (λ comm named buffer. receives_into number (starting stages.Starting (Some name) (Some x.buffer)) x comm named buffer s)
-    (place_named s x.communicator) (places_named s x.through) (here s x.buffer) _ _ _
+    three_stop number s (λ (comm : Option (Option ℕ)) (named : Option Places) (buffer : Option Contents). receives_into number (starting stages.Starting (Some name) (Some x.buffer)) x comm named buffer s)
+    (place_named s x.communicator) (places_named s x.through) (here s x.buffer)
+    (lacks_communicator (holdings s) x.communicator) (lacks_places (holdings s) x.through) (lacks_buffer (holdings s) x.buffer)
     (communicator_matches s x.communicator) (places_match s x.through) (buffer_matches s x.buffer)
     (λ b c. refl) (λ a c. refl) (λ a b. refl) (λ a b c. refl)
 action_stops number (actions.Wait r) s =
-    one_stops number s (λ request. waits_for number r request s) (request_named s r) _ (request_matches s r) refl (λ x. refl)
+    one_stops number s (λ (request : Option (Option Request)). waits_for number r request s) (request_named s r) (lacks_request (holdings s) r) (request_matches s r) refl (λ x. refl)
 action_stops number (actions.Test r) s =
-    one_stops number s (λ request. tests_for number r request s) (request_named s r) _ (request_matches s r) refl (λ x. refl)
+    one_stops number s (λ (request : Option (Option Request)). tests_for number r request s) (request_named s r) (lacks_request (holdings s) r) (request_matches s r) refl (λ x. refl)
 action_stops number (actions.Cancel r) s =
-    one_stops number s (λ request. cancels_for number request s) (request_named s r) _ (request_matches s r) refl (λ x. refl)
+    one_stops number s (λ (request : Option (Option Request)). cancels_for number request s) (request_named s r) (lacks_request (holdings s) r) (request_matches s r) refl (λ x. refl)
 action_stops number (actions.Waitany rs) s =
-    one_stops number s (λ requests. waits_for_several number calls.Waitany rs requests s) (requests_named s rs) _ (requests_match s rs) refl (λ x. refl)
+    one_stops number s (λ (requests : Option (List (Option Request))). waits_for_several number calls.Waitany rs requests s) (requests_named s rs) (lacks_requests (holdings s) rs)
+    (requests_match s rs) refl (λ x. refl)
 action_stops number (actions.Waitall rs) s =
-    one_stops number s (λ requests. waits_for_several number calls.Waitall rs requests s) (requests_named s rs) _ (requests_match s rs) refl (λ x. refl)
+    one_stops number s (λ (requests : Option (List (Option Request))). waits_for_several number calls.Waitall rs requests s) (requests_named s rs) (lacks_requests (holdings s) rs)
+    (requests_match s rs) refl (λ x. refl)
 action_stops number (actions.Barrier c) s =
-    one_stops number s (λ comm. waits_for_all number comm s) (place_named s c) _ (communicator_matches s c) refl (λ x. refl)
+    one_stops number s (λ (comm : Option (Option ℕ)). waits_for_all number comm s) (place_named s c) (lacks_communicator (holdings s) c) (communicator_matches s c) refl (λ x. refl)
 action_stops number (actions.Bcast x) s =
-    hands_stop number s (place_named s x.communicator) false (Some x.buffer) (here s x.buffer) (λ block. entries.Bcast x.root block) _ None _
+    hands_stop number s (place_named s x.communicator) false (Some x.buffer) (here s x.buffer) (λ (block : Contents). entries.Bcast x.root block)
+    (lacks_communicator (holdings s) x.communicator) None (lacks_buffer (holdings s) x.buffer)
     (communicator_matches s x.communicator) tt (buffer_matches s x.buffer)
 action_stops number (actions.Gather x) s =
     hands_stop number s (place_named s x.communicator) (is_lent_at_root s (is_root s x.communicator x.root) x.into) (Some x.into) (here s x.buffer)
-    (λ block. entries.Gather x.root block) _ _ _
+    (λ (block : Contents). entries.Gather x.root block)
+    (lacks_communicator (holdings s) x.communicator) (lacks_set (holdings s) (is_root s x.communicator x.root) x.into) (lacks_buffer (holdings s) x.buffer)
     (communicator_matches s x.communicator) (set_tells s (is_root s x.communicator x.root) x.into) (buffer_matches s x.buffer)
 action_stops number (actions.Scatter x) s =
-    three_stop number s (λ comm into blocks. scatters_from number x comm into blocks s)
-    (place_named s x.communicator) (here s x.into) (blocks_named s (is_root s x.communicator x.root) x.buffer) _ _ _
+    three_stop number s (λ (comm : Option (Option ℕ)) (into : Option Contents) (blocks : Option (Option Contents)). scatters_from number x comm into blocks s)
+    (place_named s x.communicator) (here s x.into) (blocks_named s (is_root s x.communicator x.root) x.buffer)
+    (lacks_communicator (holdings s) x.communicator) (lacks_buffer (holdings s) x.into)
+    (lacks_block (holdings s) (is_root s x.communicator x.root) x.buffer)
     (communicator_matches s x.communicator) (buffer_matches s x.into) (blocks_match s (is_root s x.communicator x.root) x.buffer)
     (λ b c. refl) (λ a c. refl) (λ a b. refl) (λ a b c. refl)
 action_stops number (actions.Reduce x) s =
     hands_stop number s (place_named s x.communicator) (is_lent_at_root s (is_root s x.communicator x.root) x.into) (Some x.into) (here s x.buffer)
-    (λ block. entries.Reduce x.operation x.root block) _ _ _
+    (λ (block : Contents). entries.Reduce x.operation x.root block)
+    (lacks_communicator (holdings s) x.communicator) (lacks_set (holdings s) (is_root s x.communicator x.root) x.into) (lacks_buffer (holdings s) x.buffer)
     (communicator_matches s x.communicator) (set_tells s (is_root s x.communicator x.root) x.into) (buffer_matches s x.buffer)
 action_stops number (actions.Allreduce x) s =
     hands_stop number s (place_named s x.communicator) (is_lent s x.into) (Some x.into) (here s x.buffer)
-    (λ block. entries.Allreduce x.operation block) _ _ _
+    (λ (block : Contents). entries.Allreduce x.operation block)
+    (lacks_communicator (holdings s) x.communicator) (lacks_setting (holdings s) x.into) (lacks_buffer (holdings s) x.buffer)
     (communicator_matches s x.communicator) (setting_tells s x.into) (buffer_matches s x.buffer)
 action_stops number (actions.Dup name c) s =
-    one_stops number s (λ comm. makes number name comm entries.Dup s) (place_named s c) _ (communicator_matches s c) refl (λ x. refl)
+    one_stops number s (λ (comm : Option (Option ℕ)). makes number name comm entries.Dup s) (place_named s c) (lacks_communicator (holdings s) c) (communicator_matches s c) refl (λ x. refl)
 action_stops number (actions.Split name x) s =
-    one_stops number s (λ comm. makes number name comm (split_by x) s) (place_named s x.communicator) _ (communicator_matches s x.communicator) refl
+    one_stops number s (λ (comm : Option (Option ℕ)). makes number name comm (split_by x) s) (place_named s x.communicator) (lacks_communicator (holdings s) x.communicator)
+    (communicator_matches s x.communicator) refl
     (λ comm. refl)
 action_stops number (actions.Who c) s =
-    one_stops number s (λ comm. asks_rank number comm s) (place_named s c) _ (communicator_matches s c) refl (λ x. refl)
+    one_stops number s (λ (comm : Option (Option ℕ)). asks_rank number comm s) (place_named s c) (lacks_communicator (holdings s) c) (communicator_matches s c) refl (λ x. refl)
 action_stops number (actions.Members c) s =
-    one_stops number s (λ comm. asks_group number comm s) (place_named s c) _ (communicator_matches s c) refl (λ x. refl)
+    one_stops number s (λ (comm : Option (Option ℕ)). asks_group number comm s) (place_named s c) (lacks_communicator (holdings s) c) (communicator_matches s c) refl (λ x. refl)
 action_stops number (actions.Compare c d) s =
-    two_stop number s (λ comm other. compares number comm other s) (place_named s c) (place_named s d) _ _
+    two_stop number s (λ (comm other : Option (Option ℕ)). compares number comm other s) (place_named s c) (place_named s d)
+    (lacks_communicator (holdings s) c) (lacks_communicator (holdings s) d)
     (communicator_matches s c) (communicator_matches s d) (λ b. refl) (λ a. refl) (λ a b. refl)
 
 -- a line ends the script exactly where there is a fault, and then changes nothing
@@ -254,19 +274,21 @@ pub stops_where_lacking : (number : ℕ) (statement : Statement) (s : NamesState
     StopsWhere (lack_of_statement (holdings s) statement) number (states number statement s) s
 stops_where_lacking number (statements.Action action) s = action_stops number action s
 stops_where_lacking number (statements.Send x) s =
-    three_stop number s (λ comm named buffer. sends_from number (starting stages.StartingToWait None None) x comm named buffer s)
-    (place_named s x.communicator) (places_named s x.through) (here s x.buffer) _ _ _
+    three_stop number s (λ (comm : Option (Option ℕ)) (named : Option Places) (buffer : Option Contents). sends_from number (starting stages.StartingToWait None None) x comm named buffer s)
+    (place_named s x.communicator) (places_named s x.through) (here s x.buffer)
+    (lacks_communicator (holdings s) x.communicator) (lacks_places (holdings s) x.through) (lacks_buffer (holdings s) x.buffer)
     (communicator_matches s x.communicator) (places_match s x.through) (buffer_matches s x.buffer)
     (λ b c. refl) (λ a c. refl) (λ a b. refl) (λ a b c. refl)
 stops_where_lacking number (statements.Recv x) s =
-    three_stop number s (λ comm named buffer. receives_into number (starting stages.StartingToWait None (Some x.buffer)) x comm named buffer s)
-    (place_named s x.communicator) (places_named s x.through) (here s x.buffer) _ _ _
+    three_stop number s (λ (comm : Option (Option ℕ)) (named : Option Places) (buffer : Option Contents). receives_into number (starting stages.StartingToWait None (Some x.buffer)) x comm named buffer s)
+    (place_named s x.communicator) (places_named s x.through) (here s x.buffer)
+    (lacks_communicator (holdings s) x.communicator) (lacks_places (holdings s) x.through) (lacks_buffer (holdings s) x.buffer)
     (communicator_matches s x.communicator) (places_match s x.through) (buffer_matches s x.buffer)
     (λ b c. refl) (λ a c. refl) (λ a b. refl) (λ a b c. refl)
 stops_where_lacking number (statements.Print name) s =
-    one_stops number s (λ buffer. prints_elements number buffer s) (here s name) _ (buffer_matches s name) refl (λ x. refl)
+    one_stops number s (λ (buffer : Option Contents). prints_elements number buffer s) (here s name) (lacks_buffer (holdings s) name) (buffer_matches s name) refl (λ x. refl)
 stops_where_lacking number statements.Status s = refl
 stops_where_lacking number (statements.Count name) s =
-    one_stops number s (λ layout. prints_count number layout s) (value_at s.layouts name) _ (layout_matches s name) refl (λ x. refl)
+    one_stops number s (λ (layout : Option Shape). prints_count number layout s) (value_at s.layouts name) (lacks_layout (holdings s) name) (layout_matches s name) refl (λ x. refl)
 stops_where_lacking number (statements.Say words) s = refl
 stops_where_lacking number statements.Fail s = refl
