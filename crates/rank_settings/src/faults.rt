@@ -191,8 +191,5 @@ pub fn fault_in<'a, S: AsStr>(words: &'a [S]) -> Option<WordFault<'a>>
 
 /// Whether a word behind the first one asks how the program is called: `--help`, `-h` or `--version`.
 pub fn asks_for_help<S: AsStr>(words: &[S]) -> bool {
-    words
-        .iter()
-        .skip(1)
-        .any(|word| matches!(word.as_str(), "--help" | "-h" | "--version"))
+    words.iter().skip(1).any(|word| matches!(word.as_str(), "--help" | "-h" | "--version"))
 }
