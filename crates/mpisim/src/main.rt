@@ -2,15 +2,24 @@
 //!
 //! `mpisim FILE`. Status 0 at the end; 1 with `mpisim: refused N line L` on standard error where a line is faulty (51),
 //! and with `mpisim: refused N` where the file can't be read (59) or for want of memory (14); 2 with
-//! `usage: mpisim FILE` on standard error where the words aren't one FILE; 3 where the output fails.
+//! `usage: mpisim FILE` on standard error where the words aren't one FILE; 3 where the output fails. Behind a refusal
+//! stands why: the fault and the text of the line, or the name of the file.
 #![tactic(auto)]
 
-use simulation::{SimulateError, simulate};
+use fault_lines::{Fault, event_fault, explanation, line_at};
+use simulation::{SimulateError, Stopped, simulate_or_tell};
+use std::alloc::Global;
 use std::env::FillError;
 use std::io::{BufWriter, ErrorKind, Write};
 use std::process::ExitCode;
 use std::rt::{Env, Files};
-use std::{env, fs, io};
+use std::{env, fs, io, str};
+
+/// How the program is called.
+const USAGE: &str = "\
+usage: mpisim FILE
+  FILE  a file of events: its first line is `world N`, N from 1 to 256, and each other line is what a rank does, `deliver D`,
+        `tick R NOW`, `restart R` or `stray R HEX`. What each line answers is printed.";
 
 /// Says why nothing more runs, and answers the status.
 fn refused(rt: &impl Eprint, number: u8, line: Option<usize>) -> u8 {
@@ -26,8 +35,44 @@ fn refused(rt: &impl Eprint, number: u8, line: Option<usize>) -> u8 {
 
 /// Says how the program is called, and answers the status.
 fn misused(rt: &impl Eprint) -> u8 {
-    let _told = eprintln!(rt; "usage: mpisim FILE");
+    let _told = eprintln!(rt; "{USAGE}");
     2
+}
+
+/// Says that the file can't be read, and answers the status.
+fn unread(rt: &impl Eprint, name: &str) -> u8 {
+    let status = refused(rt, 59, None);
+    let _told = eprintln!(rt; "mpisim: {name} can't be read");
+    if matches!(name, "--help" | "-h" | "--version") {
+        let _told = misused(rt);
+    }
+    status
+}
+
+/// Why the line of this number is faulty: as it was found when it was reached, or else since it is no line of a file of events.
+fn told_of(alloc: Global, text: &[u8], number: usize, fault: Option<Fault>) -> Option<Vec<u8>> {
+    let line = line_at(alloc, text, number).ok()?.unwrap_or(b"");
+    let fault = match fault {
+        Some(fault) => fault,
+        None => event_fault(alloc, line).ok()?,
+    };
+    explanation(alloc, b"mpisim", &fault, line).ok()
+}
+
+/// Says at which line the file is faulty, and why, and answers the status.
+fn faulty(
+    rt: &(impl Eprint + AllocGlobal),
+    text: &[u8],
+    number: usize,
+    fault: Option<Fault>,
+) -> u8 {
+    let status = refused(rt, 51, Some(number));
+    if let Some(line) = told_of(rt.alloc(), text, number, fault) {
+        if let Ok(told) = str::from_utf8(&line) {
+            let _told = eprintln!(rt; "{told}");
+        }
+    }
+    status
 }
 
 /// Whether there is a word at this place, whatever its bytes are. The program's own name is at place 0.
@@ -49,20 +94,22 @@ fn run(rt: &(impl Files + Print + Eprint + AllocGlobal), name: &str) -> u8 {
     let text = match fs::read(rt, name) {
         Ok(text) => text,
         Err(e) if e.kind() == ErrorKind::OutOfMemory => return refused(rt, 14, None),
-        Err(_) => return refused(rt, 59, None),
+        Err(_) => return unread(rt, name),
     };
     let Ok(mut out) = BufWriter::new(rt.alloc(), io::writer(rt)) else {
         return refused(rt, 14, None);
     };
-    let ended = simulate(rt.alloc(), &text, &mut out);
+    let ended = simulate_or_tell(rt.alloc(), &text, &mut out);
     if out.flush().is_err() {
         return 3;
     }
     match ended {
         Ok(()) => 0,
-        Err(SimulateError::Script(line)) => refused(rt, 51, Some(line)),
-        Err(SimulateError::OutOfMemory) => refused(rt, 14, None),
-        Err(SimulateError::Output) => 3,
+        Err(Stopped { error, fault }) => match error {
+            SimulateError::Script(line) => faulty(rt, &text, line, fault),
+            SimulateError::OutOfMemory => refused(rt, 14, None),
+            SimulateError::Output => 3,
+        },
     }
 }
 

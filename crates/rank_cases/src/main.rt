@@ -7,6 +7,7 @@
 mod launch_fault_rows;
 mod ports;
 mod process;
+mod rank_fault_rows;
 mod rows;
 
 use crate::rows::run_rows;

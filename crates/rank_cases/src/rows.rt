@@ -1,7 +1,8 @@
 //! The rows.
 
-use crate::ports::{free_ports, socket_at};
+use crate::ports::free_ports;
 use crate::process::{show, start};
+use crate::rank_fault_rows::run_rank_faults;
 use std::io::Write;
 use std::net::Net;
 use std::process::{Child, Processes};
@@ -64,19 +65,6 @@ fn run_alone<R: Net + Clock + Print + AllocGlobal + Processes>(
     show(rt.alloc(), &mut out, "rank 0", rank)
 }
 
-/// A rank whose port is taken.
-fn run_at_a_taken_port<R: Net + Clock + Print + AllocGlobal + Processes>(
-    rt: &R,
-    itself: &str,
-) -> io::Result<()> {
-    let mut out = io::writer(rt);
-    writeln!(out, "== a port that is taken")?;
-    let port = free_ports(rt)?;
-    let _taken = socket_at(rt, port)?;
-    let rank = start_rank(rt, itself, ("0", "2"), port, &["pingpong.txt"])?;
-    show(rt.alloc(), &mut out, "rank 0", rank)
-}
-
 /// This program with just these words.
 fn run_words<R: Print + AllocGlobal + Processes>(
     rt: &R,
@@ -125,7 +113,7 @@ fn run_ranks<R: Net + Clock + Print + AllocGlobal + Processes>(
     )?;
     run_alone(rt, itself, "a file that isn't there", &["nothere.txt"])?;
     run_words(rt, itself, "no words", &["rank"])?;
-    run_at_a_taken_port(rt, itself)
+    run_rank_faults(rt, itself)
 }
 
 /// Ranks under the launcher.

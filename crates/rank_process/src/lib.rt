@@ -4,6 +4,7 @@
 
 mod clock;
 mod running;
+mod telling;
 mod udp;
 
 pub use crate::running::{run, run_words};

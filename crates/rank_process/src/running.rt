@@ -3,12 +3,13 @@
 ghost use Rattle.std.specs.Prelude.{◌≡◌};
 
 use crate::clock::HostClock;
+use crate::telling::{Told, tell, tell_of, tell_port, tell_unread, tell_usage, tell_words};
 use crate::udp::Udp;
 use engine::{Engine, Place};
 use rank_drive::{Ended, TransportFault, drive};
-use rank_script::ScriptRunner;
 use rank_settings::{Refused, Settings, settings_of};
 use script_files::{ParseError, Script, parse};
+use script_runner::ScriptRunner;
 use std::io::ErrorKind;
 use std::net::Net;
 use std::rt::{Env, Files};
@@ -29,14 +30,6 @@ const TRANSPORT: u8 = 3;
 /// Memory was refused to the runner or at the start.
 const MEMORY: u8 = 6;
 
-/// Tells a refusal on the standard error, with the line of the script that it is about.
-fn tell(rt: &impl Eprint, number: u8, line: Option<usize>) {
-    let _ = match line {
-        Some(line) => eprintln!(rt; "rank_main: refused {number} line {line}"),
-        None => eprintln!(rt; "rank_main: refused {number}"),
-    };
-}
-
 /// The status of a start that failed so.
 fn status_of(error: &io::Error) -> u8 {
     match error.kind() {
@@ -45,23 +38,27 @@ fn status_of(error: &io::Error) -> u8 {
     }
 }
 
-/// The script in the file, or the status where there is none.
-fn read_script<R: Files + Eprint + AllocGlobal>(rt: &R, settings: &Settings) -> Result<Script, u8> {
-    let text = match fs::read(rt, settings.file) {
-        Ok(text) => text,
+/// The text of the script's file, or the status where it can't be read.
+fn read_text<R: Files + Eprint + AllocGlobal>(rt: &R, settings: &Settings) -> Result<Vec<u8>, u8> {
+    match fs::read(rt, settings.file) {
+        Ok(text) => Ok(text),
         Err(error) => {
             if error.kind() == ErrorKind::OutOfMemory {
                 return Err(MEMORY);
             }
-            tell(rt, 59, None);
-            return Err(SCRIPT);
+            tell_unread(rt, settings);
+            Err(SCRIPT)
         }
-    };
-    match parse(rt.alloc(), &text) {
+    }
+}
+
+/// The script of this text, or the status where there is none.
+fn read_script<R: Eprint + AllocGlobal>(rt: &R, told: &Told) -> Result<Script, u8> {
+    match parse(rt.alloc(), told.text) {
         Ok(script) => Ok(script),
         Err(ParseError::OutOfMemory) => Err(MEMORY),
         Err(ParseError::Line(line)) => {
-            tell(rt, 51, Some(line));
+            told.tell_faulty(rt, line);
             Err(SCRIPT)
         }
     }
@@ -83,26 +80,47 @@ fn new_engine<R: AllocGlobal>(rt: &R, settings: &Settings) -> Result<Engine, u8>
     }
 }
 
-/// The status of a rank that ended so. What its socket kept back goes before.
-fn end<R: Print + Eprint + Clock>(
+/// Tells why a rank ended so, where its script doesn't say so itself.
+fn tell_end<R: Print + Eprint + AllocGlobal + Clock>(
     rt: &R,
+    told: &Told,
+    runner: &ScriptRunner,
+    udp: &Udp<'_, R>,
+    ended: Result<Ended, TransportFault>,
+) {
+    match ended {
+        Ok(Ended::Runner(SCRIPT, line)) => told.tell_stopped(rt, runner, line),
+        Ok(Ended::Runner(_, _)) => {}
+        Ok(Ended::Patience) => told.tell_patience(rt, runner),
+        Err(_) if udp.has_lost_line() => tell_of(rt, told.settings.rank, "its output failed"),
+        Err(_) => tell_of(rt, told.settings.rank, "its socket failed"),
+    }
+}
+
+/// The status of a rank that ended so. What its socket kept back goes before.
+fn end<R: Print + Eprint + AllocGlobal + Clock>(
+    rt: &R,
+    told: &Told,
+    runner: &ScriptRunner,
     udp: &mut Udp<'_, R>,
     ended: Result<Ended, TransportFault>,
 ) -> Result<u8, u8> {
     let last = udp.finish();
-    if let Ok(Ended::Runner(SCRIPT, line)) = ended {
-        tell(rt, 51, line);
-    }
+    tell_end(rt, told, runner, udp, ended);
     match (ended, last) {
         (Ok(ended), Ok(_)) => Ok(ended.status()),
-        _ => Err(TRANSPORT),
+        (Ok(_), Err(_)) => {
+            tell_of(rt, told.settings.rank, "its socket failed");
+            Err(TRANSPORT)
+        }
+        (Err(_), _) => Err(TRANSPORT),
     }
 }
 
 /// Drives the rank over its socket until it ends, and answers its status.
-fn meet<R: Wait + Print + Eprint + Clock>(
+fn meet<R: Wait + Print + Eprint + AllocGlobal + Clock>(
     rt: &R,
-    patience: u64,
+    told: &Told,
     runner: &mut ScriptRunner,
     engine: &mut Engine,
     udp: &mut Udp<'_, R>,
@@ -113,31 +131,37 @@ fn meet<R: Wait + Print + Eprint + Clock>(
         Ok(clock) => clock,
         Err(error) => return Err(status_of(&error)),
     };
-    let ended = drive(rt, engine, runner, patience, udp, &mut clock);
-    end(rt, udp, ended)
+    let ended = drive(rt, engine, runner, told.settings.patience, udp, &mut clock);
+    end(rt, told, runner, udp, ended)
 }
 
 /// Opens the rank's socket, and meets the others over it.
 fn open<R: Net + Wait + Print + Eprint + AllocGlobal + Clock>(
     rt: &R,
-    settings: &Settings,
+    told: &Told,
     runner: &mut ScriptRunner,
     engine: &mut Engine,
 ) -> Result<u8, u8> {
-    match Udp::new(rt, rt.alloc(), settings.rank, settings.port) {
-        Ok(mut udp) => meet(rt, settings.patience, runner, engine, &mut udp),
-        Err(error) => Err(status_of(&error)),
+    match Udp::new(rt, rt.alloc(), told.settings.rank, told.settings.port) {
+        Ok(mut udp) => meet(rt, told, runner, engine, &mut udp),
+        Err(error) => {
+            let status = status_of(&error);
+            if status == TRANSPORT {
+                tell_port(rt, told.settings);
+            }
+            Err(status)
+        }
     }
 }
 
 /// Makes the rank's engine, and opens its socket.
 fn start<R: Net + Wait + Print + Eprint + AllocGlobal + Clock>(
     rt: &R,
-    settings: &Settings,
+    told: &Told,
     runner: &mut ScriptRunner,
 ) -> Result<u8, u8> {
-    match new_engine(rt, settings) {
-        Ok(mut engine) => open(rt, settings, runner, &mut engine),
+    match new_engine(rt, told.settings) {
+        Ok(mut engine) => open(rt, told, runner, &mut engine),
         Err(status) => Err(status),
     }
 }
@@ -147,9 +171,14 @@ fn run_rank<R: Net + Wait + Files + Print + Eprint + AllocGlobal + Clock>(
     rt: &R,
     settings: &Settings,
 ) -> Result<u8, u8> {
-    let script = read_script(rt, settings)?;
+    let text = read_text(rt, settings)?;
+    let told = Told {
+        settings,
+        text: &text,
+    };
+    let script = read_script(rt, &told)?;
     match ScriptRunner::new(rt.alloc(), script, settings.rank, settings.incarnation) {
-        Ok(mut runner) => start(rt, settings, &mut runner),
+        Ok(mut runner) => start(rt, &told, &mut runner),
         Err(_) => Err(MEMORY),
     }
 }
@@ -162,13 +191,19 @@ pub fn run_words<R: Net + Wait + Files + Print + Eprint + AllocGlobal + Clock>(
     words: &[String],
 ) -> u8 {
     match settings_of(rt.alloc(), words) {
-        Ok(settings) => match run_rank(rt, &settings) {
-            Ok(status) => status,
-            Err(status) => status,
-        },
+        Ok(settings) => {
+            let status = match run_rank(rt, &settings) {
+                Ok(status) => status,
+                Err(status) => status,
+            };
+            if status == MEMORY {
+                tell_of(rt, settings.rank, "memory was refused");
+            }
+            status
+        }
         Err(Refused::OutOfMemory) => MEMORY,
         Err(Refused::Words) => {
-            tell(rt, 64, None);
+            tell_words(rt, words);
             WORDS
         }
     }
@@ -183,6 +218,7 @@ pub fn run<R: Net + Wait + Env + Files + Print + Eprint + AllocGlobal + Clock>(r
                 return MEMORY;
             }
             tell(rt, 64, None);
+            tell_usage(rt);
             return WORDS;
         }
     };

@@ -49,6 +49,8 @@ pub struct Udp<'a, R: Print + Clock> {
     text: Vec<u8>,
     /// How often it has failed.
     failures: u64,
+    /// Whether a line couldn't be written.
+    has_lost_line: bool,
 }
 
 fn address(port: u16) -> SocketAddr {
@@ -145,6 +147,7 @@ impl<'a, R: Print + Clock> Udp<'a, R> {
             has_carried: false,
             text: Vec::new(alloc),
             failures: 0,
+            has_lost_line: false,
         })
     }
 
@@ -245,6 +248,11 @@ impl<'a, R: Print + Clock> Udp<'a, R> {
         Ok(())
     }
 
+    /// Whether its output failed.
+    pub fn has_lost_line(&self) -> bool {
+        self.has_lost_line
+    }
+
     /// The same at the end, behind which nothing else is asked of it.
     pub fn finish(&mut self) -> Result<(), TransportFault> {
         match self.kept.take() {
@@ -300,7 +308,10 @@ impl<'a, R: Print + Clock> Transport for Udp<'a, R> {
         };
         match write_line(self.rt, &mut self.text, line) {
             Ok(()) => Ok(()),
-            Err(_) => Err(self.fault()),
+            Err(_) => {
+                self.has_lost_line = true;
+                Err(self.fault())
+            }
         }
     }
 

@@ -1,4 +1,3 @@
 pub mod CallLaws
 pub mod EntryLaws
-pub mod RunLaws
 pub mod SeveralLaws

@@ -1,4 +1,3 @@
 pub mod NamesState
 pub mod Acting
 pub mod Heeding
-pub mod Running

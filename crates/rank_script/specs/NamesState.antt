@@ -1,5 +1,5 @@
 -- What the names of a rank stand for, and what it waits for.
-use Rattle.std.specs.Prelude.{ℕ, ◌==◌, Bool, true, false, List, [], Option, Some, None, option_and_then, option_map}
+use Rattle.std.specs.Prelude.{ℕ, ◌==◌, Bool, true, false, List, [], Option, Some, None, is_some, option_and_then, option_map}
 use Rattle.vocabulary.specs.declared.envelope.Status.{Status}
 use Rattle.layouts.specs.Layouts.{Shape}
 use Rattle.datatypes.specs.Contents.{Contents}
@@ -12,6 +12,9 @@ use Rattle.statement_calls.specs.declared.awaited.Seat.{Seat}
 use Rattle.statement_calls.specs.Awaited.{free}
 use Rattle.statement_calls.specs.Told.{empty_status}
 use Rattle.name_tables.specs.Tables.{Entry, value_at, with_value}
+use Rattle.fault_lines.specs.Lacks.{Holdings}
+use Rattle.fault_lines.specs.declared.holder.Slot.{Slot}
+use Rattle.fault_lines.specs.declared.holder.Slot.TheVariants as slots
 
 -- The rank in world; the buffers that were set, where none is one that is lent; the layouts; the requests that were started; the
 -- communicators that were made, where none is MPI_COMM_NULL; the status of the last receive; and what the answer to the last call is
@@ -86,3 +89,19 @@ with_communicator s name seat = record s { communicators = with_value s.communic
 abbrev pub given_back : NamesState → Option (List ℕ) → Contents → NamesState
 given_back s None buffer = s
 given_back s (Some name) buffer = with_buffer s name (Some buffer)
+
+-- what the name of a buffer stands for, as far as a line can be followed by it
+abbrev pub slot_of : Option (Option Contents) → Slot
+slot_of None = slots.Unset
+slot_of (Some None) = slots.Lent
+slot_of (Some (Some buffer)) = slots.Here
+
+-- what the names stand for, as far as a line can be followed by it
+abbrev pub holdings : NamesState → Holdings
+holdings s = record {
+  communicators = λ name. is_some (value_at s.communicators name);
+  layouts = λ name. is_some (value_at s.layouts name);
+  requests = λ name. is_some (value_at s.requests name);
+  slots = λ name. slot_of (value_at s.buffers name);
+  members = λ communicator rank. is_root s communicator rank;
+}

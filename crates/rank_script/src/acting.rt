@@ -450,7 +450,7 @@ impl Names {
 
     /// What the line asks for, if that is more than a change of names. A name that isn't set, or a buffer that is lent, ends the
     /// script with the line's number.
-    pub(crate) fn act(&mut self, line: RankLine) -> Result<Option<Step>, AllocError>
+    pub fn act(&mut self, line: RankLine) -> Result<Option<Step>, AllocError>
         ensures { IfOk result (λ step. acts line self.old ≡ (step, self.new)) }
     {
         let RankLine { number, statement } = line;

@@ -395,7 +395,7 @@ impl Names {
     }
 
     /// What is made of the answer to the last call: what follows from it at once, if anything does.
-    pub(crate) fn heed(&mut self, reply: Reply) -> Result<Option<Step>, AllocError>
+    pub fn heed(&mut self, reply: Reply) -> Result<Option<Step>, AllocError>
         ensures { IfOk result (λ step. heeds reply self.old ≡ (step, self.new)) }
     {
         let mut doing = self.take_doing();

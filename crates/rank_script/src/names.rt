@@ -6,6 +6,7 @@ ghost use Rattle.name_tables.specs.Tables.{value_at};
 ghost use Rattle.rank_script.specs.NamesState.{no_names, here, is_lent, is_root, place_named, with_buffer, given_back};
 
 use datatypes::{Buffer, Layout};
+use fault_lines::{Holder, Slot};
 use name_tables::Table;
 use statement_calls::{Doing, Held, Seat, empty_status};
 use statements::{Communicator, Name};
@@ -16,14 +17,15 @@ use vocabulary::Status;
 
 /// What the names of a rank stand for, and what it waits for.
 #[derive(Drop)]
-pub(crate) struct Names {
-    pub alloc: Global,
-    pub rank: u16,
-    pub buffers: Table<Option<Buffer>>,
-    pub layouts: Table<Layout>,
-    pub requests: Table<Held>,
-    pub communicators: Table<Option<Seat>>,
-    pub last: Status,
+pub struct Names {
+    pub(crate) alloc: Global,
+    pub(crate) rank: u16,
+    pub(crate) buffers: Table<Option<Buffer>>,
+    pub(crate) layouts: Table<Layout>,
+    pub(crate) requests: Table<Held>,
+    pub(crate) communicators: Table<Option<Seat>>,
+    pub(crate) last: Status,
+    /// What the answer to the last call is for, and what it changes.
     pub doing: Doing,
 }
 
@@ -45,7 +47,7 @@ impl Model for Names {
 
 impl Names {
     /// No name is set at this rank of `world`.
-    pub(crate) fn new(alloc: Global, rank: u16) -> Names
+    pub fn new(alloc: Global, rank: u16) -> Names
         ensures { result ≡ no_names rank }
     {
         Names {
@@ -154,5 +156,40 @@ impl Names {
         ensures rest { self.new ≡ record self.old { doing = free } }
     {
         mem::replace(&mut self.doing, Doing::free())
+    }
+}
+
+impl Holder for Names {
+    ghost use Rattle.rank_script.specs.NamesState.{holdings};
+
+    ghost held = { λ n. holdings n };
+
+    fn has_communicator(&self, name: &Name) -> bool {
+        self.communicators.get(name).is_some()
+    }
+
+    fn has_layout(&self, name: &Name) -> bool {
+        self.layouts.get(name).is_some()
+    }
+
+    fn has_request(&self, name: &Name) -> bool {
+        self.requests.get(name).is_some()
+    }
+
+    fn slot(&self, name: &Name) -> Slot {
+        match self.buffers.get(name) {
+            Some(slot) => {
+                if slot.is_some() {
+                    Slot::Here
+                } else {
+                    Slot::Lent
+                }
+            }
+            None => Slot::Unset,
+        }
+    }
+
+    fn is_member(&self, communicator: &Communicator, rank: u16) -> bool {
+        self.is_root(communicator, rank)
     }
 }

@@ -1,2 +1,3 @@
 pub mod Program
 pub mod Settings
+pub mod Faults

@@ -2,10 +2,12 @@
 #![tactic(auto)]
 
 mod asked;
+mod faults;
 mod program;
 mod refused;
 mod words;
 
 pub use asked::Settings;
+pub use faults::{Wanted, WordFault, asks_for_help, fault_in};
 pub use refused::Refused;
 pub use words::settings_of;

@@ -5,8 +5,8 @@ ghost use Rattle.std.specs.Prelude.{◌≡◌, ◌+◌, ◌<◌, ◌≤◌, ◌^
 use datagram::Bytes;
 use engine::{Completion, Engine, Place, Reply};
 use rank_drive::{Runner, Step, Transport, TransportFault};
-use rank_script::ScriptRunner;
 use script_files::parse;
+use script_runner::ScriptRunner;
 use std::alloc::Global;
 use std::collections::VecDeque;
 use std::mem;

@@ -1,9 +1,10 @@
 //! What lines of collectives do that make no communicator: barrier, bcast, gather, scatter, reduce and allreduce.
 
-use crate::names::Giving;
 use crate::running::Simulation;
 use engine::{Block, Elements, Entry, Question, Rooted};
 use event_lines::{SimulateError, print_refusal};
+use event_names::Giving;
+use fault_lines::Holder;
 use statements::{
     Broadcasting, Communicator, Gathering, Name, Reducing, ReducingToAll, Scattering,
 };
@@ -13,16 +14,9 @@ impl Simulation {
     /// Whether the rank is the root of a collective on the communicator. Where the communicator has no member of the root's rank,
     /// nobody is.
     fn is_root(&self, rank: u16, communicator: &Communicator, root: u16) -> bool {
-        if rank >= self.size {
-            return false;
-        }
-        match communicator {
-            Communicator::World => root == rank,
-            Communicator::Own => root == 0,
-            Communicator::Named(name) => match self.ranks.get(&rank) {
-                Some(names) => names.rank_in(name) == Some(usize::from(root)),
-                None => false,
-            },
+        match self.ranks.get(&rank) {
+            Some(names) => names.is_member(communicator, root),
+            None => false,
         }
     }
 

@@ -1,9 +1,9 @@
 //! What lines on communicators do: dup, split, who, members and compare.
 
-use crate::names::{Gives, Giving, Seat, give_way};
 use crate::running::Simulation;
 use engine::{Call, Choice, Entry, Fact, Question, Reply};
 use event_lines::{SimulateError, print_position, print_refusal};
+use event_names::{Gives, Giving, Seat, give_way};
 use statements::{Communicator, Name, Splitting};
 use std::io::Write;
 use world::Event;
@@ -97,9 +97,8 @@ impl Simulation {
             Ok(None) => None,
             Err(_) => return Err(SimulateError::OutOfMemory),
         };
-        let alloc = self.alloc;
         if let Some(names) = self.ranks.get_mut(&rank) {
-            names.note_communicator(alloc, seat)?;
+            names.note_communicator(seat)?;
         }
         Ok(())
     }

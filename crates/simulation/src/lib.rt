@@ -3,9 +3,8 @@
 
 mod collecting;
 mod communicating;
-mod names;
 mod printing;
 mod running;
 
 pub use event_lines::SimulateError;
-pub use running::simulate;
+pub use running::{Stopped, simulate, simulate_or_tell};

@@ -1,11 +1,12 @@
 //! Running a file of events.
 
-use crate::names::{Names, give_way, set};
 use crate::printing::{print_emitted, print_event};
 use datatypes::{Buffer, Layout, Refusal};
 use engine::{Call, Completion, Ending, Receive, Reply, Send};
 use event_files::{Line, Statement, parse};
 use event_lines::{SimulateError, print_refusal};
+use event_names::{Names, give_way};
+use fault_lines::{Fault, lack_of_action};
 use requests::{Answer, Places, Region, Request, RequestList};
 use statements::{
     Action, LayoutLine, Name, OldLayout, ParseError, Receiving, Requested, Sending, Through,
@@ -23,6 +24,8 @@ pub(crate) struct Simulation {
     pub size: u16,
     pub world: World,
     pub ranks: BTreeMap<u16, Names>,
+    /// Why the line at which it stopped can't be followed, where it stopped at one.
+    pub lack: Option<Fault>,
 }
 
 /// What the last event at a rank answered to a completing call, at once or to one that was blocked before.
@@ -77,7 +80,7 @@ fn note_answer(
                 place: *place,
             }));
         }
-        Some(Ending::Comm(None)) => names.note_communicator(alloc, None)?,
+        Some(Ending::Comm(None)) => names.note_communicator(None)?,
         Some(Ending::Left(Some(buffer))) => names.note_elements(alloc, buffer)?,
         _ => {}
     }
@@ -99,7 +102,7 @@ impl Simulation {
     /// Sees to it that a rank has names.
     fn begin(&mut self, rank: u16) -> Result<(), SimulateError> {
         if self.ranks.get(&rank).is_none() {
-            let names = Names::new(self.alloc);
+            let names = Names::new(self.alloc, rank, self.size);
             let earlier = self.ranks.insert(rank, names).map_err(AllocError::from)?;
             drop(earlier);
         }
@@ -240,12 +243,10 @@ impl Simulation {
     fn give_back(&mut self, rank: u16, name: &Name, refused: Event) {
         let buffer = buffer_of(refused);
         if let Some(names) = self.ranks.get_mut(&rank) {
-            if let Some(place) = names.buffers.get_mut(name.as_bytes()) {
-                give_way(place, buffer);
-                return;
-            }
+            drop(names.buffers.replace(name, buffer));
+        } else {
+            drop(buffer);
         }
-        drop(buffer);
     }
 
     fn isend<W: Write>(
@@ -333,7 +334,7 @@ impl Simulation {
             return Ok(None);
         };
         match self.ranks.get(&rank) {
-            Some(names) => match names.requests.get(name.as_bytes()) {
+            Some(names) => match names.requests.get(name) {
                 Some(held) => Ok(held.request),
                 None => Err(SimulateError::Script(line)),
             },
@@ -466,7 +467,7 @@ impl Simulation {
         drop(old);
         match made {
             Ok(layout) => match self.ranks.get_mut(&rank) {
-                Some(names) => Ok(set(&mut names.layouts, alloc, &line.name, layout)?),
+                Some(names) => Ok(names.layouts.set(&line.name, layout)?),
                 None => {
                     drop(layout);
                     Ok(())
@@ -517,10 +518,19 @@ impl Simulation {
     fn restart<W: Write>(&mut self, rank: u16, out: &mut W) -> Result<(), SimulateError> {
         if self.runs(Event::Restart(rank), out)? {
             if let Some(names) = self.ranks.get_mut(&rank) {
-                give_way(names, Names::new(self.alloc));
+                give_way(names, Names::new(self.alloc, rank, self.size));
             }
         }
         Ok(())
+    }
+
+    /// Finds why the rank can't do this, as far as memory lasts.
+    fn find_lack(&mut self, rank: u16, action: &Action) {
+        let lack = match self.ranks.get(&rank) {
+            Some(names) => lack_of_action(self.alloc, names, action).ok().flatten(),
+            None => None,
+        };
+        give_way(&mut self.lack, lack);
     }
 
     fn run<W: Write>(&mut self, line: Line, out: &mut W) -> Result<(), SimulateError> {
@@ -528,6 +538,9 @@ impl Simulation {
         let event = match line.statement {
             Statement::Rank(rank, action) => {
                 let acted = self.act(rank, number, &action, out);
+                if let Err(SimulateError::Script(_)) = acted {
+                    self.find_lack(rank, &action);
+                }
                 drop(action);
                 return acted;
             }
@@ -548,15 +561,29 @@ impl Simulation {
     }
 }
 
+/// How a file of events stopped before its end.
+#[derive(Drop)]
+pub struct Stopped {
+    /// Why it didn't run to its end.
+    pub error: SimulateError,
+    /// Why the line that it stopped at can't be followed, where it was reached; none where it is no statement, or for want of memory.
+    pub fault: Option<Fault>,
+}
+
+fn stopped(error: SimulateError) -> Stopped {
+    Stopped { error, fault: None }
+}
+
 /// Runs a file of events, and prints the answer of each.
 ///
 /// The whole file is read before anything runs. `Script` names the first line that is no statement, or the line at
-/// which a name that isn't set, or a buffer that is lent, was used; what ran before that is printed.
-pub fn simulate<W: Write>(alloc: Global, text: &[u8], out: &mut W) -> Result<(), SimulateError> {
+/// which a name that isn't set, or a buffer that is lent, was used; what ran before that is printed. The fault says which name, where
+/// the line was reached.
+pub fn simulate_or_tell<W: Write>(alloc: Global, text: &[u8], out: &mut W) -> Result<(), Stopped> {
     let file = match parse(alloc, text) {
         Ok(file) => file,
-        Err(ParseError::Line(line)) => return Err(SimulateError::Script(line)),
-        Err(ParseError::OutOfMemory) => return Err(SimulateError::OutOfMemory),
+        Err(ParseError::Line(line)) => return Err(stopped(SimulateError::Script(line))),
+        Err(ParseError::OutOfMemory) => return Err(stopped(SimulateError::OutOfMemory)),
     };
     match World::new(alloc, file.size) {
         Ok(world) => {
@@ -565,14 +592,27 @@ pub fn simulate<W: Write>(alloc: Global, text: &[u8], out: &mut W) -> Result<(),
                 size: file.size,
                 world,
                 ranks: BTreeMap::new(alloc),
+                lack: None,
             };
             let ended = simulation.run_all(file.lines.into_vec(), out);
+            let fault = simulation.lack.take();
             drop(simulation);
-            ended
+            match ended {
+                Ok(()) => Ok(drop(fault)),
+                Err(error) => Err(Stopped { error, fault }),
+            }
         }
         Err(_) => {
             drop(file);
-            Err(SimulateError::OutOfMemory)
+            Err(stopped(SimulateError::OutOfMemory))
         }
+    }
+}
+
+/// The same, where nobody asks why a line can't be followed.
+pub fn simulate<W: Write>(alloc: Global, text: &[u8], out: &mut W) -> Result<(), SimulateError> {
+    match simulate_or_tell(alloc, text, out) {
+        Ok(()) => Ok(()),
+        Err(stopped) => Err(stopped.error),
     }
 }

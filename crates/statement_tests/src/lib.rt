@@ -6,6 +6,8 @@ mod answer_tests;
 #[cfg(test)]
 mod event_files_tests;
 #[cfg(test)]
+mod fault_tests;
+#[cfg(test)]
 mod line_tests;
 #[cfg(test)]
 mod name_table_tests;

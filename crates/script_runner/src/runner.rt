@@ -1,13 +1,19 @@
 //! Running the script of a rank.
 
-ghost use Rattle.std.specs.Prelude.{◌≡◌, IfOk};
+ghost use Rattle.std.specs.Prelude.{◌≡◌, IfOk, length, ℕ};
+ghost use Rattle.fault_lines.specs.Lacks.{lack_of_statement};
+ghost use Rattle.rank_script.specs.Acting.{states};
 ghost use Rattle.rank_script.specs.Heeding.{heeds};
-ghost use Rattle.rank_script.specs.Running.{along, does_after, next_of, opening};
+ghost use Rattle.rank_script.specs.NamesState.{holdings};
+ghost use Rattle.script_runner.specs.Running.{along, does_after, next_of, opening};
+ghost use Rattle.script_runner.specs.Standing.{StopsWhere, is_awaiting};
 
-use crate::names::Names;
 use engine::Reply;
+use fault_lines::{Fault, lack_of_statement};
 use rank_drive::{Runner, Step};
-use script_files::{RankLines, Script};
+use rank_script::Names;
+use script_files::{RankLines, Script, Statement};
+use statement_calls::Stage;
 use std::alloc::{AllocError, Global};
 use std::marker::Model;
 
@@ -19,7 +25,7 @@ pub struct ScriptRunner {
 }
 
 impl Model for ScriptRunner {
-    ghost use Rattle.rank_script.specs.Running.{RunnerState};
+    ghost use Rattle.script_runner.specs.Running.{RunnerState};
 
     ghost Value = { RunnerState };
 
@@ -77,10 +83,36 @@ impl ScriptRunner {
             names: Names::new(alloc, rank),
         })
     }
+
+    /// How many of its lines are left behind the one that it stands at.
+    pub fn lines_left(&self) -> usize
+        ensures { result ≡ length self.now.lines }
+    {
+        self.lines.len()
+    }
+
+    /// Whether it stands at a line whose call isn't answered yet.
+    pub fn awaits_answer(&self) -> bool
+        ensures { result ≡ is_awaiting self.now.names.doing }
+    {
+        !matches!(self.names.doing.stage, Stage::Free)
+    }
+
+    /// Why a line can't be followed by what the names stand for now, in which case the script ends at it with 51: the first of
+    /// the names that the line uses that isn't set, or whose buffer is lent. None where the line can be followed. The only error
+    /// is want of memory.
+    #[tactic(auto, using(crate::proofs::StandingLaws::stops_where_lacking))]
+    pub fn lack_of(&self, alloc: Global, statement: &Statement) -> Result<Option<Fault>, AllocError>
+        ensures exact { IfOk result (λ fault. fault ≡ lack_of_statement (holdings self.now.names) statement.now) }
+        ensures stops { (number : ℕ) → IfOk result (λ fault.
+            StopsWhere fault number (states number statement.now self.now.names) self.now.names) }
+    {
+        lack_of_statement(alloc, &self.names, statement)
+    }
 }
 
 impl Runner for ScriptRunner {
-    ghost use Rattle.rank_script.specs.Running.{NextGives};
+    ghost use Rattle.script_runner.specs.Running.{NextGives};
 
     ghost does = { NextGives };
 

@@ -1,10 +1,14 @@
 //! The buffers, layouts, requests and communicators that a rank's lines name.
 
+ghost use Rattle.std.specs.Prelude.{◌≡◌};
+ghost use Rattle.event_names.specs.Holding.{holdings, is_member};
+
 use datatypes::{Buffer, Layout};
+use fault_lines::{Holder, Slot};
+use name_tables::Table;
 use requests::{Answer, Outcome, Request};
 use statements::{Communicator, Name};
 use std::alloc::{AllocError, Global};
-use std::collections::BTreeMap;
 use std::mem;
 use vocabulary::BasicType;
 
@@ -51,16 +55,20 @@ pub enum Gives {
 /// The names of one rank. Each kind of thing has its own.
 #[derive(Drop)]
 pub struct Names {
+    /// The rank in world.
+    pub rank: u16,
+    /// How many ranks world has.
+    pub size: u16,
     /// The buffers that were set, by name; none is lent to a receive until the outcome.
-    pub buffers: BTreeMap<Vec<u8>, Option<Buffer>>,
+    pub buffers: Table<Option<Buffer>>,
     /// The layouts that were set, by name.
-    pub layouts: BTreeMap<Vec<u8>, Layout>,
+    pub layouts: Table<Layout>,
     /// The requests that were started, by name.
-    pub requests: BTreeMap<Vec<u8>, Held>,
+    pub requests: Table<Held>,
     /// The names of the requests that the last completing call is about, in order; the null request has none.
     pub waiting: Vec<Option<Name>>,
     /// The communicators that were made, by name; none is MPI_COMM_NULL.
-    pub communicators: BTreeMap<Vec<u8>, Option<Seat>>,
+    pub communicators: Table<Option<Seat>>,
     /// What the last collective gives.
     pub gives: Gives,
 }
@@ -70,38 +78,29 @@ pub fn give_way<T: Drop>(place: &mut T, next: T) {
     *place = next;
 }
 
-/// A name stands for this from now on.
-pub fn set<T: Drop>(
-    names: &mut BTreeMap<Vec<u8>, T>,
-    alloc: Global,
-    name: &Name,
-    value: T,
-) -> Result<(), AllocError> {
-    let key = Vec::from_slice(alloc, name.as_bytes())?;
-    names.insert(key, value).map_err(AllocError::from)?;
-    Ok(())
-}
-
 impl Names {
-    pub fn new(alloc: Global) -> Names {
+    /// No name is set at this rank of a world of this size.
+    pub fn new(alloc: Global, rank: u16, size: u16) -> Names {
         Names {
-            buffers: BTreeMap::new(alloc),
-            layouts: BTreeMap::new(alloc),
-            requests: BTreeMap::new(alloc),
+            rank,
+            size,
+            buffers: Table::new(alloc),
+            layouts: Table::new(alloc),
+            requests: Table::new(alloc),
             waiting: Vec::new(alloc),
-            communicators: BTreeMap::new(alloc),
+            communicators: Table::new(alloc),
             gives: Gives::Nothing,
         }
     }
 
     /// Whether the buffer of this name is lent.
     pub fn is_lent(&self, name: &Name) -> bool {
-        matches!(self.buffers.get(name.as_bytes()), Some(None))
+        self.slot(name) == Slot::Lent
     }
 
     /// A copy of the buffer of this name, if it is here.
     pub fn copy_of(&self, alloc: Global, name: &Name) -> Result<Option<Buffer>, AllocError> {
-        match self.buffers.get(name.as_bytes()) {
+        match self.buffers.get(name) {
             Some(Some(buffer)) => Ok(Some(buffer.try_clone(alloc)?)),
             _ => Ok(None),
         }
@@ -109,7 +108,7 @@ impl Names {
 
     /// The type of the buffer of this name and how many elements it has, if it is here.
     pub fn shape_of(&self, name: &Name) -> Option<(BasicType, usize)> {
-        match self.buffers.get(name.as_bytes()) {
+        match self.buffers.get(name) {
             Some(Some(buffer)) => Some((buffer.basic(), buffer.len())),
             _ => None,
         }
@@ -117,7 +116,7 @@ impl Names {
 
     /// A copy of the layout of this name, if it is set.
     pub fn layout_of(&self, alloc: Global, name: &Name) -> Result<Option<Layout>, AllocError> {
-        match self.layouts.get(name.as_bytes()) {
+        match self.layouts.get(name) {
             Some(layout) => Ok(Some(layout.try_clone(alloc)?)),
             None => Ok(None),
         }
@@ -125,10 +124,7 @@ impl Names {
 
     /// Lends the buffer of this name, if it is here.
     pub fn lend(&mut self, name: &Name) -> Option<Buffer> {
-        match self.buffers.get_mut(name.as_bytes()) {
-            Some(buffer) => buffer.take(),
-            None => None,
-        }
+        self.buffers.replace(name, None).flatten()
     }
 
     /// The buffer of this name is a copy of this one.
@@ -139,7 +135,7 @@ impl Names {
         buffer: &Buffer,
     ) -> Result<(), AllocError> {
         let copy = buffer.try_clone(alloc)?;
-        set(&mut self.buffers, alloc, name, Some(copy))
+        self.buffers.set(name, Some(copy))
     }
 
     /// The name is this request's, to which the buffer of that name is lent, if there is one.
@@ -158,16 +154,22 @@ impl Names {
             request: Some(request),
             buffer,
         };
-        set(&mut self.requests, alloc, name, held)
+        self.requests.set(name, held)
     }
 
     /// The request of this name got its outcome: the name is null now, and the receive's buffer is here again.
     fn end(&mut self, name: &Name, alloc: Global, outcome: &Outcome) -> Result<(), AllocError> {
-        let Some(held) = self.requests.get_mut(name.as_bytes()) else {
-            return Ok(());
+        let null = Held {
+            request: None,
+            buffer: None,
         };
-        held.request = None;
-        let Some(lent) = held.buffer.take() else {
+        let Some(
+            Held {
+                request: _,
+                buffer: Some(lent),
+            },
+        ) = self.requests.replace(name, null)
+        else {
             return Ok(());
         };
         match buffer_of(outcome) {
@@ -195,7 +197,7 @@ impl Names {
         match communicator {
             Communicator::World => Some(Some(0)),
             Communicator::Own => Some(Some(1)),
-            Communicator::Named(name) => match self.communicators.get(name.as_bytes()) {
+            Communicator::Named(name) => match self.communicators.get(name) {
                 Some(Some(seat)) => Some(Some(seat.place)),
                 Some(None) => Some(None),
                 None => None,
@@ -203,11 +205,24 @@ impl Names {
         }
     }
 
-    /// The rank's rank in a communicator that has this name.
-    pub fn rank_in(&self, name: &Name) -> Option<usize> {
-        match self.communicators.get(name.as_bytes()) {
-            Some(Some(seat)) => Some(seat.rank),
-            _ => None,
+    /// Whether the rank is the member with this rank of a communicator. Where the communicator has no such member, nobody is; nor is a
+    /// rank that world hasn't.
+    fn has_rank(&self, communicator: &Communicator, rank: u16) -> bool
+        ensures { result ≡ is_member self.now communicator.now rank }
+    {
+        if self.rank >= self.size {
+            return false;
+        }
+        match communicator {
+            Communicator::World => self.rank == rank,
+            Communicator::Own => rank == 0,
+            Communicator::Named(name) => match self.communicators.get(name) {
+                Some(held) => match held {
+                    Some(seat) => seat.rank == usize::from(rank),
+                    None => false,
+                },
+                None => false,
+            },
         }
     }
 
@@ -222,13 +237,9 @@ impl Names {
     }
 
     /// The last collective has ended: what it gives is this communicator; none is MPI_COMM_NULL.
-    pub fn note_communicator(
-        &mut self,
-        alloc: Global,
-        seat: Option<Seat>,
-    ) -> Result<(), AllocError> {
+    pub fn note_communicator(&mut self, seat: Option<Seat>) -> Result<(), AllocError> {
         match mem::replace(&mut self.gives, Gives::Nothing) {
-            Gives::Communicator(name) => set(&mut self.communicators, alloc, &name, seat),
+            Gives::Communicator(name) => self.communicators.set(&name, seat),
             other => {
                 drop(other);
                 Ok(())
@@ -283,5 +294,40 @@ fn buffer_of(outcome: &Outcome) -> Option<&Buffer> {
         Outcome::Replaced(buffer) => buffer.as_ref(),
         Outcome::Cancelled(buffer) => Some(buffer),
         Outcome::Sent | Outcome::Empty => None,
+    }
+}
+
+impl Holder for Names {
+    ghost use Rattle.event_names.specs.Holding.{holdings};
+
+    ghost held = { λ n. holdings n };
+
+    fn has_communicator(&self, name: &Name) -> bool {
+        self.communicators.get(name).is_some()
+    }
+
+    fn has_layout(&self, name: &Name) -> bool {
+        self.layouts.get(name).is_some()
+    }
+
+    fn has_request(&self, name: &Name) -> bool {
+        self.requests.get(name).is_some()
+    }
+
+    fn slot(&self, name: &Name) -> Slot {
+        match self.buffers.get(name) {
+            Some(slot) => {
+                if slot.is_some() {
+                    Slot::Here
+                } else {
+                    Slot::Lent
+                }
+            }
+            None => Slot::Unset,
+        }
+    }
+
+    fn is_member(&self, communicator: &Communicator, rank: u16) -> bool {
+        self.has_rank(communicator, rank)
     }
 }

@@ -1,6 +1,6 @@
 use Rattle.std.proofs.Common.{◌∙◌, sym, Some, None}
-use Rattle.rank_script.proofs.RunLaws.{along_first, along_none}
-use Rattle.rank_script.proofs.runner.go_on.Goals as goal
+use Rattle.script_runner.proofs.RunLaws.{along_first, along_none}
+use Rattle.script_runner.proofs.runner.go_on.Goals as goal
 
 pub returns-in-Some-2 : goal.returns-in-Some-2
 returns-in-Some-2 c =

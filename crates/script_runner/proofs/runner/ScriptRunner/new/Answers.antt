@@ -1,6 +1,6 @@
 -- Answered so that a wrong body is refused soon.
 use Rattle.std.proofs.Common.{rules}
-use Rattle.rank_script.proofs.runner.ScriptRunner.new.Goals as goal
+use Rattle.script_runner.proofs.runner.ScriptRunner.new.Goals as goal
 
 pub into_lines_for-requires : goal.into_lines_for-requires
 into_lines_for-requires c = search rules

@@ -1,0 +1,41 @@
+-- What is told of a faulty line, and of one at which a rank gave up.
+use Rattle.std.specs.Prelude.{ℕ, ◌++◌, List, [], map, take, length, nat_lt, codes, if◌then◌else◌}
+use Rattle.std.specs.Fmt.{decimal}
+use Rattle.line_words.specs.Lines.{is_text_byte}
+use Rattle.fault_lines.specs.declared.fault.Fault.{Fault}
+use Rattle.fault_lines.specs.declared.fault.Fault.TheVariants as faults
+
+-- a byte as it is told: `?` where it isn't printable ASCII
+abbrev pub shown_byte : ℕ → ℕ
+shown_byte byte = if is_text_byte byte then byte else 63
+
+-- the text of a line as it is told: cut after 80 bytes, with ` ..` behind then
+unfoldable pub shown : List ℕ → List ℕ
+shown line = if nat_lt 80 (length line) then map shown_byte (take 80 line) ++ codes " .." else map shown_byte line
+
+-- why a line is faulty, in words
+abbrev pub reason : Fault → List ℕ
+reason faults.NotAscii = codes "a byte that isn't ASCII"
+reason faults.NotPrintable = codes "a byte that isn't printable ASCII"
+reason faults.NoStatement = codes "no such statement"
+reason faults.OutsideType = codes "a value outside its type"
+reason faults.UnfitWords = codes "words that don't fit the statement"
+reason (faults.Unset name) = codes "the name " ++ name ++ codes " isn't set"
+reason (faults.Lent name) = codes "the buffer " ++ name ++ codes " is lent to a receive"
+
+-- `SPEAKER: REASON: LINE`
+abbrev pub explanation : List ℕ → Fault → List ℕ → List ℕ
+explanation speaker fault line = ((speaker ++ codes ": " ++ reason fault) ++ codes ": ") ++ shown line
+
+-- `SPEAKER gave up after MS ms`
+abbrev pub gave_up : List ℕ → ℕ → List ℕ
+gave_up speaker patience = speaker ++ (codes " gave up after " ++ decimal patience ++ codes " ms") ++ codes ""
+
+-- `SPEAKER gave up after MS ms at line L: LINE`
+abbrev pub gave_up_at : List ℕ → (patience number : ℕ) → List ℕ → List ℕ
+gave_up_at speaker patience number line = gave_up speaker patience ++ (codes " at line " ++ decimal number ++ codes ": ") ++ shown line
+
+-- behind the last line
+abbrev pub gave_up_behind : List ℕ → ℕ → List ℕ
+gave_up_behind speaker patience =
+    gave_up speaker patience ++ codes " behind the end of its script: " ++ codes "what it sent is not all acknowledged"

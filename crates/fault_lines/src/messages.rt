@@ -1,0 +1,130 @@
+//! The messages, byte by byte.
+
+ghost use Rattle.std.specs.Prelude.{◌≡◌, ◌++◌, codes, IfOk, map};
+ghost use Rattle.fault_lines.specs.Messages.{explanation, gave_up, gave_up_at, gave_up_behind, reason, shown, shown_byte};
+
+use crate::fault::Fault;
+use std::alloc::{AllocError, Global};
+
+/// How many bytes of a line are told.
+const LONGEST: usize = 80;
+
+/// The byte as it is told: `?` where it isn't printable ASCII.
+fn shown_byte(byte: u8) -> u8
+    ensures { result ≡ shown_byte byte }
+{
+    if byte < b' ' || byte > b'~' {
+        b'?'
+    } else {
+        byte
+    }
+}
+
+fn shown_bytes(alloc: Global, bytes: &[u8]) -> Result<Vec<u8>, AllocError>
+    ensures { IfOk result (λ text. text.items ≡ map shown_byte bytes.now) }
+{
+    let mut text = Vec::new(alloc);
+    for byte in bytes {
+        text.push(shown_byte(*byte))?;
+    }
+    Ok(text)
+}
+
+/// The text of a line as it is told: cut after 80 bytes, with ` ..` behind then.
+#[tactic(auto, unfolding(crate::specs::Messages::shown))]
+fn shown(alloc: Global, line: &[u8]) -> Result<Vec<u8>, AllocError>
+    ensures { IfOk result (λ text. text.items ≡ shown line.now) }
+{
+    if line.len() <= LONGEST {
+        return shown_bytes(alloc, line);
+    }
+    let (front, _) = line.split_at(LONGEST);
+    let mut text = shown_bytes(alloc, front)?;
+    text.extend_from_slice(b" ..")?;
+    Ok(text)
+}
+
+/// The texts one behind the other.
+fn joined(alloc: Global, front: &[u8], middle: &[u8], back: &[u8]) -> Result<Vec<u8>, AllocError>
+    ensures { IfOk result (λ text. text.items ≡ front.now ++ middle.now ++ back.now) }
+{
+    let mut text = Vec::from_slice(alloc, front)?;
+    text.extend_from_slice(middle)?;
+    text.extend_from_slice(back)?;
+    Ok(text)
+}
+
+/// Why the line is faulty, in words.
+fn reason(alloc: Global, fault: &Fault) -> Result<Vec<u8>, AllocError>
+    ensures { IfOk result (λ text. text.items ≡ reason fault.now) }
+{
+    match fault {
+        Fault::NotAscii => Vec::from_slice(alloc, b"a byte that isn't ASCII"),
+        Fault::NotPrintable => Vec::from_slice(alloc, b"a byte that isn't printable ASCII"),
+        Fault::NoStatement => Vec::from_slice(alloc, b"no such statement"),
+        Fault::OutsideType => Vec::from_slice(alloc, b"a value outside its type"),
+        Fault::UnfitWords => Vec::from_slice(alloc, b"words that don't fit the statement"),
+        Fault::Unset(name) => joined(alloc, b"the name ", name.as_bytes(), b" isn't set"),
+        Fault::Lent(name) => joined(
+            alloc,
+            b"the buffer ",
+            name.as_bytes(),
+            b" is lent to a receive",
+        ),
+    }
+}
+
+/// `SPEAKER: REASON: LINE`: why a line is faulty, and its text. The only error is want of memory.
+pub fn explanation(
+    alloc: Global,
+    speaker: &[u8],
+    fault: &Fault,
+    line: &[u8],
+) -> Result<Vec<u8>, AllocError>
+    ensures { IfOk result (λ text. text.items ≡ explanation speaker.now fault.now line.now) }
+{
+    let reason = reason(alloc, fault)?;
+    let shown = shown(alloc, line)?;
+    let mut text = joined(alloc, speaker, b": ", &reason)?;
+    text.extend_from_slice(b": ")?;
+    text.extend_from_slice(&shown)?;
+    Ok(text)
+}
+
+/// `SPEAKER gave up after MS ms`
+fn gave_up(alloc: Global, speaker: &[u8], patience: u64) -> Result<Vec<u8>, AllocError>
+    ensures { IfOk result (λ text. text.items ≡ gave_up speaker.now patience) }
+{
+    let time = format!(in alloc; " gave up after {patience} ms")?;
+    joined(alloc, speaker, time.as_bytes(), b"")
+}
+
+/// `SPEAKER gave up after MS ms at line L: LINE`: the patience of this many milliseconds is over at a line of this number. The
+/// only error is want of memory.
+pub fn gave_up_at(
+    alloc: Global,
+    speaker: &[u8],
+    patience: u64,
+    number: usize,
+    line: &[u8],
+) -> Result<Vec<u8>, AllocError>
+    ensures { IfOk result (λ text. text.items ≡ gave_up_at speaker.now patience number line.now) }
+{
+    let front = gave_up(alloc, speaker, patience)?;
+    let place = format!(in alloc; " at line {number}: ")?;
+    let shown = shown(alloc, line)?;
+    joined(alloc, &front, place.as_bytes(), &shown)
+}
+
+/// The same behind the last line: the rank waits for acknowledgements of what it sent.
+pub fn gave_up_behind(alloc: Global, speaker: &[u8], patience: u64) -> Result<Vec<u8>, AllocError>
+    ensures { IfOk result (λ text. text.items ≡ gave_up_behind speaker.now patience) }
+{
+    let front = gave_up(alloc, speaker, patience)?;
+    joined(
+        alloc,
+        &front,
+        b" behind the end of its script: ",
+        b"what it sent is not all acknowledged",
+    )
+}

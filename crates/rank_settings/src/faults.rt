@@ -1,0 +1,195 @@
+//! Which word of the rank program is at fault.
+
+ghost use Rattle.std.specs.Prelude.{◌≡◌, IfSome};
+ghost use Rattle.rank_settings.specs.Faults.{IsAtFault, range_of};
+
+use numerals::number_between;
+use std::convert::AsStr;
+use std::fmt;
+
+/// What may stand where a word is at fault.
+#[derive(Clone, Copy, Debug, PartialEq, Eq)]
+pub enum Wanted {
+    /// A number between these, themselves included.
+    Number(u64, u64),
+    /// An option that doesn't stand before it, or the script, once.
+    OptionOrScript,
+}
+
+impl fmt::Display for Wanted {
+    ghost use Rattle.std.specs.Prelude.{Some};
+    ghost use Rattle.rank_settings.specs.Faults.{wanted_text};
+
+    ghost output = { λ w. Some (wanted_text w) };
+
+    fn fmt<W: fmt::Write>(&self, f: &mut fmt::Formatter<W>) -> fmt::Result {
+        match self {
+            Wanted::Number(low, high) => write!(f, "a number from {low} to {high}"),
+            Wanted::OptionOrScript => f.write_str(
+                "one of --rank, --size, --inc, --job, --port and --patience, each once, or one script",
+            ),
+        }
+    }
+}
+
+/// A word that is at fault, and what may stand in its place.
+#[derive(Clone, Copy, Debug)]
+pub struct WordFault<'a> {
+    /// The word.
+    pub word: &'a str,
+    /// What may stand in its place.
+    pub wanted: Wanted,
+}
+
+/// Between which numbers the value of this option lies.
+#[tactic(auto, unfolding(crate::specs::Faults::range_of))]
+fn range_of(option: &str) -> Option<(u64, u64)>
+    ensures { result ≡ range_of option.now }
+{
+    match option {
+        "--rank" => Some((0, 255)),
+        "--size" => Some((1, 256)),
+        "--inc" => Some((0, 65_535)),
+        "--job" => Some((0, u64::MAX)),
+        "--port" => Some((1, 65_535)),
+        "--patience" => Some((1, 3_600_000)),
+        _ => None,
+    }
+}
+
+/// The fault of a value that is to lie between these numbers.
+fn value_fault<'a>(word: &'a str, low: u64, high: u64) -> Option<WordFault<'a>>
+    ensures { IfSome result (λ fault. IsAtFault fault.word.now fault.wanted) }
+{
+    match number_between(word.as_bytes(), low, high) {
+        Some(_) => None,
+        None => Some(WordFault {
+            word,
+            wanted: Wanted::Number(low, high),
+        }),
+    }
+}
+
+/// A word as it stands, or its front where `=` and a value stand behind an option.
+fn front_of(word: &str) -> &str {
+    match word.split_once('=') {
+        Some((front, _)) => front,
+        None => word,
+    }
+}
+
+/// Whether an option stands among the words before the one at this place.
+fn is_repeated<S: AsStr>(words: &[S], place: usize, option: &str) -> bool {
+    words
+        .iter()
+        .take(place)
+        .any(|one| front_of(one.as_str()) == option)
+}
+
+/// What a word stands for where an option or the script may stand.
+enum Standing<'a> {
+    /// An option whose value is the next word, and between which numbers that lies.
+    Option(u64, u64),
+    /// An option with its value behind `=`.
+    Valued(&'a str, u64, u64),
+    /// The script.
+    Script,
+    /// Nothing.
+    Fault,
+}
+
+/// What the word at this place stands for, where no value does.
+fn standing_of<'a, S: AsStr>(
+    words: &[S],
+    place: usize,
+    word: &'a str,
+    has_script: bool,
+) -> Standing<'a> {
+    match range_of(front_of(word)) {
+        Some(_) if is_repeated(words, place, front_of(word)) => Standing::Fault,
+        Some((low, high)) => match word.split_once('=') {
+            Some((_, value)) => Standing::Valued(value, low, high),
+            None => Standing::Option(low, high),
+        },
+        None if has_script || word.starts_with('-') => Standing::Fault,
+        None => Standing::Script,
+    }
+}
+
+/// The first word, from the left, that no option and no value in its range may be. Behind `--` none is looked at.
+fn scanned_fault<'a, S: AsStr>(words: &'a [S]) -> Option<WordFault<'a>>
+    ensures { IfSome result (λ fault. IsAtFault fault.word.now fault.wanted) }
+{
+    let mut range = None;
+    let mut has_script = false;
+    for (place, word) in words.iter().enumerate().skip(1) {
+        let word = word.as_str();
+        if let Some((low, high)) = range.take() {
+            if let Some(fault) = value_fault(word, low, high) {
+                return Some(fault);
+            }
+            continue;
+        }
+        if word == "--" {
+            return None;
+        }
+        match standing_of(words, place, word, has_script) {
+            Standing::Option(low, high) => range = Some((low, high)),
+            Standing::Valued(value, low, high) => {
+                if let Some(fault) = value_fault(value, low, high) {
+                    return Some(fault);
+                }
+            }
+            Standing::Script => has_script = true,
+            Standing::Fault => {
+                return Some(WordFault {
+                    word,
+                    wanted: Wanted::OptionOrScript,
+                });
+            }
+        }
+    }
+    None
+}
+
+/// The value of this option: behind `=`, or the next word.
+fn value_of<'a, S: AsStr>(words: &'a [S], option: &str) -> Option<&'a str> {
+    let place = words
+        .iter()
+        .position(|word| front_of(word.as_str()) == option)?;
+    match words.get(place)?.as_str().split_once('=') {
+        Some((_, value)) => Some(value),
+        None => Some(words.get(place.checked_add(1)?)?.as_str()),
+    }
+}
+
+/// A rank that isn't below the size, or a port by which some rank has none from 1 to 65,535.
+fn bounds_fault<'a, S: AsStr>(words: &'a [S]) -> Option<WordFault<'a>>
+    ensures { IfSome result (λ fault. IsAtFault fault.word.now fault.wanted) }
+{
+    let rank_word = value_of(words, "--rank")?;
+    let port_word = value_of(words, "--port")?;
+    let size = number_between(value_of(words, "--size")?.as_bytes(), 1, 256)?;
+    let rank = number_between(rank_word.as_bytes(), 0, 255)?;
+    match value_fault(rank_word, 0, size - 1) {
+        Some(fault) => Some(fault),
+        None => value_fault(port_word, rank + 1, 65_536 + rank - size),
+    }
+}
+
+/// The word that is at fault where `settings_of` refuses these words with 64, and what may stand in its place: from the left the
+/// first that is no option, no value in its option's range and not the script, or that stands twice; else a rank that isn't
+/// below the size, or a port by which some rank has none. None where words are missing.
+pub fn fault_in<'a, S: AsStr>(words: &'a [S]) -> Option<WordFault<'a>>
+    ensures { IfSome result (λ fault. IsAtFault fault.word.now fault.wanted) }
+{
+    match scanned_fault(words) {
+        Some(fault) => Some(fault),
+        None => bounds_fault(words),
+    }
+}
+
+/// Whether a word behind the first one asks how the program is called: `--help`, `-h` or `--version`.
+pub fn asks_for_help<S: AsStr>(words: &[S]) -> bool {
+    words.iter().skip(1).any(|word| matches!(word.as_str(), "--help" | "-h" | "--version"))
+}
