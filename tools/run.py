@@ -162,11 +162,14 @@ def command(request):
     if ranks is None:
         say("the script names no rank, so one runs it: '-n N' for more")
         ranks = 1
+    named = ranks_named(lines) or 0
+    if str(ranks).isdecimal() and 0 < int(ranks) < named:
+        say("the script names rank %d, and '-n %s' starts the ranks below %s" % (named - 1, ranks, ranks))
     found = find(["mpiexec", "rank_main"], request.is_proved)
     options = {"-job": random_below(10**15), **request.options}
     if "-baseport" not in options:
         # Numbers that are none are mpiexec's to refuse.
-        options["-baseport"] = free_ports(min(max(int(ranks), 1), 256)) if str(ranks).isdigit() else ports.LOWEST
+        options["-baseport"] = free_ports(min(max(int(ranks), 1), 256)) if str(ranks).isdecimal() else ports.LOWEST
     words = [short(found["mpiexec"])]
     for option, value in options.items():
         words += [option, str(value)]

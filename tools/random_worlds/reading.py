@@ -32,12 +32,13 @@ MOST_RANKS = 256
 
 
 class Refused(Exception):
-    """The file is refused with this number, at this line."""
+    """The file is refused with this number, at this line; for this reason, where it isn't that the line says nothing."""
 
-    def __init__(self, number, line):
+    def __init__(self, number, line, reason=None):
         super().__init__(f"refused {number} line {line}")
         self.number = number
         self.line = line
+        self.reason = reason
 
 
 class Faulty(Exception):
@@ -442,6 +443,11 @@ def lines_of(text):
     if lines[-1] == b"":
         lines.pop()
     return lines
+
+
+def line_at(text, place):
+    """The line at this place, of which the first is 1; behind the last one an empty one."""
+    return (lines_of(text) + [b""])[place - 1]
 
 
 def words_of(line):

@@ -11,6 +11,7 @@ from dataclasses import dataclass, field
 
 import communicators
 import reading
+import reasons
 import reductions
 from bytes_of_strays import HIGHEST_TAG, MOST_BYTES, MOST_EAGER_BYTES, fault_of_bytes
 from communicators import MOST_BLOCK_BYTES, Notice, Record, WORLD
@@ -92,9 +93,25 @@ class Names:
     communicators: dict = field(default_factory=dict)
     lent: set = field(default_factory=set)
 
+    def buffer(self, name):
+        """The buffer of this name, which is set and not lent."""
+        self.check_settable(name)
+        return self.found(self.buffers, name)
+
+    def check_settable(self, name):
+        """A buffer that is to be set isn't lent."""
+        if name in self.lent:
+            raise NotSet(reasons.lent(name))
+
+    @staticmethod
+    def found(kept, name):
+        if name not in kept:
+            raise NotSet(reasons.unset(name))
+        return kept[name]
+
 
 class NotSet(Exception):
-    """A name isn't set, or is that of a buffer that is lent."""
+    """A name isn't set, or is that of a buffer that is lent; its text says so."""
 
 
 class RefusedEvent(Exception):
@@ -170,13 +187,6 @@ class World:
     def names_of(self, rank):
         return self.names.setdefault(rank, Names())
 
-    def buffer(self, event):
-        """The buffer that a statement uses, which is set and not lent."""
-        names = self.names_of(event.rank)
-        if event.buffer not in names.buffers or event.buffer in names.lent:
-            raise NotSet
-        return names.buffers[event.buffer]
-
     def rank(self, number):
         if number >= len(self.ranks):
             raise RefusedEvent(61)
@@ -194,16 +204,14 @@ class World:
         self.check_communicators(word)
         if word in ("world", "self"):
             return 0 if word == "world" else 1
-        names = self.names_of(rank).communicators
-        if word not in names:
-            raise NotSet
-        return names[word]
+        names = self.names_of(rank)
+        return names.found(names.communicators, word)
 
     @staticmethod
     def check_communicators(word=None):
         """Whether the engine has what a statement needs: this communicator, or the calls on communicators."""
         if word != "world" and not communicators.ARE_THERE:
-            raise NotSet
+            raise NotSet("no communicators")
 
     @staticmethod
     def communicator(rank, place):
@@ -216,17 +224,14 @@ class World:
 
     def on_setbuffer(self, event):
         names = self.names_of(event.rank)
-        if event.name in names.lent:
-            raise NotSet
+        names.check_settable(event.name)
         names.buffers[event.name] = (event.type, event.values)
         return None, [], None
 
     def layout(self, rank, name):
         """A layout that is set."""
-        layouts = self.names_of(rank).layouts
-        if name not in layouts:
-            raise NotSet
-        return layouts[name]
+        names = self.names_of(rank)
+        return names.found(names.layouts, name)
 
     def on_setlayout(self, event):
         old = Layout(event.old, [0]) if event.old in TYPES else self.layout(event.rank, event.old)
@@ -236,16 +241,18 @@ class World:
         self.names_of(event.rank).layouts[event.name] = made
         return None, [], None
 
-    def region(self, event, kind, values):
-        """The layout and the number of copies that a send or a receive goes through: its own, or all of the buffer."""
-        if event.through is None:
-            return Layout(kind, [0]), len(values)
-        return self.layout(event.rank, event.through[0]), event.through[1]
+    def region(self, event):
+        """The buffer of a send or a receive, and the layout and the number of copies that it goes through: its own, or all of the
+        buffer. Of the names that aren't set the layout's is told first."""
+        layout = self.layout(event.rank, event.through[0]) if event.through else None
+        kind, values = self.names_of(event.rank).buffer(event.buffer)
+        if layout is None:
+            return kind, values, Layout(kind, [0]), len(values)
+        return kind, values, layout, event.through[1]
 
     def on_isend(self, event):
-        kind, values = self.buffer(event)
-        layout, copies = self.region(event, kind, values)
         place = self.place_of(event.rank, event.communicator)
+        kind, values, layout, copies = self.region(event)
         rank = self.caller(event.rank)
         communicator = self.communicator(rank, place)
         self.check(self.fault_of_send(event, rank, communicator, kind, values, layout, copies))
@@ -277,9 +284,8 @@ class World:
         return Frame("RTS", message, message.transfer)
 
     def on_irecv(self, event):
-        kind, values = self.buffer(event)
-        layout, copies = self.region(event, kind, values)
         place = self.place_of(event.rank, event.communicator)
+        kind, values, layout, copies = self.region(event)
         rank = self.caller(event.rank)
         communicator = self.communicator(rank, place)
         self.check(self.fault_of_receive(event, rank, communicator, kind, values, layout, copies))
@@ -300,9 +306,7 @@ class World:
     def named(self, rank, name):
         """The request of a name that is set; None is the null request."""
         names = self.names_of(rank)
-        if name != NULL and name not in names.requests:
-            raise NotSet
-        return None if name == NULL else names.requests[name]
+        return None if name == NULL else names.found(names.requests, name)
 
     def on_wait(self, event):
         request = self.named(event.rank, event.request)
@@ -420,18 +424,6 @@ class World:
     def on_barrier(self, event):
         return self.enter(event, Record("barrier"), None, None, None)
 
-    def used(self, event, name):
-        """The buffer of a name, which is set and not lent."""
-        names = self.names_of(event.rank)
-        if name not in names.buffers or name in names.lent:
-            raise NotSet
-        return names.buffers[name]
-
-    def check_settable(self, event, name):
-        """A buffer that a collective is to set isn't lent."""
-        if name in self.names_of(event.rank).lent:
-            raise NotSet
-
     def is_root(self, event):
         """Whether the caller is the root; where there is no such member, nobody is."""
         place = self.place_of(event.rank, event.communicator)
@@ -454,37 +446,41 @@ class World:
     def move(self, event, record, handed, name):
         return self.enter(event, record, handed, name, lambda communicator: self.fault_of_block(record, communicator))
 
+    def handed_in(self, event, sets):
+        """The buffer that a collective hands in. Where it sets another one, that one isn't lent, which is told first."""
+        names = self.names_of(event.rank)
+        if sets:
+            names.check_settable(event.into)
+        return names.buffer(event.buffer)
+
     def on_bcast(self, event):
-        kind, values = self.used(event, event.buffer)
+        self.place_of(event.rank, event.communicator)
+        kind, values = self.names_of(event.rank).buffer(event.buffer)
         return self.move(event, Record("bcast", event.root, None, kind, len(values)), values, event.buffer)
 
     def on_gather(self, event):
-        kind, values = self.used(event, event.buffer)
-        if self.is_root(event):
-            self.check_settable(event, event.into)
+        kind, values = self.handed_in(event, self.is_root(event))
         return self.move(event, Record("gather", event.root, None, kind, len(values)), values, event.into)
 
     def on_reduce(self, event):
-        kind, values = self.used(event, event.buffer)
-        if self.is_root(event):
-            self.check_settable(event, event.into)
+        kind, values = self.handed_in(event, self.is_root(event))
         return self.move(event, Record("reduce", event.root, event.operation, kind, len(values)), values, event.into)
 
     def on_allreduce(self, event):
-        kind, values = self.used(event, event.buffer)
         self.place_of(event.rank, event.communicator)
-        self.check_settable(event, event.into)
+        kind, values = self.handed_in(event, True)
         return self.move(event, Record("allreduce", None, event.operation, kind, len(values)), values, event.into)
 
     def on_scatter(self, event):
         """The root's elements are a block for each member, of the type and count of the buffer that gets one."""
-        kind, values = self.used(event, event.into)
+        self.place_of(event.rank, event.communicator)
+        kind, values = self.names_of(event.rank).buffer(event.into)
         record = Record("scatter", event.root, None, kind, len(values))
         if not self.is_root(event):
             return self.move(event, record, None, event.into)
         if event.buffer is None:
-            raise NotSet
-        given, blocks = self.used(event, event.buffer)
+            raise NotSet(reasons.UNFIT)
+        given, blocks = self.names_of(event.rank).buffer(event.buffer)
 
         def broken(communicator):
             if given != kind:
@@ -776,10 +772,12 @@ def answer(text):
         for line, event in events:
             try:
                 printed += world.line(event)
-            except NotSet:
-                raise reading.Refused(51, line) from None
+            except NotSet as why:
+                raise reading.Refused(51, line, str(why)) from None
     except reading.Refused as refused:
-        return lines(printed), f"mpisim: refused {refused.number} line {refused.line}\n".encode(), 1
+        line = reading.line_at(text, refused.line)
+        told = reasons.told(refused.reason or reasons.of_line(line), line)
+        return lines(printed), f"mpisim: refused {refused.number} line {refused.line}\nmpisim: {told}\n".encode(), 1
     return lines(printed), b"", 0
 
 
