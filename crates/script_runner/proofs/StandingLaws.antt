@@ -1,5 +1,5 @@
 -- A line ends the script exactly where one of its names isn't set, or its buffer is lent.
-use Rattle.std.proofs.Common.{◌≡◌, ℕ, Bool, true, false, List, [], ◌∷◌, Option, Some, None, refl, absurd}
+use Rattle.std.proofs.Common.{◌≡◌, ℕ, Bool, true, false, List, [], ◌∷◌, Option, Some, None, refl}
 use Rattle.std.specs.Prelude.{is_some, option_and_then, option_map, if◌then◌else◌}
 use Rattle.datatypes.specs.Contents.{Contents}
 use Rattle.collective_notes.specs.declared.entry.Entry.{Entry}

@@ -570,8 +570,11 @@ pub struct Stopped {
     pub fault: Option<Fault>,
 }
 
-fn stopped(error: SimulateError) -> Stopped {
-    Stopped { error, fault: None }
+impl Stopped {
+    /// It stopped without a line that can't be followed.
+    fn by(error: SimulateError) -> Stopped {
+        Stopped { error, fault: None }
+    }
 }
 
 /// Runs a file of events, and prints the answer of each.
@@ -582,8 +585,8 @@ fn stopped(error: SimulateError) -> Stopped {
 pub fn simulate_or_tell<W: Write>(alloc: Global, text: &[u8], out: &mut W) -> Result<(), Stopped> {
     let file = match parse(alloc, text) {
         Ok(file) => file,
-        Err(ParseError::Line(line)) => return Err(stopped(SimulateError::Script(line))),
-        Err(ParseError::OutOfMemory) => return Err(stopped(SimulateError::OutOfMemory)),
+        Err(ParseError::Line(line)) => return Err(Stopped::by(SimulateError::Script(line))),
+        Err(ParseError::OutOfMemory) => return Err(Stopped::by(SimulateError::OutOfMemory)),
     };
     match World::new(alloc, file.size) {
         Ok(world) => {
@@ -604,7 +607,7 @@ pub fn simulate_or_tell<W: Write>(alloc: Global, text: &[u8], out: &mut W) -> Re
         }
         Err(_) => {
             drop(file);
-            Err(stopped(SimulateError::OutOfMemory))
+            Err(Stopped::by(SimulateError::OutOfMemory))
         }
     }
 }
