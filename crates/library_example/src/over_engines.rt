@@ -88,9 +88,15 @@ fn converse(
     send_again(rt, sender, receiver)
 }
 
+/// Rank 1 joins rank 0.
+fn join(rt: &(impl Print + AllocGlobal), sender: &mut Engine) -> Result<(), anyhow::Error> {
+    let mut receiver = engine_of(rt.alloc(), 1)?;
+    converse(rt, sender, &mut receiver)
+}
+
 /// Two engines, and what passes between them.
+// Each function owns one engine: to drop one is many steps of a proof, at each exit.
 pub fn run(rt: &(impl Print + AllocGlobal)) -> Result<(), anyhow::Error> {
     let mut sender = engine_of(rt.alloc(), 0)?;
-    let mut receiver = engine_of(rt.alloc(), 1)?;
-    converse(rt, &mut sender, &mut receiver)
+    join(rt, &mut sender)
 }
