@@ -103,12 +103,16 @@ fn converse(
 /// Rank 1 joins rank 0.
 fn join(rt: &(impl Print + AllocGlobal), sender: &mut Engine) -> Result<(), anyhow::Error> {
     let mut receiver = engine_of(rt.alloc(), 1)?;
-    converse(rt, sender, &mut receiver)
+    let conversed = converse(rt, sender, &mut receiver);
+    drop(receiver);
+    conversed
 }
 
 /// Two engines, and what passes between them.
-// Each function owns one engine: to drop one is many steps of a proof, at each exit.
+// Each function owns one engine, and has one exit behind it.
 pub fn run(rt: &(impl Print + AllocGlobal)) -> Result<(), anyhow::Error> {
     let mut sender = engine_of(rt.alloc(), 0)?;
-    join(rt, &mut sender)
+    let joined = join(rt, &mut sender);
+    drop(sender);
+    joined
 }
