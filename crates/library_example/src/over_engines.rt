@@ -23,13 +23,22 @@ fn engine_of(alloc: Global, rank: u16) -> Result<Engine, Refused> {
     )
 }
 
-/// Calls an engine for an operation, and answers its request.
-fn start(engine: &mut Engine, call: Call) -> Result<Request, anyhow::Error> {
-    match engine.call(call) {
-        Reply::Started(request) => Ok(request),
-        Reply::Refused(refused, _) => Err(anyhow::Error::from(refused)),
+/// The request that a call started.
+fn started(reply: &Reply) -> Result<Request, anyhow::Error> {
+    match reply {
+        Reply::Started(request) => Ok(*request),
+        Reply::Refused(refused, _) => Err(anyhow::Error::from(*refused)),
         _ => bail!("no request was answered"),
     }
+}
+
+/// Calls an engine for an operation, and answers its request.
+// `drop` in place of the brace: what owns much is dropped by one proof for all types.
+fn start(engine: &mut Engine, call: Call) -> Result<Request, anyhow::Error> {
+    let reply = engine.call(call);
+    let request = started(&reply);
+    drop(reply);
+    request
 }
 
 /// The network: brings to one engine all that the other one has emitted.
@@ -43,7 +52,7 @@ fn carry(from: &mut Engine, to: &mut Engine) -> Result<(), Refused> {
 /// Rank 1 starts a receive, and is blocked in a wait for it.
 fn await_message(alloc: Global, receiver: &mut Engine) -> Result<(), anyhow::Error> {
     let request = start(receiver, receive(alloc, 0)?)?;
-    let _blocked = receiver.call(Call::Wait(Some(request)));
+    drop(receiver.call(Call::Wait(Some(request))));
     Ok(())
 }
 
@@ -56,11 +65,14 @@ fn send_in_vain(rt: &(impl Print + AllocGlobal), sender: &mut Engine) -> Result<
 }
 
 /// Prints the answer of the wait, if it is there.
-fn print_answer(rt: &impl Print, completion: Option<Completion>) -> io::Result<()> {
-    match completion {
-        Some(Completion::Requests(answer)) => print_received(rt, &answer),
+fn print_answer(rt: &impl Print, receiver: &mut Engine) -> io::Result<()> {
+    let completion = receiver.take_completion();
+    let printed = match &completion {
+        Some(Completion::Requests(answer)) => print_received(rt, answer),
         _ => Ok(()),
-    }
+    };
+    drop(completion);
+    printed
 }
 
 /// 20 ms later rank 0 sends again; rank 1 takes the message in and acknowledges it.
@@ -71,7 +83,7 @@ fn send_again(
 ) -> Result<(), anyhow::Error> {
     sender.tick(20)?;
     carry(sender, receiver)?;
-    print_answer(rt, receiver.take_completion())?;
+    print_answer(rt, receiver)?;
     carry(receiver, sender)?;
     println!(rt; "  idle: {}", sender.is_idle())?;
     Ok(())
@@ -88,9 +100,19 @@ fn converse(
     send_again(rt, sender, receiver)
 }
 
+/// Rank 1 joins rank 0.
+fn join(rt: &(impl Print + AllocGlobal), sender: &mut Engine) -> Result<(), anyhow::Error> {
+    let mut receiver = engine_of(rt.alloc(), 1)?;
+    let conversed = converse(rt, sender, &mut receiver);
+    drop(receiver);
+    conversed
+}
+
 /// Two engines, and what passes between them.
+// Each function owns one engine, and has one exit behind it.
 pub fn run(rt: &(impl Print + AllocGlobal)) -> Result<(), anyhow::Error> {
     let mut sender = engine_of(rt.alloc(), 0)?;
-    let mut receiver = engine_of(rt.alloc(), 1)?;
-    converse(rt, &mut sender, &mut receiver)
+    let joined = join(rt, &mut sender);
+    drop(sender);
+    joined
 }
