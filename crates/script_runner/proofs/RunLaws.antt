@@ -1,5 +1,5 @@
 -- What is so of a run of lines.
-use Rattle.std.proofs.Common.{◌≡◌, ◌≢◌, ℕ, zero, suc, ◌+◌, ◌-◌, ◌<◌, ◌==◌, nat_lt, Bool, true, false, List, [], ◌∷◌, length, drop, Option, Some, None, refl, sym, ◌∙◌, ap}
+use Rattle.std.proofs.Common.{◌≡◌, ◌≢◌, ℕ, zero, suc, ◌+◌, ◌-◌, ◌<◌, ◌==◌, nat_lt, Bool, true, false, List, [], ◌∷◌, length, drop, Option, Some, None, refl, sym, ◌∙◌, ap, arith}
 use Rattle.std.specs.Prelude.{if◌then◌else◌, slice_get}
 use Rattle.std.proofs.lemmas.Bool.{eq-eqb, eqb-true, false≢true, lt-ltb}
 use Rattle.script_files.specs.declared.script.RankLine.{RankLine}
@@ -44,8 +44,8 @@ numbered_here number lines line rest is same =
     ∙ ap (λ (b : Bool). if b then Some line else numbered number rest) (eq-eqb line.number number same)
 
 otherwise_behind : (b : Bool) (line : RankLine) (other : Option RankLine) → (b ≡ true → ⊥) → (if b then Some line else other) ≡ other
-otherwise_behind true line other no = absurd (no refl)
-otherwise_behind false line other no = refl
+otherwise_behind true line other never = absurd (never refl)
+otherwise_behind false line other never = refl
 
 -- it has another one
 pub numbered_behind : (number : ℕ) (lines : List RankLine) (line : RankLine) (rest : List RankLine) → lines ≡ line ∷ rest → line.number ≢ number →
@@ -64,10 +64,15 @@ first_left : (lines : List RankLine) (first : Option RankLine) (rest : List Rank
 first_left lines None rest got = got.1 ∙ sym (ap (λ (l : List RankLine). drop 1 l) got.0)
 first_left lines (Some line) rest got = sym (ap (λ (l : List RankLine). drop 1 l) got)
 
+none_left : (count : ℕ) → drop {A = RankLine} count [] ≡ []
+none_left zero = refl
+none_left (suc n) = refl
+
 one_more : (count : ℕ) (lines : List RankLine) → drop 1 (drop count lines) ≡ drop (count + 1) lines
 one_more zero lines = refl
-one_more (suc n) [] = refl
-one_more (suc n) (line ∷ lines) = one_more n lines
+one_more (suc n) [] = sym (none_left (suc n + 1))
+one_more (suc n) (line ∷ lines) =
+    let e : suc (n + 1) ≡ suc n + 1 = omega arith in one_more n lines ∙ ap (λ (k : ℕ). drop k (line ∷ lines)) e
 
 first_behind : (count : ℕ) (lines : List RankLine) → slice_get (drop count lines) 0 ≡ slice_get lines count
 first_behind zero lines = refl
@@ -81,8 +86,8 @@ dropped_more count lines left first rest is got =
     first_left left first rest got ∙ ap (λ (l : List RankLine). drop 1 l) is ∙ one_more count lines
 
 where_fewer : (b : Bool) (found : Option RankLine) → b ≡ true → found ≡ (if b then found else None)
-where_fewer true found yes = refl
-where_fewer false found yes = absurd (false≢true yes)
+where_fewer true found fewer = refl
+where_fewer false found fewer = absurd (false≢true fewer)
 
 -- behind those that are dropped stands the one behind which so many are left
 pub taken_there : (left : ℕ) (lines behind : List RankLine) (first : Option RankLine) (rest : List RankLine) → left < length lines →
