@@ -12,6 +12,7 @@ ghost use Rattle.collective_steps.specs.Steps.{MeetsLimit, contexts_after, endin
 
 use crate::limits::{has_former, is_limited, members_incarnation};
 use collective_notes::{Entry, Inside, Note, Refused, Tally, count_in, drop_notes, raise, role_of};
+use collective_progress::Progress;
 use collective_steps::{Ending, Outcome, Step};
 use context_agreement::{Communicator, Contexts};
 use std::alloc::Global;
@@ -26,10 +27,13 @@ pub struct Collective {
     pub(crate) present: Option<Inside>,
     pub(crate) tallies: Vec<Tally>,
     pub(crate) kept: Vec<Note>,
+    /// What was found in the notes of the present collective.
+    pub(crate) progress: Progress,
 }
 
 impl Model for Collective {
     ghost use Rattle.std.specs.Prelude.{◌-◌, vec_len, vec_capacity};
+    ghost use Rattle.collective_progress.specs.Progress.{IsKeptOf};
     ghost use Rattle.collectives.specs.State.{Held};
 
     ghost Value = { Held };
@@ -39,6 +43,8 @@ impl Model for Collective {
       more_tallies = vec_capacity c.tallies - vec_len c.tallies;
       more_notes = vec_capacity c.kept - vec_len c.kept;
     } };
+
+    ghost invariant = { λ c. IsKeptOf c.own c.present c.kept.items c.progress };
 }
 
 /// An entry that was refused: what was handed in, and why.
@@ -75,6 +81,7 @@ impl Collective {
             present: None,
             tallies: Vec::new(alloc),
             kept: Vec::new(alloc),
+            progress: Progress::new(alloc),
         }
     }
 
@@ -180,6 +187,7 @@ impl Collective {
     }
 
     /// Enters: nothing can fail. The ending is answered where the collective is left at once.
+    #[tactic(auto, using(crate::proofs::Beside::entered_beside))]
     pub fn enter(&mut self, contexts: &mut Contexts, ready: ReadyEntry) -> Option<Ending>
         requires room { 0 < self.old.more_tallies }
         requires held { 0 < contexts.old.more }
@@ -190,11 +198,13 @@ impl Collective {
         ensures ending { result ≡ ending_of contexts.old.state ready.step.outcome }
     {
         raise(&mut self.tallies, ready.inside.context);
+        self.progress.restart();
         set_present(&mut self.present, Some(ready.inside));
         self.take(contexts, ready.step)
     }
 
     /// Takes the message in: nothing can fail. The ending is answered where the present collective is left by it.
+    #[tactic(auto, using(crate::proofs::Beside::note_beside))]
     pub fn on_message(&mut self, contexts: &mut Contexts, ready: ReadyMessage) -> Option<Ending>
         requires room { 0 < self.old.more_notes }
         requires held { 0 < contexts.old.more }
@@ -223,6 +233,7 @@ impl Collective {
 
     /// The rank leaves the collective that it is in where that ends: what it was told of it is dropped. Where it waits on, it has
     /// told that it and those below it have entered.
+    #[tactic(auto, using(crate::proofs::Beside::told_beside))]
     fn leave_if(&mut self, ends: bool, waits: bool)
         ensures { self.new.state ≡ (if ends then left self.old.state else (if waits then has_told self.old.state else self.old.state)) }
     {
