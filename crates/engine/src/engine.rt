@@ -69,7 +69,7 @@ impl Engine {
     /// The engine of a rank at its start: it holds `world` and `self`, nothing is pending, its clock is at 0, no session has
     /// begun, and every other rank is known at incarnation 0.
     ///
-    /// Refused with 5 where the rank is not below the size, with 13 where the size is above 256, and with 14.
+    /// Refused with 5 where the rank is not below the size, with 13 where the size is above 1,024, and with 14.
     pub fn new(alloc: Global, place: Place) -> Result<Engine, Refused>
         ensures opening { IfOk result (λ e. e ≡ opening place) }
         ensures placed { OnOk result (place_fault place ≡ None) }

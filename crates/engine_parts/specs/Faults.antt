@@ -33,7 +33,7 @@ broken b rule = if b then Some rule else None
 abbrev pub is_replaced : EngineState → (comm : Option ℕ) → Source → Bool
 is_replaced e comm named = names_replaced (known_by e.sessions.known) (held_at (member_of e.groups) comm) named
 
--- a group is shared among receives where it has at most 65,535 members (our own; a world has at most 256 ranks)
+-- a group is shared among receives where it has at most 65,535 members (our own; a world has at most 1,024 ranks)
 abbrev pub group_limit : Option (List ℕ) → Option Refused
 group_limit None = None
 group_limit (Some group) = broken (nat_lt 65535 (length group)) refusals.Limit

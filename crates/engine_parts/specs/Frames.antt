@@ -119,7 +119,7 @@ abbrev pub is_sendable : List Numbers → (rank : ℕ) → (count : ℕ) → Boo
 is_sendable ns rank count = nat_le count eager_limit || (nat_le count send_limit && not (is_full_to ns rank))
 
 -- whether a message can go: to a rank of the job, under a number that a tag can be, as so many bytes. Each can that a collective
--- among at most 256 ranks brings, since a block has at most 1,048,560 bytes and the record 16, as long as a number is left
+-- among at most 1,024 ranks brings, since a block has at most 1,048,560 bytes and the record 16, as long as a number is left
 abbrev pub can_go : Place → List Numbers → Message → Bool
 can_go p ns m = nat_lt m.target.rank p.size && (nat_le m.number highest_tag && is_sendable ns m.target.rank (length (spelling (says m))))
 

@@ -136,15 +136,15 @@ size_takes [] size e = absurd cc
 size_takes (a ∷ []) size e = absurd cc
 size_takes (a ∷ b ∷ c ∷ words) size e = absurd cc
 size_takes (a ∷ b ∷ []) size e =
-    let p = behind (bytes_eq a (codes "world")) (number_up_to 256 b >>= λ n. positive n) size e in
-    let q = bind_ok (number_up_to 256 b) (λ n. positive n) size p.1 in
+    let p = behind (bytes_eq a (codes "world")) (number_up_to 1024 b >>= λ n. positive n) size e in
+    let q = bind_ok (number_up_to 1024 b) (λ n. positive n) size p.1 in
     let r = if_some (leb 1 q.0) q.0 size q.2 in
-    let n = bounded_takes 256 b q.0 q.1 in
+    let n = bounded_takes 1024 b q.0 q.1 in
     subst (IsWorld (a ∷ b ∷ [])) r.1 (b, ap (λ (w : Word). w ∷ b ∷ []) (same_word a (codes "world") p.0), n.0, leb-true _ _ r.0, n.1)
 
-size_from : (b : Word) (size : ℕ) → number_up_to 256 b ≡ Some size → leb 1 size ≡ true → size_of (codes "world" ∷ b ∷ []) ≡ Some size
+size_from : (b : Word) (size : ℕ) → number_up_to 1024 b ≡ Some size → leb 1 size ≡ true → size_of (codes "world" ∷ b ∷ []) ≡ Some size
 unfolding size_of first ended
 size_from b size n p = rw (n, p) refl
 
 pub size_again : (words : List Word) (size : ℕ) → IsWorld words size → size_of words ≡ Some size
-size_again words size h = ap size_of h.1 ∙ size_from h.0 size (bounded_again 256 h.0 size h.2 h.4) (le-leb _ _ h.3)
+size_again words size h = ap size_of h.1 ∙ size_from h.0 size (bounded_again 1024 h.0 size h.2 h.4) (le-leb _ _ h.3)

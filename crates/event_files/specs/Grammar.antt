@@ -27,6 +27,6 @@ SpellsStatement words (statements.Stray rank bytes) =
     (number hex : Word) × (words ≡ codes "stray" ∷ number ∷ hex ∷ []) × IsCapped 65535 number rank × AreBytes hex bytes
 SpellsStatement words (statements.Restart rank) = (number : Word) × (words ≡ codes "restart" ∷ number ∷ []) × IsCapped 65535 number rank
 
--- `world N`, N from 1 to 256
+-- `world N`, N from 1 to 1,024
 abbrev pub IsWorld : List Word → ℕ → Type 0
-IsWorld words size = (number : Word) × (words ≡ codes "world" ∷ number ∷ []) × IsNumeral number size × (1 ≤ size) × (size ≤ 256)
+IsWorld words size = (number : Word) × (words ≡ codes "world" ∷ number ∷ []) × IsNumeral number size × (1 ≤ size) × (size ≤ 1024)

@@ -86,4 +86,4 @@ size_of words = do
   verb ← first words
   size ← first verb.1
   end ← ended size.1
-  if bytes_eq verb.0 (codes "world") then (number_up_to 256 size.0 >>= λ n. positive n) else None
+  if bytes_eq verb.0 (codes "world") then (number_up_to 1024 size.0 >>= λ n. positive n) else None

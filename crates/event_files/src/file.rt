@@ -83,7 +83,7 @@ impl Lines {
 /// A file of events, read whole.
 #[derive(Drop)]
 pub struct EventFile {
-    /// How many ranks the world has: 1 to 256.
+    /// How many ranks the world has: 1 to 1,024.
     pub size: u16,
     /// The lines behind `world N` that aren't skipped.
     pub lines: Lines,

@@ -89,7 +89,7 @@ fn file_of(alloc: Global, text: &[u8]) -> Result<EventFile, ParseError>
 }
 
 /// Reads a file of events whole: what it says, or its first faulty line. Its first line that isn't skipped is `world N`,
-/// N from 1 to 256; empty lines and those whose first word begins with `#` are skipped.
+/// N from 1 to 1,024; empty lines and those whose first word begins with `#` are skipped.
 ///
 /// Answers the number of the first faulty line, which is refusal number 51 (the one after the last where there is no line
 /// `world N`), or that a growth was refused.

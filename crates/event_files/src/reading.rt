@@ -92,7 +92,7 @@ pub(crate) fn size_of(words: &[Word]) -> Result<u16, LineError>
     if !is(verb, b"world") {
         return Err(LineError::Faulty);
     }
-    match number_up_to(size, 256) {
+    match number_up_to(size, 1_024) {
         Some(size) if size > 0 => Ok(size as u16),
         _ => Err(LineError::Faulty),
     }

@@ -75,9 +75,9 @@ counted_stays : (fault : Refused) (is : IsOfAWord fault) (words more : List Word
 unfolding counted
 counted_stays fault is [] more e = absurd (missing {A = ProcessSet} refusals.WrongValue fault (λ h. h) is e)
 counted_stays fault is (value ∷ rest) more e =
-    let number = required (number_between value 1 256) refusals.WrongValue in
+    let number = required (number_between value 1 1024) refusals.WrongValue in
     elim (bind_err number (λ count. program_of count rest) fault e) [
-      | inl h ↦ absurd (required_fails (number_between value 1 256) fault is h)
+      | inl h ↦ absurd (required_fails (number_between value 1 1024) fault is h)
       | inr p ↦ ap (λ (r : Result ℕ Refused). r >>= λ count. program_of count (rest ++ more)) p.1 ∙ program_stays fault is p.0 rest more p.2
     ]
 

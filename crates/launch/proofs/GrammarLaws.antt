@@ -89,14 +89,14 @@ counted_takes : (words : List Word) (set : ProcessSet) → counted words ≡ Ok 
 unfolding counted
 counted_takes [] set e = absurd cc
 counted_takes (value ∷ rest) set e =
-    let b = bind_ok (required (number_between value 1 256) refusals.WrongValue) (λ count. program_of count rest) set e in
-    let n = number_takes value 1 256 b.0 (omega arith) (required_ok (number_between value 1 256) refusals.WrongValue b.0 b.1) in
+    let b = bind_ok (required (number_between value 1 1024) refusals.WrongValue) (λ count. program_of count rest) set e in
+    let n = number_takes value 1 1024 b.0 (omega arith) (required_ok (number_between value 1 1024) refusals.WrongValue b.0 b.1) in
     let p = program_takes b.0 rest set b.2 in
     let value_is : value ≡ decimal set.count = n.spelled ∙ ap decimal p.count_is in
     record {
       spelled = ap (λ (w : List Word). codes "-n" ∷ w) (ap (λ (v : Word). v ∷ rest) value_is ∙ ap (λ (r : List Word). decimal set.count ∷ r) p.spelled);
       least = subst (λ (c : ℕ). 1 ≤ c) p.count_is n.least;
-      most = subst (λ (c : ℕ). c ≤ 256) p.count_is n.most;
+      most = subst (λ (c : ℕ). c ≤ 1024) p.count_is n.most;
       program = p.program;
       arguments = p.arguments;
     }
@@ -119,7 +119,7 @@ program_from : (count : ℕ) (program : Word) (arguments : List Word) → IsProg
 unfolding program_of
 program_from count program arguments is plain = rw (program_again program is, any_colon arguments plain) refl
 
-counted_from : (set : ProcessSet) (n : ℕ) → number_between (decimal set.count) 1 256 ≡ Some set.count → program_of set.count (set.program ∷ set.arguments) ≡ Ok set → counted (decimal set.count ∷ set.program ∷ set.arguments) ≡ Ok set
+counted_from : (set : ProcessSet) (n : ℕ) → number_between (decimal set.count) 1 1024 ≡ Some set.count → program_of set.count (set.program ∷ set.arguments) ≡ Ok set → counted (decimal set.count ∷ set.program ∷ set.arguments) ≡ Ok set
 unfolding counted
 counted_from set n number program = rw (number, program) refl
 
@@ -130,7 +130,7 @@ set_from words set e = rw (count_again) e
 pub set_again : (words : List Word) (set : ProcessSet) → IsSet words set → set_of words ≡ Ok set
 set_again words set is =
     let p = program_from set.count set.program set.arguments is.program is.arguments in
-    let c = counted_from set 0 (number_again 1 256 set.count (omega arith) is.least is.most) p in
+    let c = counted_from set 0 (number_again 1 1024 set.count (omega arith) is.least is.most) p in
     ap set_of is.spelled ∙ set_from (decimal set.count ∷ set.program ∷ set.arguments) set c
 
 -- ---- lines

@@ -98,7 +98,7 @@ counted_count : (empty : Result ℕ Refused) (next : ℕ → Result ℕ Refused)
     (stage_behind stages.Count words >>= at_end empty next) ≡ with_set (counted words) next
 unfolding stage_after counted
 counted_count empty next [] = refl
-counted_count empty next (value ∷ rest) = value_count empty next (number_between value 1 256) rest
+counted_count empty next (value ∷ rest) = value_count empty next (number_between value 1 1024) rest
 
 begun_count : (empty : Result ℕ Refused) (next : ℕ → Result ℕ Refused) (symbol : Symbol) (rest : List Word) →
     ((begun_by symbol >>= λ s. stage_behind s rest) >>= at_end empty next) ≡ with_set (where_set symbol rest) next
@@ -352,10 +352,10 @@ ended_later ranks later stages.Count = refl
 ended_later ranks later (stages.Program count) = refl
 ended_later ranks later (stages.Arguments count) = refl
 
-few_added : (a b : ℕ) → added a b ≤ 257
+few_added : (a b : ℕ) → added a b ≤ 1025
 few_added a b = omega arith
 
-none_added : (n : ℕ) → n ≤ 257 → n ≡ added n 0
+none_added : (n : ℕ) → n ≤ 1025 → n ≡ added n 0
 none_added n few = omega (arith, few)
 
 kept : (word : Word) (words : List Word) (lines : List (List Word)) → filter is_nonempty ((word ∷ words) ∷ lines) ≡ (word ∷ words) ∷ filter is_nonempty lines
@@ -366,7 +366,7 @@ kept word words lines =
     ] in
     rw t refl
 
-lines_read : (ranks : ℕ) (lines : List (List Word)) → ranks ≤ 257 → ranks_of_lines ranks lines ≡ ranks_of ranks (each_set (filter is_nonempty lines))
+lines_read : (ranks : ℕ) (lines : List (List Word)) → ranks ≤ 1025 → ranks_of_lines ranks lines ≡ ranks_of ranks (each_set (filter is_nonempty lines))
 unfolding each_set
 lines_read ranks [] few = ap (λ (n : ℕ). Ok n) (none_added ranks few)
 lines_read ranks ([] ∷ lines) few = lines_read ranks lines few
@@ -449,7 +449,7 @@ behind_more opening config name n file more h = rw file (named_more opening.rest
 
 -- whether so many ranks are within the limits
 abbrev pub fits : ℕ → ℕ → Bool
-fits base ranks = nat_le ranks 256 && nat_le (base + ranks) 65536
+fits base ranks = nat_le ranks 1024 && nat_le (base + ranks) 65536
 
 by_test : (test : Bool) (count : ℕ) (launch : Launch) → rank_count launch.sets ≡ count → (cond test (Ok launch) (Err refusals.OverLimit) >>= λ l. Ok (rank_count l.sets)) ≡ cond test (Ok count) (Err refusals.OverLimit)
 by_test true count launch is = ap (λ (n : ℕ). Ok n) is
@@ -463,21 +463,21 @@ le_or_lt a b =
     ] in
     go (leb a b) refl
 
-limit_by : (count n : ℕ) (launch : Launch) → (count ≤ 256) ⊎ (256 < count) → n ≡ added 0 count → rank_count launch.sets ≡ count →
+limit_by : (count n : ℕ) (launch : Launch) → (count ≤ 1024) ⊎ (1024 < count) → n ≡ added 0 count → rank_count launch.sets ≡ count →
     (limited launch >>= λ l. Ok (rank_count l.sets)) ≡ cond (fits launch.base_port n) (Ok n) (Err refusals.OverLimit)
 unfolding limited
 limit_by count n launch (inl few) n_is count_is =
     let same : n ≡ count = omega (arith, few, n_is) in
     rw (same, count_is) (by_test (fits launch.base_port count) count launch count_is)
 limit_by count n launch (inr many) n_is count_is =
-    let top : n ≡ 257 = omega (arith, many, n_is) in
-    let over : nat_le count 256 ≡ false = lt-leb count 256 many in
+    let top : n ≡ 1025 = omega (arith, many, n_is) in
+    let over : nat_le count 1024 ≡ false = lt-leb count 1024 many in
     rw (top, count_is, over) refl
 
 size_by : (given : Given) (read : Result (List ProcessSet) Refused) (n : ℕ) → ranks_of 0 read ≡ Ok n →
     (read >>= λ sets. limited (launch_with given sets) >>= λ l. Ok (rank_count l.sets)) ≡ cond (fits (unwrap_or given.base_port 47000) n) (Ok n) (Err refusals.OverLimit)
 size_by given (Ok sets) n h =
-    limit_by (rank_count sets) n (launch_with given sets) (le_or_lt (rank_count sets) 256) (sym (ok_is (added 0 (rank_count sets)) n h)) refl
+    limit_by (rank_count sets) n (launch_with given sets) (le_or_lt (rank_count sets) 1024) (sym (ok_is (added 0 (rank_count sets)) n h)) refl
 size_by given (Err e) n h = absurd cc
 
 pub size_fits : (opening : Opening) (config : Option (List ℕ)) (n : ℕ) → ranks_of 0 (sets_behind opening config) ≡ Ok n → true ≡ fits (unwrap_or opening.given.base_port 47000) n → size_behind opening config ≡ Ok n

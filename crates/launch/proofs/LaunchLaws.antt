@@ -72,13 +72,13 @@ both false b x y e = absurd cc
 limited_takes : (made launch : Launch) → limited made ≡ Ok launch → IsWithinLimits made × (made ≡ launch)
 unfolding limited
 limited_takes made launch e =
-    let p = both (leb (rank_count made.sets) 256) (leb (made.base_port + rank_count made.sets) 65536) made launch e in
+    let p = both (leb (rank_count made.sets) 1024) (leb (made.base_port + rank_count made.sets) 65536) made launch e in
     (record { ranks = leb-true _ _ p.0; ports = leb-true _ _ p.1 }, p.2)
 
 limited_again : (launch : Launch) → IsWithinLimits launch → limited launch ≡ Ok launch
 unfolding limited
 limited_again launch limits =
-    let t0 : leb (rank_count launch.sets) 256 ≡ true = le-leb _ _ limits.ranks in
+    let t0 : leb (rank_count launch.sets) 1024 ≡ true = le-leb _ _ limits.ranks in
     let t1 : leb (launch.base_port + rank_count launch.sets) 65536 ≡ true = le-leb _ _ limits.ports in
     rw (t0, t1) refl
 

@@ -27,7 +27,7 @@ pub record IsProgram (word : Word) : Type 0 where
 pub record IsSet (words : List Word) (set : ProcessSet) : Type 0 where
   pub spelled : words ≡ codes "-n" ∷ decimal set.count ∷ set.program ∷ set.arguments
   pub least : 1 ≤ set.count
-  pub most : set.count ≤ 256
+  pub most : set.count ≤ 1024
   pub program : IsProgram set.program
   pub arguments : AllByRecursion (λ word. word ≢ colon) set.arguments
 

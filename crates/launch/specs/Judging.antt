@@ -21,9 +21,9 @@ use Rattle.launch.specs.Planning.{sets_behind}
 
 -- ---- one set
 
--- the ranks with so many more; 257 stands for any greater number
+-- the ranks with so many more; 1,025 stands for any greater number
 abbrev pub added : ℕ → ℕ → ℕ
-added ranks count = min (ranks + count) 257
+added ranks count = min (ranks + count) 1025
 
 -- the fault of a word that can't stand where an option may stand
 abbrev pub misplaced : Symbol → Refused
@@ -58,7 +58,7 @@ named_by count (symbols.Own option) = Err refusals.WrongOption
 -- one more word of a set
 unfoldable pub stage_after : Stage → Word → Result Stage Refused
 stage_after stages.Empty word = begun_by (symbol_of word)
-stage_after stages.Count word = required (number_between word 1 256) refusals.WrongValue >>= λ count. Ok (stages.Program count)
+stage_after stages.Count word = required (number_between word 1 1024) refusals.WrongValue >>= λ count. Ok (stages.Program count)
 stage_after (stages.Program count) word = named_by count (symbol_of word)
 stage_after (stages.Arguments count) word = if is_separator word then Err refusals.WrongOption else Ok (stages.Arguments count)
 

@@ -58,14 +58,14 @@ launch_with given sets = record {
   sets = sets;
 }
 
--- at most 256 ranks, and no port above 65,535
+-- at most 1,024 ranks, and no port above 65,535
 pub record IsWithinLimits (launch : Launch) : Type 0 where
-  pub ranks : rank_count launch.sets ≤ 256
+  pub ranks : rank_count launch.sets ≤ 1024
   pub ports : launch.base_port + rank_count launch.sets ≤ 65536
 
--- whether a launch has at most 256 ranks and no port above 65,535
+-- whether a launch has at most 1,024 ranks and no port above 65,535
 abbrev pub is_within_limits : Launch → Bool
-is_within_limits launch = nat_le (rank_count launch.sets) 256 && nat_le (launch.base_port + rank_count launch.sets) 65536
+is_within_limits launch = nat_le (rank_count launch.sets) 1024 && nat_le (launch.base_port + rank_count launch.sets) 65536
 
 -- the launch, if it is within the limits
 unfoldable pub limited : Launch → Result Launch Refused

@@ -35,7 +35,7 @@ program_of count (word ∷ rest) = where_program (symbol_of word) count word res
 -- the words after `-n`
 unfoldable pub counted : List Word → Result ProcessSet Refused
 counted [] = Err refusals.WrongValue
-counted (value ∷ rest) = required (number_between value 1 256) refusals.WrongValue >>= λ count. program_of count rest
+counted (value ∷ rest) = required (number_between value 1 1024) refusals.WrongValue >>= λ count. program_of count rest
 
 -- what stands where a set begins, and the words after it
 abbrev pub where_set : Symbol → List Word → Result ProcessSet Refused

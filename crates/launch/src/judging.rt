@@ -22,12 +22,12 @@ use crate::symbol::is_separator;
 use keeping::Word;
 
 /// The most ranks of a launch.
-const MOST_RANKS: u16 = 256;
+const MOST_RANKS: u16 = 1_024;
 
 /// What was read of a configuration file.
 #[derive(Clone, Copy)]
 pub(crate) struct Tally {
-    /// How many ranks the sets have that were read whole; 257 where there are more than 256.
+    /// How many ranks the sets have that were read whole; 1,025 where there are more than 1,024.
     pub(crate) ranks: u16,
     /// How far the words of the present line were read.
     pub(crate) stage: Stage,
@@ -152,7 +152,7 @@ fn ranks_behind(opening: Opening<'_>, config: Option<&[u8]>) -> Result<u16, Refu
 }
 
 fn is_within_limits(base_port: u16, ranks: u16) -> bool
-    ensures { result ≡ (nat_le ranks 256 && nat_le (base_port + ranks) 65536) }
+    ensures { result ≡ (nat_le ranks 1024 && nat_le (base_port + ranks) 65536) }
 {
     ranks <= MOST_RANKS && u32::from(base_port) + u32::from(ranks) <= 65_536
 }

@@ -13,7 +13,7 @@ use std::marker::Model;
 
 /// What is launched: the values of the own options, and the program and arguments of each rank.
 ///
-/// Ranks are numbered from 0 through the sets in their order. A plan has at most 256 ranks, and no
+/// Ranks are numbered from 0 through the sets in their order. A plan has at most 1,024 ranks, and no
 /// port of a rank is above 65,535.
 #[derive(Drop)]
 pub struct Plan {
@@ -39,7 +39,7 @@ impl Model for Plan {
       sets = p.sets.items;
     } };
 
-    ghost invariant = { λ p. (p.size ≡ rank_count p.sets.items) × (p.size ≤ 256)
+    ghost invariant = { λ p. (p.size ≡ rank_count p.sets.items) × (p.size ≤ 1024)
         × (p.base_port + p.size ≤ 65536) };
 }
 
@@ -160,7 +160,7 @@ impl Plan {
     /// The number of ranks.
     pub fn size(&self) -> u16
         ensures exact { result ≡ rank_count self.now.sets }
-        ensures few { result ≤ 256 }
+        ensures few { result ≤ 1024 }
         ensures ports { self.now.base_port + result ≤ 65536 }
     {
         self.size

@@ -14,7 +14,7 @@ use std::alloc::Global;
 /// What one set of words asks for (MPI 3.1, 8.8): so many processes of a program.
 #[derive(Drop)]
 pub struct ProcessSet {
-    /// The number of its processes, 1 to 256.
+    /// The number of its processes, 1 to 1,024.
     pub count: u16,
     /// The program that each of them runs.
     pub program: Word,

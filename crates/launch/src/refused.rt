@@ -29,7 +29,7 @@ pub enum Refused {
     /// A set ends without a program: 56.
     #[error("a set ends without a program")]
     NoProgram,
-    /// More than 256 ranks, or a port above 65,535: 57.
+    /// More than 1,024 ranks, or a port above 65,535: 57.
     #[error("too many ranks, or a port above 65535")]
     OverLimit,
     /// One of the options of MPI 3.1, 8.8 that this launcher leaves out: 58.

@@ -9,10 +9,10 @@ use crate::symbol::{Symbol, is_separator, symbol_of};
 use numerals::number_between;
 
 /// The most processes of one set.
-const MOST_PROCESSES: u64 = 256;
+const MOST_PROCESSES: u64 = 1_024;
 
 /// More ranks than a launch may have: so many stand for any greater number, too.
-const TOO_MANY: u32 = 257;
+const TOO_MANY: u32 = 1_025;
 
 /// How far the words of a set were read.
 #[derive(Clone, Copy)]
@@ -27,7 +27,7 @@ pub(crate) enum Stage {
     Arguments(u16),
 }
 
-/// How many ranks there are with those of one more set; 257 where there are more than 256.
+/// How many ranks there are with those of one more set; 1,025 where there are more than 1,024.
 fn added(ranks: u16, count: u16) -> u16
     ensures { result ≡ added ranks count }
 {

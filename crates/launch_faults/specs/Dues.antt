@@ -18,7 +18,7 @@ set_due (Some word) = if bytes_eq word (codes ":") then dues.Set else dues.Optio
 abbrev pub value_due : Word → Due
 value_due option =
     if bytes_eq option (codes "-configfile") then dues.File
-    else (if bytes_eq option (codes "-n") then dues.Number 1 256
+    else (if bytes_eq option (codes "-n") then dues.Number 1 1024
     else (if bytes_eq option (codes "-job") then dues.Number 0 18446744073709551615
     else (if bytes_eq option (codes "-baseport") then dues.Number 1 65535
     else (if bytes_eq option (codes "-restart") then dues.Number 0 65535

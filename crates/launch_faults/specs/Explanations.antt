@@ -23,7 +23,7 @@ page =
     codes "       mpiexec [OPTION VALUE ..] -configfile FILE\n" ++
     codes "Starts N processes of each PROGRAM as the ranks of a job on this machine, and\n" ++
     codes "prints what they wrote, by rising rank, once they have ended.\n" ++
-    codes "  -n N             so many processes, 1 to 256\n" ++
+    codes "  -n N             so many processes, 1 to 1024\n" ++
     codes "  -configfile FILE the sets stand in a file, one a line\n" ++
     codes "  -job J           the job's number; without it 1\n" ++
     codes "  -baseport P      rank r's port is P + r; without it P is 47000\n" ++
@@ -34,7 +34,7 @@ page =
 
 -- too many ranks, or ports that are too high
 abbrev pub limits_text : List ℕ
-limits_text = codes "mpiexec: more than 256 ranks, or a port above 65535"
+limits_text = codes "mpiexec: more than 1024 ranks, or a port above 65535"
 
 -- a file that can't be read
 abbrev pub unreadable_text : Word → List ℕ

@@ -51,7 +51,7 @@ fn value_due(option: &[u8]) -> Due
     if is(option, b"-configfile") {
         Due::File
     } else if is(option, b"-n") {
-        Due::Number(1, 256)
+        Due::Number(1, 1_024)
     } else if is(option, b"-job") {
         Due::Number(0, u64::MAX)
     } else if is(option, b"-baseport") {

@@ -146,7 +146,7 @@ impl<'a> fmt::Display for Explanation<'a> {
         match self {
             Explanation::Usage => f.write_str(page()),
             Explanation::OverLimit => {
-                f.write_str("mpiexec: more than 256 ranks, or a port above 65535")
+                f.write_str("mpiexec: more than 1024 ranks, or a port above 65535")
             }
             Explanation::Unreadable(word) => {
                 let name = Shown { word };

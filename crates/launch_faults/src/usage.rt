@@ -9,7 +9,7 @@ usage: mpiexec [OPTION VALUE ..] -n N PROGRAM [ARGUMENT ..] [: -n N PROGRAM ..] 
 \x20      mpiexec [OPTION VALUE ..] -configfile FILE\n\
 Starts N processes of each PROGRAM as the ranks of a job on this machine, and\n\
 prints what they wrote, by rising rank, once they have ended.\n\
-\x20 -n N             so many processes, 1 to 256\n\
+\x20 -n N             so many processes, 1 to 1024\n\
 \x20 -configfile FILE the sets stand in a file, one a line\n\
 \x20 -job J           the job's number; without it 1\n\
 \x20 -baseport P      rank r's port is P + r; without it P is 47000\n\

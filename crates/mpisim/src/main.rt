@@ -18,7 +18,7 @@ use std::{env, fs, io, str};
 /// How the program is called.
 const USAGE: &str = "\
 usage: mpisim FILE
-  FILE  a file of events: its first line is `world N`, N from 1 to 256, and each other line is what a rank does, `deliver D`,
+  FILE  a file of events: its first line is `world N`, N from 1 to 1024, and each other line is what a rank does, `deliver D`,
         `tick R NOW`, `restart R` or `stray R HEX`. What each line answers is printed.";
 
 /// Says why nothing more runs, and answers the status.

@@ -15,7 +15,7 @@ use Rattle.proof_link_truth.specs.Wire.{CanBeSent, place_of, text_of, wire}
 
 -- two endpoints of n ranks whose numbers have the widths of a header
 pub record HaveWidths (n : ℕ) (s d : Endpoint) : Type 0 where
-  pub few : n ≤ 256
+  pub few : n ≤ 1024
   pub source_is : s.rank < n
   pub target_is : d.rank < n
   pub source_last : s.incarnation ≤ 65535

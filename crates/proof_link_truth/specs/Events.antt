@@ -42,9 +42,9 @@ pub record IsAt (sessions : List SessionsState) (r : ℕ) (s : SessionsState) : 
   pub there : slice_get sessions r ≡ Some s
   pub out : s.out ≡ []
 
--- at the start of at most 256 ranks no link carried anything, and nothing is on its way
+-- at the start of at most 1,024 ranks no link carried anything, and nothing is on its way
 abbrev pub OpeningIsTrue : Type 0
-OpeningIsTrue = (n : ℕ) → n ≤ 256 → AreTrue n (opening_sessions n 0 n) [] no_links (λ r. 0)
+OpeningIsTrue = (n : ℕ) → n ≤ 1024 → AreTrue n (opening_sessions n 0 n) [] no_links (λ r. 0)
 
 -- ---- what is heard
 

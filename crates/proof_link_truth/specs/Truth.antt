@@ -13,7 +13,7 @@ use Rattle.proof_link_truth.specs.Witness.{IsWitnessed}
 pub record AreTrue (n : ℕ) (sessions : List SessionsState) (datagrams : List (ℕ × List ℕ)) (links : Links) (current : ℕ → ℕ)
     : Type 0 where
   pub count : length sessions ≡ n
-  pub few : n ≤ 256
+  pub few : n ≤ 1024
   pub last : (r : ℕ) → current r ≤ last_incarnation
   pub tells : (r : ℕ) (s : SessionsState) → slice_get sessions r ≡ Some s → SessionsTell n current r s links
   pub sound : (s d : Endpoint) → IsLink (links s d)

@@ -88,7 +88,7 @@ endpoint_is : (n r : ℕ) (engines : List EngineState) (datagrams : List (ℕ ×
 endpoint_is n r engines datagrams w e j there = ap (λ (p : Place). p.endpoint) (place_is n r engines datagrams w e j there).1
 
 -- its rank and incarnation have 16 bits each
-real_there : (n r : ℕ) (engines : List EngineState) (datagrams : List (ℕ × List ℕ)) (w : GroupNetwork) (e : EngineState) → n ≤ 256 → IsJoined n engines datagrams w → slice_get engines r ≡ Some e →
+real_there : (n r : ℕ) (engines : List EngineState) (datagrams : List (ℕ × List ℕ)) (w : GroupNetwork) (e : EngineState) → n ≤ 1024 → IsJoined n engines datagrams w → slice_get engines r ≡ Some e →
     IsReal e.sessions.place.endpoint
 real_there n r engines datagrams w e few j there =
     let within : r < n = (place_is n r engines datagrams w e j there).0 in
@@ -116,7 +116,7 @@ among_held m None a h = absurd cc
 among_held m (Some i) a h = among_at m.held i a h
 
 -- communicators that two endpoints hold after a run
-one_of : OneGroupForEachContext → (n : ℕ) (events : List Event) (x y : Endpoint) (a b : Communicator) → n ≤ 256 → IsRun n (machine_opening n) events → IsReal x → IsReal y →
+one_of : OneGroupForEachContext → (n : ℕ) (events : List Event) (x y : Endpoint) (a b : Communicator) → n ≤ 1024 → IsRun n (machine_opening n) events → IsReal x → IsReal y →
     IsAmong a ((after_run (machine_opening n) events).groups.of x).held → IsAmong b ((after_run (machine_opening n) events).groups.of y).held → a.context ≡ b.context → a ≡ b
 one_of law n events x y a b few run rx ry ha hb same =
     law n events [] x y a b (omega (arith, few)) (subst (IsRun n (machine_opening n)) (sym (append-nil events)) run) rx ry ha

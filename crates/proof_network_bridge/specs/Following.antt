@@ -52,9 +52,9 @@ abbrev pub LeavesFollowed :
 LeavesFollowed n engines datagrams r mid history =
     IsFollowed n (slice_set engines r (emptied mid)) (datagrams ++ mid.sessions.out) history
 
--- at most 256 engines at their start follow the network, and nothing was seen
+-- at most 1,024 engines at their start follow the network, and nothing was seen
 abbrev pub OpeningFollows : Type 0
-OpeningFollows = (n : ℕ) → n ≤ 256 → IsFollowed n (opening_engines n 0 n) [] []
+OpeningFollows = (n : ℕ) → n ≤ 1024 → IsFollowed n (opening_engines n 0 n) [] []
 
 -- A call that a rank takes is followed, and what is seen of it is the call, its reply and what it completes
 abbrev pub CallsFollow : Type 0

@@ -61,9 +61,9 @@ pub record IsJoined (n : ℕ) (engines : List EngineState) (datagrams : List (�
 abbrev pub network_after : (n : ℕ) → List Happening → GroupNetwork
 network_after n happenings = run n happenings (new_group_network n)
 
--- A list of happenings leads to a network of at most 256 ranks that is joined to the world, and of which the same is seen
+-- A list of happenings leads to a network of at most 1,024 ranks that is joined to the world, and of which the same is seen
 pub record IsFollowed (n : ℕ) (engines : List EngineState) (datagrams : List (ℕ × List ℕ)) (history : List Entry) : Type 0 where
   pub happenings : List Happening
-  pub few : n ≤ 256
+  pub few : n ≤ 1024
   pub joined : IsJoined n engines datagrams (network_after n happenings)
   pub seen : (network_after n happenings).history ≡ history

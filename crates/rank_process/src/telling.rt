@@ -13,7 +13,7 @@ const USAGE: &str =
 
 /// What the words of the program mean.
 const MEANINGS: &str = "  --rank R       the rank, from 0 to N - 1
-  --size N       how many ranks the job has, 1 to 256
+  --size N       how many ranks the job has, 1 to 1024
   --inc I        how often the rank was started before, 0 to 65535
   --job J        the number of the job, 0 to 18446744073709551615
   --port P       the rank's own port; rank S has port P - R + S, and each is 1 to 65535

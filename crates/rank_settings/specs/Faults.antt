@@ -10,7 +10,7 @@ use Rattle.rank_settings.specs.declared.faults.Wanted.TheVariants as wanted
 unfoldable pub range_of : List ℕ → Option (ℕ × ℕ)
 range_of option =
     if bytes_eq option (codes "--rank") then Some (0, 255)
-    else (if bytes_eq option (codes "--size") then Some (1, 256)
+    else (if bytes_eq option (codes "--size") then Some (1, 1024)
     else (if bytes_eq option (codes "--inc") then Some (0, 65535)
     else (if bytes_eq option (codes "--job") then Some (0, 18446744073709551615)
     else (if bytes_eq option (codes "--port") then Some (1, 65535)

@@ -5,7 +5,7 @@
 pub struct Settings<'a> {
     /// The rank, below the size.
     pub rank: u16,
-    /// How many ranks the job has: 1 to 256.
+    /// How many ranks the job has: 1 to 1,024.
     pub size: u16,
     /// The incarnation of the rank: how often it was started before.
     pub incarnation: u16,

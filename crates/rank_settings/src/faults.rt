@@ -48,7 +48,7 @@ fn range_of(option: &str) -> Option<(u64, u64)>
 {
     match option {
         "--rank" => Some((0, 255)),
-        "--size" => Some((1, 256)),
+        "--size" => Some((1, 1_024)),
         "--inc" => Some((0, 65_535)),
         "--job" => Some((0, u64::MAX)),
         "--port" => Some((1, 65_535)),
@@ -169,7 +169,7 @@ fn bounds_fault<'a, S: AsStr>(words: &'a [S]) -> Option<WordFault<'a>>
 {
     let rank_word = value_of(words, "--rank")?;
     let port_word = value_of(words, "--port")?;
-    let size = number_between(value_of(words, "--size")?.as_bytes(), 1, 256)?;
+    let size = number_between(value_of(words, "--size")?.as_bytes(), 1, 1_024)?;
     let rank = number_between(rank_word.as_bytes(), 0, 255)?;
     match value_fault(rank_word, 0, size - 1) {
         Some(fault) => Some(fault),

@@ -55,7 +55,7 @@ fn patience_in(matches: &ArgMatches) -> Result<u64, Refused>
 /// Whether the ports of all ranks are 1 to 65,535.
 fn are_ports(rank: u64, size: u64, port: u64) -> bool
     requires rank { rank ≤ 255 }
-    requires size { size ≤ 256 }
+    requires size { size ≤ 1024 }
     requires port { port ≤ 65535 }
     ensures { IsTrue result ↔ ArePorts rank size port }
 {
@@ -67,7 +67,7 @@ fn found_settings<'a>(matches: &ArgMatches<'a>) -> Result<Settings<'a>, Refused>
     ensures { RowsAnswer (rows_of (found_of matches.now)) result }
 {
     let rank = number_of(matches, "rank", 0, 255)?;
-    let size = number_of(matches, "size", 1, 256)?;
+    let size = number_of(matches, "size", 1, 1_024)?;
     let incarnation = number_of(matches, "inc", 0, 65_535)?;
     let job = number_of(matches, "job", 0, u64::MAX)?;
     let port = number_of(matches, "port", 1, 65_535)?;

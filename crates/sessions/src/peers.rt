@@ -1,8 +1,9 @@
 //! The session with each rank of the job.
 
 ghost use Rattle.std.specs.Prelude.{◌≡◌, ◌≢◌, ◌≤◌, ◌<◌, ◌+◌, ◌-◌, ◌*◌, ◌++◌, ◌↔◌, length, All, IsTrue, IfOk, OnOk, OnErr, IfErr, nat_lt, ◌^◌, [], ◌∷◌, if◌then◌else◌, vec_len, vec_capacity};
-ghost use Rattle.reliable_link.specs.SenderState.{after_accept, after_ack, entered_on_ack, due_at, out_end, StandsAt};
+ghost use Rattle.reliable_link.specs.SenderState.{after_accept, after_ack, IsOfSent, entered_on_ack, due_at, out_end, StandsAt};
 ghost use Rattle.reliable_link.specs.Accepting.{HasNumberLeft};
+ghost use Rattle.reliable_link.specs.ReceiverState.{advanced, after_frame, discarded};
 ghost use Rattle.std.specs.List.{range_with_len};
 ghost use Rattle.sessions.specs.Carrying.{taken_back};
 ghost use Rattle.sessions.specs.Peers.{new_peers, peer_at, with_sender, with_receiver, with_new_session, frames_out, due_out, after_all_due, IsIdlePeer};
@@ -32,7 +33,7 @@ pub(crate) fn new_peers(alloc: Global, size: u16) -> Result<Vec<Peer>, Refused>
     for _built in 0..size {
         let peer = Peer {
             sender: Sender::new(alloc),
-            receiver: Receiver::new(),
+            receiver: Receiver::new(alloc),
         };
         peers.push(peer).map_err(|_| Refused::OutOfMemory)?;
     }
@@ -120,15 +121,54 @@ pub(crate) fn take_back_at(peers: &mut Vec<Peer>, rank: u16)
     peer.sender.take_back();
 }
 
-/// The session with a rank hands its next frame up.
-pub(crate) fn raise_at(peers: &mut Vec<Peer>, rank: u16)
+/// The session with a rank hands its next frame up. The places for frames that are held are made with the first one.
+pub(crate) fn raise_at(peers: &mut Vec<Peer>, rank: u16) -> Result<(), Refused>
     requires there { rank < vec_len peers.old }
-    requires left { (peer_at peers.old.items rank).receiver ≢ 18446744073709551615 }
-    ensures { peers.new.items ≡ with_receiver peers.old.items rank ((peer_at peers.old.items rank).receiver + 1) }
+    requires left { (peer_at peers.old.items rank).receiver.next ≢ 18446744073709551615 }
+    ensures ok { OnOk result (peers.new.items ≡ with_receiver peers.old.items rank (advanced (peer_at peers.old.items rank).receiver)) }
+    ensures unchanged { OnErr result (peers.new.items ≡ peers.old.items) }
+    ensures err { IfErr result (λ e. e ≡ Refused.OutOfMemory) }
 {
     let peer = &mut peers[rank as usize];
-    let next = peer.receiver.next();
-    let _ = peer.receiver.on_frame(next);
+    // The number shows that it has 64 bits.
+    let _next = peer.receiver.next();
+    match peer.receiver.prepare() {
+        Ok(()) => {
+            peer.receiver.advance();
+            Ok(())
+        }
+        Err(_) => Err(Refused::OutOfMemory),
+    }
+}
+
+/// The next frame of the session with a rank isn't held any more.
+pub(crate) fn discard_at(peers: &mut Vec<Peer>, rank: u16)
+    requires { rank < vec_len peers.old }
+    ensures { peers.new.items ≡ with_receiver peers.old.items rank (discarded (peer_at peers.old.items rank).receiver) }
+{
+    let peer = &mut peers[rank as usize];
+    peer.receiver.discard();
+}
+
+/// The session with a rank holds a frame that came before its turn.
+pub(crate) fn hold_at(
+    peers: &mut Vec<Peer>,
+    rank: u16,
+    number: u64,
+    bytes: &[u8],
+) -> Result<(), Refused>
+    requires there { rank < vec_len peers.old }
+    requires behind { (peer_at peers.old.items rank).receiver.next < number }
+    requires near { number < (peer_at peers.old.items rank).receiver.next + 64 }
+    ensures ok { OnOk result (peers.new.items ≡ with_receiver peers.old.items rank (after_frame (peer_at peers.old.items rank).receiver number bytes.now)) }
+    ensures unchanged { OnErr result (peers.new.items ≡ peers.old.items) }
+    ensures err { IfErr result (λ e. e ≡ Refused.OutOfMemory) }
+{
+    let peer = &mut peers[rank as usize];
+    match peer.receiver.hold(number, bytes) {
+        Ok(()) => Ok(()),
+        Err(_) => Err(Refused::OutOfMemory),
+    }
 }
 
 /// The memory of the frames below `n` is kept for datagrams to come.
@@ -141,15 +181,22 @@ fn keep_below(drafts: &mut Drafts, sender: &Sender, n: u64) {
     }
 }
 
-/// The session with a rank heeds an acknowledgement of all frames below `n`. The memory of those is kept for datagrams to come.
-pub(crate) fn acknowledge_at(peers: &mut Vec<Peer>, drafts: &mut Drafts, rank: u16, n: u64)
+/// The session with a rank heeds an acknowledgement of all frames below `n`, which says of those behind it which are held.
+/// The memory of the former is kept for datagrams to come.
+pub(crate) fn acknowledge_at(
+    peers: &mut Vec<Peer>,
+    drafts: &mut Drafts,
+    rank: u16,
+    n: u64,
+    held: u64,
+)
     requires room { rank < vec_len peers.old }
-    requires sent { n ≤ out_end (peer_at peers.old.items rank).sender }
-    ensures { peers.new.items ≡ with_sender peers.old.items rank (after_ack (peer_at peers.old.items rank).sender n) }
+    requires sent { IsOfSent (peer_at peers.old.items rank).sender n held }
+    ensures { peers.new.items ≡ with_sender peers.old.items rank (after_ack (peer_at peers.old.items rank).sender n held) }
 {
     let peer = &mut peers[rank as usize];
     keep_below(drafts, &peer.sender, n);
-    let _ = peer.sender.on_ack(n);
+    let _ = peer.sender.on_ack(n, held);
 }
 
 /// Both directions of the session with a rank start anew; the former session is handed out.
@@ -161,9 +208,21 @@ pub(crate) fn begin_anew_at(peers: &mut Vec<Peer>, rank: u16) -> Peer
     let peer = &mut peers[rank as usize];
     let anew = Peer {
         sender: peer.sender.renewed(),
-        receiver: Receiver::new(),
+        receiver: peer.receiver.renewed(),
     };
     mem::replace(peer, anew)
+}
+
+/// The places of the former session with a rank, which is done with, become those of the present one. Contracts see nothing
+/// of it.
+pub(crate) fn take_places_at(peers: &mut Vec<Peer>, rank: u16, former: Peer)
+    requires { rank < vec_len peers.old }
+    ensures { peers.new.items ≡ peers.old.items }
+{
+    let peer = &mut peers[rank as usize];
+    let Peer { sender, receiver } = former;
+    peer.sender.take_places(sender);
+    peer.receiver.take_places(receiver);
 }
 
 /// A datagram for a rank goes out behind the others.
@@ -281,7 +340,7 @@ pub(crate) fn due_frames(
     peers: &[Peer],
     now: u64,
 ) -> Result<Vec<(u16, Bytes)>, Refused>
-    requires small { length peers.now ≤ 256 }
+    requires small { length peers.now ≤ 1024 }
     requires clocks { All (λ p. p.sender.clock ≤ now) peers.now }
     ensures ok { IfOk result (λ frames. frames.items ≡ due_out 0 peers.now now) }
     ensures few { IfOk result (λ frames. vec_len frames ≤ 64 * length peers.now) }
@@ -304,9 +363,10 @@ fn mark_each_sent(peers: &mut [Peer], now: u64)
     }
 }
 
-/// Whether the last tick of each session was at this time: then nothing is due, and one more tick changes nothing.
+/// Whether the last tick of each session was at this time, and nothing has become due since: then one more tick changes
+/// nothing.
 pub(crate) fn stand_at(peers: &[Peer], now: u64) -> bool
-    ensures { IsTrue result ↔ All (λ p. StandsAt p.sender now) peers.now }
+    ensures { IsTrue result → All (λ p. StandsAt p.sender now) peers.now }
 {
     peers.iter().all(|peer| peer.sender.stands_at(now))
 }

@@ -39,12 +39,12 @@ opening_stands m n a zero i d lt is = absurd (omega arith)
 opening_stands m n a (suc k) zero d lt is = record { size = is; clean = record { out = refl; completion = refl; ended = refl } }
 opening_stands m n a (suc k) (suc i) d lt is = opening_stands m n (suc a) k i d (omega arith) is
 
-opening_is_world : (n : ℕ) → n ≤ 256 → IsWorld (opening_engines n 0 n)
+opening_is_world : (n : ℕ) → n ≤ 1024 → IsWorld (opening_engines n 0 n)
 opening_is_world n few =
     let size : length (opening_engines n 0 n) ≡ n = length_opening n 0 n in
     (omega (arith, few, size), λ k d lt. opening_stands (length (opening_engines n 0 n)) n 0 n k d (omega (arith, lt, size)) (sym size))
 
-pub opening_sound : (n : ℕ) → n ≤ 256 → IsSound (opening_engines n 0 n) [] []
+pub opening_sound : (n : ℕ) → n ≤ 1024 → IsSound (opening_engines n 0 n) [] []
 opening_sound n few =
     record {
       world = opening_is_world n few;

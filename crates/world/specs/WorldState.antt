@@ -19,9 +19,9 @@ pub record HasRoom (w : WorldState) : Type 0 where
   pub datagrams : length w.datagrams + 65 * length w.engines ≤ w.datagram_room
   pub entries : length w.history + 1 ≤ w.entry_room
 
--- no world has so many ranks: 1 to 256 it has
+-- no world has so many ranks: 1 to 1,024 it has
 abbrev pub is_outside : ℕ → Bool
-is_outside n = (n == 0) || nat_lt 256 n
+is_outside n = (n == 0) || nat_lt 1024 n
 
 -- a world of n ranks in which nothing happened yet
 abbrev pub opening_world : ℕ → WorldState
@@ -32,10 +32,10 @@ pub record StandsIn (n : ℕ) (e : EngineState) : Type 0 where
   pub size : e.sessions.place.size ≡ n
   pub clean : IsClean e
 
--- the engine is one of at most 256 ranks, and everything was taken out of it
+-- the engine is one of at most 1,024 ranks, and everything was taken out of it
 pub record IsReady (e : EngineState) : Type 0 where
   pub there : e.sessions.place.endpoint.rank < e.sessions.place.size
-  pub few : e.sessions.place.size ≤ 256
+  pub few : e.sessions.place.size ≤ 1024
   pub clean : IsClean e
 
 -- the engine's place is that of rank r among n, in the world's job
@@ -50,4 +50,4 @@ ArePlaced engines = (r : ℕ) (e : EngineState) → slice_get engines r ≡ Some
 
 -- a world's engines know how many they are
 abbrev pub IsWorld : List EngineState → Type 0
-IsWorld engines = (length engines ≤ 256) × All (StandsIn (length engines)) engines
+IsWorld engines = (length engines ≤ 1024) × All (StandsIn (length engines)) engines

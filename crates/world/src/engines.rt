@@ -128,7 +128,7 @@ pub fn run_event(
 /// The engine of a rank among so many, at its first incarnation.
 fn new_engine(alloc: Global, rank: u16, size: u16) -> Result<Engine, Refused>
     requires there { rank < size }
-    requires few { size ≤ 256 }
+    requires few { size ≤ 1024 }
     ensures ok { IfOk result (λ engine. engine ≡ opening (place_of size (at rank 0))) }
     ensures err { IfErr result (λ e. e ≡ Refused.Engine lowers.OutOfMemory) }
 {
@@ -150,7 +150,7 @@ fn new_engine(alloc: Global, rank: u16, size: u16) -> Result<Engine, Refused>
 /// The engines of a world of `size` ranks.
 #[tactic(auto, using(crate::proofs::Openings::opening_more))]
 pub fn new_engines(alloc: Global, size: u16) -> Result<Vec<Engine>, Refused>
-    requires { size ≤ 256 }
+    requires { size ≤ 1024 }
     ensures ok { IfOk result (λ engines. engines.items ≡ opening_engines size 0 size) }
     ensures err { IfErr result (λ e. e ≡ Refused.Engine lowers.OutOfMemory) }
 {

@@ -43,7 +43,7 @@ impl Model for World {
 
 /// Makes the room that an event may take, 65 datagrams for each rank and an entry, and tells whether it could.
 fn make_room(datagrams: &mut Vec<(u16, Bytes)>, history: &mut Vec<Entry>, size: usize) -> bool
-    requires { size ≤ 256 }
+    requires { size ≤ 1024 }
     ensures datagrams { datagrams.new.items ≡ datagrams.old.items }
     ensures history { history.new.items ≡ history.old.items }
     ensures room { IsTrue result → vec_len datagrams.new + 65 * size ≤ vec_capacity datagrams.new }
@@ -162,7 +162,7 @@ fn advance(
 }
 
 impl World {
-    /// A world of so many ranks, 1 to 256, in which nothing happened yet.
+    /// A world of so many ranks, 1 to 1,024, in which nothing happened yet.
     ///
     /// Refused with 13 for another number, and with 14.
     pub fn new(alloc: Global, size: u16) -> Result<World, Refused>
