@@ -58,13 +58,15 @@ def fault_of_bytes(data):
         return 21
     if data[:4] != MAGIC:
         return 22
-    if data[4] != 1:
+    if data[4] != 2:
         return 23
     if data[5] not in (1, 2, 3):
         return 24
     length = int.from_bytes(data[14:16], "big")
-    if length != len(data) - HEADER or length > LONGEST_BODY or (data[5] != 1 and length != 0):
+    if length != len(data) - HEADER or length > LONGEST_BODY or (data[5] != 1 and length != {2: 8, 3: 0}[data[5]]):
         return 25
+    if data[5] == 2 and data[-1] % 2 == 1:
+        return 30
     if data[5] == 1 and not is_frame(data[HEADER:]):
         return 30
     if data[5] == 3 and any(data[24:32]):

@@ -6,6 +6,7 @@ and a reduction go along a binomial tree of the members; those of the others go 
 member 0 where a collective has no root.
 """
 
+import functools
 from dataclasses import dataclass, field
 
 import reductions
@@ -21,6 +22,9 @@ SERIALS = 2**32
 
 MOST_BLOCK_BYTES = 1048560
 RECORD_BYTES = 16
+CHOICE_BYTES = 9
+CONTEXT_BYTES = 8
+RANK_BYTES = 2
 
 # The phases of a notice.
 TOWARDS, BACK, DIFFERS = "towards", "back", "differs"
@@ -95,8 +99,18 @@ class Notice:
 
     @property
     def values(self):
-        moves = self.record.type is not None and self.phase != DIFFERS
-        return [0] * (RECORD_BYTES + (len(self.brings) * TYPES[self.record.type][0] if moves else 0))
+        return [0] * (RECORD_BYTES + (0 if self.phase == DIFFERS else self.byte_count()))
+
+    def byte_count(self):
+        """How many bytes stand behind the record: elements; towards member 0 of a split a choice, and back from there a new context and, in
+        a split, the ranks of its group."""
+        if self.record.type is not None:
+            return len(self.brings) * TYPES[self.record.type][0]
+        if self.record.kind == "split" and self.phase == TOWARDS:
+            return CHOICE_BYTES
+        if self.phase == TOWARDS or self.brings is None:
+            return 0
+        return CONTEXT_BYTES + (RANK_BYTES * len(self.brings[1]) if self.record.kind == "split" else 0)
 
 
 @dataclass
@@ -360,9 +374,15 @@ class Communicators:
         return communicator.ranks()[0] == self.rank and SERIALS - self.serial < len(communicator.members)
 
 
+@functools.cache
+def members_of_world(size):
+    """The first incarnations of so many ranks; one list for all who hold it."""
+    return [(other, 0) for other in range(size)]
+
+
 def new_communicators(rank, incarnation, size):
     """World, whose members are the first incarnations of all ranks, and self (own: MPI has no restarts)."""
-    world = Communicator(WORLD, [(other, 0) for other in range(size)])
+    world = Communicator(WORLD, members_of_world(size))
     alone = Communicator(rank << 48 | incarnation << 32 | 1, [(rank, incarnation)])
     return Communicators(rank, incarnation, [world, alone])
 

@@ -66,7 +66,7 @@ BAD_BYTES = [b"\t", b"\r", b"\x7f", b"\x80", b"\xff", b"\xc3\xa9", b"\xe2\x80\x9
 
 # First lines, good and bad.
 FIRST_LINES = [
-    "world 1", "world 2", "world 5", "world 256", "world 0", "world 257", "world 00", "world 02", "world -1", "world", "world 2 2",
+    "world 1", "world 2", "world 5", "world 256", "world 257", "world 1024", "world 0", "world 1025", "world 00", "world 02", "world -1", "world", "world 2 2",
     "world two", "World 2", "world  3", " world 3 ", "worlds 2", "deliver 0", "0 buf b int8 1", "", "# first", "world 2#", "world 2 #",
     "world 18446744073709551618", "world 65537", "size 2", "\tworld 2",
 ]

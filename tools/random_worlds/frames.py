@@ -61,6 +61,7 @@ class Datagram:
     kind: str
     sequence: int
     frame: object = None
+    told: tuple = ()  # what an acknowledgement says is held: numbers behind its own
 
     def text(self, number):
         return (f"+{number} {self.source}.{self.source_incarnation}>{self.target}.{self.target_incarnation}"
@@ -74,7 +75,9 @@ class Session:
     frames: list = field(default_factory=list)  # every frame that was accepted for sending, by its sequence
     sent_at: list = field(default_factory=list)  # when each frame that came into the window was last sent
     lowest: int = 0  # the lowest number that isn't acknowledged
+    marked: set = field(default_factory=set)  # the numbers that the other side said it holds
     next: int = 0  # the number that is taken next from the other side
+    held: dict = field(default_factory=dict)  # frames of later numbers, which wait for their turn
     transfers: int = 0  # how many messages were announced to the other side
     unanswered: dict = field(default_factory=dict)  # those without an answer: the send and its message, by the transfer
     announced: int = 0  # how many messages the other side announced
@@ -88,7 +91,13 @@ class Session:
 
     def due(self, now):
         """The numbers of the frames that are sent again at this time."""
-        return [n for n in range(self.lowest, len(self.sent_at)) if now - self.sent_at[n] >= RESEND_AFTER]
+        return [n for n in range(self.lowest, len(self.sent_at)) if n not in self.marked and now - self.sent_at[n] >= RESEND_AFTER]
+
+    def acknowledge(self, number, told):
+        """All below this number were taken, and those that are told are held; one that is older than the last says nothing."""
+        if number >= self.lowest:
+            self.lowest = number
+            self.marked = {n for n in self.marked | set(told) if n > number}
 
 
 def pieces_of(message):

@@ -47,28 +47,49 @@ def many_frames(random):
 
 
 def whole_crowd(random):
-    """Everyone of 256 ranks sends to rank 0, which takes them in another order."""
-    lines = ["world 256", "0 buf b int32 0"]
-    for rank in range(1, 256):
+    """Everyone of 1,024 ranks sends to rank 0, which takes them in another order."""
+    lines = ["world 1024", "0 buf b int32 0"]
+    for rank in range(1, 1024):
         lines += [f"{rank} buf a int32 {rank}", f"{rank} isend q world 0 {rank % 2} a"]
-    order = list(range(255))
+    order = list(range(1023))
     random.shuffle(order)
     lines += [f"deliver {number}" for number in order]
-    for _ in range(255):
+    for _ in range(1023):
         lines += ["0 irecv r world any any b", "0 wait r"]
-    return lines + ["tick 7 20", "tick 255 19", "restart 255", "deliver 254"]
+    return lines + ["tick 7 20", "tick 1023 19", "restart 1023", "deliver 1022"]
 
 
 def crowd_in_collectives(random):
     """Many ranks enter three collectives of world, mostly alike, while the network brings what is on its way, each pair as it likes."""
-    maker = making.Maker(random, "trees", random.choice([65, 100, 255, 256]))
+    maker = making.Maker(random, "trees", random.choice([65, 256, 1000, 1024]))
     for _ in range(3):
         entering = [(rank, "world") for rank in range(maker.size)]
         random.shuffle(entering)
         maker.enter_all(entering, None)
-        while maker.new:
-            maker.deliver_of_any_pair()
+        bring_all(maker)
     return maker.lines
+
+
+def crowd_in_a_split(random):
+    """A split of 1,024 ranks, most of them of one colour, so that member 0 announces what it tells them; then the new group has a barrier."""
+    maker = making.Maker(random, "trees", 1024)
+    entering = list(range(maker.size))
+    random.shuffle(entering)
+    few = random.choice([0, 5, 500, 530])
+    for rank in entering:
+        maker.add(f"{rank} split c world {0 if rank >= few else random.choice([0, 7, 'undefined'])} {random.choice([0, 0, -rank])}")
+        maker.deliver_of_any_pair()
+    bring_all(maker)
+    for rank in entering:
+        if maker.is_free(rank) and maker.held_as(rank, "c") is not None:
+            maker.add(f"{rank} barrier c")
+    bring_all(maker)
+    return maker.lines
+
+
+def bring_all(maker):
+    while maker.new:
+        maker.deliver_of_any_pair()
 
 
 def largest_messages(random):
@@ -96,5 +117,5 @@ def largest_messages(random):
 
 def a_long_file(random):
     kinds = [many_communicators] if communicators.ARE_THERE else []
-    lines = random.choice(kinds + [many_requests, many_restarts, many_frames, whole_crowd, crowd_in_collectives, largest_messages])(random)
+    lines = random.choice(kinds + [many_requests, many_restarts, many_frames, whole_crowd, crowd_in_collectives, crowd_in_a_split, largest_messages])(random)
     return ("\n".join(lines) + "\n").encode()

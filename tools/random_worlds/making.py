@@ -20,7 +20,7 @@ MIXED = {
     "tick": 5, "restart": 1, "stray": 1, "refused_call": 3, "refused_event": 2, "set_buffer": 2, "rename": 0.3, "unblock": 6,
     "test": 5, "cancel": 2, "wait_for_several": 5, "set_layout": 2, "bring_some": 2,
     "restart_in_the_middle": 0.5, "cancel_in_the_middle": 0.5, "make_communicator": 1, "enter_alone": 0.5, "ask": 2,
-    "move_elements": 1.5, "enter_one": 0.3, "refused_collective": 0.3,
+    "move_elements": 1.5, "enter_one": 0.3, "refused_collective": 0.3, "come_early": 1,
 }
 ON_COMMUNICATORS = ["make_communicator", "enter_alone", "ask", "restart_in_a_collective", "move_elements", "enter_one", "refused_collective"]
 THEMES = {
@@ -28,6 +28,9 @@ THEMES = {
     "wildcards": (12, {"receive": 30, "send": 30, "wait": 20, "restart": 0}),
     "restarts": (16, {"restart": 8, "deliver_late": 8, "deliver_any": 12}),
     "losses": (8, {"lose": 14, "tick": 16, "deliver_any": 14}),
+    "early": (24, {"come_early": 24, "send": 30, "receive": 24, "wait_for_several": 12, "lose": 5, "tick": 10, "deliver_any": 10, "bring_some": 4}),
+    "early_restarts": (8, {"come_early": 24, "send": 30, "receive": 24, "restart": 5, "deliver_late": 8, "deliver_any": 10, "tick": 8}),
+    "large_losses": (10, {"come_early": 16, "send": 14, "receive": 16, "lose": 8, "tick": 12, "bring_some": 10, "deliver_any": 8}),
     "strays": (5, {"stray": 40}),
     "refusals": (8, {"refused_call": 30, "refused_event": 12, "rename": 3}),
     "window": (7, {"deliver_new": 40, "deliver_any": 12, "tick": 3}),
@@ -47,7 +50,7 @@ THEMES = {
     "large_restarts": (8, {"send": 14, "receive": 16, "deliver_new": 30, "bring_some": 8, "deliver_any": 12, "restart": 5, "deliver_late": 6,
                            "restart_in_the_middle": 12}),
 }
-SHARE_OF_LARGE = {"large": 0.65, "large_restarts": 0.65, "restarts": 0.2, "losses": 0.15, "several": 0.1, "wildcards": 0.1, "window": 0.1}
+SHARE_OF_LARGE = {"large_losses": 0.65, "early": 0.15, "large": 0.65, "large_restarts": 0.65, "restarts": 0.2, "losses": 0.15, "several": 0.1, "wildcards": 0.1, "window": 0.1}
 LARGE_BYTES = [1025, 1025, 1026, 1032, 2048, 2049, 3072, 5000, 5000]
 SHARE_OFF_WORLD = {"communicators": 0.8, "collectives": 0.3, "replaced": 0.7, "mixed": 0.3, "trees": 0.3, "large": 0.2, "large_restarts": 0.2, "restarts": 0.2, "wildcards": 0.2}
 TAGS = [0, 1, 2, 7]
@@ -70,7 +73,7 @@ class Maker(collecting.Collecting):
 
     def a_size(self):
         if self.theme == "crowd":
-            return self.random.choice([6, 8, 16, 40, 100, 255, 256])
+            return self.random.choice([6, 8, 16, 40, 100, 255, 257, 1000, 1023, 1024])
         if self.theme == "trees":
             return self.random.choice([3, 4, 4, 5, 6, 7, 8, 9, 12, 15, 16, 17, 24, 31, 33, 40])
         if self.theme in ("window", "queues"):
@@ -625,6 +628,49 @@ class Maker(collecting.Collecting):
         if self.new:
             place = 0 if self.random.random() < 0.75 else self.random.randrange(len(self.new))
             self.deliver(self.new.pop(place))
+
+    def come_early(self):
+        """Frames from one rank to another come in any order, but for some that are lost; what their target says of them comes or is lost,
+        too. Then the clock of their sender goes on, mostly by as much as it waits before it sends again."""
+        here = self.frames_of_a_pair()
+        if not here:
+            return
+        source, target = self.world.datagrams[here[0]].source, self.world.datagrams[here[0]].target
+        order = self.random.choice([here[1:] + here[:1], here[::-1], self.random.sample(here, len(here))])
+        for number in order:
+            self.new.remove(number)
+            if self.random.random() < 0.8:
+                self.deliver(number)
+            told = [new for new in self.new if self.is_told_by(new, target, source)]
+            if told and self.random.random() < 0.4:
+                self.new.remove(told[-1])
+                self.deliver(told[-1])
+        if not self.is_over:
+            clock = self.world.ranks[source].clock
+            self.add(f"tick {source} {min(clock + self.random.choice([0, 10, 20, 20, 20]), reading.LARGEST_TIME)}")
+
+    def is_told_by(self, number, rank, other):
+        """Whether a datagram is an acknowledgement from one rank to another one."""
+        datagram = self.world.datagrams[number]
+        return datagram.kind == "ACK" and (datagram.source, datagram.target) == (rank, other)
+
+    def frames_of_a_pair(self):
+        """The frames that are on their way from one rank to another; where there are few, it sends some more before."""
+        frames = [number for number in self.new if self.world.datagrams[number].frame is not None]
+        if frames:
+            drawn = self.world.datagrams[self.random.choice(frames)]
+            source, target = drawn.source, drawn.target
+        elif self.size > 1:
+            source = self.a_rank()
+            target = self.another(source)
+        else:
+            return []
+        if self.is_free(source) and self.random.random() < 0.7:
+            buffer = self.a_set_buffer(source)
+            for _ in range(0 if self.is_over else self.random.choice([1, 2, 3, 5, 8, 66])):
+                self.add(f"{source} isend {self.a_name('q')} world {target} {self.a_tag()} {buffer}")
+        return [number for number in self.new if self.world.datagrams[number].frame is not None
+                and (self.world.datagrams[number].source, self.world.datagrams[number].target) == (source, target)]
 
     def deliver_of_any_pair(self):
         """The oldest datagram that is on its way from one rank to another one, whichever they are."""

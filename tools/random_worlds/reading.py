@@ -28,7 +28,7 @@ HEX = re.compile(r"([0-9a-f][0-9a-f])+")
 ANY = "any"
 NULL = "null"
 LARGEST_TIME = 2**64 - 1
-MOST_RANKS = 256
+MOST_RANKS = 1024
 
 
 class Refused(Exception):

@@ -15,7 +15,7 @@ import reasons
 import reductions
 from bytes_of_strays import HIGHEST_TAG, MOST_BYTES, MOST_EAGER_BYTES, fault_of_bytes
 from communicators import MOST_BLOCK_BYTES, Notice, Record, WORLD
-from frames import Collection, Datagram, Frame, Message, Session, byte_count, pieces_of
+from frames import WINDOW, Collection, Datagram, Frame, Message, Session, byte_count, pieces_of
 from layouts import Layout, layout_made
 from reading import ANY, NULL, TYPES
 
@@ -629,7 +629,8 @@ class World:
         learns = datagram.source_incarnation > known
         session = Session() if learns else rank.session(datagram.source)
         self.check(self.fault_of_sequence(session, datagram))
-        self.check(self.fault_of_transfer(session, datagram))
+        if datagram.frame is not None and datagram.sequence == session.next:
+            self.check(self.fault_of_transfer(session, datagram.frame))
         if learns:
             self.learn(rank, datagram.source, datagram.source_incarnation)
         emitted = self.handle(rank, datagram)
@@ -637,18 +638,17 @@ class World:
 
     @staticmethod
     def fault_of_sequence(session, datagram):
-        """A frame behind the next one, and an acknowledgement of what wasn't sent, are outside the window."""
-        if datagram.frame is not None and datagram.sequence > session.next:
+        """A frame that comes a whole window too early, and an acknowledgement of what wasn't sent, are outside the window."""
+        if datagram.frame is not None and datagram.sequence >= session.next + WINDOW:
             return 31
-        if datagram.kind == "ACK" and datagram.sequence > len(session.sent_at):
+        if datagram.kind == "ACK" and (datagram.sequence > len(session.sent_at) or any(told >= len(session.sent_at) for told in datagram.told)):
             return 31
         return None
 
     @staticmethod
-    def fault_of_transfer(session, datagram):
-        """The next frame announces the next transfer, answers one that has no answer, or brings the data that are due."""
-        frame = datagram.frame
-        if frame is None or datagram.sequence < session.next or frame.kind == "EAGER":
+    def fault_of_transfer(session, frame):
+        """A frame whose turn it is announces the next transfer, answers one that has no answer, or brings the data that are due."""
+        if frame.kind == "EAGER":
             return None
         if frame.kind == "RTS":
             return None if frame.transfer == session.announced else 30
@@ -687,14 +687,25 @@ class World:
         """Takes a datagram in that is neither refused nor late, and gives what goes out."""
         session = rank.session(datagram.source)
         if datagram.frame is not None:
-            if datagram.sequence == session.next:
-                session.next += 1
-                self.take(rank, session, datagram.frame)
-            return [self.to(rank, datagram.source, "ACK", session.next)] + self.all_in_windows(rank)
+            if datagram.sequence >= session.next:
+                session.held[datagram.sequence] = datagram.frame
+            self.take_in_turn(rank, session)
+            told = tuple(sorted(session.held))
+            return [self.to(rank, datagram.source, "ACK", session.next, told=told)] + self.all_in_windows(rank)
         if datagram.kind == "ACK":
-            session.lowest = max(session.lowest, datagram.sequence)
+            session.acknowledge(datagram.sequence, datagram.told)
             return self.in_window(rank, datagram.source)
         return []
+
+    def take_in_turn(self, rank, session):
+        """Takes what is held for as long as the next number is among it. One that breaks the order of a large message is given up then, and
+        those behind it are held further."""
+        while session.next in session.held:
+            frame = session.held.pop(session.next)
+            if self.fault_of_transfer(session, frame) is not None:
+                return
+            session.next += 1
+            self.take(rank, session, frame)
 
     def take(self, rank, session, frame):
         """The next frame of a session is taken: a notice or a message arrives, an announcement is answered, or data come."""
@@ -747,8 +758,8 @@ class World:
         return f"{rank.number} {answer}"
 
     @staticmethod
-    def to(rank, other, kind, sequence, frame=None):
-        return Datagram(rank.number, rank.incarnation, other, rank.incarnation_of(other), kind, sequence, frame)
+    def to(rank, other, kind, sequence, frame=None, told=()):
+        return Datagram(rank.number, rank.incarnation, other, rank.incarnation_of(other), kind, sequence, frame, told)
 
     def frames(self, rank, other, numbers):
         frames = rank.session(other).frames

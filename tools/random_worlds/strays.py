@@ -7,7 +7,7 @@ def header(random, size, kind, body):
     """A header of another job, whose other fields an engine could have written."""
     return b"".join([
         bytes.fromhex("4d505544"),
-        bytes([1, kind]),
+        bytes([2, kind]),
         random.randrange(size).to_bytes(2, "big"),
         random.randrange(size).to_bytes(2, "big"),
         random.randrange(2).to_bytes(2, "big"),
@@ -143,8 +143,14 @@ def a_bad_part(random):
 
 def a_datagram(random, size):
     kind = random.choice([1, 1, 2, 3])
-    body = a_frame(random) if kind == 1 else b""
+    body = {1: a_frame, 2: told_as_held, 3: lambda _: b""}[kind](random)
     return header(random, size, kind, body) + body
+
+
+def told_as_held(random):
+    """The body of an acknowledgement, which may say that any frame is held but the one that it waits for; seldom it says that one."""
+    told = random.choice([0, 0, 2, 4, 2**63, random.randrange(0, 2**64, 2)])
+    return (told + (random.random() < 0.1)).to_bytes(8, "big")
 
 
 def a_stray(random, size):
@@ -156,20 +162,20 @@ def a_stray(random, size):
 
 
 def spoilt(random, size, data):
-    kind = random.randrange(10)
+    kind = random.randrange(11)
     if kind == 0:
         return data[:random.choice([1, 4, 16, 23, 24, 31, max(1, len(data) - 1)])]
     if kind == 1:
         place = random.randrange(4)
         return data[:place] + bytes([random.randrange(256)]) + data[place + 1:]
     if kind == 2:
-        return data[:4] + bytes([random.choice([0, 2, 255])]) + data[5:]
+        return data[:4] + bytes([random.choice([0, 1, 3, 255])]) + data[5:]
     if kind == 3:
         return data[:5] + bytes([random.choice([0, 1, 2, 3, 4, 255])]) + data[6:]
     if kind == 4:
-        return data[:14] + random.choice([0, 1, 1200, 1201, len(data)]).to_bytes(2, "big") + data[16:]
+        return data[:14] + random.choice([0, 1, 8, 1200, 1201, len(data)]).to_bytes(2, "big") + data[16:]
     if kind == 5:
-        return data + bytes(random.choice([1, 5, 1200]))
+        return data + bytes(random.choice([1, 5, 8, 1200]))
     if kind == 6:
         return data[:16] + (1).to_bytes(8, "big") + data[24:]
     if kind == 7:
@@ -177,5 +183,8 @@ def spoilt(random, size, data):
     if kind == 8:
         body = a_bad_frame(random)
         return header(random, size, 1, body) + body
+    if kind == 9:
+        kind, body = random.choice([2, 3]), bytes(random.choice([0, 1, 7, 8, 9, 16]))
+        return header(random, size, kind, body) + body
     length = random.choice([1200, 1201])
     return header(random, size, 1, bytes(length)) + bytes(length)
