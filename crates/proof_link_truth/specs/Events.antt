@@ -1,5 +1,5 @@
 -- What an event of a rank does to the links of its world.
-use Rattle.std.specs.Prelude.{◌≡◌, ℕ, zero, suc, ◌<◌, ◌≤◌, Bool, true, false, List, [], ◌∷◌, ◌++◌, Option, Some, None, Ok, Err, map, slice_get, slice_set, slice_index, ◌==◌}
+use Rattle.std.specs.Prelude.{◌≡◌, ℕ, zero, suc, ◌+◌, ◌<◌, ◌≤◌, Bool, true, false, List, [], ◌∷◌, ◌++◌, Option, Some, None, Ok, Err, map, slice_get, slice_set, slice_index, ◌==◌}
 use Rattle.std.specs.List.{AllByRecursion}
 use Rattle.vocabulary.specs.declared.endpoint.Endpoint.{Endpoint}
 use Rattle.vocabulary.specs.Endpoints.{last_incarnation}
@@ -8,11 +8,12 @@ use Rattle.datagram.specs.Spelling.{FrameText}
 use Rattle.sessions.specs.declared.refused.Refused.{Refused}
 use Rattle.sessions.specs.declared.heard.Unheard.{Unheard}
 use Rattle.sessions.specs.Events.{Sending, TurnedAway, after_event, after_heard, sends_limit}
-use Rattle.sessions.specs.Heard.{Acknowledges, Hands, HeardText, Nothing, Repeats, WordText, heard_of}
+use Rattle.sessions.specs.Heard.{Acknowledges, EarlyText, Follows, Hands, HeardText, Holds, Nothing, Repeats, WordText, heard_of}
 use Rattle.sessions.specs.SessionsState.{SessionsState, known_endpoint, opening}
 use Rattle.sessions.specs.Ticks.{after_tick}
 use Rattle.proof_link_truth.specs.Links.{Links, accept_all, handed_on, in_flight}
 use Rattle.proof_link_truth.specs.Quiet.{AreQuiet}
+use Rattle.proof_link_truth.specs.Sessions.{IsHeldOf}
 use Rattle.proof_link_truth.specs.Truth.{AreTrue}
 use Rattle.proof_link_truth.specs.Wire.{CanBeSent, at, place_of}
 
@@ -72,17 +73,25 @@ pub record IsNext (links : Links) (s d : Endpoint) (frame : FrameText) : Type 0 
   pub next : slice_get (links s d).accepted (links s d).handed ≡ Some frame
   pub carried : CanBeSent frame
 
+-- a frame of the link from s to d is one of the 63 behind the next one, and its datagram's bytes are those of its number
+pub record IsBehind (n : ℕ) (links : Links) (s d : Endpoint) (e : EarlyText) : Type 0 where
+  pub above : (links s d).handed < e.number
+  pub near : e.number < (links s d).handed + 64
+  pub held : IsHeldOf n s d e.number (links s d) e.bytes
+
 -- what a word of s says to d of their links
-abbrev pub IsTrueWord : Links → (s d : Endpoint) → WordText → Type 0
-IsTrueWord links s d (Acknowledges number) = number ≤ (links d s).handed
-IsTrueWord links s d Repeats = Unit {0}
-IsTrueWord links s d (Hands frame) = IsNext links s d frame
-IsTrueWord links s d Nothing = Unit {0}
+abbrev pub IsTrueWord : (n : ℕ) → Links → (s d : Endpoint) → WordText → Type 0
+IsTrueWord n links s d (Acknowledges number held) = number ≤ (links d s).handed
+IsTrueWord n links s d Repeats = Unit {0}
+IsTrueWord n links s d (Hands frame) = IsNext links s d frame
+IsTrueWord n links s d (Holds e) = IsBehind n links s d e
+IsTrueWord n links s d (Follows frame) = IsNext links s d frame
+IsTrueWord n links s d Nothing = Unit {0}
 
 -- who spoke was there, and what it said is true
 pub record HearsTruth (n r : ℕ) (current : ℕ → ℕ) (old : SessionsState) (links : Links) (h : HeardText) : Type 0 where
   pub heard : IsHeard n r current old.known h.source h.lesson
-  pub word : IsTrueWord links h.source (at r (current r)) h.word
+  pub word : IsTrueWord n links h.source (at r (current r)) h.word
 
 -- Whatever a rank hears in a datagram that went to it is true
 abbrev pub HearingIsTrue : Type 0
@@ -121,9 +130,11 @@ Comes datagrams r old (Some h) = IsFromDatagram datagrams r old h
 
 -- the links once d heeded a word of s: their next frame is handed up, or they stay
 abbrev pub links_heeded : Links → (s d : Endpoint) → WordText → Links
-links_heeded links s d (Acknowledges number) = links
+links_heeded links s d (Acknowledges number held) = links
 links_heeded links s d Repeats = links
 links_heeded links s d (Hands frame) = handed_on links s d
+links_heeded links s d (Holds e) = links
+links_heeded links s d (Follows frame) = handed_on links s d
 links_heeded links s d Nothing = links
 
 -- the same, if anything was heard

@@ -1,5 +1,5 @@
 -- What a datagram tells of the links. It tells it now and ever after.
-use Rattle.std.specs.Prelude.{◌≡◌, ℕ, ◌<◌, ◌≤◌, false, List, Some, ◌==◌, slice_get}
+use Rattle.std.specs.Prelude.{◌≡◌, ℕ, ◌<◌, ◌≤◌, ◌%◌, ◌^◌, false, List, Some, ◌==◌, slice_get}
 use Rattle.vocabulary.specs.declared.endpoint.Endpoint.{Endpoint}
 use Rattle.datagram.specs.Spelling.{FrameText}
 use Rattle.sessions.specs.Spellings.{ack_bytes, reset_bytes}
@@ -12,8 +12,11 @@ pub data Tells (n : ℕ) (s d : Endpoint) (links : Links) (bytes : List ℕ) : T
   TellsFrame :
       (number : ℕ) (frame : FrameText) → slice_get (links s d).accepted number ≡ Some frame → bytes ≡ wire n s d number frame →
       Tells n s d links bytes
-  -- that so many were handed up
-  TellsAck : (number : ℕ) → number ≤ (links d s).handed → bytes ≡ ack_bytes (place_of n s) d number → Tells n s d links bytes
+  -- that so many were handed up; which of those behind them are held is forgotten again when a session starts anew, so of that
+  -- nothing is told for ever
+  TellsAck :
+      (number held : ℕ) → number ≤ (links d s).handed → held % 2 ≡ 0 → held < 2 ^ 64 → bytes ≡ ack_bytes (place_of n s) d number held →
+      Tells n s d links bytes
   -- nothing but who their source is
   TellsReset : bytes ≡ reset_bytes (place_of n s) d → Tells n s d links bytes
 

@@ -7,7 +7,7 @@ use Rattle.sessions.specs.SessionsState.{SessionsState}
 use Rattle.proof_link_truth.specs.Links.{Links}
 use Rattle.proof_link_truth.specs.Sessions.{SessionsTell, IsLink, is_pair}
 use Rattle.proof_link_truth.specs.Told.{IsTold}
-use Rattle.proof_link_truth.specs.Witness.{IsWitnessed}
+use Rattle.proof_link_truth.specs.Witness.{AreHeldEmitted, IsWitnessed}
 
 -- the sessions of each rank hold what the links carried, and datagrams tell of it; `current` is the incarnation of each rank
 pub record AreTrue (n : ℕ) (sessions : List SessionsState) (datagrams : List (ℕ × List ℕ)) (links : Links) (current : ℕ → ℕ)
@@ -25,3 +25,4 @@ pub record AreTrue (n : ℕ) (sessions : List SessionsState) (datagrams : List (
   pub told : AllByRecursion (IsTold n links current) datagrams
   -- how many frames were handed up, and which, stands among the datagrams: of sessions with former endpoints too
   pub witnessed : (s d : Endpoint) → IsWitnessed n datagrams s d (links s d)
+  pub held : (r : ℕ) (s : SessionsState) → slice_get sessions r ≡ Some s → AreHeldEmitted n datagrams r s
