@@ -169,7 +169,7 @@ def command(request):
     options = {"-job": random_below(10**15), **request.options}
     if "-baseport" not in options:
         # Numbers that are none are mpiexec's to refuse.
-        options["-baseport"] = free_ports(min(max(int(ranks), 1), 256)) if str(ranks).isdecimal() else ports.LOWEST
+        options["-baseport"] = free_ports(min(max(int(ranks), 1), 1024)) if str(ranks).isdecimal() else ports.LOWEST
     words = [short(found["mpiexec"])]
     for option, value in options.items():
         words += [option, str(value)]

@@ -10,7 +10,7 @@ use std::time::Clock;
 use std::{env, io};
 
 /// Words that are refused, a row each.
-const REFUSED: [&[&str]; 33] = [
+const REFUSED: [&[&str]; 35] = [
     &[],
     &["-job", "5"],
     &[":"],
@@ -25,6 +25,7 @@ const REFUSED: [&[&str]; 33] = [
     &["-n", "1", "a", ":", "-job", "1", "-n", "1", "b"],
     &["-configfile", "sets.txt", "x"],
     &["-n", "0", "a"],
+    &["-n", "1025", "a"],
     &["-n"],
     &["-n", ":", "a"],
     &["-job"],
@@ -38,7 +39,8 @@ const REFUSED: [&[&str]; 33] = [
     &["-n", "1", "a", ":", "b"],
     &["-n", "2"],
     &["-n", "1", ":", "-n", "1", "b"],
-    &["-n", "200", "a", ":", "-n", "57", "b"],
+    &["-n", "1000", "a", ":", "-n", "25", "b"],
+    &["-baseport", "65000", "-n", "600", "a"],
     &["-baseport", "65535", "-n", "2", "a"],
     &["-n", "1", "-host", "h", "a"],
     &["-configfile", "nothere.txt"],
