@@ -15,8 +15,8 @@ import ports
 # What stands on a page for anything that differs from run to run: within a line, or as a line for any number of lines.
 ANYTHING = "…"
 SECONDS = 90
-# The base port that a page shows: the launcher's own.
-SHOWN_PORT, MOST_RANKS = 47000, 256
+# The base port that a page shows, which is the launcher's own, and more ranks than any page starts.
+SHOWN_PORT, SHOWN_RANKS = 47000, 256
 # The launcher, with a free base port where it gets none.
 LAUNCHER = """#!/bin/sh
 launcher=%s
@@ -38,7 +38,7 @@ class Ports:
         with self.lock:
             for _ in range(1000):
                 first = self.next
-                self.next = first + ranks if first + ranks + MOST_RANKS <= ports.BEHIND else ports.LOWEST
+                self.next = first + ranks if first + ranks + SHOWN_RANKS <= ports.BEHIND else ports.LOWEST
                 if ports.are_free(first, ranks):
                     return first
         raise OSError("no %d ports in a row are free" % ranks)
@@ -79,7 +79,7 @@ class Runner:
 
     def shell(self, folder):
         """Lays the programs, ./run and examples/ into a page's folder, and returns what runs its commands there."""
-        port, bin_folder = self.ports.take(MOST_RANKS), folder / ".bin"
+        port, bin_folder = self.ports.take(SHOWN_RANKS), folder / ".bin"
         bin_folder.mkdir()
         for name in ("rank_main", "mpisim"):
             (bin_folder / name).symlink_to(self.programs[name])
@@ -104,7 +104,7 @@ class Shell:
 
     def shown(self, text):
         """A text with the ports of a launch as a page shows them."""
-        first, last = self.port, self.port + MOST_RANKS
+        first, last = self.port, self.port + SHOWN_RANKS
         return re.sub(r"\b\d{5}\b", lambda it: str(int(it[0]) - first + SHOWN_PORT) if first <= int(it[0]) < last else it[0], text)
 
     def pasted(self, lines):
