@@ -4,7 +4,7 @@
  *
  *   barrier_floor COUNT RANKS ACKS FORM     how long a barrier takes, in microseconds; FORM is star or tree
  *
- * A datagram has 68 bytes, as a rank's in a barrier has. With ACKS 1 each is answered by one of 32 bytes, as ranks acknowledge. Nothing is sent again: on the own
+ * A datagram has 68 bytes, as a rank's in a barrier has. With ACKS 1 each is answered by one of 40 bytes, as ranks acknowledge. Nothing is sent again: on the own
  * machine nothing gets lost here. */
 #include <arpa/inet.h>
 #include <netinet/in.h>
@@ -16,7 +16,7 @@
 #include <time.h>
 #include <unistd.h>
 
-enum { ENTRY = 68, ACK = 32, MOST = 256 };
+enum { ENTRY = 68, ACK = 40, MOST = 256 };
 
 static struct sockaddr_in addresses[MOST];
 static int sockets[MOST];

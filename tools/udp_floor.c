@@ -6,7 +6,7 @@
  *
  * Each process is kept on the core that is named for it, as ranks are by tools/rank_benchmark: left to themselves both mostly sit on one.
  *
- * 56 bytes are those of a message of 4 bytes between two ranks, and 1,068 those of a piece of a large one. With ACKS 1 each datagram is answered by one of 32 bytes first, as a rank acknowledges it. */
+ * 56 bytes are those of a message of 4 bytes between two ranks, and 1,068 those of a piece of a large one. With ACKS 1 each datagram is answered by one of 40 bytes first, as a rank acknowledges it. */
 #define _GNU_SOURCE
 #include <arpa/inet.h>
 #include <netinet/in.h>
@@ -19,7 +19,7 @@
 #include <time.h>
 #include <unistd.h>
 
-enum { MESSAGE = 56, PIECE = 1068, DATA = 1024, ACK = 32, WINDOW = 64 };
+enum { MESSAGE = 56, PIECE = 1068, DATA = 1024, ACK = 40, WINDOW = 64 };
 
 static int mine;
 static struct sockaddr_in other;
