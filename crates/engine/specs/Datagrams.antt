@@ -1,5 +1,5 @@
 -- What a datagram does to the engine: what is heard in it, all of its parts take in.
-use Rattle.std.specs.Prelude.{◌≡◌, ◌⊎◌, ℕ, Bool, true, false, is_some, List, [], ◌∷◌, Option, Some, None, Result, Ok, Err, if◌then◌else◌, map, slice_index}
+use Rattle.std.specs.Prelude.{◌≡◌, ◌⊎◌, ℕ, zero, suc, Bool, true, false, is_some, length, List, [], ◌∷◌, Option, Some, None, option_map, Result, Ok, Err, if◌then◌else◌, map, slice_index}
 use Rattle.collective_notes.specs.declared.address.Address.{Address}
 use Rattle.collective_notes.specs.declared.message.Message.{Message}
 use Rattle.collective_notes.specs.declared.refused.Refused.TheVariants as notes
@@ -25,11 +25,14 @@ use Rattle.rank_calls.specs.declared.refused.Refused.{Refused}
 use Rattle.rank_calls.specs.declared.refused.Refused.TheVariants as refusals
 use Rattle.rank_core.specs.CoreState.{CoreState, with_numbers}
 use Rattle.rank_core.specs.Hearing.{after_news, news_fault, news_frames}
+use Rattle.rank_core.specs.Waiting.{woken}
 use Rattle.rendezvous.specs.Pieces.{pieces_of}
 use Rattle.rendezvous.specs.State.{is_next, with_announced}
 use Rattle.rendezvous.specs.declared.transfers.Numbers.{Numbers}
+use Rattle.sessions.specs.Arranging.{IsArranged}
 use Rattle.sessions.specs.Events.{Sending, TurnedAway, after_event, event_limit}
-use Rattle.sessions.specs.Heard.{Acknowledges, Hands, HeardText, Nothing, Repeats, WordText, heard_of}
+use Rattle.sessions.specs.Following.{acknowledged_at, ready_from, turn_of, without_ready}
+use Rattle.sessions.specs.Heard.{Acknowledges, Follows, Hands, HeardText, Holds, Nothing, Repeats, WordText, heard_of}
 use Rattle.sessions.specs.SessionsState.{SessionsState}
 use Rattle.sessions.specs.declared.heard.Unheard.{Unheard}
 use Rattle.sessions.specs.declared.refused.Refused as lower
@@ -46,9 +49,11 @@ use Rattle.engine_parts.specs.Steps.{ending_met}
 
 -- the frame that is handed up
 abbrev pub frame_in : WordText → Option FrameText
-frame_in (Acknowledges n) = None
+frame_in (Acknowledges n held) = None
 frame_in Repeats = None
 frame_in (Hands f) = Some f
+frame_in (Holds e) = None
+frame_in (Follows f) = Some f
 frame_in Nothing = None
 
 -- what of it concerns the core
@@ -58,10 +63,35 @@ news_of h = record { source = h.source; lesson = h.lesson; frame = frame_in h.wo
 -- whether it says nothing new: no lesson and no word
 abbrev pub says_nothing : Bool → WordText → Bool
 says_nothing true w = false
-says_nothing false (Acknowledges n) = false
+says_nothing false (Acknowledges n held) = false
 says_nothing false Repeats = false
 says_nothing false (Hands f) = false
+says_nothing false (Holds e) = false
+says_nothing false (Follows f) = false
 says_nothing false Nothing = true
+
+-- ---- what is to be held
+
+-- the payload of a collective's message has the form of one
+abbrev pub form_fault : Plane → List ℕ → Option Refused
+form_fault planes.PointToPoint bytes = None
+form_fault planes.Collective bytes = bad_unless (is_some (payload_of bytes))
+
+-- the rule that a frame breaks before its turn: that form alone. All else is judged when its turn comes
+abbrev pub early_fault : FrameText → Option Refused
+early_fault (EagerFrame t) = form_fault t.plane t.elements
+early_fault (RequestFrame t) = None
+early_fault (ClearFrame t) = None
+early_fault (DataFrame t) = None
+
+-- the same of a word: only what is to be held comes before its turn
+abbrev pub hold_fault : WordText → Option Refused
+hold_fault (Acknowledges n held) = None
+hold_fault Repeats = None
+hold_fault (Hands f) = None
+hold_fault (Holds e) = early_fault e.frame
+hold_fault (Follows f) = None
+hold_fault Nothing = None
 
 -- ---- messages, and words alone
 
@@ -69,10 +99,11 @@ says_nothing false Nothing = true
 abbrev pub replies : CoreState → HeardText → List Sending
 replies c h = map sending_of (news_frames c (news_of h))
 
--- the first rule or limit that it meets: the core's rule first
+-- the first rule or limit that it meets: the rules of a frame first
 abbrev pub heard_fault : EngineState → HeardText → Option Refused
 heard_fault e h =
-    first_fault (news_fault e.core (news_of h)) (fault_of_sessions (event_limit e.sessions (Some h) (replies e.core h)))
+    first_fault (hold_fault h.word)
+    (first_fault (news_fault e.core (news_of h)) (fault_of_sessions (event_limit e.sessions (Some h) (replies e.core h))))
 
 -- who teaches the rank its incarnation, if what is heard is a lesson
 abbrev pub lesson_in : HeardText → Option Endpoint
@@ -325,9 +356,11 @@ notice_of_frame lesson p rank (DataFrame t) = if is_from_collective lesson p ran
 
 -- what of a word does
 abbrev pub notice_in : (lesson : Bool) → payloads.State → (rank : ℕ) → WordText → Option NoticeText
-notice_in lesson p rank (Acknowledges n) = None
+notice_in lesson p rank (Acknowledges n held) = None
 notice_in lesson p rank Repeats = None
 notice_in lesson p rank (Hands f) = notice_of_frame lesson p rank f
+notice_in lesson p rank (Holds e) = None
+notice_in lesson p rank (Follows f) = notice_of_frame lesson p rank f
 notice_in lesson p rank Nothing = None
 
 -- the payload that a value of the program holds
@@ -353,6 +386,65 @@ HeardGivesBy (Some (OfPiece t)) old h result new = PieceGives old h t result new
 abbrev pub HeardGives : EngineState → HeardText → Result (Unit {0}) Refused → EngineState → Type 0
 HeardGives old h result new = HeardGivesBy (notice_in h.lesson old.payloads h.source.rank h.word) old h result new
 
+-- WHAT FOLLOWS
+
+-- the acknowledgement at a place of what goes out says what the session with its endpoint has reached
+abbrev pub acknowledged : (at : ℕ) → Endpoint → EngineState → EngineState
+acknowledged at source e = record e { sessions = acknowledged_at at source e.sessions }
+
+-- the next frame of an endpoint isn't held any more
+abbrev pub without_next : EngineState → Endpoint → EngineState
+without_next e source = record e { sessions = without_ready e.sessions source.rank }
+
+-- what the next frame of an endpoint says, where it is held; nothing where what is held spells no frame
+abbrev pub turn_from : EngineState → Endpoint → Option (Option HeardText)
+turn_from e source = option_map (turn_of source) (ready_from e.sessions source.rank)
+
+-- One turn, and then the rest: the frame is taken in as any other, and the acknowledgement says so; or it breaks a rule (30), is held
+-- no more, and nothing follows; or it stays held, for a limit (13) or want of memory (14), and nothing follows
+abbrev pub TurnGives : Option (Option HeardText) → (at : ℕ) → Endpoint → (rest : EngineState → EngineState → Type 0) → EngineState → EngineState → Type 0
+TurnGives None at source rest old new = new ≡ old
+TurnGives (Some None) at source rest old new = (new ≡ without_next old source) ⊎ (new ≡ old)
+TurnGives (Some (Some h)) at source rest old new =
+    ((first : EngineState) × HeardGives old h (Ok tt) first × rest (acknowledged at source first) new)
+    ⊎ ((HeardGives old h (Err refusals.BadFrame) old × (new ≡ without_next old source))
+    ⊎ (new ≡ old))
+
+-- so many turns at most
+abbrev pub FollowGives : (turns : ℕ) → (at : ℕ) → Endpoint → EngineState → EngineState → Type 0
+FollowGives zero at source old new = new ≡ old
+FollowGives (suc k) at source old new = TurnGives (turn_from old source) at source (FollowGives k at source) old new
+
+-- the frames that were held behind one that is handed up come, and then what goes out behind their acknowledgement stands by rising
+-- rank and, for one rank, by its numbers
+pub record HasFollowed (most at : ℕ) (source : Endpoint) (old new : EngineState) : Type 0 where
+  pub last : EngineState
+  pub turns : FollowGives most at source old last
+  pub same : new ≡ record last { sessions = new.sessions }
+  pub arranged : IsArranged (suc at) last.sessions new.sessions
+
+-- only behind a frame that is handed up others follow; no more than 63 are held
+abbrev pub FollowedBy : WordText → (at : ℕ) → Endpoint → EngineState → EngineState → Type 0
+FollowedBy (Acknowledges n held) at source old new = new ≡ old
+FollowedBy Repeats at source old new = new ≡ old
+FollowedBy (Hands f) at source old new = HasFollowed 64 at source old new
+FollowedBy (Holds e) at source old new = new ≡ old
+FollowedBy (Follows f) at source old new = new ≡ old
+FollowedBy Nothing at source old new = new ≡ old
+
+-- the blocked call is answered, if its answer is ready by now
+abbrev pub woken_engine : EngineState → EngineState
+woken_engine e = record e { core = woken e.core }
+
+-- What is heard is taken in, then the frames that were held behind it, and at the end of all that the blocked call is answered. The
+-- acknowledgement, where there is one, stands first of what goes out
+pub record IsTakenIn (old : EngineState) (h : HeardText) (new : EngineState) : Type 0 where
+  pub first : EngineState
+  pub last : EngineState
+  pub takes : HeardGives old h (Ok tt) first
+  pub follows : FollowedBy h.word (length old.sessions.out) h.source first last
+  pub new_is : new ≡ woken_engine last
+
 -- WHAT ISN'T HEARD
 
 -- it is refused as the sessions turn it away, with a reset or without, and leaves the core as it was
@@ -364,10 +456,11 @@ TurnedAwayGives old u result new =
 
 -- by what was heard, or why nothing was
 abbrev pub HearingGives : Result HeardText Unheard → EngineState → Result (Unit {0}) Refused → EngineState → Type 0
-HearingGives (Ok h) old result new = HeardGives old h result new
+HearingGives (Ok h) old (Ok x) new = IsTakenIn old h new
+HearingGives (Ok h) old (Err e) new = HeardGives old h (Err e) new
 HearingGives (Err u) old result new = TurnedAwayGives old u result new
 
--- The datagram is read, judged by both of its endpoints and by the link, and then taken in or turned away.
+-- The datagram is read, judged by both of its endpoints and by the link, and then taken in, with what follows, or turned away.
 abbrev pub DatagramGives : EngineState → List ℕ → Result (Unit {0}) Refused → EngineState → Type 0
 DatagramGives old bytes result new = HearingGives (heard_of old.sessions bytes) old result new
 
