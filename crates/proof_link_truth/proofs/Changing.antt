@@ -15,9 +15,11 @@ use Rattle.proof_link_truth.specs.Sessions.{SessionsTell, PeerTells}
 use Rattle.proof_link_truth.specs.Told.{IsTold}
 use Rattle.proof_link_truth.specs.Truth.{AreTrue}
 use Rattle.proof_link_truth.specs.Wire.{at, place_of, wires}
-use Rattle.proof_link_truth.specs.Witness.{IsWitnessed}
+use Rattle.proof_link_truth.specs.Witness.{AreHeldEmitted, IsWitnessed}
 use Rattle.proof_link_truth.proofs.Growing.{Grows, LinksFit, told_more}
 use Rattle.proof_link_truth.proofs.Lists.{All_append, All_more, false_sym, set_each}
+use Rattle.proof_link_truth.proofs.Receivers.{receiver_more}
+use Rattle.proof_link_truth.proofs.Witnesses.{held_more}
 
 -- the same session where nobody but another rank did something
 pub peer_beside : (n r x k : ℕ) (current : ℕ → ℕ) (own : Endpoint) (a b : Links) (p : Peer) → Grows r a b → (own.rank == r) ≡ false
@@ -28,7 +30,7 @@ peer_beside n r x k current own a b p grows other tells = record {
     kept = tells.sender.kept ∙ ap (λ (fs : List FrameText). drop p.sender.lowest (wires n own (at x k) 0 fs)) (sym (grows.accepted own (at x k) other));
     below = omega (arith, tells.sender.below, grows.more own (at x k));
   };
-  receiver = tells.receiver ∙ sym (grows.handed (at x k) own other);
+  receiver = receiver_more n (at x k) own p.receiver (a (at x k) own) (b (at x k) own) (grows.handed (at x k) own other) (grows.kept (at x k) own) tells.receiver;
   no_accepted = λ i above. grows.accepted own (at x i) other ∙ tells.no_accepted i above;
   no_handed = λ i above. grows.handed (at x i) own other ∙ tells.no_handed i above;
 }
@@ -134,8 +136,9 @@ sessions_stay n r current a e new tells place_is known_is peers_are = record {
 -- the whole world once a rank did something
 pub world_leaves : (n r : ℕ) (sessions : List SessionsState) (datagrams : List (ℕ × List ℕ)) (a b : Links) (current : ℕ → ℕ) (mid : SessionsState)
     → AreTrue n sessions datagrams a current → Grows r a b → SessionsTell n current r mid b → LinksFit n b current
-    → AllByRecursion (IsTold n b current) mid.out → ((s d : Endpoint) → IsWitnessed n (datagrams ++ mid.out) s d (b s d)) → LeavesTrue n sessions datagrams r mid b current
-world_leaves n r sessions datagrams a b current mid true_now grows tells fit told witnessed = record {
+    → AllByRecursion (IsTold n b current) mid.out → ((s d : Endpoint) → IsWitnessed n (datagrams ++ mid.out) s d (b s d)) → AreHeldEmitted n datagrams r mid
+    → LeavesTrue n sessions datagrams r mid b current
+world_leaves n r sessions datagrams a b current mid true_now grows tells fit told witnessed held = record {
   count = length-set sessions r (emptied mid) ∙ true_now.count;
   few = true_now.few;
   last = true_now.last;
@@ -147,4 +150,6 @@ world_leaves n r sessions datagrams a b current mid true_now grows tells fit tol
   none_handed = fit.none_handed;
   told = All_append (IsTold n b current) datagrams mid.out (All_more (IsTold n a current) (IsTold n b current) datagrams (told_more n r a b current grows) true_now.told) told;
   witnessed = witnessed;
+  held = set_each (λ y e. AreHeldEmitted n (datagrams ++ mid.out) y e) sessions r (emptied mid) (held_more n datagrams mid.out r mid held)
+      (λ y e other there. held_more n datagrams mid.out y e (true_now.held y e there));
 }

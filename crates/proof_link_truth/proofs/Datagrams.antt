@@ -1,11 +1,9 @@
 -- What a rank hears in a datagram of the world is true, and is heeded.
-use Rattle.std.proofs.Common.{◌≡◌, ℕ, ◌≤◌, Bool, true, false, List, Some, Result, Ok, Err, if◌then◌else◌, nat_lt, slice_get, slice_index, refl, sym, ap, ◌∙◌, subst, arith}
-use Rattle.std.specs.Ordering.{nat_cmp}
-use Rattle.std.specs.declared.cmp.Ordering.{Ordering}
-use Rattle.std.specs.declared.cmp.Ordering.TheVariants.{Less, Equal, Greater}
-use Rattle.std.proofs.lemmas.Cmp.{ranked}
+use Rattle.std.proofs.Common.{◌≡◌, ℕ, ◌+◌, ◌-◌, ◌^◌, ◌<◌, ◌≤◌, Bool, true, false, List, Option, Some, None, Result, Ok, Err, if◌then◌else◌, nat_le, nat_lt, ◌==◌, slice_get, slice_index, refl, sym, ap, ◌∙◌, subst, inl, inr, ◌⊎◌, arith}
+use Rattle.std.proofs.lemmas.Bool.{cases_lt, eqb-false, eqb-true, leb-false, ltb-false}
 use Rattle.vocabulary.specs.declared.endpoint.Endpoint.{Endpoint}
 use Rattle.datagram.specs.declared.datagram.Header.{Header}
+use Rattle.datagram.specs.declared.refused.Refused as lower
 use Rattle.datagram.specs.Reading.{datagram_of}
 use Rattle.datagram.specs.Spelling.{AckBody, BodyText, DatagramText, FrameBody, FrameText, ResetBody}
 use Rattle.incarnation.specs.declared.judgement.Judgement.{Judgement}
@@ -14,13 +12,14 @@ use Rattle.incarnation.specs.declared.place.Place.{Place}
 use Rattle.incarnation.specs.declared.refused.Refused as judging
 use Rattle.incarnation.specs.declared.refused.Refused.TheVariants as judgings
 use Rattle.incarnation.specs.Judging.{judgement}
+use Rattle.reliable_link.specs.ReceiverState.{held_at}
 use Rattle.reliable_link.specs.SenderState.{out_end}
 use Rattle.sessions.specs.declared.heard.Unheard.{Unheard}
 use Rattle.sessions.specs.declared.peers.Peer.{Peer}
 use Rattle.sessions.specs.declared.refused.Refused.{Refused}
 use Rattle.sessions.specs.declared.refused.Refused.TheVariants as refusals
 use Rattle.sessions.specs.Events.{after_heard, answer_in, linked, taught}
-use Rattle.sessions.specs.Heard.{Acknowledges, Hands, HeardText, Nothing, Repeats, WordText, heard_by, heard_in, heard_of, said, session_met, unmeant, word_of, word_of_frame}
+use Rattle.sessions.specs.Heard.{Acknowledges, EarlyText, Follows, Hands, HeardText, Holds, Nothing, Repeats, WordText, heard_by, heard_in, heard_of, said, session_met, unmeant, word_behind, word_of}
 use Rattle.sessions.specs.Peers.{peer_at}
 use Rattle.sessions.specs.SessionsState.{SessionsState, knowledge}
 use Rattle.sessions.specs.Spellings.{header_to}
@@ -77,9 +76,10 @@ is_coming n r number bytes sessions datagrams links current true_now there =
     }
 
 -- what is heard in bytes that are read so
-pub heard_read : (old : SessionsState) (bytes : List ℕ) (d : DatagramText) → datagram_of bytes ≡ Ok d → heard_of old bytes ≡ heard_by (judgement (knowledge old) d.header) old d
+pub heard_read : (old : SessionsState) (bytes : List ℕ) (d : DatagramText) → datagram_of bytes ≡ Ok d
+    → heard_of old bytes ≡ heard_by (judgement (knowledge old) d.header) old d bytes
 unfolding heard_of
-heard_read old bytes d is = ap (heard_in old) is
+heard_read old bytes d is = ap (λ (r : Result DatagramText lower.Refused). heard_in old r bytes) is
 
 -- ---- what the link makes of it
 
@@ -97,45 +97,77 @@ same_word : (x w : WordText) → answered x ≡ Ok w → x ≡ w
 same_word x w is = ap (word_or w) is
 
 module _ (n : ℕ) (datagrams : List (ℕ × List ℕ)) (s d : Endpoint) (links : Links) (p : Peer) (w : WordText) where
-  -- a frame, by its number
-  frame_bears : (q : ℕ) (t : FrameText) → SaysFrame n datagrams s d links q t → p.receiver ≡ (links s d).handed → (o : Ordering) → o ≡ nat_cmp q p.receiver
-      → word_of_frame o t ≡ Ok w → Bears n datagrams links s d w
-  frame_bears q t says receiver Less is h = subst (Bears n datagrams links s d) (same_word Repeats w h) tt
-  frame_bears q t says receiver Equal is h =
-      let handed : q ≡ (links s d).handed = ranked q p.receiver Equal is ∙ receiver in
+  -- a frame behind the next one, by what is held at its place
+  behind_bears : (q : ℕ) (t : FrameText) (bytes : List ℕ) → SaysFrame n datagrams s d links q t bytes → (links s d).handed < q → q < (links s d).handed + 64
+      → (o : Option (List ℕ)) → word_behind o (record { number = q; frame = t; bytes = bytes }) ≡ Ok w → Bears n datagrams links s d w
+  behind_bears q t bytes says above near None h =
+      let early : EarlyText = record { number = q; frame = t; bytes = bytes } in
+      subst (Bears n datagrams links s d) (same_word (Holds early) w h) (record {
+        behind = record { above = above; near = near; held = record { frame = t; accepted = says.there; spelled = says.spelled } };
+        sent = says.sent;
+      })
+  behind_bears q t bytes says above near (Some other) h = subst (Bears n datagrams links s d) (same_word Repeats w h) tt
+
+  -- the next frame
+  next_bears : (q : ℕ) (t : FrameText) (bytes : List ℕ) → SaysFrame n datagrams s d links q t bytes → q ≡ (links s d).handed → answered (Hands t) ≡ Ok w
+      → Bears n datagrams links s d w
+  next_bears q t bytes says handed h =
       subst (Bears n datagrams links s d) (same_word (Hands t) w h) (record {
         next = record { next = subst (λ (k : ℕ). slice_get (links s d).accepted k ≡ Some t) handed says.there; carried = says.carried };
-        sent = subst (λ (k : ℕ). IsAmong datagrams (d.rank, wire n s d k t)) handed says.sent;
+        sent = subst (λ (k : ℕ). IsAmong datagrams (d.rank, wire n s d k t)) handed (subst (λ (x : List ℕ). IsAmong datagrams (d.rank, x)) says.spelled says.sent);
       })
-  frame_bears q t says receiver Greater is h = absurd cc
+
+  -- a frame, by its number
+  frame_bears : (q : ℕ) (t : FrameText) (bytes : List ℕ) → SaysFrame n datagrams s d links q t bytes → p.receiver.next ≡ (links s d).handed → (x y z : Bool)
+      → nat_lt q p.receiver.next ≡ x → nat_le (p.receiver.next + 64) q ≡ y → (q == p.receiver.next) ≡ z
+      → (if x then Ok Repeats else
+      (if y then Err refusals.OutOfWindow else
+      (if z then Ok (Hands t) else word_behind (held_at p.receiver.held (q - p.receiver.next)) (record { number = q; frame = t; bytes = bytes })))) ≡ Ok w
+      → Bears n datagrams links s d w
+  frame_bears q t bytes says receiver true y z below far same h = subst (Bears n datagrams links s d) (same_word Repeats w h) tt
+  frame_bears q t bytes says receiver false true z below far same h = absurd cc
+  frame_bears q t bytes says receiver false false true below far same h = next_bears q t bytes says (eqb-true q p.receiver.next same ∙ receiver) h
+  frame_bears q t bytes says receiver false false false below far same h =
+      behind_bears q t bytes says (above (cases_lt p.receiver.next q)) (omega (arith, receiver, leb-false (p.receiver.next + 64) q far))
+      (held_at p.receiver.held (q - p.receiver.next)) h
+    where
+      above : (p.receiver.next < q) ⊎ (q ≤ p.receiver.next) → (links s d).handed < q
+      above (inl lt) = omega (arith, lt, receiver)
+      above (inr le) = absurd (eqb-false q p.receiver.next same (omega (arith, le, ltb-false q p.receiver.next below)))
 
   -- an acknowledgement
-  ack_bears : (q : ℕ) → q ≤ (links d s).handed → (t : Bool) → (if t then Err refusals.OutOfWindow else Ok (Acknowledges q)) ≡ Ok w → Bears n datagrams links s d w
-  ack_bears q le true h = absurd cc
-  ack_bears q le false h = subst (Bears n datagrams links s d) (same_word (Acknowledges q) w h) le
+  ack_bears : (q held : ℕ) → q ≤ (links d s).handed → (x y : Bool)
+      → (if x then (if y then Ok (Acknowledges q held) else Err refusals.OutOfWindow) else Err refusals.OutOfWindow) ≡ Ok w → Bears n datagrams links s d w
+  ack_bears q held le true true h = subst (Bears n datagrams links s d) (same_word (Acknowledges q held) w h) le
+  ack_bears q held le true false h = absurd cc
+  ack_bears q held le false y h = absurd cc
 
   -- what a true body says in a session that tells of its link
-  word_bears : (q : ℕ) (b : BodyText) → Says n datagrams s d links q b → p.receiver ≡ (links s d).handed → word_of p q b ≡ Ok w → Bears n datagrams links s d w
-  word_bears q (FrameBody t) says receiver h = frame_bears q t says receiver (nat_cmp q p.receiver) refl h
-  word_bears q AckBody says receiver h = ack_bears q says (nat_lt (out_end p.sender) q) h
-  word_bears q ResetBody says receiver h = subst (Bears n datagrams links s d) (same_word Nothing w h) tt
+  word_bears : (q : ℕ) (b : BodyText) (bytes : List ℕ) → Says n datagrams s d links q b bytes → p.receiver.next ≡ (links s d).handed → word_of p q b bytes ≡ Ok w
+      → Bears n datagrams links s d w
+  word_bears q (FrameBody t) bytes says receiver h =
+      frame_bears q t bytes says receiver (nat_lt q p.receiver.next) (nat_le (p.receiver.next + 64) q) (q == p.receiver.next) refl refl refl h
+  word_bears q (AckBody held) bytes says receiver h = ack_bears q held says (nat_le q (out_end p.sender)) (nat_lt held (2 ^ (out_end p.sender - q))) h
+  word_bears q ResetBody bytes says receiver h = subst (Bears n datagrams links s d) (same_word Nothing w h) tt
 
 -- what a word bears is true
-bears_truth : (n : ℕ) (datagrams : List (ℕ × List ℕ)) (links : Links) (s d : Endpoint) (w : WordText) → Bears n datagrams links s d w → IsTrueWord links s d w
-bears_truth n datagrams links s d (Acknowledges number) bears = bears
+bears_truth : (n : ℕ) (datagrams : List (ℕ × List ℕ)) (links : Links) (s d : Endpoint) (w : WordText) → Bears n datagrams links s d w → IsTrueWord n links s d w
+bears_truth n datagrams links s d (Acknowledges number held) bears = bears
 bears_truth n datagrams links s d Repeats bears = tt
 bears_truth n datagrams links s d (Hands frame) bears = bears.next
+bears_truth n datagrams links s d (Holds t) bears = bears.behind
+bears_truth n datagrams links s d (Follows frame) bears = absurd bears
 bears_truth n datagrams links s d Nothing bears = tt
 
 -- ---- what its endpoints make of it
 
 -- what is heard in a datagram of s for d
-record IsSaid (old : SessionsState) (s d : Endpoint) (q : ℕ) (b : BodyText) (h : HeardText) : Type 0 where
+record IsSaid (old : SessionsState) (s d : Endpoint) (q : ℕ) (b : BodyText) (bytes : List ℕ) (h : HeardText) : Type 0 where
   target_incarnation : d.incarnation ≡ old.place.endpoint.incarnation
   lesson : Bool
   incarnation : IsLesson lesson (slice_index old.known s.rank) s.incarnation
   word : WordText
-  says : word_of (session_met lesson (peer_at old.peers s.rank)) q b ≡ Ok word
+  says : word_of (session_met lesson (peer_at old.peers s.rank)) q b bytes ≡ Ok word
   heard : h ≡ record { source = s; lesson = lesson; word = word }
 
 -- a word that was found
@@ -157,7 +189,7 @@ is_found s lesson (Err e) h is = absurd cc
 -- what isn't meant for the rank is not heard
 none_unmeant : (e : judging.Refused) (s : Endpoint) (b : BodyText) (h : HeardText) → unmeant {A = HeardText} e s b ≡ Ok h → ⊥
 none_unmeant judgings.StaleTarget s (FrameBody t) h is = absurd cc
-none_unmeant judgings.StaleTarget s AckBody h is = absurd cc
+none_unmeant judgings.StaleTarget s (AckBody held) h is = absurd cc
 none_unmeant judgings.StaleTarget s ResetBody h is = absurd cc
 none_unmeant judgings.StaleSource s b h is = absurd cc
 none_unmeant judgings.ForeignJob s b h is = absurd cc
@@ -166,17 +198,17 @@ none_unmeant judgings.Limit s b h is = absurd cc
 none_unmeant judgings.OutOfMemory s b h is = absurd cc
 
 -- by how it is judged
-judged_says : (n : ℕ) (old : SessionsState) (s d : Endpoint) (q : ℕ) (b : BodyText) (h : HeardText) (j : Result Judgement judging.Refused)
-    → judgement (knowledge old) (header_to (place_of n s) d q) ≡ j → heard_by j old (word n s d q b) ≡ Ok h → IsSaid old s d q b h
-judged_says n old s d q b h (Ok Current) judged is =
+judged_says : (n : ℕ) (old : SessionsState) (s d : Endpoint) (q : ℕ) (b : BodyText) (bytes : List ℕ) (h : HeardText) (j : Result Judgement judging.Refused)
+    → judgement (knowledge old) (header_to (place_of n s) d q) ≡ j → heard_by j old (word n s d q b) bytes ≡ Ok h → IsSaid old s d q b bytes h
+judged_says n old s d q b bytes h (Ok Current) judged is =
     let c : IsCurrent (knowledge old) (header_to (place_of n s) d q) = is_current (knowledge old) (header_to (place_of n s) d q) judged in
-    let f : IsFound s false (word_of (session_met false (peer_at old.peers s.rank)) q b) h = is_found s false (word_of (session_met false (peer_at old.peers s.rank)) q b) h is in
+    let f : IsFound s false (word_of (session_met false (peer_at old.peers s.rank)) q b bytes) h = is_found s false (word_of (session_met false (peer_at old.peers s.rank)) q b bytes) h is in
     record { target_incarnation = c.target_incarnation; lesson = false; incarnation = sym c.known; word = f.word; says = f.says; heard = f.heard }
-judged_says n old s d q b h (Ok (Learn i)) judged is =
+judged_says n old s d q b bytes h (Ok (Learn i)) judged is =
     let c : IsLater (knowledge old) (header_to (place_of n s) d q) = is_later (knowledge old) (header_to (place_of n s) d q) i judged in
-    let f : IsFound s true (word_of (session_met true (peer_at old.peers s.rank)) q b) h = is_found s true (word_of (session_met true (peer_at old.peers s.rank)) q b) h is in
+    let f : IsFound s true (word_of (session_met true (peer_at old.peers s.rank)) q b bytes) h = is_found s true (word_of (session_met true (peer_at old.peers s.rank)) q b bytes) h is in
     record { target_incarnation = c.target_incarnation; lesson = true; incarnation = c.above; word = f.word; says = f.says; heard = f.heard }
-judged_says n old s d q b h (Err e) judged is = absurd (none_unmeant e s b h is)
+judged_says n old s d q b bytes h (Err e) judged is = absurd (none_unmeant e s b h is)
 
 -- ---- what is heard in a datagram that went to the rank
 
@@ -207,8 +239,8 @@ is_clear n r sessions datagrams links current old h true_now stands f =
     header : Header
     header = header_to (place_of n s) c.target c.says.number
 
-    i : IsSaid old s c.target c.says.number c.says.body h
-    i = judged_says n old s c.target c.says.number c.says.body h (judgement (knowledge old) header) refl
+    i : IsSaid old s c.target c.says.number c.says.body f.bytes h
+    i = judged_says n old s c.target c.says.number c.says.body f.bytes h (judgement (knowledge old) header) refl
         (sym (heard_read old f.bytes (word n s c.target c.says.number c.says.body) c.says.read) ∙ f.hears)
 
     tells : SessionsTell n current r old links
@@ -224,7 +256,7 @@ is_clear n r sessions datagrams links current old h true_now stands f =
     from = record { there = begun.source; apart = begun.apart; begun = begun.source_begun; incarnation = i.incarnation }
 
     knows : Hears n r s sessions datagrams links current (taught i.lesson old s)
-    knows = hears n r s i.lesson sessions datagrams links current old true_now tells stands.out begun from
+    knows = hears n r s i.lesson sessions datagrams links current old true_now tells (true_now.held r old stands.there) stands.out begun from
 
     met_is : peer_at (taught i.lesson old s).peers s.rank ≡ session_met i.lesson (peer_at old.peers s.rank)
     met_is = taught_peer old.peers s.rank i.lesson (omega (arith, begun.source, tells.each))
@@ -233,9 +265,9 @@ is_clear n r sessions datagrams links current old h true_now stands f =
     peer = peer_of n r s sessions datagrams links current (taught i.lesson old s) knows
 
     bears : Bears n datagrams links s own i.word
-    bears = word_bears n datagrams s own links (session_met i.lesson (peer_at old.peers s.rank)) i.word c.says.number c.says.body
-        (subst (λ (x : Endpoint). Says n datagrams s x links c.says.number c.says.body) meant c.says.says)
-        (sym (ap (λ (p : Peer). p.receiver) met_is) ∙ peer.receiver) i.says
+    bears = word_bears n datagrams s own links (session_met i.lesson (peer_at old.peers s.rank)) i.word c.says.number c.says.body f.bytes
+        (subst (λ (x : Endpoint). Says n datagrams s x links c.says.number c.says.body f.bytes) meant c.says.says)
+        (sym (ap (λ (p : Peer). p.receiver.next) met_is) ∙ peer.receiver.next) i.says
 
 -- what is heard is true
 pub hearing_is_true : HearingIsTrue

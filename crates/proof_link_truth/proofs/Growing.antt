@@ -98,7 +98,7 @@ told_more n r a b current grows t told = record {
   where
     go : Tells n told.source told.target a t.1 → Tells n told.source told.target b t.1
     go (TellsFrame number frame there is) = TellsFrame number frame (grows.kept told.source told.target number frame there) is
-    go (TellsAck number there is) = TellsAck number (omega (arith, there, grows.more told.target told.source)) is
+    go (TellsAck number held there even width is) = TellsAck number held (omega (arith, there, grows.more told.target told.source)) even width is
     go (TellsReset is) = TellsReset is
 
 -- and once ranks are at later incarnations

@@ -14,7 +14,10 @@ use Rattle.proof_link_truth.specs.Events.{IsHeard, IsLesson}
 use Rattle.proof_link_truth.specs.Links.{Links}
 use Rattle.proof_link_truth.specs.Sessions.{PeerTells, SessionsTell}
 use Rattle.proof_link_truth.specs.Wire.{at, wires}
+use Rattle.proof_link_truth.specs.Witness.{AreHeldEmitted}
 use Rattle.proof_link_truth.proofs.Changing.{IsKnown, peer_set, sessions_know}
+use Rattle.proof_link_truth.proofs.Holding.{held_with}
+use Rattle.proof_link_truth.proofs.Receivers.{none_held, receiver_new}
 
 -- a sender that keeps nothing tells the truth of a link that accepted nothing
 none_tells : (n : ℕ) (s d : Endpoint) (accepted : List FrameText) → accepted ≡ [] → [] ≡ wires n s d 0 accepted
@@ -26,7 +29,7 @@ pub new_session_tells : (n x k i : ℕ) (current : ℕ → ℕ) (own : Endpoint)
 new_session_tells n x k i current own p links above begun tells = record {
   begun = begun;
   sender = record { kept = none_tells n own (at x i) (links own (at x i)).accepted (tells.no_accepted i above); below = omega arith };
-  receiver = sym (tells.no_handed i above);
+  receiver = receiver_new n (at x i) own (links (at x i) own) (tells.no_handed i above);
   no_accepted = λ j beyond. tells.no_accepted j (omega (arith, above, beyond));
   no_handed = λ j beyond. tells.no_handed j (omega (arith, above, beyond));
 }
@@ -54,6 +57,14 @@ pub taught_tells : (n r : ℕ) (current : ℕ → ℕ) (links : Links) (old : Se
     → IsHeard n r current old.known s lesson → SessionsTell n current r (taught lesson old s) links
 taught_tells n r current links old s true tells heard = learned_tells n r current links old s tells heard.there heard.apart heard.incarnation heard.begun
 taught_tells n r current links old s false tells heard = tells
+
+-- a new session holds nothing
+pub taught_held : (n r : ℕ) (datagrams : List (ℕ × List ℕ)) (old : SessionsState) (s : Endpoint) (lesson : Bool) → AreHeldEmitted n datagrams r old
+    → s.rank < length old.peers → AreHeldEmitted n datagrams r (taught lesson old s)
+taught_held n r datagrams old s true held within =
+    held_with n r s.rank datagrams old (taught true old s) (new_session (peer_at old.peers s.rank)) held within
+    (λ place bytes there. absurd (none_held place bytes there)) refl
+taught_held n r datagrams old s false held within = held
 
 -- once a word was heard, its endpoint is the known one
 pub taught_is : (known : List ℕ) (s : Endpoint) (lesson : Bool) → s.rank < length known → IsLesson lesson (slice_index known s.rank) s.incarnation

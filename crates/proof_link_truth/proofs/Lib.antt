@@ -1,9 +1,11 @@
 pub mod Lists
 pub mod Wires
 pub mod Senders
+pub mod Receivers
 pub mod Growing
 pub mod Witnesses
 pub mod Changing
+pub mod Holding
 pub mod Learning
 pub mod Openings
 pub mod Restarts

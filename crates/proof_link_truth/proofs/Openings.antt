@@ -5,6 +5,7 @@ use Rattle.std.proofs.lemmas.List.{get_or-replicate, get_or-set_other, length-re
 use Rattle.std.proofs.lemmas.Option.{same_Some}
 use Rattle.vocabulary.specs.declared.endpoint.Endpoint.{Endpoint}
 use Rattle.datagram.specs.Spelling.{FrameText}
+use Rattle.reliable_link.specs.ReceiverState.{held_at}
 use Rattle.sessions.specs.declared.peers.Peer.{Peer}
 use Rattle.sessions.specs.SessionsState.{SessionsState, opening}
 use Rattle.sessions.specs.Peers.{new_peer, peer_at}
@@ -12,6 +13,8 @@ use Rattle.proof_link_truth.specs.Events.{OpeningIsTrue, no_links, opening_sessi
 use Rattle.proof_link_truth.specs.Links.{Links}
 use Rattle.proof_link_truth.specs.Sessions.{SessionsTell, PeerTells}
 use Rattle.proof_link_truth.specs.Wire.{at, place_of, wires}
+use Rattle.proof_link_truth.specs.Witness.{AreHeldEmitted}
+use Rattle.proof_link_truth.proofs.Receivers.{none_held, receiver_new}
 
 -- every session is a new one
 new_at : (n x : ℕ) → peer_at (replicate n new_peer) x ≡ new_peer
@@ -33,7 +36,7 @@ new_tells : (n x : ℕ) (current : ℕ → ℕ) (own : Endpoint) (links : Links)
 new_tells n x current own links none = record {
   begun = omega arith;
   sender = record { kept = sym (ap (λ (fs : List FrameText). wires n own (at x 0) 0 fs) (none.accepted (at x 0))); below = omega arith };
-  receiver = sym (none.handed (at x 0));
+  receiver = receiver_new n (at x 0) own (links (at x 0) own) (none.handed (at x 0));
   no_accepted = λ i above. none.accepted (at x i);
   no_handed = λ i above. none.handed (at x i);
 }
@@ -50,6 +53,11 @@ new_sessions_tell n r current links none = record {
       (subst (λ (p : Peer). PeerTells n current (at r (current r)) x 0 p links) (sym (new_at n x)) (new_tells n x current (at r (current r)) links none));
   itself = ap (λ (p : Peer). p.sender.frames) (new_at n r);
 }
+
+-- and hold nothing
+pub new_held : (n r : ℕ) (datagrams : List (ℕ × List ℕ)) (own : Endpoint) → AreHeldEmitted n datagrams r (opening (place_of n own))
+new_held n r datagrams own x place bytes x_is apart there =
+    absurd (none_held place bytes (ap (λ (p : Peer). held_at p.receiver.held place) (sym (new_at n x)) ∙ there))
 
 -- at each place stand the sessions of its rank
 stands : (n rank k r : ℕ) (e : SessionsState) → slice_get (opening_sessions n rank k) r ≡ Some e → e ≡ opening (place_of n (at (rank + r) 0))
@@ -78,4 +86,7 @@ opening_is_true n few = record {
   none_handed = λ s d h. refl;
   told = tt;
   witnessed = λ s d. record { acknowledged = inl refl; frames = λ number lt. absurd (omega (arith, lt)) };
+  held = λ r e h.
+      let e_is : e ≡ opening (place_of n (at r 0)) = stands n 0 n r e h ∙ ap (λ (m : ℕ). opening (place_of n (at m 0))) (omega arith) in
+      subst (AreHeldEmitted n [] r) (sym e_is) (new_held n r [] (at r 0));
 }

@@ -1,5 +1,5 @@
 -- What is read from the bytes of frames, acknowledgements and resets.
-use Rattle.std.proofs.Common.{◌≡◌, ℕ, ◌<◌, ◌≤◌, ◌^◌, Result, Ok, Err, refl, sym, ap, ◌∙◌, arith}
+use Rattle.std.proofs.Common.{◌≡◌, ℕ, ◌<◌, ◌≤◌, ◌%◌, ◌^◌, Result, Ok, Err, refl, sym, ap, ◌∙◌, arith}
 use Rattle.vocabulary.specs.declared.endpoint.Endpoint.{Endpoint}
 use Rattle.datagram.specs.declared.frame.Frame.{Frame}
 use Rattle.datagram.specs.declared.frame.Frame.TheVariants as frames
@@ -33,7 +33,7 @@ said_frame (DataFrame d) = (frames.Data (record { transfer = d.transfer; offset 
 -- a content that says this
 said : (b : BodyText) → (c : Content) × (content_text c ≡ b)
 said (FrameBody t) = let f = said_frame t in (contents.Frame f.0, ap FrameBody f.1)
-said AckBody = (contents.Ack, refl)
+said (AckBody held) = (contents.Ack held, refl)
 said ResetBody = (contents.Reset, refl)
 
 -- what is spelled is read as it was spelled
@@ -68,14 +68,15 @@ frame_is_read n s d q f can w numbered =
     spelled_is_read (text_of n s d q f) (record { header = header_fits n s d q w numbered; width = can.width; body = can.fits; sequence = tt })
 
 -- what an acknowledgement says
-abbrev pub ack_text : (n : ℕ) (s d : Endpoint) (k : ℕ) → DatagramText
-ack_text n s d k = record { header = header_to (place_of n s) d k; body = AckBody }
+abbrev pub ack_text : (n : ℕ) (s d : Endpoint) (k held : ℕ) → DatagramText
+ack_text n s d k held = record { header = header_to (place_of n s) d k; body = AckBody held }
 
 -- the bytes of an acknowledgement are read as it
-pub ack_is_read : (n : ℕ) (s d : Endpoint) (k : ℕ) → HaveWidths n s d → k < 2 ^ 64 → datagram_of (ack_bytes (place_of n s) d k) ≡ Ok (ack_text n s d k)
+pub ack_is_read : (n : ℕ) (s d : Endpoint) (k held : ℕ) → HaveWidths n s d → k < 2 ^ 64 → held % 2 ≡ 0 → held < 2 ^ 64
+    → datagram_of (ack_bytes (place_of n s) d k held) ≡ Ok (ack_text n s d k held)
 unfolding ack_bytes
-ack_is_read n s d k w numbered =
-    spelled_is_read (ack_text n s d k) (record { header = header_fits n s d k w numbered; width = tt; body = tt; sequence = tt })
+ack_is_read n s d k held w numbered even width =
+    spelled_is_read (ack_text n s d k held) (record { header = header_fits n s d k w numbered; width = width; body = even; sequence = tt })
 
 -- what a reset says
 abbrev pub reset_text : (n : ℕ) (s d : Endpoint) → DatagramText

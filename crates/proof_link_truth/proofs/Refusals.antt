@@ -57,7 +57,7 @@ said_back s lesson (Err e) u is = subst (λ (x : Unheard). IsBack s x.reset) (sa
 -- what isn't meant for the rank
 unmeant_back : (e : judging.Refused) (s : Endpoint) (b : BodyText) (u : Unheard) → unmeant {A = HeardText} e s b ≡ Err u → IsBack s u.reset
 unmeant_back judgings.StaleTarget s (FrameBody t) u is = subst (λ (x : Unheard). IsBack s x.reset) (same_unheard _ u is) refl
-unmeant_back judgings.StaleTarget s AckBody u is = subst (λ (x : Unheard). IsBack s x.reset) (same_unheard _ u is) refl
+unmeant_back judgings.StaleTarget s (AckBody held) u is = subst (λ (x : Unheard). IsBack s x.reset) (same_unheard _ u is) refl
 unmeant_back judgings.StaleTarget s ResetBody u is = subst (λ (x : Unheard). IsBack s x.reset) (same_unheard _ u is) tt
 unmeant_back judgings.StaleSource s b u is = subst (λ (x : Unheard). IsBack s x.reset) (same_unheard _ u is) tt
 unmeant_back judgings.ForeignJob s b u is = subst (λ (x : Unheard). IsBack s x.reset) (same_unheard _ u is) tt
@@ -66,11 +66,11 @@ unmeant_back judgings.Limit s b u is = subst (λ (x : Unheard). IsBack s x.reset
 unmeant_back judgings.OutOfMemory s b u is = subst (λ (x : Unheard). IsBack s x.reset) (same_unheard _ u is) tt
 
 -- whatever a datagram of s isn't heard for
-judged_back : (n : ℕ) (old : SessionsState) (s d : Endpoint) (q : ℕ) (b : BodyText) (u : Unheard) (j : Result Judgement judging.Refused)
-    → heard_by j old (word n s d q b) ≡ Err u → IsBack s u.reset
-judged_back n old s d q b u (Ok Current) is = said_back s false (word_of (session_met false (peer_at old.peers s.rank)) q b) u is
-judged_back n old s d q b u (Ok (Learn i)) is = said_back s true (word_of (session_met true (peer_at old.peers s.rank)) q b) u is
-judged_back n old s d q b u (Err e) is = unmeant_back e s b u is
+judged_back : (n : ℕ) (old : SessionsState) (s d : Endpoint) (q : ℕ) (b : BodyText) (bytes : List ℕ) (u : Unheard) (j : Result Judgement judging.Refused)
+    → heard_by j old (word n s d q b) bytes ≡ Err u → IsBack s u.reset
+judged_back n old s d q b bytes u (Ok Current) is = said_back s false (word_of (session_met false (peer_at old.peers s.rank)) q b bytes) u is
+judged_back n old s d q b bytes u (Ok (Learn i)) is = said_back s true (word_of (session_met true (peer_at old.peers s.rank)) q b bytes) u is
+judged_back n old s d q b bytes u (Err e) is = unmeant_back e s b u is
 
 -- ---- it leaves the links true
 
@@ -107,7 +107,7 @@ module _ (n r : ℕ) (sessions : List SessionsState) (datagrams : List (ℕ × L
       let told : AllByRecursion (IsTold n links current) (old.out ++ (s.rank, reset_bytes old.place s) ∷ []) =
       subst (λ (out : List (ℕ × List ℕ)). AllByRecursion (IsTold n links current) (out ++ (s.rank, reset_bytes old.place s) ∷ [])) (sym stands.out) (reset_is_told, tt) in
       subst (λ (e : SessionsState). LeavesTrue n sessions datagrams r e links current) (sym is)
-      (stays n r sessions datagrams links current old (record old { out = old.out ++ (s.rank, reset_bytes old.place s) ∷ [] }) true_now tells refl refl refl told)
+      (stays n r sessions datagrams links current old (record old { out = old.out ++ (s.rank, reset_bytes old.place s) ∷ [] }) true_now tells (true_now.held r old stands.there) refl refl refl told)
 
   -- by whether a reset is to go out
   turned_away : (to_whom : Option Endpoint) (e why : Refused) (new : SessionsState) → IsBack s to_whom → TurnedAway to_whom e old why new
@@ -123,5 +123,5 @@ refusals_are_true n r number bytes sessions datagrams links current old new unhe
     let c : IsComing n r datagrams links current bytes = is_coming n r number bytes sessions datagrams links current true_now there in
     let text : DatagramText = word n c.source c.target c.says.number c.says.body in
     turned_away n r sessions datagrams links current old c.source c.target true_now stands c.begun c.to unheard.reset unheard.refused why new
-    (judged_back n old c.source c.target c.says.number c.says.body unheard (judgement (knowledge old) text.header)
+    (judged_back n old c.source c.target c.says.number c.says.body bytes unheard (judgement (knowledge old) text.header)
     (sym (heard_read old bytes text c.says.read) ∙ hears)) gives

@@ -10,10 +10,11 @@ use Rattle.proof_link_truth.specs.Sessions.{SessionsTell}
 use Rattle.proof_link_truth.specs.Told.{IsTold}
 use Rattle.proof_link_truth.specs.Truth.{AreTrue}
 use Rattle.proof_link_truth.specs.Wire.{at, place_of}
+use Rattle.proof_link_truth.specs.Witness.{AreHeldEmitted}
 use Rattle.proof_link_truth.proofs.Changing.{sessions_later}
 use Rattle.proof_link_truth.proofs.Growing.{told_later}
 use Rattle.proof_link_truth.proofs.Lists.{All_more, set_each}
-use Rattle.proof_link_truth.proofs.Openings.{IsUnheard, new_sessions_tell}
+use Rattle.proof_link_truth.proofs.Openings.{IsUnheard, new_held, new_sessions_tell}
 
 -- no rank's incarnation falls
 never_falls : (current : ℕ → ℕ) (r x : ℕ) → current x ≤ with_number current r (suc (current r)) x
@@ -63,6 +64,7 @@ restarts_are_true n r sessions datagrams links current old true_now there room =
   none_handed = λ s d above. true_now.none_handed s d (omega (arith, above, never_falls current r d.rank));
   told = All_more (IsTold n links current) (IsTold n links later) datagrams (told_later n links current later (never_falls current r)) true_now.told;
   witnessed = true_now.witnessed;
+  held = set_each (AreHeldEmitted n datagrams) sessions r new (new_held n r datagrams (at r (suc (current r)))) (λ y e other h. true_now.held y e h);
 }
   where
     later : ℕ → ℕ

@@ -11,7 +11,7 @@ use Rattle.reliable_link.specs.declared.out_frame.OutFrame.{OutFrame}
 use Rattle.reliable_link.specs.SenderState.{SenderState, after_accept, after_ack, after_due, frame_at, next_number}
 use Rattle.reliable_link.proofs.KeptBytes.{bytes_after_accept, bytes_after_ack, bytes_after_due, lowest_after_due}
 use Rattle.reliable_link.proofs.Places.{place_in_drop}
-use Rattle.reliable_link.proofs.Senders.{is_heeded, is_passed}
+use Rattle.reliable_link.proofs.Senders.{is_passed, lowest_after_ack, lowest_passed}
 use Rattle.sessions.specs.Peers.{frame_out, frames_out}
 use Rattle.proof_link_truth.specs.Links.{Link, Links}
 use Rattle.proof_link_truth.specs.Sessions.{SenderTells}
@@ -45,19 +45,22 @@ accept_tells n s d sender link f bytes tells reach is =
       below = tells.below;
     }
 
--- an acknowledgement of what was handed up
-pub ack_tells : (n : ℕ) (s d : Endpoint) (sender : SenderState) (link : Link) (k : ℕ) → SenderTells n s d sender link → k ≤ link.handed → SenderTells n s d (after_ack sender k) link
-ack_tells n s d sender link k tells le =
+-- an acknowledgement of what was handed up, where it leaves this number as the lowest one
+acked_to : (n : ℕ) (s d : Endpoint) (sender : SenderState) (link : Link) (k held : ℕ) → SenderTells n s d sender link → k ≤ link.handed
+    → sender.lowest + (k - sender.lowest) ≡ (after_ack sender k held).lowest → SenderTells n s d (after_ack sender k held) link
+acked_to n s d sender link k held tells le lowest_is = record {
+  kept = bytes_after_ack sender k held ∙ ap (drop (k - sender.lowest)) tells.kept ∙ drop-drop (k - sender.lowest) sender.lowest (wires n s d 0 link.accepted)
+      ∙ ap (λ (m : ℕ). drop m (wires n s d 0 link.accepted)) lowest_is;
+  below = omega (arith, lowest_is, tells.below);
+}
+
+-- what it says is held changes nothing of that
+pub ack_tells : (n : ℕ) (s d : Endpoint) (sender : SenderState) (link : Link) (k held : ℕ) → SenderTells n s d sender link → k ≤ link.handed
+    → SenderTells n s d (after_ack sender k held) link
+ack_tells n s d sender link k held tells le =
     elim (cases_lt sender.lowest k) [
-      | inl lt ↦
-          let lowest_is : (after_ack sender k).lowest ≡ k = ap (λ (s : SenderState). s.lowest) (is_heeded sender k lt) in
-          let there : sender.lowest + (k - sender.lowest) ≡ k = omega arith in
-          record {
-            kept = bytes_after_ack sender k ∙ ap (drop (k - sender.lowest)) tells.kept ∙ drop-drop (k - sender.lowest) sender.lowest (wires n s d 0 link.accepted)
-                ∙ ap (λ (m : ℕ). drop m (wires n s d 0 link.accepted)) (there ∙ sym lowest_is);
-            below = omega (arith, lowest_is);
-          }
-      | inr passed ↦ subst (λ (s' : SenderState). SenderTells n s d s' link) (sym (is_passed sender k passed)) tells
+      | inl lt ↦ acked_to n s d sender link k held tells le (omega (arith, lowest_after_ack sender k held, lowest_passed sender k (omega (arith, lt))))
+      | inr passed ↦ acked_to n s d sender link k held tells le (omega (arith, lowest_after_ack sender k held, ap (λ (t : SenderState). t.lowest) (is_passed sender k passed)))
     ]
 
 -- a tick

@@ -23,11 +23,14 @@ use Rattle.proof_link_truth.specs.Sessions.{PeerTells, SenderTells, SessionsTell
 use Rattle.proof_link_truth.specs.Told.{IsTold, TellsFrame}
 use Rattle.proof_link_truth.specs.Truth.{AreTrue}
 use Rattle.proof_link_truth.specs.Wire.{at, place_of, wire}
+use Rattle.proof_link_truth.specs.Witness.{AreHeldEmitted}
 use Rattle.proof_link_truth.proofs.Changing.{sessions_with, world_leaves}
 use Rattle.proof_link_truth.proofs.Datagrams.{heard_leaves}
-use Rattle.proof_link_truth.proofs.Growing.{accept_fits, accept_grows, accepted_handed, link_cases, link_here, links_fit}
+use Rattle.proof_link_truth.proofs.Growing.{Grows, accept_fits, accept_grows, accepted_handed, link_cases, link_here, links_fit}
 use Rattle.proof_link_truth.proofs.Hearing.{stays}
+use Rattle.proof_link_truth.proofs.Holding.{held_with}
 use Rattle.proof_link_truth.proofs.Lists.{false_sym}
+use Rattle.proof_link_truth.proofs.Receivers.{receiver_more}
 use Rattle.proof_link_truth.proofs.Senders.{accept_tells, is_told, next_is}
 use Rattle.proof_link_truth.proofs.Witnesses.{all_witnessed}
 
@@ -67,7 +70,7 @@ is_accepted n current own target k links f bytes p tells reach bytes_are = recor
     begun = tells.begun;
     sender = subst (λ (l : Link). SenderTells n own d (after_accept p.sender bytes) l) (sym (link_here links own d longer))
         (accept_tells n own d p.sender (links own d) f bytes tells.sender reach bytes_are);
-    receiver = tells.receiver ∙ sym (accepted_handed links own d f d own);
+    receiver = receiver_more n d own p.receiver (links d own) (accept links own (d, f) d own) (accepted_handed links own d f d own) (grows.kept d own) tells.receiver;
     no_accepted = λ i above. none_later target i (λ same. absurd (let q : i ≡ k = ap (λ (e : Endpoint). e.incarnation) same in omega (arith, above, q))) (tells.no_accepted i above);
     no_handed = λ i above. accepted_handed links own d f (at target i) own ∙ tells.no_handed i above;
   };
@@ -75,7 +78,7 @@ is_accepted n current own target k links f bytes p tells reach bytes_are = recor
     begun = q.begun;
     sender = link_cases (λ l. SenderTells n own (at y j) o.sender l) links own d longer own (at y j)
         (λ es ed. absurd (eqb-false y target differs (ap (λ (e : Endpoint). e.rank) ed))) (λ h. q.sender);
-    receiver = q.receiver ∙ sym (accepted_handed links own d f (at y j) own);
+    receiver = receiver_more n (at y j) own o.receiver (links (at y j) own) (accept links own (d, f) (at y j) own) (accepted_handed links own d f (at y j) own) (grows.kept (at y j) own) q.receiver;
     no_accepted = λ i above. none_later y i (λ same. absurd (eqb-false y target differs (ap (λ (e : Endpoint). e.rank) same))) (q.no_accepted i above);
     no_handed = λ i above. accepted_handed links own d f (at y i) own ∙ q.no_handed i above;
   };
@@ -86,6 +89,9 @@ is_accepted n current own target k links f bytes p tells reach bytes_are = recor
 
     longer : Link
     longer = record (links own d) { accepted = (links own d).accepted ++ f ∷ [] }
+
+    grows : Grows own.rank links (accept links own (d, f))
+    grows = accept_grows links own d f
 
     none_later : (y i : ℕ) → (at y i ≡ d → ⊥) → (links own (at y i)).accepted ≡ [] → (accept links own (d, f) own (at y i)).accepted ≡ []
     none_later y i other none =
@@ -102,6 +108,8 @@ send_leaves n r sessions datagrams links current old s true_now stands c room =
     (accept_fits n links current own d f (links_fit n sessions datagrams links current true_now) c.carried numbered (are_pair n own d r_is c.there apart) (omega arith))
     (subst (AllByRecursion (IsTold n after current)) (sym out_is) (sent_is_told n s.rank after current bytes (nat_lt (length sender.frames) 64) told))
     (all_witnessed n r sessions datagrams (after_send old s).out links after current true_now (accept_grows links own d f) (λ a b. accepted_handed links own d f a b))
+    (held_with n r s.rank datagrams old (after_send old s) (record { sender = after_accept sender bytes; receiver = (peer_at old.peers s.rank).receiver })
+    held (omega (arith, c.there, tells.each)) (λ place held_bytes at. held s.rank place held_bytes c.there c.apart at) refl)
   where
     own : Endpoint
     own = at r (current r)
@@ -123,6 +131,9 @@ send_leaves n r sessions datagrams links current old s true_now stands c room =
 
     tells : SessionsTell n current r old links
     tells = true_now.tells r old stands.there
+
+    held : AreHeldEmitted n datagrams r old
+    held = true_now.held r old stands.there
 
     r_is : r < n
     r_is = omega (arith, slice_get_within sessions r old stands.there, true_now.count)
@@ -200,7 +211,7 @@ sends_leave n r sessions datagrams links current mid (s ∷ ss) leaves within ma
 -- the law of rest
 pub rest_is_true : RestIsTrue
 rest_is_true n r sessions datagrams links current old true_now stands =
-    stays n r sessions datagrams links current old old true_now (true_now.tells r old stands.there) refl refl refl
+    stays n r sessions datagrams links current old old true_now (true_now.tells r old stands.there) (true_now.held r old stands.there) refl refl refl
     (subst (AllByRecursion (IsTold n links current)) (sym stands.out) tt)
 
 -- what was heard is heeded first

@@ -5,6 +5,7 @@ use Rattle.std.proofs.lemmas.Bool.{eqb-true}
 use Rattle.std.proofs.lemmas.List.{length-map, nil_from_length}
 use Rattle.std.proofs.lemmas.Option.{slice_get_within}
 use Rattle.reliable_link.specs.declared.out_frame.OutFrame.{OutFrame}
+use Rattle.reliable_link.specs.ReceiverState.{held_at}
 use Rattle.reliable_link.specs.SenderState.{after_due, due_at}
 use Rattle.reliable_link.proofs.KeptBytes.{bytes_after_due, bytes_of}
 use Rattle.sessions.specs.declared.peers.Peer.{Peer}
@@ -16,6 +17,7 @@ use Rattle.proof_link_truth.specs.Links.{Links}
 use Rattle.proof_link_truth.specs.Sessions.{SessionsTell, PeerTells}
 use Rattle.proof_link_truth.specs.Told.{IsTold}
 use Rattle.proof_link_truth.specs.Wire.{at}
+use Rattle.proof_link_truth.specs.Witness.{AreHeldEmitted}
 use Rattle.proof_link_truth.proofs.Changing.{world_leaves}
 use Rattle.proof_link_truth.proofs.Growing.{grows_none, links_fit}
 use Rattle.proof_link_truth.proofs.Lists.{All_append, false_sym}
@@ -103,12 +105,19 @@ each_stands n r current links old tells x y lt is =
       itself = λ own. ap (λ (z : ℕ). (peer_at old.peers z).sender.frames) (eqb-true x r own) ∙ tells.itself;
     })
 
+-- what the sessions hold of the frames of others is as it was
+tick_held : (n r now : ℕ) (datagrams : List (ℕ × List ℕ)) (old : SessionsState) → length old.peers ≡ n → AreHeldEmitted n datagrams r old
+    → AreHeldEmitted n datagrams r (after_tick old now)
+tick_held n r now datagrams old each held x place bytes x_is apart there =
+    held x place bytes x_is apart (ap (λ (p : Peer). held_at p.receiver.held place) (sym (due_at_place old.peers now x (omega (arith, x_is, each)))) ∙ there)
+
 -- the law of ticks
 pub ticks_are_true : TicksAreTrue
 ticks_are_true n r now sessions datagrams links current old true_now here =
     world_leaves n r sessions datagrams links links current (after_tick old now) true_now (grows_none r links) (tick_tells n r now current links old tells r_is)
     (links_fit n sessions datagrams links current true_now) told
     (all_witnessed n r sessions datagrams (after_tick old now).out links links current true_now (grows_none r links) (λ s d. refl))
+    (tick_held n r now datagrams old tells.each (true_now.held r old here.there))
   where
     r_is : r < n
     r_is = omega (arith, slice_get_within sessions r old here.there, true_now.count)

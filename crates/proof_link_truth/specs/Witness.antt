@@ -1,5 +1,5 @@
 -- What was emitted bears witness of what was handed up.
-use Rattle.std.specs.Prelude.{◌≡◌, ℕ, ◌<◌, ◌⊎◌, false, List, Some, ◌==◌, slice_get}
+use Rattle.std.specs.Prelude.{◌≡◌, ℕ, ◌<◌, ◌%◌, ◌^◌, ◌⊎◌, false, List, Some, ◌==◌, slice_get}
 use Rattle.vocabulary.specs.declared.endpoint.Endpoint.{Endpoint}
 use Rattle.datagram.specs.Spelling.{FrameText}
 use Rattle.reliable_link.specs.ReceiverState.{held_at}
@@ -23,6 +23,8 @@ pub record IsEmitted (n : ℕ) (datagrams : List (ℕ × List ℕ)) (s d : Endpo
 -- an acknowledgement of just so many frames of s was emitted by d, whichever of those behind them it says are held
 pub record IsAcknowledged (n : ℕ) (datagrams : List (ℕ × List ℕ)) (s d : Endpoint) (number : ℕ) : Type 0 where
   pub held : ℕ
+  pub even : held % 2 ≡ 0
+  pub width : held < 2 ^ 64
   pub sent : IsAmong datagrams (s.rank, ack_bytes (place_of n d) s number held)
 
 -- No frame from s was handed up at d, or d emitted an acknowledgement of just so many; and each of them was emitted
