@@ -1,17 +1,9 @@
 -- What is told of a faulty line, and of one at which a rank gave up.
-use Rattle.std.specs.Prelude.{ℕ, ◌++◌, List, [], map, take, length, nat_lt, codes, if◌then◌else◌}
+use Rattle.std.specs.Prelude.{ℕ, ◌++◌, List, [], codes}
 use Rattle.std.specs.Fmt.{decimal}
-use Rattle.line_words.specs.Lines.{is_text_byte}
+use Rattle.shown_words.specs.Shown.{shown}
 use Rattle.fault_lines.specs.declared.fault.Fault.{Fault}
 use Rattle.fault_lines.specs.declared.fault.Fault.TheVariants as faults
-
--- a byte as it is told: `?` where it isn't printable ASCII
-abbrev pub shown_byte : ℕ → ℕ
-shown_byte byte = if is_text_byte byte then byte else 63
-
--- the text of a line as it is told: cut after 80 bytes, with ` ..` behind then
-unfoldable pub shown : List ℕ → List ℕ
-shown line = if nat_lt 80 (length line) then map shown_byte (take 80 line) ++ codes " .." else map shown_byte line
 
 -- why a line is faulty, in words
 abbrev pub reason : Fault → List ℕ

@@ -1,48 +1,11 @@
 //! The messages, byte by byte.
 
-ghost use Rattle.std.specs.Prelude.{◌≡◌, ◌++◌, codes, IfOk, map};
-ghost use Rattle.fault_lines.specs.Messages.{explanation, gave_up, gave_up_at, gave_up_behind, reason, shown, shown_byte};
+ghost use Rattle.std.specs.Prelude.{◌≡◌, ◌++◌, codes, IfOk};
+ghost use Rattle.fault_lines.specs.Messages.{explanation, gave_up, gave_up_at, gave_up_behind, reason};
 
 use crate::fault::Fault;
+use shown_words::Shown;
 use std::alloc::{AllocError, Global};
-
-/// How many bytes of a line are told.
-const LONGEST: usize = 80;
-
-/// The byte as it is told: `?` where it isn't printable ASCII.
-fn shown_byte(byte: u8) -> u8
-    ensures { result ≡ shown_byte byte }
-{
-    if byte < b' ' || byte > b'~' {
-        b'?'
-    } else {
-        byte
-    }
-}
-
-fn shown_bytes(alloc: Global, bytes: &[u8]) -> Result<Vec<u8>, AllocError>
-    ensures { IfOk result (λ text. text.items ≡ map shown_byte bytes.now) }
-{
-    let mut text = Vec::new(alloc);
-    for byte in bytes {
-        text.push(shown_byte(*byte))?;
-    }
-    Ok(text)
-}
-
-/// The text of a line as it is told: cut after 80 bytes, with ` ..` behind then.
-#[tactic(auto, unfolding(crate::specs::Messages::shown))]
-fn shown(alloc: Global, line: &[u8]) -> Result<Vec<u8>, AllocError>
-    ensures { IfOk result (λ text. text.items ≡ shown line.now) }
-{
-    if line.len() <= LONGEST {
-        return shown_bytes(alloc, line);
-    }
-    let (front, _) = line.split_at(LONGEST);
-    let mut text = shown_bytes(alloc, front)?;
-    text.extend_from_slice(b" ..")?;
-    Ok(text)
-}
 
 /// The texts one behind the other.
 fn joined(alloc: Global, front: &[u8], middle: &[u8], back: &[u8]) -> Result<Vec<u8>, AllocError>
@@ -84,10 +47,11 @@ pub fn explanation(
     ensures { IfOk result (λ text. text.items ≡ explanation speaker.now fault.now line.now) }
 {
     let reason = reason(alloc, fault)?;
-    let shown = shown(alloc, line)?;
+    let line = Shown { word: line };
+    let shown = format!(in alloc; "{line}")?;
     let mut text = joined(alloc, speaker, b": ", &reason)?;
     text.extend_from_slice(b": ")?;
-    text.extend_from_slice(&shown)?;
+    text.extend_from_slice(shown.as_bytes())?;
     Ok(text)
 }
 
@@ -112,8 +76,9 @@ pub fn gave_up_at(
 {
     let front = gave_up(alloc, speaker, patience)?;
     let place = format!(in alloc; " at line {number}: ")?;
-    let shown = shown(alloc, line)?;
-    joined(alloc, &front, place.as_bytes(), &shown)
+    let line = Shown { word: line };
+    let shown = format!(in alloc; "{line}")?;
+    joined(alloc, &front, place.as_bytes(), shown.as_bytes())
 }
 
 /// The same behind the last line: the rank waits for acknowledgements of what it sent.

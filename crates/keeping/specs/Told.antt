@@ -1,5 +1,5 @@
 -- What is told on the standard error, byte by byte.
-use Rattle.std.specs.Prelude.{ℕ, Bool, ◌-◌, ◌==◌, ◌||◌, ◌&&◌, nat_le, List, [], ◌++◌, length, take, drop, map, codes, if◌then◌else◌}
+use Rattle.std.specs.Prelude.{ℕ, Bool, ◌-◌, ◌==◌, ◌||◌, List, [], ◌++◌, length, drop, codes, if◌then◌else◌}
 use Rattle.std.specs.Str.{bytes_eq}
 use Rattle.std.specs.Fmt.{decimal}
 use Rattle.keeping.specs.declared.ending.Ending.{Ending}
@@ -7,14 +7,7 @@ use Rattle.keeping.specs.declared.ending.Ending.TheVariants as endings
 use Rattle.keeping.specs.declared.keeper.After.{After}
 use Rattle.keeping.specs.declared.keeper.After.TheVariants as afters
 use Rattle.keeping.specs.Words.{Word}
-
--- a byte that isn't printable ASCII, from the space to `~`, is shown as `?`
-abbrev pub printable : ℕ → ℕ
-printable byte = if nat_le 32 byte && nat_le byte 126 then byte else 63
-
--- the word's first 80 bytes, and ` ..` where it has more
-abbrev pub shown : Word → List ℕ
-shown word = if nat_le (length word) 80 then map printable word else map printable (take 80 word) ++ codes " .."
+use Rattle.shown_words.specs.Shown.{shown}
 
 -- the part of the name behind its last `/` is `rank_main`
 abbrev pub is_rank_main : Word → Bool

@@ -1,14 +1,12 @@
 //! What the launcher and its keepers tell on the standard error, a line each, without the line's end.
 
 ghost use Rattle.std.specs.Prelude.{◌≡◌};
-ghost use Rattle.keeping.specs.Told.{printable, is_rank_main, meaning};
+ghost use Rattle.keeping.specs.Told.{is_rank_main, meaning};
 
 use crate::ending::Ending;
 use crate::keeper::After;
+use shown_words::Shown;
 use std::fmt;
-
-/// How many bytes of a word are shown.
-const MOST_SHOWN: usize = 80;
 
 /// The program whose statuses have a meaning of their own.
 const RANK_MAIN: &[u8] = b"rank_main";
@@ -16,67 +14,12 @@ const RANK_MAIN: &[u8] = b"rank_main";
 /// The end of its name where that begins with a folder.
 const IN_A_FOLDER: &[u8] = b"/rank_main";
 
-/// The byte as it is shown: `?` where it isn't printable ASCII.
-fn printable(byte: u8) -> u8
-    ensures { result ≡ printable byte }
-{
-    if b' ' <= byte && byte <= b'~' {
-        byte
-    } else {
-        b'?'
-    }
-}
-
 /// Whether a program's file name is `rank_main`, whose statuses have a meaning of their own.
 fn is_rank_main(program: &[u8]) -> bool
     ensures { result ≡ is_rank_main program.now }
 {
     let (_, end) = program.split_at(program.len().saturating_sub(IN_A_FOLDER.len()));
     program == RANK_MAIN || end == IN_A_FOLDER
-}
-
-/// The first bytes of a word as they are shown, each `?` that isn't printable ASCII.
-#[derive(Clone, Copy)]
-struct ShownBytes<'a> {
-    bytes: &'a [u8],
-}
-
-impl<'a> fmt::Display for ShownBytes<'a> {
-    ghost use Rattle.std.specs.Prelude.{Some, map};
-    ghost use Rattle.keeping.specs.Told.{printable};
-
-    ghost output = { λ p. Some (map printable p.bytes.now) };
-
-    fn fmt<W: fmt::Write>(&self, f: &mut fmt::Formatter<W>) -> fmt::Result {
-        for byte in self.bytes {
-            let character = char::from(printable(*byte));
-            write!(f, "{character}")?;
-        }
-        Ok(())
-    }
-}
-
-/// A word as it is shown: its first 80 bytes, with `?` for each that isn't printable ASCII, and ` ..` where it has more.
-#[derive(Clone, Copy)]
-pub struct Shown<'a> {
-    /// The word's bytes.
-    pub word: &'a [u8],
-}
-
-impl<'a> fmt::Display for Shown<'a> {
-    ghost use Rattle.std.specs.Prelude.{Some};
-    ghost use Rattle.keeping.specs.Told.{shown};
-
-    ghost output = { λ s. Some (shown s.word.now) };
-
-    fn fmt<W: fmt::Write>(&self, f: &mut fmt::Formatter<W>) -> fmt::Result {
-        if self.word.len() <= MOST_SHOWN {
-            return ShownBytes { bytes: self.word }.fmt(f);
-        }
-        let (bytes, _) = self.word.split_at(MOST_SHOWN);
-        let first = ShownBytes { bytes };
-        write!(f, "{first} ..")
-    }
 }
 
 /// What a status of `rank_main` means, in brackets; nothing for another status.

@@ -4,7 +4,7 @@ use Rattle.std.specs.Str.{bytes_eq}
 use Rattle.launch.specs.declared.refused.Refused.{Refused}
 use Rattle.launch.specs.declared.refused.Refused.TheVariants as refusals
 use Rattle.keeping.specs.Words.{Word}
-use Rattle.keeping.specs.Told.{shown}
+use Rattle.shown_words.specs.Shown.{shown}
 use Rattle.launch_faults.specs.declared.fault.Fault.{Fault}
 use Rattle.launch_faults.specs.declared.due.Due.{Due}
 use Rattle.launch_faults.specs.declared.explanation.Explanation.{Explanation}

@@ -8,8 +8,9 @@ ghost use Rattle.launch_faults.specs.Explanations.{explanation_text, word_text, 
 use crate::due::{Due, due_at, word_at, word_before};
 use crate::fault::fault_place;
 use crate::usage::{is_help, page};
-use keeping::{Shown, Word};
+use keeping::Word;
 use launch::Refused;
+use shown_words::Shown;
 use std::alloc::Global;
 use std::fmt;
 

@@ -1,0 +1,21 @@
+-- Answered so that a wrong body is refused soon.
+use Rattle.std.proofs.Common.{rules}
+use Rattle.plain_queues.proofs.queues.keys_among.Goals as goal
+
+pub iter-requires : goal.iter-requires
+iter-requires c κs = search rules
+
+pub filter-requires : goal.filter-requires
+filter-requires c κs = search rules
+
+pub collect-requires-clause-can : goal.collect-requires-clause-can
+collect-requires-clause-can c = search rules
+
+pub collect-requires-clause-finite : goal.collect-requires-clause-finite
+collect-requires-clause-finite c = search rules
+
+pub collect-requires-clause-can_collect : goal.collect-requires-clause-can_collect
+collect-requires-clause-can_collect c = search rules
+
+pub returns-in-Err : goal.returns-in-Err
+returns-in-Err c = search rules
