@@ -17,7 +17,6 @@ use Rattle.rank_calls.specs.declared.news.Match.{Match}
 use Rattle.rank_calls.specs.declared.refused.Refused.{Refused}
 use Rattle.rank_core.specs.CoreState.{CoreState, Held}
 use Rattle.rank_core.specs.Sending.{arrived}
-use Rattle.rank_core.specs.Waiting.{woken}
 use Rattle.rank_calls.specs.Hearing.{NewsText, heard_fault, transfers_met, message_of, announced_of, sent_by, delivered_by, match_by, asks_for_data, wanted_frames, message_from, needs_message_room}
 
 -- THE RULE
@@ -77,12 +76,9 @@ abbrev pub after_any : CoreState → Endpoint → Option FrameText → CoreState
 after_any c s None = c
 after_any c s (Some f) = after_frame c s f
 
--- first the lesson, then the frame, then a blocked call is answered; where neither came, nothing changes
+-- first the lesson, then the frame; a blocked call is answered once the event is over
 abbrev pub after_hearing : Bool → Option FrameText → CoreState → Endpoint → CoreState
-after_hearing false None c s = c
-after_hearing false (Some f) c s = woken (after_frame c s f)
-after_hearing true None c s = woken (replaced c s)
-after_hearing true (Some f) c s = woken (after_frame (replaced c s) s f)
+after_hearing lesson frame c s = after_any (taught lesson c s) s frame
 
 -- what news make of the core
 abbrev pub after_news : CoreState → NewsText → CoreState

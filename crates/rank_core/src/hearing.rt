@@ -161,22 +161,8 @@ impl Core {
         }
     }
 
-    /// Answers the blocked call, if its answer is ready now.
-    #[tactic(auto, unfolding(crate::specs::Waiting::woken))]
-    fn wake(&mut self)
-        ensures exact { self.new.state ≡ woken self.old.state }
-        ensures placed { self.new.state.place ≡ self.old.state.place }
-    {
-        if let Some(awaited) = self.blocked.take() {
-            match self.requests.complete(awaited) {
-                Ok(answer) => give_way(&mut self.completion, Some(answer)),
-                Err(awaited) => give_way(&mut self.blocked, Some(awaited)),
-            }
-        }
-    }
-
-    /// Takes in news that break no rule and were made ready: first the lesson, then the frame, then a blocked call is
-    /// answered. It takes no memory.
+    /// Takes in news that break no rule and were made ready: first the lesson, then the frame. A blocked call is answered
+    /// by `wake`, once the event is over. It takes no memory.
     ///
     /// With a lesson the requests that wait for the rank end as replaced, with their buffers as they were: receives that name
     /// it or collect from it, and sends that wait for its answer. Messages from its former incarnations that were not
@@ -193,14 +179,23 @@ impl Core {
             message,
             collection,
         } = ready;
-        if keys.is_none() && news.frame.is_none() {
-            drop(keys);
-            drop(message);
-            drop(collection);
-            return;
-        }
         self.learn(news.source, keys);
         self.take_frame(news.source, news.frame, message, collection);
-        self.wake();
+    }
+
+    /// Answers the blocked call, if its answer is ready now; else it stays blocked (MPI 3.1, 3.7.3 and 3.7.5). It is called
+    /// once for each event, behind everything that the event hands up, since one that waits for any of several requests is
+    /// answered by all that has ended then. It takes no memory.
+    #[tactic(auto, unfolding(crate::specs::Waiting::woken))]
+    pub fn wake(&mut self)
+        ensures exact { self.new.state ≡ woken self.old.state }
+        ensures placed { self.new.state.place ≡ self.old.state.place }
+    {
+        if let Some(awaited) = self.blocked.take() {
+            match self.requests.complete(awaited) {
+                Ok(answer) => give_way(&mut self.completion, Some(answer)),
+                Err(awaited) => give_way(&mut self.blocked, Some(awaited)),
+            }
+        }
     }
 }
