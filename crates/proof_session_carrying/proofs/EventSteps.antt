@@ -163,7 +163,7 @@ as_held : (w : GroupNetwork) (said : Saying) (texts : LinksOf FrameText) (sessio
 as_held w said texts sessions j = record { parts = j.parts; alike = j.alike; brought = j.brought }
 
 pub entries_are_carried : EntriesAreCarried
-entries_are_carried n w after said texts sessions e core t k sent entries gone j f b number =
+entries_are_carried n w after said texts sessions e core t k given sent entries gone j f b number =
     joined_as after w.net.link (notify_all w.notices e f.out) (say_all said e sent) (accept_all texts e gone) (accept_all sessions e (all_carried w.notices e f.out gone)) f.happened.messages_are f.happened.notices_are
     (all_told n w.net.link w.notices said texts sessions e sent f.out gone (as_held w said texts sessions j) f.said f.sendable b number)
 
@@ -178,7 +178,7 @@ same_notices ns s d i a b = go (is_same a s && is_same b d) refl
         ap (λ (z : Endpoint). (ns z b).accepted) (same_eq a s p.0) ∙ ap (λ (z : Endpoint). (ns s z).accepted) (same_eq b d p.1)
 
 pub notices_are_carried : NoticesAreCarried
-notices_are_carried n w after said texts sessions s e core t k sent entries gone i j next f b number =
+notices_are_carried n w after said texts sessions s e core t k given sent entries gone i j next f b number =
     joined_as after w.net.link (notify_all (noticed_on w.notices s e i) e f.out) (say_all said e sent) (accept_all (handed_on texts s e) e gone)
     (accept_all (handed_on sessions s e) e (all_carried (noticed_on w.notices s e i) e f.out gone)) f.happened.messages_are f.happened.notices_are
     (all_told n w.net.link (noticed_on w.notices s e i) said (handed_on texts s e) (handed_on sessions s e) e sent f.out gone handed f.said f.sendable b number)

@@ -3,6 +3,7 @@ use Rattle.std.specs.Prelude.{◌≡◌, ℕ, ◌-◌, ◌<◌, List, [], ◌∷
 use Rattle.collective_notes.specs.declared.message.Message.{Message}
 use Rattle.collective_notes.specs.Messages.{says}
 use Rattle.collectives.specs.State.{State}
+use Rattle.collective_steps.specs.declared.step.Ending.{Ending}
 use Rattle.context_agreement.specs.Communicators.{ContextsState}
 use Rattle.datagram.specs.Spelling.{ClearFrame, DataFrame, EagerFrame, FrameText, RequestFrame}
 use Rattle.datagram.specs.declared.kinds.Clearance.TheVariants.{Send}
@@ -75,16 +76,16 @@ AreNumbered sessions e (t ∷ ts) ((d, c) ∷ cs) = HasNumber (length (announced
 -- All is joined once a rank entered a collective, and its texts went out
 abbrev pub EntriesAreCarried : Type 0
 EntriesAreCarried =
-    (n : ℕ) (w after : GroupNetwork) (said : Saying) (texts : LinksOf FrameText) (sessions : Sessions) (e : Endpoint) (core : Core) (t : State) (k : ContextsState) (sent : List Message) (entries : List Entry) (gone : List (Endpoint × FrameText)) →
-    AreJoined w said texts sessions → (f : Follows n w after e core w.net.link w.notices t k sent entries) → Bring sent gone → AreNumbered sessions e gone (all_carried w.notices e f.out gone) →
+    (n : ℕ) (w after : GroupNetwork) (said : Saying) (texts : LinksOf FrameText) (sessions : Sessions) (e : Endpoint) (core : Core) (t : State) (k : ContextsState) (given : Option Ending) (sent : List Message) (entries : List Entry) (gone : List (Endpoint × FrameText)) →
+    AreJoined w said texts sessions → (f : Follows n w after e core w.net.link w.notices t k given sent entries) → Bring sent gone → AreNumbered sessions e gone (all_carried w.notices e f.out gone) →
     AreJoined after (say_all said e sent) (accept_all texts e gone) (accept_all sessions e (all_carried w.notices e f.out gone))
 
 -- and once it was handed what made a notice of s whole
 abbrev pub NoticesAreCarried : Type 0
 NoticesAreCarried =
-    (n : ℕ) (w after : GroupNetwork) (said : Saying) (texts : LinksOf FrameText) (sessions : Sessions) (s e : Endpoint) (core : Core) (t : State) (k : ContextsState) (sent : List Message) (entries : List Entry) (gone : List (Endpoint × FrameText)) (i : ℕ) →
+    (n : ℕ) (w after : GroupNetwork) (said : Saying) (texts : LinksOf FrameText) (sessions : Sessions) (s e : Endpoint) (core : Core) (t : State) (k : ContextsState) (given : Option Ending) (sent : List Message) (entries : List Entry) (gone : List (Endpoint × FrameText)) (i : ℕ) →
     AreJoined w said texts sessions → IsNext sessions s e (OfNotices i) →
-    (f : Follows n w after e core w.net.link (noticed_on w.notices s e i) t k sent entries) → Bring sent gone →
+    (f : Follows n w after e core w.net.link (noticed_on w.notices s e i) t k given sent entries) → Bring sent gone →
     AreNumbered (handed_on sessions s e) e gone (all_carried (noticed_on w.notices s e i) e f.out gone) →
     AreJoined after (say_all said e sent) (accept_all (handed_on texts s e) e gone) (accept_all (handed_on sessions s e) e (all_carried (noticed_on w.notices s e i) e f.out gone))
 
