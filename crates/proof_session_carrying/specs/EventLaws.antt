@@ -1,5 +1,5 @@
 -- What sessions carry once an event of a collective happened: what a rank sends goes out as notices, each whole or announced.
-use Rattle.std.specs.Prelude.{◌≡◌, ℕ, ◌-◌, ◌<◌, List, [], ◌∷◌, Some, length, map, slice_get}
+use Rattle.std.specs.Prelude.{◌≡◌, ℕ, ◌-◌, ◌<◌, List, [], ◌∷◌, Option, Some, length, map, slice_get}
 use Rattle.collective_notes.specs.declared.message.Message.{Message}
 use Rattle.collective_notes.specs.Messages.{says}
 use Rattle.collectives.specs.State.{State}
