@@ -18,3 +18,7 @@ pub mod Hearing
 pub mod Datagrams
 pub mod Sendings
 pub mod Refusals
+pub mod Sent
+pub mod Exchanging
+pub mod Reordering
+pub mod Deliveries

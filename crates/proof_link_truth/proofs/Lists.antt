@@ -4,7 +4,7 @@ use Rattle.std.specs.List.{AllByRecursion, flat_map}
 use Rattle.std.proofs.lemmas.Bool.{eqb-true, eqb-false, ne_eqb}
 use Rattle.std.proofs.lemmas.Option.{same_Some, slice_get_within}
 use Rattle.std.proofs.lemmas.List.{length-set}
-use Rattle.perfect_queues.proofs.ListLemmas.{get_set, get_set_other}
+use Rattle.perfect_queues.proofs.ListLemmas.{get_last, get_set, get_set_other}
 
 -- what holds of each element of two lists holds of each of both
 pub All_append : {A : Type 0} (P : A → Type 0) (xs ys : List A) → AllByRecursion P xs → AllByRecursion P ys → AllByRecursion P (xs ++ ys)
@@ -21,6 +21,22 @@ pub All_get : {A : Type 0} (P : A → Type 0) (xs : List A) (k : ℕ) (x : A) �
 All_get P [] k x a h = absurd (grind arith)
 All_get P (y ∷ ys) zero x a h = subst P (same_Some y x h) a.0
 All_get P (y ∷ ys) (suc k) x a h = All_get P ys k x a.1 h
+
+-- what holds of each element of two lists joined holds of each of the first
+pub All_front : {A : Type 0} (P : A → Type 0) (xs ys : List A) → AllByRecursion P (xs ++ ys) → AllByRecursion P xs
+All_front P [] ys a = tt
+All_front P (x ∷ xs) ys a = (a.0, All_front P xs ys a.1)
+
+-- what holds at each place holds of each element
+pub All_each : {A : Type 0} (P : A → Type 0) (xs : List A) → ((k : ℕ) (x : A) → slice_get xs k ≡ Some x → P x) → AllByRecursion P xs
+All_each P [] f = tt
+All_each P (x ∷ xs) f = (f 0 x refl, All_each P xs (λ k y h. f (suc k) y h))
+
+-- what holds of each element and of one behind them holds of each where that one stands at a place
+pub All_set : {A : Type 0} (P : A → Type 0) (xs : List A) (k : ℕ) (new : A) → AllByRecursion P (xs ++ new ∷ []) → AllByRecursion P (slice_set xs k new)
+All_set P [] k new a = tt
+All_set P (x ∷ xs) zero new a = (All_get P (x ∷ (xs ++ new ∷ [])) (suc (length xs)) new a (get_last xs new), All_front P xs (new ∷ []) a.1)
+All_set P (x ∷ xs) (suc k) new a = (a.0, All_set P xs k new a.1)
 
 -- what holds of each part holds of the parts joined
 pub All_flat : {A B : Type 0} (P : B → Type 0) (f : A → List B) (xs : List A) → ((x : A) → AllByRecursion P (f x)) → AllByRecursion P (flat_map f xs)

@@ -193,7 +193,7 @@ passed false o h = (refl, h)
 passed true o h = absurd cc
 
 -- each frame is accepted by its link
-sends_leave : (n r : ℕ) (sessions : List SessionsState) (datagrams : List (ℕ × List ℕ)) (links : Links) (current : ℕ → ℕ) (mid : SessionsState) (sendings : List Sending)
+pub sends_leave : (n r : ℕ) (sessions : List SessionsState) (datagrams : List (ℕ × List ℕ)) (links : Links) (current : ℕ → ℕ) (mid : SessionsState) (sendings : List Sending)
     → LeavesTrue n sessions datagrams r mid links current → r < length sessions → MaySendAll n r sendings
     → sends_limit mid sendings ≡ None → LeavesTrue n sessions datagrams r (after_sends mid sendings) (accept_all links (at r (current r)) (all_addressed mid.known sendings)) current
 sends_leave n r sessions datagrams links current mid [] leaves within may limit = leaves

@@ -1,5 +1,6 @@
 //! The law that joins datagrams to links.
 
+ghost use Rattle.proof_link_truth.specs.Deliveries.{DeliveriesBegin, TurnsTellTheTruth, TurnsAreTrue, DiscardsAreTrue, OrderIsFree};
 ghost use Rattle.proof_link_truth.specs.Events.{OpeningIsTrue, HearingIsTrue, EventsAreTrue, RestIsTrue, RefusalsAreTrue, TicksAreTrue, RestartsAreTrue, IdleIsStill};
 
 /// States that the sessions of the ranks of a world hold just what the links between their endpoints hold, and every datagram that
@@ -16,4 +17,16 @@ pub fn datagrams_tell_the_truth()
     ensures ticks { TicksAreTrue }
     ensures restarts { RestartsAreTrue }
     ensures idle { IdleIsStill }
+{}
+
+/// States the same of deliveries that hand up several frames: the first one is an event, as any other; whatever was held is the next
+/// frame of its link, once its turn comes; each turn leaves the links true, with the frames that are sent for it and with the
+/// acknowledgement of the delivery, which gives way to one that says more; so does a frame that is taken out in its turn, and any
+/// order in which what went out is put. It does nothing when it is called.
+pub fn deliveries_tell_the_truth()
+    ensures begin { DeliveriesBegin }
+    ensures heard { TurnsTellTheTruth }
+    ensures turns { TurnsAreTrue }
+    ensures discards { DiscardsAreTrue }
+    ensures order { OrderIsFree }
 {}
