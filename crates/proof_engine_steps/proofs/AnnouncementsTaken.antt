@@ -232,8 +232,9 @@ unfolding rank.arrived announced_of
 announcements_are_taken match agree links e known core s t frame meets =
     record {
       both = subst (λ (f : Effect). HoldBoth links (announced e s t) known f.core) (sym same)
-          (record { rows = a.left; holding = a.holding; awaited = blocked_stays rows a.left e.blocked core.blocked after.core.blocked meets.both.awaited a.blocked a.waits; free = meets.both.free });
+          (record { rows = a.left; holding = a.holding; awaited = blocked_stays rows a.left e.blocked core.blocked after.core.blocked meets.both.awaited a.blocked a.waits });
       place = refl;
+      completion = refl;
       quiet = subst (λ (f : Effect). AreQuiet f.out) (sym same) a.quiet;
       sends = subst (λ (f : Effect). AreSent links (all_gone known (as_list (answer_on_arrival e.slots (arrival_of e.queues (envelope_of s t))))) f.out) (sym same) a.sends;
       leaves = a.leaves;

@@ -185,9 +185,9 @@ answers_are_taken links e known core s t frame m =
         holding = over_held links e known core m.both.rows s.rank t.transfer answer.serial d found m.both.holding answer.row;
         awaited = blocked_stays m.both.rows (slice_set m.both.rows answer.serial (row_of o.request (Over machine.Sent))) e.blocked core.blocked core.blocked m.both.awaited refl
             (named_set m.both.rows answer.serial o.request (offering d o) (Over machine.Sent) answer.row (λ z. cc));
-        free = m.both.free;
       });
       place = refl;
+      completion = refl;
       quiet = subst (λ (x : Effect). AreQuiet x.out) (sym core_is) (quiet_wanted d answer.serial o.elements.basic o.elements.values (is_wanted t.clearance));
       sends = subst (λ (x : Effect). AreSent links (all_gone known (wanted_frames s.rank t.clearance (offered e.transfers s.rank t.transfer))) x.out) (sym core_is)
           (subst (λ (x : Option Offer). AreSent links (all_gone known (wanted_frames s.rank t.clearance x)) (wanted_data d answer.serial o.elements.basic o.elements.values (is_wanted t.clearance)))

@@ -52,3 +52,4 @@ pub mod AnswersTaken
 pub mod GatheredPieces
 pub mod PiecesTaken
 pub mod Counting
+pub mod Further

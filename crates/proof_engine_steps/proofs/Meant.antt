@@ -20,6 +20,7 @@ use Rattle.proof_engine_view.specs.Shown.{IsShown}
 use Rattle.proof_engine_view.specs.Standing.{AreSent, CanLeave, all_gone}
 use Rattle.proof_engine_view.specs.Transfers.{Announcements, after_out}
 use Rattle.proof_engine_steps.specs.Steps.{IsCalled}
+use Rattle.proof_engine_steps.proofs.Settling.{settled_is}
 use Rattle.proof_engine_steps.proofs.Staying.{shown_quiet}
 
 -- what is seen of the machine's call that was answered so
@@ -61,6 +62,7 @@ meant_called links old new known core call reply frame m =
       completion = m.completion;
       shown = subst (λ (out : List (Endpoint × Frame)). IsShown (after_out links out) new known settled) (sym m.sends)
           (shown_quiet links new known settled [] tt m.shown);
+      settled = settled_is (called old.place.endpoint core (call_seen call)).core;
       sends = subst (λ (out : List (Endpoint × Frame)). AreSent (after_out links out) (all_gone known (as_list (call_frame old call))) out) (sym m.sends)
           (subst (λ (f : Option FrameFor). AreSent (after_out links []) (all_gone known (as_list f)) []) (sym frame) tt);
       leaves = subst (λ (f : Option FrameFor). AllByRecursion (CanLeave old.place) (as_list f)) (sym frame) tt;

@@ -79,9 +79,9 @@ learned_holds links e known core rows s h inside apart later untold =
     i = s.incarnation
 
 -- what a word of another rank of the job leaves both holding, by whether it is a lesson
-pub met_holds : (links : Announcements) (e : CoreState) (known : List ℕ) (core : Core) (news : NewsText) → IsShown links e known core → e.completion ≡ None → IsFromOther e known news → NoneUntold links known →
+pub met_holds : (links : Announcements) (e : CoreState) (known : List ℕ) (core : Core) (news : NewsText) → IsShown links e known core → IsFromOther e known news → NoneUntold links known →
     HoldBoth links (taught news.lesson e news.source) (known_after news.lesson known news.source) (network.met core news.source)
-met_holds links e known core news shown free other untold =
+met_holds links e known core news shown other untold =
     subst (λ (c : Core). HoldBoth links (taught news.lesson e s) (known_after news.lesson known s) c) (sym met_is) (go news.lesson other.lesson)
   where
     s : Endpoint
@@ -97,7 +97,6 @@ met_holds links e known core news shown free other untold =
           rows = map (ended_row s.rank s.incarnation) shown.rows;
           holding = learned_holds links e known core shown.rows s (holding_of links e known core shown) other.there other.apart (ltb-true (slice_index known s.rank) s.incarnation later) untold;
           awaited = blocked_stays shown.rows (map (ended_row s.rank s.incarnation) shown.rows) e.blocked core.blocked core.blocked shown.blocked refl (ended_named s.rank s.incarnation shown.rows);
-          free = free;
         }
     go false later =
-        record { rows = shown.rows; holding = holding_of links e known core shown; awaited = shown.blocked; free = free }
+        record { rows = shown.rows; holding = holding_of links e known core shown; awaited = shown.blocked }

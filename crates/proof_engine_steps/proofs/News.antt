@@ -14,18 +14,16 @@ use Rattle.vocabulary.specs.BasicTypes.{size_of}
 use Rattle.requests.specs.declared.awaited.Awaited.{Awaited}
 use Rattle.rank_core.specs.CoreState.{CoreState}
 use Rattle.rank_calls.specs.Hearing.{NewsText, heard_fault, message_of, transfers_met}
-use Rattle.rank_core.specs.Hearing.{after_any, after_hearing, after_news, called_for, news_frames, taught}
+use Rattle.rank_core.specs.Hearing.{after_any, after_news, called_for, news_frames, taught}
 use Rattle.rank_core.specs.Sending as rank
-use Rattle.rank_core.specs.Waiting.{woken}
 use Rattle.rendezvous.specs.State as transfers
 use Rattle.proof_pure_network.specs.Core.{Core, Effect}
 use Rattle.proof_pure_network.specs.Engine as network
-use Rattle.proof_pure_network.specs.Engine.{came, core_settled}
+use Rattle.proof_pure_network.specs.Engine.{came}
 use Rattle.proof_pure_network.specs.Frames.{Eager, Frame}
 use Rattle.proof_pure_network.specs.Matching.{arrived}
 use Rattle.proof_engine_view.specs.Frames.{endpoint_of, known_after, message_seen}
 use Rattle.proof_engine_view.specs.Rows.{held_of}
-use Rattle.proof_engine_view.specs.Seen.{told_completion}
 use Rattle.proof_engine_view.specs.Shown.{IsBlocked, IsShown}
 use Rattle.proof_engine_view.specs.Standing.{AreSent, CanLeave, IsMeant, all_gone}
 use Rattle.proof_engine_view.specs.Transfers.{Announcements, Transfer}
@@ -38,7 +36,7 @@ use Rattle.proof_engine_steps.proofs.Named.{blocked_stays}
 use Rattle.proof_engine_steps.proofs.SourceKnown.{source_known}
 use Rattle.proof_engine_steps.proofs.Staying.{AreQuiet, sent_then, shown_quiet}
 use Rattle.proof_engine_steps.proofs.Taking.{AnnouncementsAreTaken, AnswersAreTaken, HoldBoth, IsTaken, Meets, MessagesAreTaken, PiecesAreTaken}
-use Rattle.proof_engine_steps.proofs.Waking.{IsSettled, settles, woken_place, woken_still}
+use Rattle.proof_engine_steps.proofs.Waking.{shown_with}
 
 -- ---- A WHOLE MESSAGE
 
@@ -69,9 +67,9 @@ messages_are_taken match agree links e known core s t frame meets =
             holding = a.holding;
             awaited = blocked_stays meets.both.rows a.left (rank.arrived e m).blocked core.blocked (arrived core (held_of links.from m)).core.blocked
                 (subst (λ (x : Option Awaited). IsBlocked meets.both.rows x core.blocked) (sym keeps.blocked) meets.both.awaited) a.blocked a.waits;
-            free = keeps.completion ∙ meets.both.free;
           });
       place = keeps.place;
+      completion = keeps.completion;
       quiet = subst AreQuiet (sym none) tt;
       sends = subst (λ (out : List (Endpoint × Frame)). AreSent links [] out) (sym none) tt;
       leaves = tt;
@@ -105,6 +103,7 @@ pub record AreTaken : Type 0 where
 record Hears (links : Announcements) (e : CoreState) (known : List ℕ) (core : Core) (s : Endpoint) (text : Option FrameText) (frame : Option Frame) : Type 0 where
   both : HoldBoth links (after_any e s text) known (heard_by_core core s frame).core
   place : (after_any e s text).place ≡ e.place
+  completion : (after_any e s text).completion ≡ e.completion
   quiet : AreQuiet (heard_by_core core s frame).out
   sends : AreSent links (all_gone known (called_for e s text)) (heard_by_core core s frame).out
   leaves : AllByRecursion (CanLeave e.place) (called_for e s text)
@@ -130,7 +129,7 @@ record Comes (links : Announcements) (e : CoreState) (known : List ℕ) (core : 
 
 any_taken : AreTaken → (links : Announcements) (e : CoreState) (known : List ℕ) (core : Core) (s : Endpoint) (text : Option FrameText) (frame : Option Frame) → Comes links e known core s text frame
     → Hears links e known core s text frame
-any_taken laws links e known core s None None c = record { both = c.both; place = refl; quiet = tt; sends = tt; leaves = tt }
+any_taken laws links e known core s None None c = record { both = c.both; place = refl; completion = refl; quiet = tt; sends = tt; leaves = tt }
 any_taken laws links e known core s None (Some frame) c = absurd c.meant
 any_taken laws links e known core s (Some text) None c = absurd c.meant
 any_taken laws links e known core s (Some text) (Some frame) c =
@@ -144,7 +143,7 @@ any_taken laws links e known core s (Some text) (Some frame) c =
       taken = c.taken;
       once = c.once;
     }) in
-    record { both = t.both; place = t.place; quiet = t.quiet; sends = t.sends; leaves = t.leaves }
+    record { both = t.both; place = t.place; completion = t.completion; quiet = t.quiet; sends = t.sends; leaves = t.leaves }
 
 -- ---- THE LESSON AND THE FRAME
 
@@ -153,25 +152,22 @@ taught_place : (lesson : Bool) (c : CoreState) (s : Endpoint) → (taught lesson
 taught_place true c s = refl
 taught_place false c s = refl
 
+-- and owes the answer that it owed
+taught_completion : (lesson : Bool) (c : CoreState) (s : Endpoint) → (taught lesson c s).completion ≡ c.completion
+taught_completion true c s = refl
+taught_completion false c s = refl
+
 -- the frame meets the transfers that the lesson leaves
 taught_transfers : (lesson : Bool) (c : CoreState) (s : Endpoint) → transfers_met lesson c.transfers s.rank ≡ (taught lesson c s).transfers
 taught_transfers true c s = refl
 taught_transfers false c s = refl
 
--- where nothing came, nothing is to be answered
-after_is : (links : Announcements) (old : CoreState) (known : List ℕ) (core : Core) (s : Endpoint) (lesson : Bool) (text : Option FrameText) → IsShown links old known core →
-    after_hearing lesson text old s ≡ woken (after_any (taught lesson old s) s text)
-after_is links old known core s true None shown = refl
-after_is links old known core s false None shown = sym (woken_still links old known core shown)
-after_is links old known core s true (Some text) shown = refl
-after_is links old known core s false (Some text) shown = refl
-
 -- what comes once the lesson, if there was one, is learnt
-news_come : (links : Announcements) (old : CoreState) (known : List ℕ) (core : Core) (news : NewsText) (frame : Option Frame) → IsShown links old known core → old.completion ≡ None →
+news_come : (links : Announcements) (old : CoreState) (known : List ℕ) (core : Core) (news : NewsText) (frame : Option Frame) → IsShown links old known core →
     MayCome links old known core news frame → Comes links (taught news.lesson old news.source) (known_after news.lesson known news.source) core news.source news.frame frame
-news_come links old known core news frame shown free may =
+news_come links old known core news frame shown may =
     record {
-      both = met_holds links old known core news shown free may.other may.untold;
+      both = met_holds links old known core news shown may.other may.untold;
       sender = sym (source_known old known news shown.width may.other);
       there = subst (λ (p : Place). s.rank < p.size) (sym (taught_place news.lesson old s)) may.other.there;
       apart = subst (λ (p : Place). s.rank ≡ p.endpoint.rank → ⊥) (sym (taught_place news.lesson old s)) may.other.apart;
@@ -186,14 +182,14 @@ news_come links old known core news frame shown free may =
 
 -- whatever is heard, both hold the same
 pub news_are_shown : AreTaken → NewsAreShown
-news_are_shown laws links old known core news frame shown free may =
+news_are_shown laws links old known core news frame shown may =
     record {
-      place = ap (λ (c : CoreState). c.place) new_is ∙ (woken_place mid ∙ (h.place ∙ taught_place news.lesson old s));
-      shown = shown_quiet links (after_news old news) learnt (core_settled after.core) after.out h.quiet
-          (subst (λ (c : CoreState). IsShown links c learnt (core_settled after.core)) (sym new_is) t.shown);
+      place = h.place ∙ taught_place news.lesson old s;
+      completion = h.completion ∙ taught_completion news.lesson old s;
+      shown = shown_quiet links (after_news old news) learnt after.core after.out h.quiet
+          (shown_with links (after_news old news) learnt after.core h.both.rows h.both.holding h.both.awaited);
       sends = sent_then links after.out (all_gone learnt (news_frames old news)) h.sends;
       leaves = subst (λ (p : Place). AllByRecursion (CanLeave p) (news_frames old news)) (taught_place news.lesson old s) h.leaves;
-      tells = t.tells old.place.endpoint ∙ ap (λ (c : CoreState). told_completion old.place.endpoint c.completion) (sym new_is);
     }
   where
     s : Endpoint
@@ -202,17 +198,8 @@ news_are_shown laws links old known core news frame shown free may =
     learnt : List ℕ
     learnt = known_after news.lesson known s
 
-    mid : CoreState
-    mid = after_any (taught news.lesson old s) s news.frame
-
     after : Effect
     after = heard_by_core core s frame
 
     h : Hears links (taught news.lesson old s) learnt core s news.frame frame
-    h = any_taken laws links (taught news.lesson old s) learnt core s news.frame frame (news_come links old known core news frame shown free may)
-
-    t : IsSettled links mid learnt after.core
-    t = settles links mid learnt after.core h.both.rows h.both.holding h.both.awaited h.both.free
-
-    new_is : after_news old news ≡ woken mid
-    new_is = after_is links old known core s news.lesson news.frame shown
+    h = any_taken laws links (taught news.lesson old s) learnt core s news.frame frame (news_come links old known core news frame shown may)

@@ -8,7 +8,7 @@ use Rattle.rendezvous.specs.State.{fresh, most_transfers, next_to}
 use Rattle.proof_engine_view.specs.Frames.{endpoint_of}
 use Rattle.proof_engine_view.specs.Transfers.{Transfer}
 use Rattle.proof_engine_view.specs.UnderWay.{IsNumbered}
-use Rattle.proof_engine_steps.specs.Steps.{OpeningIsShown}
+use Rattle.proof_engine_steps.specs.Steps.{OpeningIsSettled, OpeningIsShown}
 use Rattle.proof_engine_steps.proofs.Knowing.{opening_known}
 
 -- no session has a number that was used
@@ -47,8 +47,10 @@ opening_is_shown p a inside none =
         messages = tt;
       };
       blocked = refl;
-      pending = refl;
       width = k.width;
       known_alike = k.same;
       itself = k.itself;
     }
+
+pub opening_is_settled : OpeningIsSettled
+opening_is_settled e = refl

@@ -250,7 +250,6 @@ gathered agree links e known core s t frame h x false whole =
           (more_under_way links known e.place h.rows e.transfers e.queues.unexpected s t frame x h.holding.under_way);
       awaited = blocked_stays h.rows (slice_set h.rows y.serial (row_of key (Collecting y.receive y.message (y.got ++ x.values)))) e.blocked core.blocked core.blocked h.awaited refl
           (named_set h.rows y.serial key (Collecting y.receive y.message y.got) (Collecting y.receive y.message (y.got ++ x.values)) y.row (λ z. cc));
-      free = h.free;
     }
   where
     y : IsCollectionOf links.from known h.rows x.collection
@@ -265,7 +264,6 @@ gathered agree links e known core s t frame h x true whole =
           (Collecting y.receive y.message y.got) over h.holding y.row refl refl table
           (last_under_way links known e.place e.slots h.rows e.transfers e.queues.unexpected s t frame x (machine.outcome y.receive (full y.message (y.got ++ x.values))) h.holding.table h.holding.under_way);
       awaited = blocked_stays h.rows (slice_set h.rows y.serial (row_of key over)) e.blocked core.blocked core.blocked h.awaited refl (named_set h.rows y.serial key (Collecting y.receive y.message y.got) over y.row (λ z. cc));
-      free = h.free;
     }
   where
     y : IsCollectionOf links.from known h.rows x.collection
@@ -298,6 +296,7 @@ pieces_are_taken agree links e known core s t frame m =
           (subst (λ (j : Job). HoldBoth links (rank_with whole e x.place (with_it x.collection t)) known (core_with core x.stands.serial j)) (sym (more_is whole x.stands.receive x.stands.message got refl))
           (gathered agree links e known core s t frame m.both x whole refl)));
       place = refl;
+      completion = refl;
       quiet = subst (λ (f : Effect). AreQuiet f.out) (sym core_is) tt;
       sends = subst (λ (f : Effect). AreSent links [] f.out) (sym core_is) tt;
       leaves = tt;

@@ -3,7 +3,7 @@ use Rattle.std.proofs.Common.{◌≡◌, ℕ, Bool, List, Option, Some, None, if
 use Rattle.std.proofs.lemmas.Bool.{eq-eqb}
 use Rattle.vocabulary.specs.declared.basic_type.BasicType.{BasicType}
 use Rattle.vocabulary.specs.declared.endpoint.Endpoint.{Endpoint}
-use Rattle.perfect_queues.specs.Completions.{Awaited, completion}
+use Rattle.perfect_queues.specs.Completions.{Answer, Awaited, completion}
 use Rattle.perfect_queues.specs.Outcomes as machine
 use Rattle.perfect_queues.specs.Receives.{Receive}
 use Rattle.proof_pure_network.specs.Core.{Core}
@@ -20,6 +20,7 @@ use Rattle.requests.specs.declared.table.Progress.TheVariants as progresses
 use Rattle.requests.specs.Table.{progress_at, progress_of, slot_at}
 use Rattle.proof_engine_view.specs.Rows.{Fits, Holds, IsMatched, IsTable, Row}
 use Rattle.proof_engine_view.specs.Seen.{outcome_seen}
+use Rattle.proof_engine_view.specs.Shown.{IsSettled}
 use Rattle.proof_engine_steps.proofs.Tables.{held_at}
 
 -- THE CORE
@@ -31,6 +32,14 @@ ready_free core h = ap (λ (b : Option Awaited). option_and_then (completion (ov
 -- where no call is blocked, settling changes nothing
 pub settled_free : (core : Core) → core.blocked ≡ None → core_settled core ≡ core
 settled_free core h = ap (core_settled_by core) (ready_free core h)
+
+-- what is settled is settled
+pub settled_is : (core : Core) → IsSettled (core_settled core)
+settled_is core = go (core_ready core) refl
+  where
+    go : (o : Option (Answer × List ℕ)) → core_ready core ≡ o → IsSettled (core_settled_by core o)
+    go None is = is
+    go (Some t) is = ready_free (core_settled_by core (Some t)) refl
 
 -- THE ENGINE
 

@@ -18,9 +18,13 @@ incarnation_known false known s there fresh later =
     let at : s.incarnation ≤ slice_index known s.rank = ltb-false (slice_index known s.rank) s.incarnation later in
     omega arith
 
+pub source_incarnation : (old : CoreState) (known : List ℕ) (news : NewsText) → length known ≡ old.place.size → IsFromOther old known news
+    → slice_index (known_after news.lesson known news.source) news.source.rank ≡ news.source.incarnation
+source_incarnation old known news width other =
+    incarnation_known news.lesson known news.source (subst (λ (n : ℕ). news.source.rank < n) (sym width) other.there) other.fresh other.lesson
+
 -- so its rank is known as that endpoint
 pub source_known : (old : CoreState) (known : List ℕ) (news : NewsText) → length known ≡ old.place.size → IsFromOther old known news
     → endpoint_of (known_after news.lesson known news.source) news.source.rank ≡ news.source
 source_known old known news width other =
-    ap (λ (i : ℕ). record { rank = news.source.rank; incarnation = i })
-    (incarnation_known news.lesson known news.source (subst (λ (n : ℕ). news.source.rank < n) (sym width) other.there) other.fresh other.lesson)
+    ap (λ (i : ℕ). record { rank = news.source.rank; incarnation = i }) (source_incarnation old known news width other)

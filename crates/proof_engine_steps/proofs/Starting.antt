@@ -30,7 +30,7 @@ use Rattle.proof_engine_view.specs.Transfers.{Announcements, after_out}
 use Rattle.proof_engine_view.specs.UnderWay.{AreUnderWay}
 use Rattle.proof_engine_steps.specs.Steps.{IsCalled}
 use Rattle.proof_engine_steps.proofs.RowLemmas.{posted_push, push_jobs}
-use Rattle.proof_engine_steps.proofs.Settling.{ready_free, settled_free}
+use Rattle.proof_engine_steps.proofs.Settling.{settled_free, settled_is}
 use Rattle.proof_engine_steps.proofs.Tables.{Says, says_some, started_table}
 use Rattle.proof_engine_steps.proofs.Waking.{Holding, known_still, shown_with}
 pub use Rattle.proof_engine_steps.proofs.Waking.{holding_of}
@@ -41,7 +41,7 @@ core_free links e known core s h = subst (λ (b : Option rank.Awaited). IsBlocke
 
 -- what is held is shown, where no call is blocked
 pub shown_free : (links : Announcements) (e : CoreState) (known : List ℕ) (core : Core) (rows : List Row) → Holding links e known core rows → e.blocked ≡ None → core.blocked ≡ None → IsShown links e known core
-shown_free links e known core rows h a b = shown_with links e known core rows h (subst (λ (x : Option rank.Awaited). IsBlocked rows x core.blocked) (sym a) b) (ready_free core b)
+shown_free links e known core rows h a b = shown_with links e known core rows h (subst (λ (x : Option rank.Awaited). IsBlocked rows x core.blocked) (sym a) b)
 
 -- the fault of a call while no other is blocked
 pub fault_free : (n : ℕ) (core : Core) (c : machine.Call) → core.blocked ≡ None → queue_fault n (view blank core) c ≡ queue_fault_by n false (λ k. standing (slice_get (map (request_of blank) core.jobs) k)) c
@@ -111,6 +111,7 @@ started_call links old new known core call q after s =
       completion = s.completion;
       shown = subst (λ (f : Effect). IsShown (after_out links f.out) new known (core_settled f.core)) (sym s.is)
           (subst (λ (c : Core). IsShown (after_out links after.out) new known c) (sym (settled_free after.core s.free)) s.shown);
+      settled = settled_is (called old.place.endpoint core (call_seen call)).core;
       sends = subst (λ (f : Effect). AreSent (after_out links f.out) (all_gone known (as_list (call_frame old call))) f.out) (sym s.is) s.sends;
       leaves = s.leaves;
       tells = ap (λ (o : Option (machine.Call × Option machine.Reply)). told old.place.endpoint o (core_ready (called old.place.endpoint core (call_seen call)).core)) s.reply;

@@ -24,7 +24,6 @@ pub record HoldBoth (links : Announcements) (e : CoreState) (known : List ℕ) (
   pub rows : List Row
   pub holding : Holding links e known core rows
   pub awaited : IsBlocked rows e.blocked core.blocked
-  pub free : e.completion ≡ None
 
 -- A frame of another rank of the job, at the incarnation at which this one is known, comes once its lesson was learnt, if it
 -- brought one; it stands for this frame of the network, and no rule refuses it
@@ -42,6 +41,7 @@ pub record Meets (links : Announcements) (e : CoreState) (known : List ℕ) (cor
 pub record IsTaken (links : Announcements) (e : CoreState) (known : List ℕ) (core : Core) (s : Endpoint) (text : FrameText) (frame : Frame) : Type 0 where
   pub both : HoldBoth links (after_frame e s text) known (came core s frame).core
   pub place : (after_frame e s text).place ≡ e.place
+  pub completion : (after_frame e s text).completion ≡ e.completion
   pub quiet : AreQuiet (came core s frame).out
   pub sends : AreSent links (all_gone known (frame_calls_for e s text)) (came core s frame).out
   pub leaves : AllByRecursion (CanLeave e.place) (frame_calls_for e s text)

@@ -214,7 +214,6 @@ shown_counted old new c known core ns shown g numbered =
       held = shown.held ∙ held_same old new known c.place c.queues.unexpected g shown.under_way.messages;
       under_way = under_way_counted old new known c.place shown.rows c.transfers ns c.queues.unexpected g numbered shown.under_way;
       blocked = shown.blocked;
-      pending = shown.pending;
       width = shown.width;
       known_alike = shown.known_alike;
       itself = shown.itself;

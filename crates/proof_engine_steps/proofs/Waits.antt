@@ -61,7 +61,7 @@ wait_blocked links old known core a shown free fine g =
       place = refl;
       completion = refl;
       shown = subst (λ (c : Core). IsShown links new known c) (sym (ap (core_settled_by (core_waits core a)) ready))
-          (shown_with links new known (core_waits core a) shown.rows holding (refl, wait_named links old known core a shown fine) ready);
+          (shown_with links new known (core_waits core a) shown.rows holding (refl, wait_named links old known core a shown fine));
       sends = refl;
       tells = ap (told old.place.endpoint (Some (machine.Wait (awaited_seen a), None))) ready;
     }

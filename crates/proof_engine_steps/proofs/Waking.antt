@@ -20,13 +20,14 @@ use Rattle.rank_core.specs.CoreState.{CoreState}
 use Rattle.rank_core.specs.Waiting.{answered_by, woken, woken_by}
 use Rattle.proof_engine_view.specs.Rows.{IsTable, Row, held_of, jobs_of, posted_rows}
 use Rattle.proof_engine_view.specs.Seen.{answer_seen, awaited_seen, told_completion}
-use Rattle.proof_engine_view.specs.Shown.{IsBlocked, IsNamed, IsShown}
+use Rattle.proof_engine_view.specs.Shown.{IsBlocked, IsNamed, IsSettled, IsShown}
 use Rattle.proof_engine_view.specs.Transfers.{Announcements}
 use Rattle.proof_engine_view.specs.UnderWay.{AreUnderWay}
+use Rattle.proof_engine_steps.specs.Steps.{IsWoken, WakesAreShown}
 use Rattle.proof_engine_steps.proofs.Agreeing.{SayTheSame, completion_seen, completions_same, named_same_outcome, serials_of}
 use Rattle.proof_engine_steps.proofs.Knowing.{IsKnown}
 use Rattle.proof_engine_steps.proofs.Named.{all_follow}
-use Rattle.proof_engine_steps.proofs.Settling.{ready_free}
+use Rattle.proof_engine_steps.proofs.Settling.{ready_free, settled_is}
 use Rattle.proof_engine_steps.proofs.Staying.{same_without, under_way_still}
 use Rattle.proof_engine_steps.proofs.Using.{jobs_without, length_without, posted_without, rows_without, table_without, used_spent}
 
@@ -41,9 +42,9 @@ pub record Holding (links : Announcements) (e : CoreState) (known : List ℕ) (c
   pub knowing : IsKnown e.place known core.known
 
 -- what is held is shown, with what the call waits for
-pub shown_with : (links : Announcements) (e : CoreState) (known : List ℕ) (core : Core) (rows : List Row) → Holding links e known core rows → IsBlocked rows e.blocked core.blocked → core_ready core ≡ None →
+pub shown_with : (links : Announcements) (e : CoreState) (known : List ℕ) (core : Core) (rows : List Row) → Holding links e known core rows → IsBlocked rows e.blocked core.blocked →
     IsShown links e known core
-shown_with links e known core rows h b p =
+shown_with links e known core rows h b =
     record {
       rows = rows;
       jobs = h.jobs;
@@ -53,7 +54,6 @@ shown_with links e known core rows h b p =
       held = h.held;
       under_way = h.under_way;
       blocked = b;
-      pending = p;
       width = h.knowing.width;
       known_alike = h.knowing.same;
       itself = h.knowing.itself;
@@ -84,6 +84,19 @@ answered e answer used = record e { slots = without e.slots used; blocked = None
 woken_ready : (e : CoreState) (a : Awaited) (answer : Answer) (used : List Request) → e.blocked ≡ Some a → completion e.slots a ≡ Some (answer, used) → woken e ≡ answered e answer used
 unfolding woken
 woken_ready e a answer used h g = ap (woken_by e) h ∙ ap (answered_by e) g
+
+place_at : (e : CoreState) (o : Option (Answer × List Request)) → (answered_by e o).place ≡ e.place
+place_at e None = refl
+place_at e (Some t) = refl
+
+place_by : (e : CoreState) (b : Option Awaited) → (woken_by e b).place ≡ e.place
+place_by e None = refl
+place_by e (Some a) = place_at e (completion e.slots a)
+
+-- the rank stays at its place
+pub woken_place : (e : CoreState) → (woken e).place ≡ e.place
+unfolding woken
+woken_place e = place_by e e.blocked
 
 -- BOTH
 
@@ -126,41 +139,38 @@ holding_used links e e' known core core' rows a answer used h g js hs kn sl se q
 abbrev pub core_answered : Core → List ℕ → Core
 core_answered core ks = record core { jobs = all_changed closed core.jobs ks; blocked = None }
 
--- the rank is woken as the core is settled
-pub record IsSettled (links : Announcements) (e : CoreState) (known : List ℕ) (core : Core) : Type 0 where
-  pub shown : IsShown links (woken e) known (core_settled core)
-  pub tells : (a : Endpoint) → told a None (core_ready core) ≡ told_completion a (woken e).completion
-
 -- both, by what they become
 settled_from : (links : Announcements) (e e' : CoreState) (known : List ℕ) (core core' : Core) (ready : Option (machine.Answer × List ℕ)) → woken e ≡ e' → core_settled core ≡ core' → core_ready core ≡ ready → IsShown links e' known core' →
-    ((a : Endpoint) → told a None ready ≡ told_completion a e'.completion) → IsSettled links e known core
+    ((a : Endpoint) → told a None ready ≡ told_completion a e'.completion) → IsWoken links e known core
 settled_from links e e' known core core' ready w s r shown tells =
     record {
+      place = woken_place e;
+      settled = settled_is core;
       shown = subst (λ (x : CoreState). IsShown links x known (core_settled core)) (sym w) (subst (λ (c : Core). IsShown links e' known c) (sym s) shown);
       tells = λ a. ap (told a None) r ∙ (tells a ∙ ap (λ (x : CoreState). told_completion a x.completion) (sym w));
     }
 
 -- a rank is woken as its core is settled
-pub settles : (links : Announcements) (e : CoreState) (known : List ℕ) (core : Core) (rows : List Row) → Holding links e known core rows → IsBlocked rows e.blocked core.blocked → e.completion ≡ None → IsSettled links e known core
+pub settles : (links : Announcements) (e : CoreState) (known : List ℕ) (core : Core) (rows : List Row) → Holding links e known core rows → IsBlocked rows e.blocked core.blocked → e.completion ≡ None → IsWoken links e known core
 settles links e known core rows h b free = go e.blocked refl b
   where
-    still : woken e ≡ e → core_ready core ≡ None → IsSettled links e known core
-    still w r = settled_from links e e known core core None w (ap (core_settled_by core) r) r (shown_with links e known core rows h b r) (λ t. ap (told_completion t) (sym free))
+    still : woken e ≡ e → core_ready core ≡ None → IsWoken links e known core
+    still w r = settled_from links e e known core core None w (ap (core_settled_by core) r) r (shown_with links e known core rows h b) (λ t. ap (told_completion t) (sym free))
 
     ready : (a : Awaited) (answer : Answer) (used : List Request) → e.blocked ≡ Some a → core_ready core ≡ completion_seen (completion e.slots a) → completion e.slots a ≡ Some (answer, used) →
-        IsSettled links e known core
+        IsWoken links e known core
     ready a answer used is same g =
         let r : core_ready core ≡ Some (answer_seen answer, serials_of used) = same ∙ ap completion_seen g in
         settled_from links e (answered e answer used) known core (core_answered core (serials_of used)) (Some (answer_seen answer, serials_of used)) (woken_ready e a answer used is g) (ap (core_settled_by core) r) r
         (shown_with links (answered e answer used) known (core_answered core (serials_of used)) (rows_without rows used)
-        (holding_used links e (answered e answer used) known core (core_answered core (serials_of used)) rows a answer used h g refl refl refl refl refl refl refl refl) refl refl)
+        (holding_used links e (answered e answer used) known core (core_answered core (serials_of used)) rows a answer used h g refl refl refl refl refl refl refl refl) refl)
         (λ t. refl)
 
-    wait : (a : Awaited) (o : Option (Answer × List Request)) → e.blocked ≡ Some a → core_ready core ≡ completion_seen (completion e.slots a) → completion e.slots a ≡ o → IsSettled links e known core
+    wait : (a : Awaited) (o : Option (Answer × List Request)) → e.blocked ≡ Some a → core_ready core ≡ completion_seen (completion e.slots a) → completion e.slots a ≡ o → IsWoken links e known core
     wait a None is same g = still (woken_pending e a is g) (same ∙ ap completion_seen g)
     wait a (Some t) is same g = ready a t.0 t.1 is same g
 
-    go : (x : Option Awaited) → e.blocked ≡ x → IsBlocked rows x core.blocked → IsSettled links e known core
+    go : (x : Option Awaited) → e.blocked ≡ x → IsBlocked rows x core.blocked → IsWoken links e known core
     go None is c = still (woken_free e is) (ready_free core c)
     go (Some a) is c = wait a (completion e.slots a) is (core_ready_is links e known core rows a h c.0 c.1) refl
 
@@ -184,24 +194,15 @@ holding_of links e known core s =
       knowing = record { width = s.width; same = s.known_alike; itself = s.itself };
     }
 
--- where what is shown stands, nothing changes: no answer is ready
-pub woken_still : (links : Announcements) (e : CoreState) (known : List ℕ) (core : Core) → IsShown links e known core → woken e ≡ e
-woken_still links e known core shown = go e.blocked refl shown.blocked
+-- the law of waking
+pub wakes_are_shown : WakesAreShown
+wakes_are_shown links e known core shown free = settles links e known core shown.rows (holding_of links e known core shown) shown.blocked free
+
+-- where no answer is ready, nothing changes
+pub woken_still : (links : Announcements) (e : CoreState) (known : List ℕ) (core : Core) → IsShown links e known core → IsSettled core → woken e ≡ e
+woken_still links e known core shown settled = go e.blocked refl shown.blocked
   where
     go : (b : Option Awaited) → e.blocked ≡ b → IsBlocked shown.rows b core.blocked → woken e ≡ e
     go None b c = woken_free e b
     go (Some a) b c =
-        woken_pending e a b (unready (completion e.slots a) (sym (core_ready_is links e known core shown.rows a (holding_of links e known core shown) c.0 c.1) ∙ shown.pending))
-
-place_at : (e : CoreState) (o : Option (Answer × List Request)) → (answered_by e o).place ≡ e.place
-place_at e None = refl
-place_at e (Some t) = refl
-
-place_by : (e : CoreState) (b : Option Awaited) → (woken_by e b).place ≡ e.place
-place_by e None = refl
-place_by e (Some a) = place_at e (completion e.slots a)
-
--- the rank stays at its place
-pub woken_place : (e : CoreState) → (woken e).place ≡ e.place
-unfolding woken
-woken_place e = place_by e e.blocked
+        woken_pending e a b (unready (completion e.slots a) (sym (core_ready_is links e known core shown.rows a (holding_of links e known core shown) c.0 c.1) ∙ settled))

@@ -12,6 +12,7 @@ use Rattle.rank_core.specs.CoreState.{CoreState, opening}
 use Rattle.rank_calls.specs.Frames.{as_list}
 use Rattle.rank_calls.specs.Hearing.{NewsText}
 use Rattle.rank_core.specs.Hearing.{after_news, news_fault, news_frames}
+use Rattle.rank_core.specs.Waiting.{woken}
 use Rattle.vocabulary.specs.declared.endpoint.Endpoint.{Endpoint}
 use Rattle.perfect_queues.specs.Events.{call_and_reply, told}
 use Rattle.proof_pure_network.specs.Core.{Core, Effect, effect, new_core, view}
@@ -22,7 +23,7 @@ use Rattle.proof_pure_network.specs.Jobs.{Job, is_collecting}
 use Rattle.proof_engine_view.specs.Frames.{known_after}
 use Rattle.proof_engine_view.specs.Faults.{queue_fault}
 use Rattle.proof_engine_view.specs.Seen.{call_seen, told_call, told_completion}
-use Rattle.proof_engine_view.specs.Shown.{IsShown}
+use Rattle.proof_engine_view.specs.Shown.{IsSettled, IsShown}
 use Rattle.proof_engine_view.specs.Standing.{AreSent, CanLeave, IsMeant, all_gone}
 use Rattle.proof_engine_view.specs.Transfers.{Announcements, AnnouncementsGrow, after_out}
 
@@ -32,6 +33,10 @@ abbrev pub OpeningIsShown : Type 0
 OpeningIsShown =
     (p : Place) (a : Announcements) → p.endpoint.rank < p.size → ((d : Endpoint) → a.to d ≡ []) →
     IsShown a (opening p) (knowing.opening p).known (new_core p.endpoint)
+
+-- and no call of it is blocked whose answer is ready
+abbrev pub OpeningIsSettled : Type 0
+OpeningIsSettled = (e : Endpoint) → IsSettled (new_core e)
 
 -- ---- calls
 
@@ -44,6 +49,7 @@ pub record IsCalled (a : Announcements) (old : CoreState) (known : List ℕ) (co
   pub shown :
       IsShown (after_out a (called old.place.endpoint core (call_seen call)).out) new known
       (core_settled (called old.place.endpoint core (call_seen call)).core)
+  pub settled : IsSettled (core_settled (called old.place.endpoint core (call_seen call)).core)
   -- the frame that the rank gives stands for the core's, once this is announced if it is an announcement
   pub sends :
       AreSent (after_out a (called old.place.endpoint core (call_seen call)).out) (all_gone known (as_list (call_frame old call)))
@@ -103,28 +109,41 @@ pub record MayCome (a : Announcements) (old : CoreState) (known : List ℕ) (cor
   pub once : CollectsOnce core
   pub untold : NoneUntold a known
 
--- What is heard makes of the rank what it makes of its core in the network; the blocked call is answered where its answer is
--- ready by that
+-- What is heard makes of the rank what it makes of its core in the network, before a blocked call is answered
 pub record IsHeard (a : Announcements) (old : CoreState) (known : List ℕ) (core : Core) (news : NewsText) (frame : Option Frame) : Type 0 where
   pub place : (after_news old news).place ≡ old.place
+  -- it answers no call
+  pub completion : (after_news old news).completion ≡ old.completion
   pub shown :
       IsShown (after_out a (heard_by_core core news.source frame).out) (after_news old news) (known_after news.lesson known news.source)
-      (core_settled (heard_by_core core news.source frame).core)
+      (heard_by_core core news.source frame).core
   -- the frames that the rank gives stand for the core's
   pub sends :
       AreSent (after_out a (heard_by_core core news.source frame).out)
       (all_gone (known_after news.lesson known news.source) (news_frames old news)) (heard_by_core core news.source frame).out
   pub leaves : AllByRecursion (CanLeave old.place) (news_frames old news)
-  pub tells :
-      told old.place.endpoint None (core_ready (heard_by_core core news.source frame).core)
-      ≡ told_completion old.place.endpoint (after_news old news).completion
 
--- So it is with all that may come, whether it is a lesson or not, with a frame or without one, at a rank that owes no answer
+-- So it is with all that may come, whether it is a lesson or not, with a frame or without one, and whether or not the answer of
+-- the blocked call was ready before
 abbrev pub NewsAreShown : Type 0
 NewsAreShown =
     (a : Announcements) (old : CoreState) (known : List ℕ) (core : Core) (news : NewsText) (frame : Option Frame) →
-    IsShown a old known core → old.completion ≡ None → MayCome a old known core news frame →
-    IsHeard a old known core news frame
+    IsShown a old known core → MayCome a old known core news frame → IsHeard a old known core news frame
+
+-- ---- the blocked call is answered
+
+-- The rank is woken as its core in the network is settled: both answer the blocked call where its answer is ready, and alike
+pub record IsWoken (a : Announcements) (c : CoreState) (known : List ℕ) (core : Core) : Type 0 where
+  pub place : (woken c).place ≡ c.place
+  pub shown : IsShown a (woken c) known (core_settled core)
+  pub settled : IsSettled (core_settled core)
+  pub tells : (e : Endpoint) → told e None (core_ready core) ≡ told_completion e (woken c).completion
+
+-- So it is at a rank that owes no answer, once an event is over, however many frames were handed up in it
+abbrev pub WakesAreShown : Type 0
+WakesAreShown =
+    (a : Announcements) (c : CoreState) (known : List ℕ) (core : Core) → IsShown a c known core → c.completion ≡ None →
+    IsWoken a c known core
 
 -- ---- what others announce
 

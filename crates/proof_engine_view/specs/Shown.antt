@@ -25,7 +25,8 @@ abbrev pub IsBlocked : List Row → Option engine.Awaited → Option Awaited →
 IsBlocked rows None b = b ≡ None
 IsBlocked rows (Some a) b = (b ≡ Some (awaited_seen a)) × All (IsNamed rows) (awaited_requests a)
 
--- The rank holds the requests and messages of the network's core and is blocked on the same; and both know the ranks alike:
+-- The rank holds the requests and messages of the network's core and is blocked on the same, whether or not the blocked call's
+-- answer is ready; and both know the ranks alike:
 -- `known` is what the rank's sessions know, the incarnation of each rank by its number. `a` is what was announced on the links
 -- from and to it, by which large messages have their numbers
 pub record IsShown (a : Announcements) (c : CoreState) (known : List ℕ) (core : Core) : Type 0 where
@@ -37,9 +38,11 @@ pub record IsShown (a : Announcements) (c : CoreState) (known : List ℕ) (core 
   pub held : core.held ≡ map (held_of a.from) c.queues.unexpected
   pub under_way : AreUnderWay a known c.place rows c.transfers c.queues.unexpected
   pub blocked : IsBlocked rows c.blocked core.blocked
-  -- the blocked call's answer isn't ready
-  pub pending : core_ready core ≡ None
   -- both know each rank at the same incarnation, and the rank itself at its own
   pub width : length known ≡ c.place.size
   pub known_alike : (r : ℕ) → core.known r ≡ slice_index known r
   pub itself : slice_index known c.place.endpoint.rank ≡ c.place.endpoint.incarnation
+
+-- The core's blocked call has no answer that is ready, if one is blocked: so it is once an event is over
+abbrev pub IsSettled : Core → Type 0
+IsSettled core = core_ready core ≡ None

@@ -6,10 +6,11 @@ use Rattle.proof_engine_steps.proofs.AnnouncementsTaken.{announcements_are_taken
 use Rattle.proof_engine_steps.proofs.AnswersTaken.{answers_are_taken}
 use Rattle.proof_engine_steps.proofs.CallsShown.{calls_are_shown}
 use Rattle.proof_engine_steps.proofs.News.{messages_are_taken, news_are_shown}
-use Rattle.proof_engine_steps.proofs.OpeningShown.{opening_is_shown}
+use Rattle.proof_engine_steps.proofs.OpeningShown.{opening_is_settled, opening_is_shown}
 use Rattle.proof_engine_steps.proofs.PiecesTaken.{pieces_are_taken}
 use Rattle.proof_engine_steps.proofs.RefusedCalls.{allowed_calls_are_faultless, faults_have_reasons, room_is_a_reason}
 use Rattle.proof_engine_steps.proofs.UnderWay.{others_may_announce}
+use Rattle.proof_engine_steps.proofs.Waking.{wakes_are_shown}
 use Rattle.proof_engine_steps.proofs.law.engines_are_cores.Goals as goal
 
 pub returns-clause-calls : goal.returns-clause-calls
@@ -38,3 +39,9 @@ returns-clause-news c =
 
 pub returns-clause-opening : goal.returns-clause-opening
 returns-clause-opening c = opening_is_shown
+
+pub returns-clause-opening_settled : goal.returns-clause-opening_settled
+returns-clause-opening_settled c = opening_is_settled
+
+pub returns-clause-wakes : goal.returns-clause-wakes
+returns-clause-wakes c = wakes_are_shown
