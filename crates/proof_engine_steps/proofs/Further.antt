@@ -1,5 +1,5 @@
 -- A further frame of one delivery: who spoke is known by the first, and the rank isn't woken in between.
-use Rattle.std.proofs.Common.{◌≡◌, ℕ, zero, suc, Bool, true, false, List, ◌∷◌, nat_lt, length, Option, Some, None, if◌then◌else◌, slice_get, slice_index, refl, sym, ap, ◌∙◌, subst, arith, ◌<◌, ◌≤◌}
+use Rattle.std.proofs.Common.{◌≡◌, ℕ, zero, suc, Bool, true, false, List, [], ◌∷◌, nat_lt, length, Option, Some, None, if◌then◌else◌, slice_get, slice_index, refl, sym, ap, ◌∙◌, subst, arith, ◌<◌}
 use Rattle.std.proofs.lemmas.Bool.{le-ltb}
 use Rattle.std.proofs.lemmas.Option.{same_Some}
 use Rattle.datagram.specs.Spelling.{FrameText}
