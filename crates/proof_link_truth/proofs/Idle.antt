@@ -1,17 +1,19 @@
 -- Where no session holds a frame, nothing is on its way.
-use Rattle.std.proofs.Common.{◌≡◌, ℕ, ◌-◌, ◌<◌, Bool, true, false, ◌&&◌, not, nat_lt, List, [], length, drop, ◌==◌, slice_index, refl, sym, ap, ◌∙◌, subst, arith}
+use Rattle.std.proofs.Common.{◌≡◌, ℕ, ◌+◌, ◌-◌, ◌<◌, ◌≤◌, Bool, true, false, ◌&&◌, not, nat_lt, List, [], length, drop, Option, Some, None, ◌==◌, slice_index, refl, sym, ap, ◌∙◌, subst, arith}
 use Rattle.std.proofs.lemmas.Bool.{and_parts, ltb-true, not-true}
 use Rattle.std.proofs.lemmas.List.{drop_all, length-drop}
+use Rattle.std.proofs.lemmas.Option.{same_Some, slice_get_within}
 use Rattle.vocabulary.specs.declared.endpoint.Endpoint.{Endpoint}
 use Rattle.datagram.specs.Spelling.{FrameText}
 use Rattle.reliable_link.specs.declared.out_frame.OutFrame.{OutFrame}
+use Rattle.reliable_link.specs.ReceiverState.{held_at}
 use Rattle.sessions.specs.declared.peers.Peer.{Peer}
 use Rattle.sessions.specs.Peers.{peer_at}
 use Rattle.sessions.specs.SessionsState.{SessionsState}
 use Rattle.incarnation.specs.declared.place.Place.{Place}
-use Rattle.proof_link_truth.specs.Events.{IdleIsStill}
+use Rattle.proof_link_truth.specs.Events.{IdleHoldsNothing, IdleIsStill}
 use Rattle.proof_link_truth.specs.Links.{Link, Links, in_flight}
-use Rattle.proof_link_truth.specs.Sessions.{SessionsTell, PeerTells, SenderTells, bytes_kept, is_pair}
+use Rattle.proof_link_truth.specs.Sessions.{IsHeldOf, SessionsTell, PeerTells, SenderTells, bytes_kept, is_pair}
 use Rattle.proof_link_truth.specs.Wire.{at, wires}
 use Rattle.proof_link_truth.proofs.Lists.{false_sym, get_within}
 use Rattle.proof_link_truth.proofs.Wires.{wires_length}
@@ -69,3 +71,46 @@ idle_is_still n sessions datagrams links current true_now idle s d s_is d_is s_k
         let empty : (peer_at e.0.peers d.rank).sender.frames ≡ [] =
         idle s.rank d.rank e.0 f.0 e.1 f.1 pair.apart (s_knows e.0 e.1 ∙ f_is) (d_knows f.0 f.1 ∙ e_is) in
         empty_is_still n s d (peer_at e.0.peers d.rank) (links s d) (session_tells n current s d e.0 links pair s_is (s_knows e.0 e.1) e_tells) empty
+
+-- the law of what idle worlds hold
+pub idle_holds_nothing : IdleHoldsNothing
+idle_holds_nothing n r x place sessions datagrams links current own other true_now idle here there apart knows known =
+    go (held_at (peer_at own.peers x).receiver.held place) refl
+  where
+    s : Endpoint
+    s = at x (current x)
+
+    d : Endpoint
+    d = at r (current r)
+
+    own_tells : SessionsTell n current r own links
+    own_tells = true_now.tells r own here
+
+    other_tells : SessionsTell n current x other links
+    other_tells = true_now.tells x other there
+
+    s_is : slice_index own.known x ≡ current x
+    s_is = knows ∙ ap (λ (p : Place). p.endpoint.incarnation) other_tells.place
+
+    d_is : slice_index other.known r ≡ current r
+    d_is = known ∙ ap (λ (p : Place). p.endpoint.incarnation) own_tells.place
+
+    still : in_flight (links s d) ≡ []
+    still = idle_is_still n sessions datagrams links current true_now idle s d refl refl
+        (λ e at_x. ap (λ (t : SessionsState). slice_index t.known r) (same_Some e other (sym at_x ∙ there)) ∙ d_is)
+        (λ e at_r. ap (λ (t : SessionsState). slice_index t.known x) (same_Some e own (sym at_r ∙ here)) ∙ s_is)
+
+    all : length (links s d).accepted ≤ (links s d).handed
+    all = omega (arith, length-drop (links s d).handed (links s d).accepted, ap (λ (fs : List FrameText). length fs) still)
+
+    peer : PeerTells n current d x (current x) (peer_at own.peers x) links
+    peer = subst (λ (k : ℕ). PeerTells n current d x k (peer_at own.peers x) links) s_is
+        (own_tells.peers x (omega (arith, slice_get_within sessions x other there, true_now.count)) apart)
+
+    go : (o : Option (List ℕ)) → held_at (peer_at own.peers x).receiver.held place ≡ o → held_at (peer_at own.peers x).receiver.held place ≡ None
+    go None is = is
+    go (Some bytes) is =
+        let h : IsHeldOf n s d ((peer_at own.peers x).receiver.next + place) (links s d) bytes = peer.receiver.held place bytes is in
+        let below : (peer_at own.peers x).receiver.next + place < length (links s d).accepted =
+        slice_get_within (links s d).accepted ((peer_at own.peers x).receiver.next + place) h.frame h.accepted in
+        absurd (omega (arith, below, all, peer.receiver.next))

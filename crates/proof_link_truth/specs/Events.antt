@@ -8,6 +8,8 @@ use Rattle.datagram.specs.Spelling.{FrameText}
 use Rattle.sessions.specs.declared.refused.Refused.{Refused}
 use Rattle.sessions.specs.declared.heard.Unheard.{Unheard}
 use Rattle.sessions.specs.Events.{Sending, TurnedAway, after_event, after_heard, sends_limit}
+use Rattle.reliable_link.specs.ReceiverState.{held_at}
+use Rattle.sessions.specs.Peers.{peer_at}
 use Rattle.sessions.specs.Heard.{Acknowledges, EarlyText, Follows, Hands, HeardText, Holds, Nothing, Repeats, WordText, heard_of}
 use Rattle.sessions.specs.SessionsState.{SessionsState, known_endpoint, opening}
 use Rattle.sessions.specs.Ticks.{after_tick}
@@ -202,3 +204,12 @@ IdleIsStill =
     AreTrue n sessions datagrams links current → AreQuiet sessions → (s d : Endpoint) →
     s.incarnation ≡ current s.rank → d.incarnation ≡ current d.rank → Knows sessions s.rank d → Knows sessions d.rank s →
     in_flight (links s d) ≡ []
+
+-- and neither holds a frame of the other that waits for its turn
+abbrev pub IdleHoldsNothing : Type 0
+IdleHoldsNothing =
+    (n r x place : ℕ) (sessions : List SessionsState) (datagrams : List (ℕ × List ℕ)) (links : Links) (current : ℕ → ℕ)
+    (own other : SessionsState) →
+    AreTrue n sessions datagrams links current → AreQuiet sessions → slice_get sessions r ≡ Some own →
+    slice_get sessions x ≡ Some other → (x == r) ≡ false → slice_index own.known x ≡ other.place.endpoint.incarnation →
+    slice_index other.known r ≡ own.place.endpoint.incarnation → held_at (peer_at own.peers x).receiver.held place ≡ None

@@ -1,5 +1,5 @@
 use Rattle.proof_link_truth.proofs.Datagrams.{hearing_is_true}
-use Rattle.proof_link_truth.proofs.Idle.{idle_is_still}
+use Rattle.proof_link_truth.proofs.Idle.{idle_holds_nothing, idle_is_still}
 use Rattle.proof_link_truth.proofs.Openings.{opening_is_true}
 use Rattle.proof_link_truth.proofs.Refusals.{refusals_are_true}
 use Rattle.proof_link_truth.proofs.Restarts.{restarts_are_true}
@@ -30,3 +30,6 @@ returns-clause-restarts c = restarts_are_true
 
 pub returns-clause-idle : goal.returns-clause-idle
 returns-clause-idle c = idle_is_still
+
+pub returns-clause-empty : goal.returns-clause-empty
+returns-clause-empty c = idle_holds_nothing
