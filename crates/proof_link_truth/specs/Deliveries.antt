@@ -48,7 +48,8 @@ abbrev pub turn_from : SessionsState → (source : Endpoint) → Option (Option 
 turn_from mid source = option_map (turn_of source) (ready_from mid source.rank)
 
 -- what was held says that it is the next frame, and that is true
-pub record TurnIsTrue (n r : ℕ) (current : ℕ → ℕ) (mid : SessionsState) (links : Links) (source : Endpoint) (h : HeardText) : Type 0 where
+pub record TurnIsTrue (n r : ℕ) (current : ℕ → ℕ) (mid : SessionsState) (links : Links) (source : Endpoint) (h : HeardText)
+    : Type 0 where
   pub frame : FrameText
   pub says : h ≡ record { source = source; lesson = false; word = Follows frame }
   pub hears : HearsTruth n r current mid links h

@@ -15,8 +15,8 @@ pub data Tells (n : ℕ) (s d : Endpoint) (links : Links) (bytes : List ℕ) : T
   -- that so many were handed up; which of those behind them are held is forgotten again when a session starts anew, so of that
   -- nothing is told for ever
   TellsAck :
-      (number held : ℕ) → number ≤ (links d s).handed → held % 2 ≡ 0 → held < 2 ^ 64 → bytes ≡ ack_bytes (place_of n s) d number held →
-      Tells n s d links bytes
+      (number held : ℕ) → number ≤ (links d s).handed → held % 2 ≡ 0 → held < 2 ^ 64 →
+      bytes ≡ ack_bytes (place_of n s) d number held → Tells n s d links bytes
   -- nothing but who their source is
   TellsReset : bytes ≡ reset_bytes (place_of n s) d → Tells n s d links bytes
 
