@@ -157,7 +157,7 @@ fn emission_of(number: usize, datagram: &Datagram<'_>) -> Emission {
         Content::Frame(Frame::RequestToSend(_)) => FrameKind::Rts,
         Content::Frame(Frame::ClearToSend(_)) => FrameKind::Cts,
         Content::Frame(Frame::Data(_)) => FrameKind::Data,
-        Content::Ack => FrameKind::Ack,
+        Content::Ack(_) => FrameKind::Ack,
         Content::Reset => FrameKind::Reset,
     };
     Emission {

@@ -6,6 +6,6 @@ mod acknowledgements;
 mod delay;
 mod kept;
 
-pub use crate::acknowledgements::{acknowledgement_in, covers};
+pub use crate::acknowledgements::{Acknowledgement, acknowledgement_in, covers, is_urgent};
 pub use crate::delay::Delay;
 pub use crate::kept::{Kept, going, kept_of};

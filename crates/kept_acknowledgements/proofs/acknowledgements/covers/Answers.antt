@@ -8,8 +8,8 @@ eq-requires c = search rules
 pub eq-requires-then-eq : goal.eq-requires-then-eq
 eq-requires-then-eq c = search rules
 
-pub returns-then-later-earlier : goal.returns-then-later-earlier
-returns-then-later-earlier c = search rules
+pub returns-then-earlier-eq0 : goal.returns-then-earlier-eq0
+returns-then-earlier-eq0 c = search rules
 
-pub returns-else-later-earlier : goal.returns-else-later-earlier
-returns-else-later-earlier c = search rules
+pub returns-else-earlier-eq0 : goal.returns-else-earlier-eq0
+returns-else-earlier-eq0 c = search rules
