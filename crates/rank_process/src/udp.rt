@@ -3,7 +3,7 @@
 ghost use Rattle.std.specs.Prelude.{◌≡◌, ◌+◌, ◌<◌, ◌^◌, ◌≤◌, length, IfOk};
 ghost use Rattle.rank_drive.specs.Exchanges.{FailsWith};
 
-use kept_acknowledgements::{Delay, Kept, going, kept_of};
+use kept_acknowledgements::{Acknowledgement, Delay, Kept, going, is_urgent, kept_of};
 use mio::net::UdpSocket;
 use mio::{Events, Interest, Poll, Token};
 use rank_drive::{LONGEST, Transport, TransportFault};
@@ -26,7 +26,8 @@ const YIELDS: u32 = 24;
 /// An acknowledgement is kept back for a little while. Where a later one of the same session comes, which says all that it says, it
 /// is lost on purpose; so one datagram stands for up to 16 of them. The one that is kept goes when an acknowledgement of another
 /// session is kept, when a line is printed, behind 128 receives, and where the rank waits and no datagram comes, or a millisecond
-/// is over: far earlier than its frames are sent again, unless the rank's script works for long between two calls.
+/// is over: far earlier than its frames are sent again, unless the rank's script works for long between two calls. One that tells
+/// of frames that are held, or that answers a frame that came again, goes at once.
 #[derive(Drop)]
 pub struct Udp<'a, R: Print + Clock> {
     rt: &'a R,
@@ -43,6 +44,8 @@ pub struct Udp<'a, R: Print + Clock> {
     kept: Option<Kept>,
     /// How long it has been kept back.
     delay: Delay,
+    /// What the acknowledgement said that was handed over last.
+    last: Option<Acknowledgement>,
     /// Whether a datagram was sent or handed out since the last wait.
     has_carried: bool,
     /// The line that is written, with its end.
@@ -144,6 +147,7 @@ impl<'a, R: Print + Clock> Udp<'a, R> {
             held: None,
             kept: None,
             delay: Delay::begun(rt),
+            last: None,
             has_carried: false,
             text: Vec::new(alloc),
             failures: 0,
@@ -170,15 +174,24 @@ impl<'a, R: Print + Clock> Udp<'a, R> {
         }
     }
 
+    /// An acknowledgement goes, if there is one.
+    fn carry_kept(&mut self, kept: Option<Kept>) -> Result<(), TransportFault>
+        requires { self.old.failures + 1 < 2 ^ 64 }
+        ensures { FailsWith result self.old.failures self.new.failures }
+    {
+        match kept {
+            Some(kept) => self.carry(kept.target, &kept.bytes),
+            None => Ok(()),
+        }
+    }
+
     /// The acknowledgement that is kept back goes, if there is one.
     fn flush(&mut self) -> Result<(), TransportFault>
         requires { self.old.failures + 1 < 2 ^ 64 }
         ensures { FailsWith result self.old.failures self.new.failures }
     {
-        match self.kept.take() {
-            Some(kept) => self.carry(kept.target, &kept.bytes),
-            None => Ok(()),
-        }
+        let kept = self.kept.take();
+        self.carry_kept(kept)
     }
 
     /// The acknowledgement that is kept back goes, if it has been kept for as many others or as many receives as it may.
@@ -192,23 +205,29 @@ impl<'a, R: Print + Clock> Udp<'a, R> {
         Ok(())
     }
 
-    /// Keeps an acknowledgement back. The former one goes, unless this one says all that it says.
+    /// Keeps an acknowledgement back, or lets it go at once. The former one goes before it, unless this one says all that it
+    /// says.
     fn keep(&mut self, next: Kept) -> Result<(), TransportFault>
         requires { self.old.failures + 1 < 2 ^ 64 }
         ensures { FailsWith result self.old.failures self.new.failures }
     {
         let former = self.kept.take();
         let leaves = going(former, next);
+        let is_urgent = is_urgent(self.last, next.said);
+        self.last = Some(next.said);
+        if is_urgent {
+            let Ok(_) = self.carry_kept(leaves) else {
+                return Err(TransportFault);
+            };
+            return self.carry(next.target, &next.bytes);
+        }
         self.kept = Some(next);
         if former.is_some() && leaves.is_none() {
             self.delay = self.delay.of_one_more();
             return self.flush_if_over();
         }
         self.delay = Delay::begun(self.rt);
-        match leaves {
-            Some(former) => self.carry(former.target, &former.bytes),
-            None => Ok(()),
-        }
+        self.carry_kept(leaves)
     }
 
     /// A receive begins, behind which the acknowledgement that is kept back may go.
