@@ -9,6 +9,7 @@ ghost use Rattle.rank_calls.specs.Refusals.{IsRefusal};
 ghost use Rattle.rank_core.specs.CoreState.{with_numbers};
 ghost use Rattle.rank_core.specs.Hearing.{after_news};
 ghost use Rattle.rendezvous.specs.State.{with_announced};
+ghost use Rattle.sessions.specs.Windows.{StaysWithin};
 ghost use Rattle.sessions.specs.Heard.{heard_text, CanHear};
 ghost use Rattle.sessions.specs.Events.{AreFor, CanSend, Sending, after_event, event_limit, most_answers, sendings};
 ghost use Rattle.vocabulary.specs.Limits.{send_limit};
@@ -50,11 +51,10 @@ pub(crate) fn carry_out(
     requires can { CanHear sessions.old (Some (heard_text heard)) }
     requires go { All (CanSend sessions.old.place) (sendings frames.now) }
     requires limit { fault_of_sessions (event_limit sessions.old (Some (heard_text heard)) (sendings frames.now)) ≡ None }
-    requires one { (count : ℕ) × AreFor heard.source.rank count (sendings frames.now) }
     ensures ok { OnOk result (sessions.new ≡ after_event sessions.old (Some (heard_text heard.entry)) (sendings frames.now)) }
     ensures unchanged { OnErr result (sessions.new ≡ sessions.old) }
     ensures err { IfErr result (λ e. e ≡ Refused.OutOfMemory) }
-    ensures few { length sessions.new.out ≤ length sessions.old.out + (most_answers (Some (heard_text heard.entry)) + 64) }
+    ensures within { OnOk result (StaysWithin (Some (heard_text heard.entry)) sessions.old sessions.new) }
     ensures placed { sessions.new.place ≡ sessions.old.place }
 {
     match sessions.carry_out(Some(heard), frames) {
@@ -93,7 +93,7 @@ fn send_answer(
     ensures ok { OnOk result (sessions.new ≡ after_event sessions.old (Some (heard_text heard.entry)) (answer_to (heard_text heard.entry) (request_text request) ∷ [])) }
     ensures unchanged { OnErr result (sessions.new ≡ sessions.old) }
     ensures err { IfErr result (λ e. e ≡ Refused.OutOfMemory) }
-    ensures few { length sessions.new.out ≤ length sessions.old.out + (most_answers (Some (heard_text heard.entry)) + 64) }
+    ensures within { OnOk result (StaysWithin (Some (heard_text heard.entry)) sessions.old sessions.new) }
     ensures placed { sessions.new.place ≡ sessions.old.place }
 {
     let answer = Outgoing {
@@ -150,7 +150,7 @@ fn count_and_answer(
     ensures err { IfErr result (λ e. e ≡ Refused.OutOfMemory) }
     ensures kept { OnErr result (core.new.state ≡ core.old.state) }
     ensures unchanged { OnErr result (sessions.new ≡ sessions.old) }
-    ensures few { length sessions.new.out ≤ length sessions.old.out + (most_answers (Some (heard_text heard.entry)) + 64) }
+    ensures within { OnOk result (StaysWithin (Some (heard_text heard.entry)) sessions.old sessions.new) }
     ensures placed { sessions.new.place ≡ sessions.old.place }
     ensures core_placed { core.new.state.place ≡ core.old.state.place }
 {
@@ -188,7 +188,7 @@ pub(crate) fn take_announcement(
     ensures communicators { OnErr result (communicators.new ≡ communicators.old) }
     ensures payloads { OnErr result (payloads.new.state ≡ payloads.old.state) }
     ensures sessions { OnErr result (sessions.new ≡ sessions.old) }
-    ensures few { length sessions.new.out ≤ length sessions.old.out + (most_answers (Some (heard_text heard.entry)) + 64) }
+    ensures within { OnOk result (StaysWithin (Some (heard_text heard.entry)) sessions.old sessions.new) }
     ensures placed { sessions.new.place ≡ sessions.old.place }
     ensures core_placed { core.new.state.place ≡ core.old.state.place }
 {
@@ -266,7 +266,7 @@ fn send_data(
     ensures sent { OnOk result (sessions.new ≡ after_event sessions.old (Some (heard_text heard.entry)) (data_sent heard.entry.source.rank transfer bytes.now)) }
     ensures err { IfErr result (IsRefusal (fault_of_sessions (event_limit sessions.old (Some (heard_text heard.entry)) (data_sent heard.entry.source.rank transfer bytes.now)))) }
     ensures unchanged { OnErr result (sessions.new ≡ sessions.old) }
-    ensures few { length sessions.new.out ≤ length sessions.old.out + (most_answers (Some (heard_text heard.entry)) + 64) }
+    ensures within { OnOk result (StaysWithin (Some (heard_text heard.entry)) sessions.old sessions.new) }
     ensures placed { sessions.new.place ≡ sessions.old.place }
 {
     if let Some(limit) = limit_of(sessions, heard, count_of(bytes)) {
@@ -294,7 +294,7 @@ pub(crate) fn take_answer(
     ensures err { IfErr result (IsRefusal (answer_fault payloads.old.state sessions.old (heard_text heard.entry) (clear_text answer))) }
     ensures kept { OnErr result (payloads.new.state ≡ payloads.old.state) }
     ensures unchanged { OnErr result (sessions.new ≡ sessions.old) }
-    ensures few { length sessions.new.out ≤ length sessions.old.out + (most_answers (Some (heard_text heard.entry)) + 64) }
+    ensures within { OnOk result (StaysWithin (Some (heard_text heard.entry)) sessions.old sessions.new) }
     ensures placed { sessions.new.place ≡ sessions.old.place }
 {
     if let Clearance::Drop = answer.clearance {

@@ -5,6 +5,7 @@ ghost use Rattle.collective_steps.specs.declared.step.Ending.{Ending};
 ghost use Rattle.collective_transfers.specs.State.{after_data, after_return, is_due};
 ghost use Rattle.datagram.specs.Spelling.{data_text};
 ghost use Rattle.rank_calls.specs.Refusals.{IsRefusal};
+ghost use Rattle.sessions.specs.Windows.{StaysWithin};
 ghost use Rattle.sessions.specs.Heard.{heard_text, CanHear};
 ghost use Rattle.sessions.specs.Events.{after_event, event_limit, most_answers};
 ghost use Rattle.engine_parts.specs.EngineState.{or_before};
@@ -30,7 +31,7 @@ fn take_in(sessions: &mut Sessions, heard: Heard<'_>) -> Result<(), Refused>
     ensures ok { OnOk result (sessions.new ≡ after_event sessions.old (Some (heard_text heard.entry)) []) }
     ensures err { IfErr result (IsRefusal (fault_of_sessions (event_limit sessions.old (Some (heard_text heard.entry)) []))) }
     ensures unchanged { OnErr result (sessions.new ≡ sessions.old) }
-    ensures few { length sessions.new.out ≤ length sessions.old.out + (most_answers (Some (heard_text heard.entry)) + 64) }
+    ensures within { OnOk result (StaysWithin (Some (heard_text heard.entry)) sessions.old sessions.new) }
     ensures placed { sessions.new.place ≡ sessions.old.place }
 {
     if let Some(limit) = limit_of(sessions, heard, 0) {
@@ -73,7 +74,7 @@ fn take_last(
     ensures contexts { OnErr result (communicators.new.contexts.state ≡ communicators.old.contexts.state) }
     ensures back { OnErr result (payloads.new.state ≡ after_return payloads.old.state whole) }
     ensures sessions { OnErr result (sessions.new ≡ sessions.old) }
-    ensures few { length sessions.new.out ≤ length sessions.old.out + (most_answers (Some (heard_text heard.entry)) + 64 * sessions.old.place.size) }
+    ensures within { OnOk result (StaysWithin (Some (heard_text heard.entry)) sessions.old sessions.new) }
     ensures placed { sessions.new.place ≡ sessions.old.place }
     ensures core_placed { core.new.state.place ≡ core.old.state.place }
 {
@@ -111,7 +112,7 @@ fn take_next(
     ensures err { IfErr result (IsRefusal (fault_of_sessions (event_limit sessions.old (Some (heard_text heard.entry)) []))) }
     ensures payloads { OnErr result (payloads.new.state ≡ payloads.old.state) }
     ensures unchanged { OnErr result (sessions.new ≡ sessions.old) }
-    ensures few { length sessions.new.out ≤ length sessions.old.out + (most_answers (Some (heard_text heard.entry)) + 64) }
+    ensures within { OnOk result (StaysWithin (Some (heard_text heard.entry)) sessions.old sessions.new) }
     ensures placed { sessions.new.place ≡ sessions.old.place }
 {
     take_in(sessions, heard)?;
@@ -141,7 +142,7 @@ pub(crate) fn take_piece(
     ensures contexts { OnErr result (communicators.new.contexts.state ≡ communicators.old.contexts.state) }
     ensures payloads { OnErr result (payloads.new.state ≡ payloads.old.state) }
     ensures sessions { OnErr result (sessions.new ≡ sessions.old) }
-    ensures few { length sessions.new.out ≤ length sessions.old.out + (most_answers (Some (heard_text heard.entry)) + 64 * sessions.old.place.size) }
+    ensures within { OnOk result (StaysWithin (Some (heard_text heard.entry)) sessions.old sessions.new) }
     ensures placed { sessions.new.place ≡ sessions.old.place }
     ensures core_placed { core.new.state.place ≡ core.old.state.place }
 {

@@ -5,6 +5,7 @@ ghost use Rattle.collective_steps.specs.declared.step.Ending.{Ending};
 ghost use Rattle.datagram.specs.Spelling.{eager_text};
 ghost use Rattle.rank_calls.specs.Hearing.{frame_option, news_text};
 ghost use Rattle.rank_core.specs.Hearing.{CanTake, news_fault};
+ghost use Rattle.sessions.specs.Windows.{StaysWithin};
 ghost use Rattle.sessions.specs.Heard.{heard_text, word_text, CanHear, WordFits};
 ghost use Rattle.sessions.specs.Events.{after_event, event_limit};
 ghost use Rattle.engine_parts.specs.EngineState.{or_before};
@@ -21,8 +22,9 @@ use crate::noticing::{Notice, notice_in};
 use collective_transfers::CollectiveTransfers;
 use collectives::Ending;
 use communicators::Communicators;
-use datagram::{Eager, Frame};
+use datagram::{Eager, Frame, Plane};
 use engine_parts::of_sessions;
+use payload::read_payload;
 use rank_core::{Addressed, Core, News, Ready, Refused};
 use sessions::{Heard, Outgoing, Sessions, Word};
 use std::alloc::Global;
@@ -33,8 +35,10 @@ fn frame_in<'a>(word: Word<'a>) -> Option<Frame<'a>>
 {
     match word {
         Word::Hands(frame) => Some(frame),
-        Word::Acknowledges(_) => None,
+        Word::Follows(frame) => Some(frame),
+        Word::Acknowledges(..) => None,
         Word::Repeats => None,
+        Word::Holds(_) => None,
         Word::Nothing => None,
     }
 }
@@ -49,8 +53,43 @@ fn says_nothing(heard: Heard<'_>) -> bool
     match heard.word {
         Word::Nothing => true,
         Word::Hands(_) => false,
-        Word::Acknowledges(_) => false,
+        Word::Acknowledges(..) => false,
         Word::Repeats => false,
+        Word::Holds(_) => false,
+        Word::Follows(_) => false,
+    }
+}
+
+/// The fault of a payload by its form: that of a collective's message has one (30).
+fn form_fault(message: Eager<'_>) -> Option<Refused>
+    ensures { result ≡ form_fault message.entry.plane message.entry.elements.now }
+{
+    match message.plane {
+        Plane::PointToPoint => None,
+        Plane::Collective => match read_payload(message.elements) {
+            Ok(_) => None,
+            Err(_) => Some(Refused::BadFrame),
+        },
+    }
+}
+
+/// The rule that a word breaks by the frame that is to be held: the form of a collective's message (30). All else of it is judged
+/// when its turn comes.
+fn hold_fault(word: Word<'_>) -> Option<Refused>
+    ensures { result ≡ hold_fault (word_text word.entry) }
+{
+    match word {
+        Word::Holds(early) => match early.frame {
+            Frame::Eager(message) => form_fault(message),
+            Frame::RequestToSend(_) => None,
+            Frame::ClearToSend(_) => None,
+            Frame::Data(_) => None,
+        },
+        Word::Acknowledges(..) => None,
+        Word::Repeats => None,
+        Word::Hands(_) => None,
+        Word::Follows(_) => None,
+        Word::Nothing => None,
     }
 }
 
@@ -99,7 +138,7 @@ fn carry_out(
     ensures ok { OnOk result (sessions.new ≡ after_event sessions.old (Some (heard_text heard.entry)) (replies core.now.state (heard_text heard.entry))) }
     ensures unchanged { OnErr result (sessions.new ≡ sessions.old) }
     ensures err { IfErr result (λ e. e ≡ Refused.OutOfMemory) }
-    ensures few { length sessions.new.out ≤ length sessions.old.out + 65 }
+    ensures within { OnOk result (StaysWithin (Some (heard_text heard.entry)) sessions.old sessions.new) }
     ensures placed { sessions.new.place ≡ sessions.old.place }
 {
     let frames = core.frames_for(news_of(heard), ready)?;
@@ -139,12 +178,15 @@ fn take_news(
         (heard_text heard.entry) (Ok tt) (engine_held core.new communicators.new (or_before ending before) payloads.new.state sessions.new)) }
     ensures err { IfErr result (λ e. (before : Option Ending) → NewsGives (engine_held core.old communicators.old before payloads.old.state sessions.old)
         (heard_text heard.entry) (Err e) (engine_held core.new communicators.new before payloads.new.state sessions.new)) }
-    ensures few { length sessions.new.out ≤ length sessions.old.out + 65 }
+    ensures within { OnOk result (StaysWithin (Some (heard_text heard.entry)) sessions.old sessions.new) }
     ensures placed { sessions.new.place ≡ sessions.old.place }
     ensures core_placed { core.new.state.place ≡ core.old.state.place }
 {
     if says_nothing(heard) {
         return Ok(None);
+    }
+    if let Some(fault) = hold_fault(heard.word) {
+        return Err(fault);
     }
     let news = news_of(heard);
     if let Some(fault) = core.fault_of_news(news) {
@@ -189,7 +231,7 @@ fn hear(
         (heard_text heard.entry) (Ok tt) (engine_held core.new communicators.new (or_before ending before) payloads.new.state sessions.new)) }
     ensures err { IfErr result (λ e. (before : Option Ending) → HeardGives (engine_held core.old communicators.old before payloads.old.state sessions.old)
         (heard_text heard.entry) (Err e) (engine_held core.new communicators.new before payloads.new.state sessions.new)) }
-    ensures few { length sessions.new.out ≤ length sessions.old.out + 65 * sessions.old.place.size }
+    ensures within { OnOk result (StaysWithin (Some (heard_text heard.entry)) sessions.old sessions.new) }
     ensures placed { sessions.new.place ≡ sessions.old.place }
     ensures core_placed { core.new.state.place ≡ core.old.state.place }
 {
@@ -232,13 +274,14 @@ fn hear(
 }
 
 impl Engine {
-    /// Takes in what is heard, or refuses it. With what a collective ends by it is kept until that is handed out.
-    fn take_heard(&mut self, heard: Heard<'_>) -> Result<(), Refused>
+    /// Takes in what is heard, or refuses it. With what a collective ends by it is kept until that is handed out. No blocked call
+    /// is answered yet.
+    pub(crate) fn take_heard(&mut self, heard: Heard<'_>) -> Result<(), Refused>
         requires can { CanHear self.old.sessions (Some (heard_text heard)) }
         requires fits { WordFits (word_text heard.word) }
         requires there { heard.source.rank < self.old.sessions.place.size }
         ensures exact { HeardGives self.old (heard_text heard.entry) result self.new }
-        ensures few { length self.new.sessions.out ≤ length self.old.sessions.out + 65 * self.old.sessions.place.size }
+        ensures within { OnOk result (StaysWithin (Some (heard_text heard.entry)) self.old.sessions self.new.sessions) }
         ensures placed { self.new.sessions.place ≡ self.old.sessions.place }
         ensures core_placed { self.new.core.place ≡ self.old.core.place }
     {
@@ -265,6 +308,14 @@ impl Engine {
     /// to a transfer that is not offered, or 'drop' to a payload of a collective, which no engine answers; data that are not
     /// due), 13 and 14. With the last data of a payload its message is judged, as if it stood in a frame. A refusal changes
     /// nothing, but for that reset; without memory for the reset it is 14.
+    ///
+    /// A frame that comes before its turn is held, up to 63 behind the next one. Of such a frame only the form of a collective's
+    /// message is judged at once (30); all else is judged when its turn comes. Once the next frame is taken in, those that are
+    /// held behind it follow one by one, as if each had come then, but for two things: one that meets 13 or 14 stays held, and is
+    /// taken in when it comes again; one that meets 30 isn't held any more, and its sender sends it again. Nothing follows either,
+    /// and neither is acknowledged. Of what goes out the acknowledgement stands first, and says what was reached and what is
+    /// held; what else goes out stands by rising rank and, for one rank, by its numbers. A blocked call is answered once, at the end of all
+    /// that: a waitany then with the lowest index that is ready. Links are this project's own; MPI 3.1 has none.
     ///
     /// A message of a collective is kept until the rank has entered that collective; then, or where it has, the rank does of
     /// itself all that follows, the others are told, and a rank that is thereby through leaves.
@@ -296,7 +347,7 @@ impl Engine {
         // The place shows that there is a known incarnation for each rank.
         let _place = self.sessions.place();
         match self.sessions.judge(bytes) {
-            Ok(heard) => self.take_heard(heard),
+            Ok(heard) => self.take_in(heard),
             Err(unheard) => Err(of_sessions(self.sessions.turn_away(unheard))),
         }
     }

@@ -19,6 +19,7 @@ mod coming;
 mod datagrams;
 mod engine;
 mod entering;
+mod following;
 mod notices;
 mod noticing;
 

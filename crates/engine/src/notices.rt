@@ -6,6 +6,7 @@ ghost use Rattle.collectives.specs.Calls.{met};
 ghost use Rattle.collective_steps.specs.declared.step.Ending.{Ending};
 ghost use Rattle.payload.specs.Reading.{payload_of};
 ghost use Rattle.payload.specs.Spelling.{payload_text};
+ghost use Rattle.sessions.specs.Windows.{StaysWithin};
 ghost use Rattle.sessions.specs.Heard.{CanHear, heard_text};
 ghost use Rattle.sessions.specs.Events.{most_answers};
 ghost use Rattle.engine.specs.Datagrams.{IsNoticed, IsTold, WhyUnnoticed, lesson_in, numbers_met, payloads_met, received};
@@ -124,7 +125,7 @@ fn tell(
     ensures payloads { OnErr result (payloads.new.state ≡ payloads.old.state) }
     ensures coming { payloads.old.more_coming ≤ payloads.new.more_coming }
     ensures sessions { OnErr result (sessions.new ≡ sessions.old) }
-    ensures few { length sessions.new.out ≤ length sessions.old.out + (most_answers (Some (heard_text heard.entry)) + 64 * sessions.old.place.size) }
+    ensures within { OnOk result (StaysWithin (Some (heard_text heard.entry)) sessions.old sessions.new) }
     ensures placed { sessions.new.place ≡ sessions.old.place }
     ensures core_placed { core.new.state.place ≡ core.old.state.place }
 {
@@ -173,7 +174,7 @@ pub(crate) fn take_message(
     ensures payloads { OnErr result (payloads.new.state ≡ payloads.old.state) }
     ensures coming { payloads.old.more_coming ≤ payloads.new.more_coming }
     ensures sessions { OnErr result (sessions.new ≡ sessions.old) }
-    ensures few { length sessions.new.out ≤ length sessions.old.out + (most_answers (Some (heard_text heard.entry)) + 64 * sessions.old.place.size) }
+    ensures within { OnOk result (StaysWithin (Some (heard_text heard.entry)) sessions.old sessions.new) }
     ensures placed { sessions.new.place ≡ sessions.old.place }
     ensures core_placed { core.new.state.place ≡ core.old.state.place }
 {

@@ -1,4 +1,4 @@
--- The frames of a step: in the order of the ranks, within the format's limits, and few.
+-- The frames of a step: in the order of the ranks, and within the format's limits.
 use Rattle.std.proofs.Common.{◌≡◌, ℕ, zero, suc, ◌+◌, ◌*◌, ◌<◌, ◌≤◌, ◌==◌, ◌&&◌, ◌||◌, ◌⊎◌, inl, inr, not, set, append_assoc, Bool, true, false, cond, List, [], ◌∷◌, ◌++◌, length, map, filter, take, get_or, Option, Some, None, refl, sym, ap, subst, ◌∙◌, arith}
 use Rattle.std.specs.Prelude.{All, if◌then◌else◌, nat_le, nat_lt}
 use Rattle.std.specs.List.{AllByRecursion}
@@ -21,11 +21,9 @@ use Rattle.sessions.specs.declared.refused.Refused.TheVariants as lowers
 use Rattle.sessions.specs.Events.{CanSend, Sending, after_event, after_heard, after_send, after_sends, event_limit, first_limit, heard_limit, most_answers, sendings, sends_limit, word_limit}
 use Rattle.sessions.specs.Refusals.{IsRefusal}
 use Rattle.sessions.specs.declared.heard.Outgoing.{Outgoing}
-use Rattle.sessions.specs.Heard.{Acknowledges, CanHear, Hands, HeardText, Nothing, Repeats, WordText, session_met}
+use Rattle.sessions.specs.Heard.{Acknowledges, CanHear, Follows, Hands, HeardText, Holds, Nothing, Repeats, WordText, session_met}
 use Rattle.sessions.specs.Peers.{peer_at}
 use Rattle.sessions.specs.SessionsState.{SessionsState}
-use Rattle.sessions.proofs.Amounts.{few_out, few_out_to_one}
-use Rattle.sessions.proofs.Numbers.{AreThere, are_there, length_heard}
 use Rattle.engine_parts.specs.Frames.{AreWhole, IsWhole, all_can_go, by_rank, can_go, is_large, is_sendable, messages_sent, numbers_after, payload_frame, payload_kept, sending_of_message, step_limit, step_numbers, step_payloads, step_sendings, transfer_of}
 use Rattle.engine_parts.specs.Refusals.{fault_of_sessions, of_sessions}
 use Rattle.engine_parts.specs.Steps.{AreReady, IsAdded, IsLeftOut, StepStops, written}
@@ -265,7 +263,7 @@ all_by_rank p (suc k) fs all =
 -- ---- why a step is stopped
 
 word_limited : (w : WordText) (p : Peer) (e : lower.Refused) → word_limit w p ≡ Some e → e ≡ lowers.Limit
-word_limited (Acknowledges n) p e is = absurd cc
+word_limited (Acknowledges n held) p e is = absurd cc
 word_limited Repeats p e is = absurd cc
 word_limited (Hands f) p e is = go (p.receiver == 18446744073709551615) is
   where
@@ -344,46 +342,6 @@ step_goes p s ns n2 h ms fs gs ps place same ready is =
 pub step_sent : (p : Place) (s t : SessionsState) (ns n2 : List Numbers) (h : Option HeardText) (ms : List Message) (fs gs : List Sending) (ps : List Announced) →
     gs ≡ fs → AreReady p ns ms fs ps n2 → t ≡ after_event s h (by_rank s.place.size gs) → t ≡ after_event s h (step_sendings s.place ns ms)
 step_sent p s t ns n2 h ms fs gs ps same ready is = is ∙ ap (λ (hs : List Sending). after_event s h (by_rank s.place.size hs)) (same ∙ ready.frames)
-
--- ---- they are few
-
-after_both : (s : SessionsState) (fs gs : List Sending) → after_sends s (fs ++ gs) ≡ after_sends (after_sends s fs) gs
-after_both s [] gs = refl
-after_both s (f ∷ fs) gs = after_both (after_send s f) fs gs
-
-peers_stay : (s : SessionsState) (fs : List Sending) → length (after_sends s fs).peers ≡ length s.peers
-peers_stay s [] = refl
-peers_stay s (f ∷ fs) = peers_stay (after_send s f) fs ∙ length-set s.peers f.rank _
-
-all_chosen : (r : ℕ) (fs : List Sending) → AllByRecursion (λ (f : Sending). f.rank ≡ r) (filter (λ (f : Sending). f.rank == r) fs)
-all_chosen r [] = tt
-all_chosen r (f ∷ fs) = go (f.rank == r) refl (all_chosen r fs)
-  where
-    go : (t : Bool) → (f.rank == r) ≡ t → AllByRecursion (λ (g : Sending). g.rank ≡ r) (filter (λ (g : Sending). g.rank == r) fs) →
-        AllByRecursion (λ (g : Sending). g.rank ≡ r) (cond t (f ∷ filter (λ (g : Sending). g.rank == r) fs) (filter (λ (g : Sending). g.rank == r) fs))
-    go true is rest = (let same : f.rank ≡ r = grind arith in same, rest)
-    go false is rest = rest
-
--- at most 64 for each rank
-few_by_rank : (s : SessionsState) (k : ℕ) (fs : List Sending) → AreThere (length s.peers) fs → length (after_sends s (by_rank k fs)).out ≤ length s.out + 64 * k
-few_by_rank s zero fs there = omega arith
-few_by_rank s (suc k) fs there =
-    let mid : SessionsState = after_sends s (by_rank k fs) in
-    let mine : List Sending = filter (λ (f : Sending). f.rank == k) fs in
-    let here : AreThere (length s.peers) mine = All-filter (λ (f : Sending). f.rank == k) (λ (f : Sending). f.rank < length s.peers) fs there in
-    let one = few_out_to_one mid None k (length mine) mine tt (subst (λ (n : ℕ). AreThere n mine) (sym (peers_stay s (by_rank k fs))) here)
-    (record { each = all_chosen k fs; many = refl }) in
-    let same : length (after_sends s (by_rank (suc k) fs)).out ≡ length (after_sends mid mine).out = ap (λ (t : SessionsState). length t.out) (after_both s (by_rank k fs) mine) in
-    omega (arith, same, one, few_by_rank s k fs there)
-
--- with what answers what was heard
-pub few_sent : (s : SessionsState) (h : Option HeardText) (fs : List Sending) → CanHear s h → length s.peers ≡ s.place.size → All (CanSend s.place) fs →
-    length (after_event s h (by_rank s.place.size fs)).out ≤ length s.out + (most_answers h + 64 * s.place.size)
-few_sent s h fs can each go =
-    let heard = few_out s h [] 0 can refl in
-    let there : AreThere (length s.peers) fs = are_there s.place (length s.peers) fs each go in
-    let sent = few_by_rank (after_heard s h) s.place.size fs (subst (λ (n : ℕ). AreThere n fs) (sym (length_heard s h)) there) in
-    omega (arith, heard, sent)
 
 -- what is handed to the sessions is what was written out, in the order of the ranks
 pub frames_are : (p q : Place) (fs : List Sending) (os us : List Outgoing) → q ≡ p → sendings os ≡ by_rank q.size fs → us ≡ os → sendings us ≡ by_rank p.size fs

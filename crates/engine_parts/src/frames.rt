@@ -1,10 +1,11 @@
 //! The frames of a step of a collective.
 
-ghost use Rattle.std.specs.Prelude.{◌≡◌, ◌≤◌, ◌+◌, ◌*◌, ◌++◌, ◌==◌, [], ◌∷◌, false, All, IfErr, IfOk, None, Some, OnErr, OnOk, filter, length, map};
+ghost use Rattle.std.specs.Prelude.{◌≡◌, ◌≤◌, ◌++◌, ◌==◌, [], ◌∷◌, false, All, IfErr, IfOk, None, Some, OnErr, OnOk, filter, length, map};
 ghost use Rattle.collective_notes.specs.Messages.{IsFitting, says};
 ghost use Rattle.payload.specs.Spelling.{spelling};
-ghost use Rattle.sessions.specs.Events.{CanSend, after_event, event_limit, most_answers, sending_text, sendings};
+ghost use Rattle.sessions.specs.Events.{CanSend, after_event, event_limit, sending_text, sendings};
 ghost use Rattle.sessions.specs.Heard.{CanHear, heard_option};
+ghost use Rattle.sessions.specs.Windows.{StaysWithin};
 ghost use Rattle.vocabulary.specs.Limits.{eager_limit, send_limit};
 ghost use Rattle.engine_parts.specs.Frames.{AreWhole, IsWhole, all_can_go, by_rank, can_go, is_sendable, payload_frame, payload_kept, step_limit, step_numbers, step_payloads, step_sendings};
 ghost use Rattle.engine_parts.specs.Refusals.{fault_of_sessions};
@@ -295,7 +296,7 @@ fn send_written(
     ensures sent { OnOk result (sessions.new ≡ after_event sessions.old (heard_option heard.entry) (by_rank sessions.old.place.size (map written messages.now))) }
     ensures why { IfErr result (StepStops (fault_of_sessions (event_limit sessions.old (heard_option heard.entry) (by_rank sessions.old.place.size (map written messages.now))))) }
     ensures unchanged { OnErr result (sessions.new ≡ sessions.old) }
-    ensures few { length sessions.new.out ≤ length sessions.old.out + (most_answers (heard_option heard.entry) + 64 * sessions.old.place.size) }
+    ensures within { OnOk result (StaysWithin (heard_option heard.entry) sessions.old sessions.new) }
     ensures placed { sessions.new.place ≡ sessions.old.place }
 {
     let place = sessions.place();
@@ -332,7 +333,7 @@ pub fn send_step(
     ensures coming { payloads.new.more_coming ≡ payloads.old.more_coming }
     ensures why { IfErr result (StepStops (step_limit sessions.old numbers.old.items (heard_option heard.entry) messages.now)) }
     ensures unchanged { OnErr result (sessions.new ≡ sessions.old) }
-    ensures few { length sessions.new.out ≤ length sessions.old.out + (most_answers (heard_option heard.entry) + 64 * sessions.old.place.size) }
+    ensures within { OnOk result (StaysWithin (heard_option heard.entry) sessions.old sessions.new) }
     ensures placed { sessions.new.place ≡ sessions.old.place }
 {
     let place = sessions.place();

@@ -1,10 +1,9 @@
 -- Messages that were written out are sent in the order of the ranks.
-use Rattle.std.proofs.Common.{All, ◌≤◌, ◌+◌, ◌*◌, List, length, map, sym, ap, subst, ◌∙◌}
-use Rattle.sessions.specs.Events.{CanSend, Sending, after_event, event_limit, most_answers, sendings}
+use Rattle.std.proofs.Common.{All, List, map, sym, ap, subst, ◌∙◌}
+use Rattle.sessions.specs.Events.{CanSend, Sending, after_event, event_limit, sendings}
 use Rattle.sessions.specs.Heard.{heard_option}
-use Rattle.sessions.specs.SessionsState.{SessionsState}
 use Rattle.engine_parts.specs.Steps.{written}
-use Rattle.engine_parts.proofs.Stepping.{all_by_rank, few_sent, frames_are, sessions_stop}
+use Rattle.engine_parts.proofs.Stepping.{all_by_rank, frames_are, sessions_stop}
 use Rattle.engine_parts.proofs.frames.send_written.Goals as goal
 
 pub carry_out-requires-clause-frames : goal.carry_out-requires-clause-frames
@@ -25,13 +24,6 @@ returns-in-Ok-clause-sent c =
     let are = frames_are c.args.sessions.now.place c.place-place.result (map written c.args.messages.now) c.in_ok-frames.frames.items c.deref.result.now
     c.place-place.ensures.place c.in_ok-frames.ensures.ok c.deref.ensures.value in
     c.in-Ok.ensures.exact.1 ∙ ap (λ (fs : List Sending). after_event c.args.sessions.now (heard_option c.args.heard) fs) are
-
-pub returns-in-Ok-clause-few : goal.returns-in-Ok-clause-few
-returns-in-Ok-clause-few c =
-    subst
-    (λ (t : SessionsState). length t.out ≤ length c.args.sessions.now.out + (most_answers (heard_option c.args.heard) + 64 * c.args.sessions.now.place.size))
-    (sym (returns-in-Ok-clause-sent c))
-    (few_sent c.args.sessions.now (heard_option c.args.heard) (map written c.args.messages.now) c.requires.can c.place-place.ensures.peers c.requires.go)
 
 pub returns-clause-why : goal.returns-clause-why
 returns-clause-why c =

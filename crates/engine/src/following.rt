@@ -1,0 +1,160 @@
+//! What follows a frame that is handed up: the frames that were held behind it, each as if it had come then, and the answer of a
+//! blocked call at the end of all.
+//!
+//! A delivery has one acknowledgement, which stands first in what goes out. It is spelled before a turn is taken, since nothing
+//! may fail behind one, and says then what the turn has reached.
+
+ghost use Rattle.std.specs.Prelude.{◌≡◌, ◌≤◌, ◌<◌, ◌+◌, ◌*◌, length, IfSome, OnErr, OnOk, Some, false, slice_set};
+ghost use Rattle.reliable_link.specs.ReceiverState.{advanced};
+ghost use Rattle.rank_core.specs.Waiting.{woken};
+ghost use Rattle.sessions.specs.Arranging.{IsArranged};
+ghost use Rattle.sessions.specs.Following.{ready_from};
+ghost use Rattle.sessions.specs.Heard.{heard_text, word_text, CanHear, CanHeed, WordFits};
+ghost use Rattle.sessions.specs.Peers.{peer_at};
+ghost use Rattle.sessions.specs.Spellings.{ack_of};
+ghost use Rattle.sessions.specs.Windows.{room};
+ghost use Rattle.sessions.specs.declared.peers.Peer.{Peer};
+ghost use Rattle.engine.specs.Datagrams.{FollowGives, FollowedBy, HasFollowed, HearingGives, IsTakenIn, RefusedDatagramLeaves, without_next, woken_engine};
+
+use crate::engine::Engine;
+use datagram::Bytes;
+use rank_core::Refused;
+use sessions::{Heard, Word, turn_in};
+use vocabulary::Endpoint;
+
+/// So many frames follow one that is handed up at most; no more than 63 are held.
+const MOST_TURNS: u32 = 64;
+
+impl Engine {
+    /// The bytes of the next frame of a rank, where they are held and may have one more owner.
+    fn next_held(&self, rank: u16) -> Option<Bytes>
+        requires { rank < self.now.sessions.place.size }
+        ensures { IfSome result (λ bytes. Some bytes ≡ ready_from self.now.sessions rank) }
+    {
+        match self.sessions.ready(rank) {
+            Ok(bytes) => bytes,
+            Err(_) => None,
+        }
+    }
+
+    /// The acknowledgement that says that the frame was handed up; none where its number is the last one, or there is no memory.
+    fn spell_turn(&mut self, heard: Heard<'_>) -> Option<Bytes>
+        requires there { heard.source.rank < self.old.sessions.place.size }
+        requires can { (p : Peer) → CanHeed p (word_text heard.word) }
+        requires follows { IsTurn (heard_text heard) }
+        ensures ack { IfSome result (λ bytes. bytes ≡ ack_of self.old.sessions.place heard.entry.source (advanced (peer_at self.old.sessions.peers heard.entry.source.rank).receiver)) }
+        ensures kept { self.new ≡ self.old }
+    {
+        // The place shows that there is a session for each rank.
+        let _place = self.sessions.place();
+        if self.sessions.limit_of(Some(heard), &[]).is_some() {
+            return None;
+        }
+        match self.sessions.spell_behind(heard.source) {
+            Ok(ack) => Some(ack),
+            Err(_) => None,
+        }
+    }
+
+    /// This goes out in the place of what was to go out there.
+    fn replace(&mut self, at: usize, rank: u16, bytes: Bytes)
+        requires { at < length self.old.sessions.out }
+        ensures { self.new ≡ record self.old { sessions = record self.old.sessions { out = slice_set self.old.sessions.out at (rank, bytes) } } }
+    {
+        self.sessions.replace(at, rank, bytes);
+    }
+
+    /// The next frame of an endpoint isn't held any more.
+    fn discard(&mut self, source: Endpoint)
+        requires { source.rank < self.old.sessions.place.size }
+        ensures { self.new ≡ without_next self.old source }
+    {
+        self.sessions.discard(source.rank);
+    }
+
+    /// Takes in the frames of an endpoint that were held behind the one that was handed up, so many at most, and the acknowledgement
+    /// at this place says so. One that breaks a rule isn't held any more, and one that meets a limit, or for which there is no
+    /// memory, stays held; nothing follows either.
+    fn follow(&mut self, at: usize, source: Endpoint, turns: u32)
+        requires there { source.rank < self.old.sessions.place.size }
+        requires at { at < length self.old.sessions.out }
+        ensures exact { FollowGives turns at source self.old self.new }
+        ensures within { length self.new.sessions.out + room self.new.sessions.peers ≤ length self.old.sessions.out + room self.old.sessions.peers }
+        ensures longer { length self.old.sessions.out ≤ length self.new.sessions.out }
+        ensures known { self.new.sessions.known ≡ self.old.sessions.known }
+        ensures placed { self.new.sessions.place ≡ self.old.sessions.place }
+        ensures core_placed { self.new.core.place ≡ self.old.core.place }
+    {
+        if turns == 0 {
+            return;
+        }
+        let Some(bytes) = self.next_held(source.rank) else {
+            return;
+        };
+        let Some(heard) = turn_in(source, &bytes) else {
+            self.discard(source);
+            return;
+        };
+        let Some(ack) = self.spell_turn(heard) else {
+            return;
+        };
+        match self.take_heard(heard) {
+            Ok(()) => {
+                self.replace(at, source.rank, ack);
+                self.follow(at, source, turns - 1);
+            }
+            Err(Refused::BadFrame) => self.discard(source),
+            Err(_) => {}
+        }
+    }
+
+    /// From this place on what goes out stands by rising rank, and for one rank by its numbers.
+    fn arrange(&mut self, from: usize)
+        requires { from ≤ length self.old.sessions.out }
+        ensures same { self.new ≡ record self.old { sessions = self.new.sessions } }
+        ensures arranged { IsArranged from self.old.sessions self.new.sessions }
+    {
+        self.sessions.arrange(from);
+    }
+
+    /// Takes in what was held behind a frame of an endpoint that was handed up, whose acknowledgement stands at this place.
+    fn take_following(&mut self, at: usize, source: Endpoint)
+        requires there { source.rank < self.old.sessions.place.size }
+        requires at { at < length self.old.sessions.out }
+        ensures exact { HasFollowed 64 at source self.old self.new }
+        ensures within { length self.new.sessions.out + room self.new.sessions.peers ≤ length self.old.sessions.out + room self.old.sessions.peers }
+        ensures known { self.new.sessions.known ≡ self.old.sessions.known }
+        ensures placed { self.new.sessions.place ≡ self.old.sessions.place }
+        ensures core_placed { self.new.core.place ≡ self.old.core.place }
+    {
+        self.follow(at, source, MOST_TURNS);
+        self.arrange(at + 1);
+    }
+
+    /// The blocked call is answered, if its answer is ready by now.
+    fn wake(&mut self)
+        ensures { self.new ≡ woken_engine self.old }
+    {
+        self.core.wake();
+    }
+
+    /// Takes in what is heard, and what follows it, or refuses it; at the end a blocked call is answered.
+    pub(crate) fn take_in(&mut self, heard: Heard<'_>) -> Result<(), Refused>
+        requires can { CanHear self.old.sessions (Some (heard_text heard)) }
+        requires fits { WordFits (word_text heard.word) }
+        requires there { heard.source.rank < self.old.sessions.place.size }
+        ensures taken { OnOk result (IsTakenIn self.old (heard_text heard.entry) self.new) }
+        ensures refused { IfErr result (λ e. HeardGives self.old (heard_text heard.entry) (Err e) self.new) }
+        ensures few { length self.new.sessions.out ≤ length self.old.sessions.out + 65 * self.old.sessions.place.size }
+        ensures placed { self.new.sessions.place ≡ self.old.sessions.place }
+        ensures core_placed { self.new.core.place ≡ self.old.core.place }
+    {
+        let at = self.sessions.emitted();
+        self.take_heard(heard)?;
+        if let Word::Hands(_) = heard.word {
+            self.take_following(at, heard.source);
+        }
+        self.wake();
+        Ok(())
+    }
+}
