@@ -231,19 +231,19 @@ fn numbers_of_refusals(rt: HostRuntime) {
 
 /// Rank 0 announces a message of 1,025 bytes with tag 3 to rank 1 as transfer 1, in frame 0 of job 1.
 const REQUEST: [u8; 56] = [
-    0x4d, 0x50, 0x55, 0x44, 1, 1, 0, 0, 0, 1, 0, 0, 0, 0, 0, 24, 0, 0, 0, 0, 0, 0, 0, 1, 0, 0, 0,
+    0x4d, 0x50, 0x55, 0x44, 2, 1, 0, 0, 0, 1, 0, 0, 0, 0, 0, 24, 0, 0, 0, 0, 0, 0, 0, 1, 0, 0, 0,
     0, 0, 0, 0, 0, 2, 0, 5, 0, 0, 0, 0, 3, 0, 0, 0, 0, 0, 0, 0, 0, 0, 0, 4, 1, 0, 0, 0, 1,
 ];
 
 /// Rank 0 asks rank 1 for the data of transfer 0, in frame 0 of job 1.
 const CLEAR: [u8; 40] = [
-    0x4d, 0x50, 0x55, 0x44, 1, 1, 0, 0, 0, 1, 0, 0, 0, 0, 0, 8, 0, 0, 0, 0, 0, 0, 0, 1, 0, 0, 0, 0,
+    0x4d, 0x50, 0x55, 0x44, 2, 1, 0, 0, 0, 1, 0, 0, 0, 0, 0, 8, 0, 0, 0, 0, 0, 0, 0, 1, 0, 0, 0, 0,
     0, 0, 0, 0, 3, 0, 0, 0, 0, 0, 0, 0,
 ];
 
 /// Rank 0 sends the first byte of transfer 0 to rank 1, in frame 0 of job 1.
 const PART: [u8; 45] = [
-    0x4d, 0x50, 0x55, 0x44, 1, 1, 0, 0, 0, 1, 0, 0, 0, 0, 0, 13, 0, 0, 0, 0, 0, 0, 0, 1, 0, 0, 0,
+    0x4d, 0x50, 0x55, 0x44, 2, 1, 0, 0, 0, 1, 0, 0, 0, 0, 0, 13, 0, 0, 0, 0, 0, 0, 0, 1, 0, 0, 0,
     0, 0, 0, 0, 0, 4, 0, 0, 0, 0, 0, 0, 0, 0, 0, 0, 0, 7,
 ];
 
@@ -285,4 +285,91 @@ fn refused_parts(alloc: Global) -> Option<(usize, bool, Option<u64>, bool)> {
 #[test]
 fn frames_of_no_transfer_are_refused_and_change_nothing(rt: HostRuntime) {
     assert_eq!(rt; refused_parts(rt.alloc()), Some((0, true, Some(1), true)));
+}
+
+/// The number and the bits of the acknowledgement that an engine emitted first, and how many datagrams it emitted.
+fn acknowledged(engine: &mut Engine) -> Option<(u64, u64, usize)> {
+    let emitted = engine.take_out();
+    let (_rank, bytes) = emitted.first()?;
+    let first = datagram::read(bytes.as_slice()).ok()?;
+    match first.content {
+        datagram::Content::Ack(held) => Some((first.header.sequence, held, emitted.len())),
+        _ => None,
+    }
+}
+
+/// What is acknowledged where data of no transfer come before their turn, then the message before them, and then another one.
+fn give_up(
+    alloc: Global,
+    sender: &mut Engine,
+    receiver: &mut Engine,
+) -> Option<[(u64, u64, usize); 3]> {
+    let mut early = PART;
+    early[31] = 1;
+    receiver.on_datagram(&early).ok()?;
+    let held = acknowledged(receiver)?;
+    let _first = start_send(alloc, sender)?;
+    deliver(sender, receiver)?;
+    let given_up = acknowledged(receiver)?;
+    let _second = start_send(alloc, sender)?;
+    deliver(sender, receiver)?;
+    Some([held, given_up, acknowledged(receiver)?])
+}
+
+fn given_up(alloc: Global) -> Option<[(u64, u64, usize); 3]> {
+    let mut ranks = two_ranks(alloc, 0, 0)?;
+    match ranks.as_mut_slice() {
+        [sender, receiver] => give_up(alloc, sender, receiver),
+        _ => None,
+    }
+}
+
+/// It is taken out, and neither taken nor acknowledged: another frame comes under its number.
+#[test]
+fn a_held_frame_that_is_not_due_in_its_turn_is_given_up(rt: HostRuntime) {
+    assert_eq!(rt;
+        given_up(rt.alloc()),
+        Some([(0, 2, 1), (1, 0, 1), (2, 0, 1)])
+    );
+}
+
+/// How a frame that comes 64 numbers early is refused, one that comes 63 early is acknowledged, and how acknowledgements of what wasn't sent
+/// are refused, by their number and by their bits.
+fn out_of_window(
+    engine: &mut Engine,
+) -> Option<(Option<u8>, (u64, u64, usize), Option<u8>, Option<u8>)> {
+    let mut early = PART;
+    early[31] = 64;
+    let far = number_of_unheard(engine, &early);
+    early[31] = 63;
+    engine.on_datagram(&early).ok()?;
+    let held = acknowledged(engine)?;
+    let mut bytes = ACKNOWLEDGEMENT;
+    bytes[31] = 1;
+    let number = number_of_unheard(engine, &bytes);
+    bytes[31] = 0;
+    bytes[39] = 2;
+    Some((far, held, number, number_of_unheard(engine, &bytes)))
+}
+
+/// Rank 0 acknowledges nothing of rank 1, in job 1.
+const ACKNOWLEDGEMENT: [u8; 40] = [
+    0x4d, 0x50, 0x55, 0x44, 2, 2, 0, 0, 0, 1, 0, 0, 0, 0, 0, 8, 0, 0, 0, 0, 0, 0, 0, 1, 0, 0, 0, 0,
+    0, 0, 0, 0, 0, 0, 0, 0, 0, 0, 0, 0,
+];
+
+fn window(alloc: Global) -> Option<(Option<u8>, (u64, u64, usize), Option<u8>, Option<u8>)> {
+    let mut engine = rank_of_two(alloc, 1, 0).ok()?;
+    let told = out_of_window(&mut engine);
+    drop(engine);
+    told
+}
+
+#[test]
+fn the_window_has_64_frames(rt: HostRuntime) {
+    let highest = 9_223_372_036_854_775_808;
+    assert_eq!(rt;
+        window(rt.alloc()),
+        Some((Some(31), (0, highest, 1), Some(31), Some(31)))
+    );
 }

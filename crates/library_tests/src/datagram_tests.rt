@@ -7,20 +7,20 @@ use vocabulary::{BasicType, Endpoint};
 
 /// Rank 0 sends 1, 2, 3 as INT32 with tag 7 to rank 1, in frame 0 of job 1.
 const MESSAGE: [u8; 64] = [
-    0x4d, 0x50, 0x55, 0x44, 1, 1, 0, 0, 0, 1, 0, 0, 0, 0, 0, 32, 0, 0, 0, 0, 0, 0, 0, 1, 0, 0, 0,
+    0x4d, 0x50, 0x55, 0x44, 2, 1, 0, 0, 0, 1, 0, 0, 0, 0, 0, 32, 0, 0, 0, 0, 0, 0, 0, 1, 0, 0, 0,
     0, 0, 0, 0, 0, 1, 0, 3, 0, 0, 0, 0, 7, 0, 0, 0, 0, 0, 0, 0, 0, 0, 0, 0, 3, 0, 0, 0, 1, 0, 0, 0,
     2, 0, 0, 0, 3,
 ];
 
 /// Rank 1 acknowledges frame 0 of rank 0, in job 1.
-const ACKNOWLEDGEMENT: [u8; 32] = [
-    0x4d, 0x50, 0x55, 0x44, 1, 2, 0, 1, 0, 0, 0, 0, 0, 0, 0, 0, 0, 0, 0, 0, 0, 0, 0, 1, 0, 0, 0, 0,
-    0, 0, 0, 1,
+const ACKNOWLEDGEMENT: [u8; 40] = [
+    0x4d, 0x50, 0x55, 0x44, 2, 2, 0, 1, 0, 0, 0, 0, 0, 0, 0, 8, 0, 0, 0, 0, 0, 0, 0, 1, 0, 0, 0, 0,
+    0, 0, 0, 1, 0, 0, 0, 0, 0, 0, 0, 0,
 ];
 
 /// Rank 1, started anew, tells the first incarnation of rank 0 who it now is, in job 1.
 const RESET: [u8; 32] = [
-    0x4d, 0x50, 0x55, 0x44, 1, 3, 0, 1, 0, 0, 0, 1, 0, 0, 0, 0, 0, 0, 0, 0, 0, 0, 0, 1, 0, 0, 0, 0,
+    0x4d, 0x50, 0x55, 0x44, 2, 3, 0, 1, 0, 0, 0, 1, 0, 0, 0, 0, 0, 0, 0, 0, 0, 0, 0, 1, 0, 0, 0, 0,
     0, 0, 0, 0,
 ];
 
@@ -115,13 +115,44 @@ fn a_message_is_read(rt: HostRuntime) {
 
 #[test]
 fn other_kinds_are_read(rt: HostRuntime) {
-    assert!(rt;
-        matches!(
-            read(&ACKNOWLEDGEMENT).map(|read| read.content),
-            Ok(Content::Ack)
-        )
-    );
+    assert_eq!(rt; held_in(&ACKNOWLEDGEMENT), Some(0));
     assert!(rt; matches!(read(&RESET).map(|read| read.content), Ok(Content::Reset)));
+}
+
+/// The bits of an acknowledgement.
+fn held_in(bytes: &[u8]) -> Option<u64> {
+    match read(bytes).ok()?.content {
+        Content::Ack(held) => Some(held),
+        _ => None,
+    }
+}
+
+/// The bits of an acknowledgement whose byte at a place is another one, and whether it is written as it was read.
+fn held_with(alloc: Global, at: usize, byte: u8) -> Option<(u64, bool)> {
+    let mut edited = Vec::from_slice(alloc, &ACKNOWLEDGEMENT).ok()?;
+    set(&mut edited, at, byte)?;
+    let held = held_in(&edited)?;
+    let mut out = Vec::new(alloc);
+    let is_written = write_again(&edited, &mut out);
+    Some((held, is_written && out.as_slice() == edited.as_slice()))
+}
+
+#[test]
+fn an_acknowledgement_tells_what_is_held(rt: HostRuntime) {
+    assert_eq!(rt; held_with(rt.alloc(), 39, 4), Some((4, true)));
+    assert_eq!(rt;
+        held_with(rt.alloc(), 32, 0x80),
+        Some((9_223_372_036_854_775_808, true))
+    );
+    for (at, byte, fault) in [
+        (39, 1, Refused::BadFrame),
+        (40, 0, Refused::Length),
+        (15, 0, Refused::Length),
+        (15, 9, Refused::Length),
+    ] {
+        let found = fault_with(rt.alloc(), &ACKNOWLEDGEMENT, at, byte);
+        assert_eq!(rt; found, Some(fault), "byte {at}");
+    }
 }
 
 /// Sets the byte at a place, or appends it behind the last one.
@@ -145,9 +176,9 @@ fn fault_with(alloc: Global, bytes: &[u8], at: usize, byte: u8) -> Option<Refuse
 fn the_first_fault_is_answered(rt: HostRuntime) {
     for (at, byte, fault) in [
         (0, 0x4e, Refused::Magic),
-        (4, 2, Refused::Version),
+        (4, 1, Refused::Version),
         (5, 4, Refused::Kind),
-        (32, 0, Refused::Length),
+        (40, 0, Refused::Length),
     ] {
         let found = fault_with(rt.alloc(), &ACKNOWLEDGEMENT, at, byte);
         assert_eq!(rt; found, Some(fault), "byte {at}");
@@ -158,9 +189,15 @@ fn the_first_fault_is_answered(rt: HostRuntime) {
 fn what_lacks_bytes_is_refused(rt: HostRuntime) {
     let faults = (
         read(&ACKNOWLEDGEMENT[..31]).err(),
+        read(&ACKNOWLEDGEMENT[..39]).err(),
         read(&MESSAGE[..63]).err(),
     );
-    assert_eq!(rt; faults, (Some(Refused::Short), Some(Refused::Length)));
+    let wanted = (
+        Some(Refused::Short),
+        Some(Refused::Length),
+        Some(Refused::Length),
+    );
+    assert_eq!(rt; faults, wanted);
 }
 
 #[test]

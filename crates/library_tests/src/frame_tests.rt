@@ -6,7 +6,7 @@ use vocabulary::{BasicType, Endpoint};
 
 /// The header of frame 0 from rank 0 to rank 1 in job 1, whose body is empty.
 const HEADER: [u8; 32] = [
-    0x4d, 0x50, 0x55, 0x44, 1, 1, 0, 0, 0, 1, 0, 0, 0, 0, 0, 0, 0, 0, 0, 0, 0, 0, 0, 1, 0, 0, 0, 0,
+    0x4d, 0x50, 0x55, 0x44, 2, 1, 0, 0, 0, 1, 0, 0, 0, 0, 0, 0, 0, 0, 0, 0, 0, 0, 0, 1, 0, 0, 0, 0,
     0, 0, 0, 0,
 ];
 

@@ -90,8 +90,8 @@ const LINES: &str = "\
     0|-patience 3600000 -n 1 a\n\
     54|-patience 3600001 -n 1 a\n\
     0|-n 1 a\n\
-    0|-n 256 a\n\
-    54|-n 257 a\n\
+    0|-n 1024 a\n\
+    54|-n 1025 a\n\
     54|-n 01 a\n\
     54|-n 00000000000000000001 a\n\
     54|-n -1 a\n\
@@ -130,14 +130,16 @@ const LINES: &str = "\
     56|-n 1 : a\n\
     55|-n 1 a : b\n\
     0|-n 1 a :b\n\
-    57|-n 256 a : -n 1 b\n\
-    56|-n 256 a : -n 1\n\
-    53|-n 200 a : -n 57 b : -x\n\
+    57|-n 1024 a : -n 1 b\n\
+    56|-n 1024 a : -n 1\n\
+    57|-n 1000 a : -n 25 b\n\
+    53|-n 1000 a : -n 25 b : -x\n\
     57|-baseport 65535 -n 2 a\n\
     0|-baseport 65534 -n 1 a : -n 1 b\n\
     57|-baseport 65534 -n 1 a : -n 2 b\n\
-    0|-baseport 65280 -n 256 a\n\
-    57|-baseport 65281 -n 256 a";
+    57|-baseport 65000 -n 600 a\n\
+    0|-baseport 64512 -n 1024 a\n\
+    57|-baseport 64513 -n 1024 a";
 
 #[test]
 fn lines_have_their_outcomes(rt: HostRuntime) {
@@ -148,7 +150,7 @@ fn lines_have_their_outcomes(rt: HostRuntime) {
 fn words_round_a_file(rt: HostRuntime) {
     let good: Option<&[u8]> = Some(b"-n 1 a\n");
     let bad: Option<&[u8]> = Some(b"a\n");
-    let full: Option<&[u8]> = Some(b"-n 256 a\n-n 1 b\n");
+    let full: Option<&[u8]> = Some(b"-n 1024 a\n-n 1 b\n");
     for (line, config, want) in [
         ("-configfile", good, 54),
         ("-configfile f", None, 59),
@@ -192,8 +194,8 @@ fn files_have_their_outcomes(rt: HostRuntime) {
         (b"-n 1 a\n-n 2\n", 56),
         (b"-n 1 a \\\r\n b", 55),
         (b"-n 1 \xff\xfe\n", 0),
-        (b"-n 257 a\n", 54),
-        (b"-n 256 a\n-n 1 b\n", 57),
+        (b"-n 1025 a\n", 54),
+        (b"-n 1024 a\n-n 1 b\n", 57),
         (b"\\\n-n 1 a", 0),
         (b"-n 1 \\\n\\\na", 0),
         (b"-n 1\\\n# a\n", 0),

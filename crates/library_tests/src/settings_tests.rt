@@ -44,13 +44,13 @@ fn words_give_settings(rt: HostRuntime) {
         "--inc",
         "65535",
         "--size",
-        "256",
+        "1024",
         "--rank",
-        "255",
+        "1023",
     ];
     assert_eq!(rt;
         numbers(rt.alloc(), words.as_slice()),
-        Ok((255, 256, 65_535, u64::MAX, 65_535, 3_600_000))
+        Ok((1023, 1024, 65_535, u64::MAX, 65_535, 3_600_000))
     );
 }
 
@@ -82,7 +82,7 @@ fn wrong_words_are_refused(rt: HostRuntime) {
     assert_eq!(rt; numbers(alloc, ["rank_main"].as_slice()), Err(64));
     assert_refused(&rt, alloc, "2", "2", "47000", "file");
     assert_refused(&rt, alloc, "0", "0", "47000", "file");
-    assert_refused(&rt, alloc, "0", "257", "47000", "file");
+    assert_refused(&rt, alloc, "0", "1025", "47000", "file");
     assert_refused(&rt, alloc, "0", "1", "0", "file");
     assert_refused(&rt, alloc, "0", "1", "65536", "file");
     assert_refused(&rt, alloc, "0", "2", "65535", "file");

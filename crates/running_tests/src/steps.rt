@@ -97,6 +97,11 @@ pub(crate) fn deliver(world: &mut World, number: usize) -> Told {
     step(world, Event::Deliver(number))
 }
 
+/// A rank's clock says so many milliseconds.
+pub(crate) fn tick(world: &mut World, rank: u16, now: u64) -> Told {
+    step(world, Event::Tick(rank, now))
+}
+
 /// An element.
 fn one_element(alloc: Global, value: u8) -> Option<Region> {
     let mut elements = Buffer::new(alloc, BasicType::Int32);

@@ -77,8 +77,8 @@ fn world_shows_what_happened(rt: HostRuntime) {
 }
 
 #[test]
-fn worlds_have_1_to_256_ranks(rt: HostRuntime) {
-    for (size, number) in [(0, Some(13)), (1, None), (256, None), (257, Some(13))] {
+fn worlds_have_1_to_1024_ranks(rt: HostRuntime) {
+    for (size, number) in [(0, Some(13)), (1, None), (1024, None), (1025, Some(13))] {
         assert_eq!(rt; number_of_no_world(rt.alloc(), size), number, "{size}");
     }
 }

@@ -114,7 +114,7 @@ const FAULTY: &str = "\
     2|# nothing;\n\
     3|# nothing;#\n\
     1|world 0;\n\
-    1|world 257;\n\
+    1|world 1025;\n\
     1|restart 0;\n\
     2|world 2;world 2;\n\
     2|world 2;restart;\n\
