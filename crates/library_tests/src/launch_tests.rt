@@ -65,7 +65,7 @@ const LINES: &str = "\
     54|-n 0 a\n\
     55|echo hi\n\
     56|-n 2\n\
-    57|-n 200 a : -n 57 b\n\
+    57|-n 1000 a : -n 25 b\n\
     58|-n 1 -host h a\n\
     0|-job 0 -n 1 a\n\
     0|-job 18446744073709551615 -n 1 a\n\

@@ -1,7 +1,8 @@
 //! What the launcher tells on the standard error: the word at fault, and the lines.
 
-use keeping::{After, Ending, EndingLine, LostKeeperLine, Shown, TakenPortsLine, Word};
+use keeping::{After, Ending, EndingLine, LostKeeperLine, TakenPortsLine, Word};
 use launch_faults::{explain, fault_place};
+use shown_words::Shown;
 use std::alloc::Global;
 
 /// The words of a line, apart by single spaces.
@@ -52,7 +53,7 @@ fn words_at_fault(rt: HostRuntime) {
         ("-n 1 a : b", (55, 4)),
         ("-n 2", (56, 2)),
         ("-n 1 : a", (56, 2)),
-        ("-n 200 a : -n 57 b c", (57, 6)),
+        ("-n 1000 a : -n 25 b c", (57, 6)),
         ("-n 1 -host h a", (58, 2)),
     ] {
         assert_eq!(rt; fault(rt.alloc(), line, None), Some(want), "{line}");
