@@ -132,7 +132,6 @@ const LINES: &str = "\
     0|-n 1 a :b\n\
     57|-n 1024 a : -n 1 b\n\
     56|-n 1024 a : -n 1\n\
-    57|-n 1000 a : -n 25 b\n\
     53|-n 1000 a : -n 25 b : -x\n\
     57|-baseport 65535 -n 2 a\n\
     0|-baseport 65534 -n 1 a : -n 1 b\n\
