@@ -18,7 +18,7 @@ use Rattle.rendezvous.specs.declared.transfers.Numbers.{Numbers}
 use Rattle.sessions.specs.declared.peers.Peer.{Peer}
 use Rattle.sessions.specs.declared.refused.Refused as lower
 use Rattle.sessions.specs.declared.refused.Refused.TheVariants as lowers
-use Rattle.sessions.specs.Events.{CanSend, Sending, after_event, after_heard, after_send, after_sends, event_limit, first_limit, heard_limit, most_answers, sendings, sends_limit, word_limit}
+use Rattle.sessions.specs.Events.{CanSend, Sending, after_event, after_heard, after_send, after_sends, event_limit, first_limit, heard_limit, last_limit, most_answers, sendings, sends_limit, word_limit}
 use Rattle.sessions.specs.Refusals.{IsRefusal}
 use Rattle.sessions.specs.declared.heard.Outgoing.{Outgoing}
 use Rattle.sessions.specs.Heard.{Acknowledges, CanHear, Follows, Hands, HeardText, Holds, Nothing, Repeats, WordText, session_met}
@@ -262,14 +262,19 @@ all_by_rank p (suc k) fs all =
 
 -- ---- why a step is stopped
 
-word_limited : (w : WordText) (p : Peer) (e : lower.Refused) → word_limit w p ≡ Some e → e ≡ lowers.Limit
-word_limited (Acknowledges n held) p e is = absurd cc
-word_limited Repeats p e is = absurd cc
-word_limited (Hands f) p e is = go (p.receiver == 18446744073709551615) is
+last_limited : (n : ℕ) (e : lower.Refused) → last_limit n ≡ Some e → e ≡ lowers.Limit
+last_limited n e is = go (n == 18446744073709551615) is
   where
     go : (t : Bool) → cond t (Some lowers.Limit) None ≡ Some e → e ≡ lowers.Limit
     go true q = cc
     go false q = absurd cc
+
+word_limited : (w : WordText) (p : Peer) (e : lower.Refused) → word_limit w p ≡ Some e → e ≡ lowers.Limit
+word_limited (Acknowledges n held) p e is = absurd cc
+word_limited Repeats p e is = absurd cc
+word_limited (Hands f) p e is = last_limited p.receiver.next e is
+word_limited (Holds early) p e is = last_limited early.number e is
+word_limited (Follows f) p e is = last_limited p.receiver.next e is
 word_limited Nothing p e is = absurd cc
 
 heard_limited : (s : SessionsState) (h : Option HeardText) (e : lower.Refused) → heard_limit s h ≡ Some e → e ≡ lowers.Limit
