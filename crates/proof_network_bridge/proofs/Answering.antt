@@ -1,5 +1,5 @@
 -- An answer to a payload that a rank announced is followed: all its pieces go out.
-use Rattle.std.proofs.Common.{◌≡◌, ℕ, zero, suc, ◌+◌, ◌-◌, ◌^◌, ◌<◌, ◌≤◌, Bool, true, false, ◌==◌, List, [], ◌∷◌, ◌++◌, Option, Some, None, Ok, is_some, length, map, refl, sym, ap, subst, ◌∙◌, arith}
+use Rattle.std.proofs.Common.{◌≡◌, ℕ, zero, suc, ◌+◌, ◌-◌, ◌^◌, ◌<◌, ◌≤◌, Bool, true, false, ◌==◌, List, [], ◌∷◌, Option, Some, None, Ok, is_some, length, map, refl, sym, ap, subst, ◌∙◌, arith}
 use Rattle.std.specs.Prelude.{option_map, slice_get}
 use Rattle.std.specs.List.{AllByRecursion}
 use Rattle.std.proofs.lemmas.Bool.{and_parts, eqb-false, eqb-true}
@@ -9,28 +9,26 @@ use Rattle.collective_transfers.specs.Payloads.{Announced, is_to}
 use Rattle.collective_transfers.specs.State as payloads
 use Rattle.collective_transfers.specs.State.{after_answer, announced_at, announced_to, place_to, without}
 use Rattle.datagram.specs.Spelling.{ClearFrame, ClearText, DataFrame, FrameText}
-use Rattle.engine.specs.Datagrams.{AnswerGives, after_answered, answer_fault, data_for, data_of, data_sent, ended_by, groups_met, is_to_collective, unwanted}
-use Rattle.engine_parts.specs.EngineState.{EngineState, completion_of, or_before}
+use Rattle.engine.specs.Datagrams.{AnswerGives, after_answered, answer_fault, data_for, data_of, data_sent, ended_by, frame_in, groups_met, is_to_collective, payloads_met, unwanted}
+use Rattle.engine_parts.specs.EngineState.{EngineState, or_before}
 use Rattle.engine_parts.specs.Frames.{sending_of}
 use Rattle.engine_parts.specs.Refusals.{fault_of_sessions}
 use Rattle.incarnation.specs.declared.place.Place.{Place}
-use Rattle.perfect_groups.specs.Events.{Entry}
 use Rattle.proof_engine_steps.proofs.ListsApart.{Passes, position_passes}
 use Rattle.proof_engine_steps.proofs.Wholes.{at_place, removed}
-use Rattle.proof_engine_steps.specs.Steps.{NewsAreShown}
-use Rattle.proof_engine_view.specs.Frames.{endpoint_of, known_after}
+use Rattle.proof_engine_view.specs.Frames.{endpoint_of}
 use Rattle.proof_engine_view.specs.Shown.{IsShown}
 use Rattle.proof_engine_view.specs.Standing.{CanLeave}
 use Rattle.proof_engine_view.specs.Transfers.{Transfer}
 use Rattle.proof_group_network.specs.Carried.{Announces, Answers, BringsPart, Carried, OfMessages, OfNotices, Sessions, in_parts, parts_from}
-use Rattle.proof_group_network.specs.Happened.{IsAfter}
-use Rattle.proof_group_network.specs.Network.{GroupNetwork, member_settled}
+use Rattle.proof_group_network.specs.Happened.{IsAfter, met_core}
+use Rattle.proof_group_network.specs.Network.{GroupNetwork}
 use Rattle.proof_group_network.specs.NoticesStand.{heard_member}
 use Rattle.proof_group_network.specs.SessionLaws.{IsNext}
-use Rattle.proof_link_truth.specs.Events.{EventsAreTrue, HearingIsTrue, HearsTruth, IsFromDatagram, IsTrueWord, MaySendAll, all_addressed}
+use Rattle.proof_link_truth.specs.Events as below
+use Rattle.proof_link_truth.specs.Events.{MaySendAll, all_addressed}
 use Rattle.proof_link_truth.specs.Wire.{place_of}
 use Rattle.proof_links.specs.Links.{LinksOf, accept_all, handed_on}
-use Rattle.proof_pure_network.specs.Core.{Core}
 use Rattle.proof_pure_network.specs.Frames.{Cts, Frame}
 use Rattle.proof_pure_network.specs.Network.{here}
 use Rattle.proof_session_carrying.proofs.Carrying.{next_stands}
@@ -43,23 +41,23 @@ use Rattle.proof_session_carrying.specs.EventLaws.{AreJoined}
 use Rattle.rank_calls.specs.Hearing.{CanGo, data_frames}
 use Rattle.rank_core.proofs.Replies.{data_go}
 use Rattle.rank_core.specs.CoreState.{CoreState}
-use Rattle.rank_core.specs.Hearing.{after_hearing}
+use Rattle.rank_core.specs.Hearing as core
 use Rattle.rendezvous.specs.Pieces.{piece_bytes, piece_count, pieces_of}
 use Rattle.sessions.specs.Events.{Sending, after_event, event_limit}
-use Rattle.sessions.specs.Heard.{Hands, HeardText, WordText}
-use Rattle.sessions.specs.SessionsState.{known_endpoint}
+use Rattle.sessions.specs.Heard.{HeardText}
+use Rattle.sessions.specs.SessionsState.{SessionsState, known_endpoint}
 use Rattle.vocabulary.specs.Limits.{send_limit}
 use Rattle.vocabulary.specs.declared.endpoint.Endpoint.{Endpoint}
-use Rattle.proof_network_bridge.specs.Following.{LeavesFollowed}
-use Rattle.proof_network_bridge.specs.Joined.{IsFollowed, network_after, sessions_in}
 use Rattle.proof_network_bridge.specs.Payloads.{ArePayloads, IsAnnouncedPayload, IsLargeNotice}
-use Rattle.proof_network_bridge.specs.Seen.{told_completion}
-use Rattle.proof_network_bridge.proofs.Carried.{IsAlone, IsSilent, alone_follows, source_addressed}
+use Rattle.proof_network_bridge.proofs.Carried.{IsAlone, IsSilent, alone_step}
 use Rattle.proof_network_bridge.proofs.Carrying.{may_send}
 use Rattle.proof_network_bridge.proofs.Halves.{neither_fault}
 use Rattle.proof_network_bridge.proofs.Heard.{taught}
+use Rattle.proof_network_bridge.proofs.Midway.{IsHearing, IsOpen, IsStepped, opened}
+use Rattle.proof_network_bridge.proofs.OfMessages.{known_as}
 use Rattle.proof_network_bridge.proofs.Payloads.{payloads_grow, said_same}
-use Rattle.proof_network_bridge.proofs.Worlds.{is_at, only_handed}
+use Rattle.proof_network_bridge.proofs.Words.{hands_next}
+use Rattle.proof_network_bridge.proofs.Worlds.{only_handed}
 
 -- ---- the payload that is asked for
 
@@ -207,52 +205,45 @@ stays old h t sendings plain are = record {
   sessions = ap (after_event old.sessions (Some h)) are;
 }
   where
-    core_is : after_hearing h.lesson None old.core h.source ≡ old.core
-    core_is = ap (λ (lesson : Bool). after_hearing lesson None old.core h.source) plain
+    core_is : (opened old h).core ≡ old.core
+    core_is = ap (λ (lesson : Bool). core.taught lesson old.core h.source) plain
 
 -- ---- an answer
 
 -- it is followed
-taken_follows : NewsAreShown → HearingIsTrue → EventsAreTrue → (n r : ℕ) (engines : List EngineState) (datagrams : List (ℕ × List ℕ)) (history : List Entry) (old : EngineState) (h : HeardText) (t : ClearText) →
-    IsFollowed n engines datagrams history → slice_get engines r ≡ Some old → IsFromDatagram datagrams r old.sessions h → h.word ≡ Hands (ClearFrame t) → is_to_collective h.lesson old.payloads h.source.rank t.transfer ≡ true →
-    answer_fault old.payloads old.sessions h t ≡ None →
-    LeavesFollowed n engines datagrams r (after_answered old h t) (history ++ told_completion old.sessions.place.endpoint (completion_of (after_answered old h t)))
-taken_follows shows hearing events n r engines datagrams history old h t f there comes hands is fine =
-    alone_follows shows hearing events n r engines datagrams history old (after_answered old h t) h (ClearFrame t) sendings (in_parts s number more) f there comes hands (stays old h t sendings asked.plain sendings_are) may free
+taken_step : (n r : ℕ) (engines : List EngineState) (u : GroupNetwork) (T : SessionsState → LinksOf FrameText → Type 0) (old : EngineState) (h : HeardText) (t : ClearText) → IsHearing n r engines u T old h →
+    frame_in h.word ≡ Some (ClearFrame t) → is_to_collective h.lesson old.payloads h.source.rank t.transfer ≡ true → answer_fault old.payloads old.sessions h t ≡ None →
+    IsStepped n r engines u h.source T (after_answered old h t)
+taken_step n r engines u T old h t x is ours fine =
+    alone_step n r engines u T old (after_answered old h t) h (ClearFrame t) sendings (in_parts s number more) x is (stays old h t sendings asked.plain sendings_are) may free
     (parts_silent s number 0 more) carried kept
   where
-    w : GroupNetwork
-    w = network_after n f.happenings
-
     own : Endpoint
-    own = here w.net r
+    own = here u.net r
 
     s : Endpoint
     s = h.source
 
-    texts : LinksOf FrameText
-    texts = f.joined.texts
+    o : IsOpen n r engines u.net.current u x.texts s (opened old h)
+    o = x.opens
 
     known : List ℕ
-    known = known_after h.lesson old.sessions.known s
+    known = (opened old h).sessions.known
 
-    truth : HearsTruth n r w.net.current old.sessions texts h
-    truth = hearing n r (sessions_in engines) datagrams texts w.net.current old.sessions h f.joined.links (is_at n r engines datagrams w old f.joined there) comes
-
-    says : IsTrueWord texts s own (Hands (ClearFrame t))
-    says = subst (λ (x : WordText). IsTrueWord texts s own x) hands truth.word
+    says : below.IsNext x.texts s own (ClearFrame t)
+    says = hands_next n x.texts s own h.word (ClearFrame t) is x.says
 
     source : known_endpoint known s.rank ≡ s
-    source = source_addressed n r engines datagrams history old h f there truth.heard
+    source = known_as known s o.known
 
     asked : IsAsked h.lesson old.payloads s.rank t.transfer
-    asked = is_asked h.lesson old.payloads s.rank t.transfer is
+    asked = is_asked h.lesson old.payloads s.rank t.transfer ours
 
-    before : ArePayloads f.joined.sessions f.joined.said own known old.payloads
-    before = subst (λ (lesson : Bool). ArePayloads f.joined.sessions f.joined.said own (known_after lesson old.sessions.known s) old.payloads) (sym asked.plain) (f.joined.payloads r old there)
+    before : ArePayloads o.sessions o.said own known old.payloads
+    before = subst (λ (lesson : Bool). ArePayloads o.sessions o.said own known (payloads_met old.payloads (taught s lesson))) asked.plain o.payloads
 
-    p : IsAskedFor f.joined.sessions f.joined.said own s t.transfer asked.kept.payload.bytes
-    p = is_asked_for f.joined.sessions f.joined.said own s known old.payloads t.transfer before asked.kept source
+    p : IsAskedFor o.sessions o.said own s t.transfer asked.kept.payload.bytes
+    p = is_asked_for o.sessions o.said own s known old.payloads t.transfer before asked.kept source
 
     number : ℕ
     number = p.notice.number
@@ -278,33 +269,31 @@ taken_follows shows hearing events n r engines datagrams history old h t f there
 
     may : MaySendAll n r sendings
     may = may_send n own (data_frames s.rank t.transfer (pieces_of bytes))
-        (can_leave (place_of n own) s.rank t.transfer (eqb-false s.rank r truth.heard.apart) says.carried.width.transfer (pieces_of bytes) (data_go n s.rank t.transfer bytes truth.heard.there limit))
+        (can_leave (place_of n own) s.rank t.transfer (eqb-false s.rank r o.apart) says.carried.width.transfer (pieces_of bytes) (data_go n s.rank t.transfer bytes o.source limit))
 
-    next : IsNext f.joined.sessions s own (Answers number)
-    next = is_of_answer w f.joined.said texts f.joined.sessions own s t number f.joined.between says.next p.notice.named
+    next : IsNext o.sessions s own (Answers number)
+    next = is_of_answer u o.said x.texts o.sessions own s t number o.between says.next p.notice.named
 
     some : 0 < length bytes
     some = omega (arith, p.notice.large)
 
-    carried : (after : GroupNetwork) (core : Core) (entries : List Entry) → IsAfter w after own core w.net.link (member_settled (heard_member w r s)) w.notices entries →
-        AreJoined after f.joined.said (accept_all (handed_on texts s own) own (all_addressed known sendings)) (accept_all (handed_on f.joined.sessions s own) own (in_parts s number more))
-    carried after core entries happened =
-        subst (λ (ts : List (Endpoint × FrameText)). AreJoined after f.joined.said (accept_all (handed_on texts s own) own ts) (accept_all (handed_on f.joined.sessions s own) own (in_parts s number more)))
+    carried : (after : GroupNetwork) → IsAfter u after own (met_core u r s) u.net.link (heard_member u r s) u.notices [] →
+        AreJoined after o.said (accept_all (handed_on x.texts s own) own (all_addressed known sendings)) (accept_all (handed_on o.sessions s own) own (in_parts s number more))
+    carried after happened =
+        subst (λ (ts : List (Endpoint × FrameText)). AreJoined after o.said (accept_all (handed_on x.texts s own) own ts) (accept_all (handed_on o.sessions s own) own (in_parts s number more)))
         (sym (pieces_addressed known s.rank t.transfer s source (pieces_of bytes)))
-        (answers_are_carried w after f.joined.said texts f.joined.sessions s own core (member_settled (heard_member w r s)) entries number t.transfer p.message f.joined.between next p.notice.named p.notice.there some happened)
+        (answers_are_carried u after o.said x.texts o.sessions s own (met_core u r s) (heard_member u r s) [] number t.transfer p.message o.between next p.notice.named p.notice.there some happened)
 
     sessions : Sessions
-    sessions = accept_all (handed_on f.joined.sessions s own) own (in_parts s number more)
+    sessions = accept_all (handed_on o.sessions s own) own (in_parts s number more)
 
-    kept : ArePayloads sessions f.joined.said own known (after_answer old.payloads s.rank t.transfer)
+    kept : ArePayloads sessions o.said own known (after_answer old.payloads s.rank t.transfer)
     kept =
-        payloads_grow f.joined.sessions sessions f.joined.said f.joined.said own known (after_answer old.payloads s.rank t.transfer) (only_handed f.joined.sessions s own (in_parts s number more)).grow (said_same f.joined.said)
-        (left f.joined.sessions f.joined.said own known old.payloads s.rank t.transfer before)
+        payloads_grow o.sessions sessions o.said o.said own known (after_answer old.payloads s.rank t.transfer) (only_handed o.sessions s own (in_parts s number more)).grow (said_same o.said)
+        (left o.sessions o.said own known old.payloads s.rank t.transfer before)
 
 -- an answer to a payload of a collective that the rank announced is followed
-pub answer_follows : NewsAreShown → HearingIsTrue → EventsAreTrue → (n r : ℕ) (engines : List EngineState) (datagrams : List (ℕ × List ℕ)) (history : List Entry) (old mid : EngineState) (h : HeardText) (t : ClearText) →
-    IsFollowed n engines datagrams history → slice_get engines r ≡ Some old → IsFromDatagram datagrams r old.sessions h → h.word ≡ Hands (ClearFrame t) → is_to_collective h.lesson old.payloads h.source.rank t.transfer ≡ true →
-    AnswerGives old h t (Ok tt) mid → LeavesFollowed n engines datagrams r mid (history ++ told_completion old.sessions.place.endpoint (completion_of mid))
-answer_follows shows hearing events n r engines datagrams history old mid h t f there comes hands is gives =
-    subst (λ (e : EngineState). LeavesFollowed n engines datagrams r e (history ++ told_completion old.sessions.place.endpoint (completion_of e))) (sym gives.1)
-    (taken_follows shows hearing events n r engines datagrams history old h t f there comes hands is gives.0)
+pub answer_step : (n r : ℕ) (engines : List EngineState) (u : GroupNetwork) (T : SessionsState → LinksOf FrameText → Type 0) (old mid : EngineState) (h : HeardText) (t : ClearText) → IsHearing n r engines u T old h →
+    frame_in h.word ≡ Some (ClearFrame t) → is_to_collective h.lesson old.payloads h.source.rank t.transfer ≡ true → AnswerGives old h t (Ok tt) mid → IsStepped n r engines u h.source T mid
+answer_step n r engines u T old mid h t x is ours gives =
+    subst (λ (e : EngineState). IsStepped n r engines u h.source T e) (sym gives.1) (taken_step n r engines u T old h t x is ours gives.0)

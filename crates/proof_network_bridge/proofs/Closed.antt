@@ -11,32 +11,30 @@ use Rattle.proof_engine_steps.proofs.CallsShown.{calls_are_shown}
 use Rattle.proof_engine_steps.proofs.News.{messages_are_taken, news_are_shown}
 use Rattle.proof_engine_steps.proofs.OpeningShown.{opening_is_shown}
 use Rattle.proof_engine_steps.proofs.PiecesTaken.{pieces_are_taken}
+use Rattle.proof_engine_steps.proofs.Waking.{wakes_are_shown}
 use Rattle.proof_engine_steps.specs.Steps.{NewsAreShown}
 use Rattle.proof_group_network.proofs.HappeningSteps.{queue_calls_happen, questions_happen, restarts_happen}
 use Rattle.proof_group_network.proofs.SessionParts.{new_sessions_are_part}
 use Rattle.proof_group_network.proofs.UnbornMembers.{unborn_are_new}
 use Rattle.proof_link_truth.proofs.Datagrams.{hearing_is_true}
+use Rattle.proof_link_truth.proofs.Deliveries.{deliveries_begin, discards_are_true, turns_are_true, turns_tell_the_truth}
 use Rattle.proof_link_truth.proofs.Idle.{idle_is_still}
 use Rattle.proof_link_truth.proofs.Openings.{opening_is_true}
 use Rattle.proof_link_truth.proofs.Refusals.{refusals_are_true}
+use Rattle.proof_link_truth.proofs.Reordering.{order_is_free}
 use Rattle.proof_link_truth.proofs.Restarts.{restarts_are_true}
 use Rattle.proof_link_truth.proofs.Sendings.{events_are_true, rest_is_true}
 use Rattle.proof_link_truth.proofs.Ticks.{ticks_are_true}
 use Rattle.proof_session_carrying.proofs.EventSteps.{entries_are_carried}
 use Rattle.proof_session_carrying.proofs.MessageSteps.{others_are_carried, queue_calls_are_carried, still_texts_are_quiet}
 use Rattle.proof_network_bridge.specs.Following.{CallsFollow, DatagramsFollow, FollowingIsRun, OpeningFollows, RefusalsFollow, RestartsFollow, TicksFollow}
-use Rattle.proof_network_bridge.proofs.Announcing as announcing
-use Rattle.proof_network_bridge.proofs.Answering as answering
 use Rattle.proof_network_bridge.proofs.Calls as calls
 use Rattle.proof_network_bridge.proofs.Calls.{CoreCallsFollow, EntriesFollow, QuestionsFollow}
 use Rattle.proof_network_bridge.proofs.CoreCalls as core_calls
-use Rattle.proof_network_bridge.proofs.Datagrams as datagrams
-use Rattle.proof_network_bridge.proofs.Datagrams.{HeardFollow}
+use Rattle.proof_network_bridge.proofs.Delivering as delivering
 use Rattle.proof_network_bridge.proofs.Entering as entering
 use Rattle.proof_network_bridge.proofs.Machine as machine
-use Rattle.proof_network_bridge.proofs.Noticed as noticed
 use Rattle.proof_network_bridge.proofs.Opening as opening
-use Rattle.proof_network_bridge.proofs.PieceHeard as pieces
 use Rattle.proof_network_bridge.proofs.Questions as questions
 use Rattle.proof_network_bridge.proofs.Reasons.{refused_reason, taken_faultless}
 use Rattle.proof_network_bridge.proofs.Unanswered as unanswered
@@ -68,17 +66,16 @@ news_follow =
       pieces = pieces_are_taken outcomes_agree;
     })
 
--- and so is what concerns collectives
-heard_follow : HeardFollow
-heard_follow = record {
-  notices = noticed.notice_follows news_follow hearing_is_true events_are_true;
-  announcements = announcing.announcement_follows news_follow hearing_is_true events_are_true;
-  answers = answering.answer_follows news_follow hearing_is_true events_are_true;
-  pieces = pieces.piece_follows news_follow hearing_is_true events_are_true;
-}
-
 pub datagrams_follow : DatagramsFollow
-datagrams_follow = datagrams.datagrams_follow news_follow hearing_is_true events_are_true heard_follow
+datagrams_follow = delivering.datagrams_follow news_follow wakes_are_shown (record {
+  hears = hearing_is_true;
+  events = events_are_true;
+  starts = deliveries_begin;
+  tell = turns_tell_the_truth;
+  turns = turns_are_true;
+  discards = discards_are_true;
+  order = order_is_free;
+})
 
 pub refusals_follow : RefusalsFollow
 refusals_follow = unanswered.refusals_follow rest_is_true refusals_are_true

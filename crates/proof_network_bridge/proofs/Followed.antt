@@ -56,7 +56,7 @@ pub held_by : (w : GroupNetwork) (sessions : Sessions) (r : ℕ) (e : EngineStat
 held_by w sessions r e h = record { queues = λ serial. (h serial).queues; groups = (h 0).groups; placed = (h 0).placed }
 
 -- what is emitted and answered belongs to neither
-held_emptied : (a : Announcements) (own : Endpoint) (e : EngineState) (core : Core) (m : Member) → IsHeldAs a own e core m → IsHeldAs a own (emptied e) core m
+pub held_emptied : (a : Announcements) (own : Endpoint) (e : EngineState) (core : Core) (m : Member) → IsHeldAs a own e core m → IsHeldAs a own (emptied e) core m
 held_emptied a own e core m h =
     record {
       queues = record {
@@ -68,7 +68,6 @@ held_emptied a own e core m h =
         held = h.queues.held;
         under_way = h.queues.under_way;
         blocked = h.queues.blocked;
-        pending = h.queues.pending;
         width = h.queues.width;
         known_alike = h.queues.known_alike;
         itself = h.queues.itself;
@@ -81,7 +80,7 @@ pub clean_emptied : (e : EngineState) → IsClean (emptied e)
 clean_emptied e = record { out = refl; completion = refl; ended = refl }
 
 -- another engine holds what it held, whatever goes out elsewhere
-held_more : (own x : Endpoint) (old new : Sessions) (e : EngineState) (core : Core) (m : Member) → OnlyFrom own old new → is_same x own ≡ false → IsHeldUnder old x e core m → IsHeldUnder new x e core m
+pub held_more : (own x : Endpoint) (old new : Sessions) (e : EngineState) (core : Core) (m : Member) → OnlyFrom own old new → is_same x own ≡ false → IsHeldUnder old x e core m → IsHeldUnder new x e core m
 held_more own x old new e core m o apart h serial =
     record { queues = shown_more serial own x old new e.core e.sessions.known core o apart (h serial).queues; groups = (h serial).groups; placed = (h serial).placed }
 

@@ -1,46 +1,33 @@
--- A word that is no message of a collective, at an engine and in the pure network with communicators.
-use Rattle.std.proofs.Common.{◌≡◌, ℕ, ◌≤◌, Bool, true, false, nat_lt, List, Option, Some, None, refl, sym, ap, subst, ◌∙◌, arith}
+-- What an engine and the pure network with communicators say of a word that both hear.
+use Rattle.std.proofs.Common.{◌≡◌, ℕ, ◌≤◌, Bool, true, false, nat_lt, List, Option, Some, None, refl, ap, ◌∙◌, arith}
 use Rattle.std.specs.Prelude.{if◌then◌else◌, option_map, slice_get, slice_index}
 use Rattle.std.proofs.lemmas.Bool.{eqb-false, le-ltb, lt-ltb}
 use Rattle.collectives.specs.Calls as collective_calls
-use Rattle.collectives.specs.State.{State}
 use Rattle.collective_steps.specs.declared.step.Ending.{Ending}
 use Rattle.datagram.specs.Spelling.{FrameText}
-use Rattle.engine.specs.Datagrams.{ended_by, groups_met, payloads_met}
-use Rattle.engine_parts.specs.EngineState.{EngineState, GroupsState, completion_by, completion_of, or_before}
+use Rattle.engine.specs.Datagrams.{ended_by}
+use Rattle.engine_parts.specs.EngineState.{EngineState, GroupsState, completion_by, or_before}
 use Rattle.incarnation.specs.declared.place.Place.{Place}
-use Rattle.perfect_groups.specs.Events.{ended_with, ready_by, told_of}
-use Rattle.perfect_groups.specs.Membership as membership
-use Rattle.perfect_groups.specs.Membership.{Present}
+use Rattle.perfect_groups.specs.Events.{ready_by, told_of}
 use Rattle.perfect_queues.specs.Completions as completions
 use Rattle.perfect_queues.specs.Events.{told}
 use Rattle.rank_calls.specs.Hearing.{NewsText}
 use Rattle.rank_core.specs.CoreState.{CoreState}
-use Rattle.rank_core.specs.Hearing.{after_news}
 use Rattle.requests.specs.declared.answer.Answer.{Answer}
 use Rattle.sessions.specs.Events.{taught_known}
-use Rattle.sessions.specs.SessionsState.{SessionsState}
 use Rattle.vocabulary.specs.declared.endpoint.Endpoint.{Endpoint}
-use Rattle.proof_collective_steps.proofs.RankSteps.{ended_is, lessons_of_ranks_follow}
 use Rattle.proof_collective_steps.specs.RankLaws.{lesson_at, lesson_ends}
-use Rattle.proof_collective_steps.specs.Shown as collectives
-use Rattle.proof_collective_steps.specs.Shown.{HasEnded, ending_is}
-use Rattle.proof_engine_steps.specs.Steps.{IsFromOther, IsHeard, heard_by_core}
+use Rattle.proof_collective_steps.specs.Shown.{ending_is}
+use Rattle.proof_engine_steps.specs.Steps.{IsFromOther}
 use Rattle.proof_engine_view.specs.Frames.{known_after}
 use Rattle.proof_engine_view.specs.Seen as in_queues
-use Rattle.proof_engine_view.specs.Shown.{IsShown}
-use Rattle.proof_engine_view.specs.Transfers.{Announcements, after_out}
 use Rattle.proof_group_network.specs.Carried.{Sessions}
 use Rattle.proof_group_network.specs.Happened.{IsWord}
-use Rattle.proof_group_network.specs.Network.{GroupNetwork, member_settled}
-use Rattle.proof_group_network.specs.NoticesStand.{heard_member}
+use Rattle.proof_group_network.specs.Network.{GroupNetwork}
 use Rattle.proof_link_truth.specs.Events as below
-use Rattle.proof_link_truth.specs.Events.{IsLesson, IsTrueWord, LeavesTrue, links_heeded}
-use Rattle.proof_link_truth.specs.Wire.{place_of}
-use Rattle.proof_pure_network.specs.Core.{Core}
-use Rattle.proof_pure_network.specs.Engine.{core_ready, core_settled}
-use Rattle.proof_pure_network.specs.Frames.{Frame}
-use Rattle.proof_pure_network.specs.Network.{Network, here}
+use Rattle.proof_link_truth.specs.Events.{IsLesson}
+use Rattle.proof_link_truth.specs.Wire.{at, place_of}
+use Rattle.proof_pure_network.specs.Network.{here}
 use Rattle.proof_network_bridge.specs.Joined.{IsHeldBy, IsJoined}
 use Rattle.proof_network_bridge.specs.OnWorld.{entries_on_world}
 use Rattle.proof_network_bridge.specs.Seen.{told_completion}
@@ -72,9 +59,9 @@ is_word n r engines datagrams w old s lesson j there h =
     record { there = (place_is n r engines datagrams w old j there).0; apart = h.apart; begun = h.begun; fresh = omega (arith, known, fresh) }
 
 -- and one that the core takes for another rank's
-pub is_from_other : (n r : ℕ) (w : Network) (old : CoreState) (known : List ℕ) (news : NewsText) → old.place ≡ place_of n (here w r) →
-    below.IsHeard n r w.current known news.source news.lesson → IsFromOther old known news
-is_from_other n r w old known news place h =
+pub is_from_other : (n r : ℕ) (current : ℕ → ℕ) (old : CoreState) (known : List ℕ) (news : NewsText) → old.place ≡ place_of n (at r (current r)) →
+    below.IsHeard n r current known news.source news.lesson → IsFromOther old known news
+is_from_other n r current old known news place h =
     let size_is : old.place.size ≡ n = ap (λ (p : Place). p.size) place in
     let rank_is : old.place.endpoint.rank ≡ r = ap (λ (p : Place). p.endpoint.rank) place in
     record {
@@ -122,65 +109,3 @@ told_alike own None (Some a) (Some b) h = ap entries_on_world h
 -- what a core hears of a word, with a frame or without
 abbrev pub news : Endpoint → (lesson : Bool) → Option FrameText → NewsText
 news s lesson b = record { source = s; lesson = lesson; frame = b }
-
--- the engine once it heard that, with these sessions
-abbrev pub after : EngineState → Endpoint → (lesson : Bool) → SessionsState → Option FrameText → EngineState
-after old s lesson t b = record {
-  core = after_news old.core (news s lesson b);
-  groups = groups_met old.groups (taught s lesson);
-  ended = or_before (ended_by old.groups (taught s lesson)) old.ended;
-  payloads = payloads_met old.payloads (taught s lesson);
-  sessions = t;
-}
-
--- what its sessions know and where they stand then
-pub record IsLearnt (old : EngineState) (s : Endpoint) (lesson : Bool) (t : SessionsState) : Type 0 where
-  pub known : t.known ≡ known_after lesson old.sessions.known s
-  pub place : t.place ≡ old.sessions.place
-
--- what it holds of queues is what the network's core holds
-pub queues_after : (a : Announcements) (old : EngineState) (core : Core) (s : Endpoint) (lesson : Bool) (known : List ℕ) (b : Option FrameText) (x : Option Frame) →
-    IsHeard a old.core old.sessions.known core (news s lesson b) x → known ≡ known_after lesson old.sessions.known s →
-    IsShown (after_out a (heard_by_core core s x).out) (after_news old.core (news s lesson b)) known (core_settled (heard_by_core core s x).core)
-queues_after a old core s lesson known b x h is =
-    subst (λ (k : List ℕ). IsShown (after_out a (heard_by_core core s x).out) (after_news old.core (news s lesson b)) k (core_settled (heard_by_core core s x).core)) (sym is) h.shown
-
--- and of groups what its member holds
-pub groups_after : (r : ℕ) (w : GroupNetwork) (sessions : Sessions) (old : EngineState) (s : Endpoint) (lesson : Bool) → IsHeldBy w sessions r old → lesson_at w r s ≡ taught s lesson →
-    collectives.IsShown (here w.net r) (groups_met old.groups (taught s lesson)).collective old.groups.contexts (member_settled (heard_member w r s)) None
-groups_after r w sessions old s lesson held same =
-    subst (λ (o : Option Endpoint). collectives.IsShown (here w.net r) (collective_calls.met old.groups.collective old.groups.contexts o) old.groups.contexts (member_settled (heard_member w r s)) None) same
-    (lessons_of_ranks_follow w r s old.groups.collective old.groups.contexts held.groups).0
-
--- what is seen of it
-pub told_after : (r : ℕ) (w : GroupNetwork) (sessions : Sessions) (a : Announcements) (old : EngineState) (s : Endpoint) (lesson : Bool) (t : SessionsState) (b : Option FrameText) (x : Option Frame) →
-    IsHeldBy w sessions r old → old.ended ≡ None → lesson_at w r s ≡ taught s lesson → old.sessions.place.endpoint ≡ here w.net r →
-    IsHeard a old.core old.sessions.known (w.net.core (here w.net r)) (news s lesson b) x →
-    told_of (here w.net r) None (ready_by (ended_with (heard_member w r s).membership.present) (core_ready (heard_by_core (w.net.core (here w.net r)) s x).core))
-    ≡ told_completion old.sessions.place.endpoint (completion_of (after old s lesson t b))
-told_after r w sessions a old s lesson t b x held free same stands h =
-    ap (λ (o : Option membership.Ending). told_of own None (ready_by o ready)) (ended_is own old.groups.contexts (lesson_ends old.groups.collective old.groups.contexts (lesson_at w r s)) heard_state.present (heard_member w r s).membership.present heard.present)
-    ∙ told_alike own (lesson_ends old.groups.collective old.groups.contexts (lesson_at w r s)) ready completion tells
-    ∙ ap (λ (o : Option Ending). told_completion own (completion_by o completion)) (ap (lesson_ends old.groups.collective old.groups.contexts) same ∙ sym (ended_alike old.groups (taught s lesson) old.ended free))
-    ∙ ap (λ (e : Endpoint). told_completion e (completion_of (after old s lesson t b))) (sym stands)
-  where
-    own : Endpoint
-    own = here w.net r
-
-    ready : Option (completions.Answer × List ℕ)
-    ready = core_ready (heard_by_core (w.net.core own) s x).core
-
-    completion : Option Answer
-    completion = (after_news old.core (news s lesson b)).completion
-
-    heard_state : State
-    heard_state = collective_calls.met old.groups.collective old.groups.contexts (lesson_at w r s)
-
-    heard : collectives.IsShown own heard_state old.groups.contexts (heard_member w r s) (lesson_ends old.groups.collective old.groups.contexts (lesson_at w r s))
-    heard = (lessons_of_ranks_follow w r s old.groups.collective old.groups.contexts held.groups).1
-
-    at_own : old.core.place.endpoint ≡ own
-    at_own = ap (λ (p : Place). p.endpoint) held.placed ∙ stands
-
-    tells : told own None ready ≡ in_queues.told_completion own completion
-    tells = subst (λ (e : Endpoint). told e None ready ≡ in_queues.told_completion e completion) at_own h.tells

@@ -21,6 +21,8 @@ pub mod Entering
 pub mod OfMessages
 pub mod Words
 pub mod Heard
+pub mod Midway
+pub mod Opens
 pub mod KnownMembers
 pub mod KnownTargets
 pub mod Noticed
@@ -30,6 +32,7 @@ pub mod Answering
 pub mod Pieces
 pub mod PieceHeard
 pub mod Datagrams
+pub mod Delivering
 pub mod WorldCalls
 pub mod WorldRuns
 pub mod Closed

@@ -1,10 +1,11 @@
 -- A message of a collective that a rank takes in is followed: it stands in a frame, or its last piece came.
-use Rattle.std.proofs.Common.{◌≡◌, inl, inr, ℕ, zero, suc, ◌<◌, Bool, true, false, ◌&&◌, List, [], ◌∷◌, ◌++◌, length, Option, Some, None, Result, Ok, if◌then◌else◌, refl, sym, ap, subst, ◌∙◌, arith}
-use Rattle.std.specs.Prelude.{option_map, slice_get, slice_index}
-use Rattle.std.proofs.lemmas.Bool.{and_parts}
+use Rattle.std.proofs.Common.{◌≡◌, inl, inr, ℕ, zero, suc, Bool, true, false, nat_lt, ◌&&◌, List, [], ◌∷◌, length, Option, Some, None, Result, Ok, if◌then◌else◌, refl, sym, ap, subst, ◌∙◌, arith}
+use Rattle.std.specs.Prelude.{slice_get, slice_index}
+use Rattle.std.proofs.lemmas.Bool.{and_parts, le-ltb}
 use Rattle.std.proofs.lemmas.Option.{same_Some}
 use Rattle.collective_notes.specs.Arrivals.{ArrivalGives}
 use Rattle.collective_notes.specs.Messages.{says}
+use Rattle.collective_notes.specs.declared.entry.Inside.{Inside}
 use Rattle.collective_notes.specs.declared.message.Message.{Message}
 use Rattle.collective_notes.specs.declared.note.Note.{Note}
 use Rattle.collective_notes.specs.declared.refused.Refused.{Refused}
@@ -15,44 +16,39 @@ use Rattle.collectives.specs.Calls.{MessageGives, with_note}
 use Rattle.collectives.specs.State.{State, after_step}
 use Rattle.collective_steps.specs.Steps.{IsPrepared, Prepared, ending_of}
 use Rattle.collective_steps.specs.declared.step.Ending.{Ending}
-use Rattle.collective_steps.specs.declared.step.Ending.TheVariants as endings
 use Rattle.context_agreement.specs.Communicators.{ContextsState}
 use Rattle.datagram.specs.Spelling.{EagerFrame, EagerText, FrameText}
 use Rattle.datagram.specs.declared.kinds.Plane.{Plane}
 use Rattle.datagram.specs.declared.kinds.Plane.TheVariants as planes
-use Rattle.engine.specs.Datagrams.{IsNoticed, address_of, lesson_alone, lesson_in, met_by, numbers_met, payloads_met, whole_in}
-use Rattle.engine_parts.specs.EngineState.{EngineState, completion_by, completion_of, or_before}
+use Rattle.engine.specs.Datagrams.{IsNoticed, address_of, frame_in, lesson_in, met_by, numbers_met, payloads_met, whole_in}
+use Rattle.engine_parts.specs.EngineState.{EngineState, or_before}
 use Rattle.engine_parts.specs.Frames.{all_can_go, step_numbers, step_payloads, step_sendings}
 use Rattle.incarnation.specs.declared.place.Place.{Place}
 use Rattle.payload.specs.Reading.{payload_of}
 use Rattle.payload.specs.Spelling.{PayloadText}
-use Rattle.perfect_groups.specs.Events.{Entry, ready_by, told_of}
+use Rattle.perfect_groups.specs.Membership.{Present}
 use Rattle.perfect_queues.proofs.EndpointLemmas.{same_eq}
-use Rattle.perfect_queues.specs.Events.{told}
 use Rattle.proof_collective_steps.proofs.Arriving.{ready_messages_give}
-use Rattle.proof_collective_steps.proofs.RankSteps.{lessons_of_ranks_follow, notices_of_ranks_follow}
+use Rattle.proof_collective_steps.proofs.RankSteps.{notices_of_ranks_follow}
 use Rattle.proof_collective_steps.specs.Counterparts.{IsNoted}
-use Rattle.proof_collective_steps.specs.RankLaws.{Follows, lesson_at, lesson_ends}
+use Rattle.proof_collective_steps.specs.RankLaws.{Follows, lesson_at, lesson_ends, lesson_of}
 use Rattle.proof_collective_steps.specs.Shown as collectives
-use Rattle.proof_collective_steps.specs.Shown.{ending_is, or_given}
-use Rattle.proof_engine_steps.specs.Steps.{NewsAreShown}
-use Rattle.proof_engine_view.specs.Frames.{known_after, message_seen}
-use Rattle.proof_engine_view.specs.Seen as in_queues
+use Rattle.proof_collective_steps.specs.Shown.{HasEnded, or_given}
+use Rattle.proof_engine_steps.proofs.Further.{met_known}
+use Rattle.proof_engine_view.specs.Frames.{message_seen}
 use Rattle.proof_engine_view.specs.Shown.{IsShown}
 use Rattle.proof_group_network.proofs.SessionParts.{same_accepted}
 use Rattle.proof_group_network.specs.Carried.{Announces, Answers, BringsPart, Carried, OfMessages, OfNotices, Sessions}
-use Rattle.proof_group_network.specs.Happened.{IsWord, met_core}
-use Rattle.proof_group_network.specs.Network.{GroupNetwork, NoticeLink, Word, also, happens, noticed_on, notify_all}
+use Rattle.proof_group_network.specs.Happened.{met_core}
+use Rattle.proof_group_network.specs.Midway.{unsettled}
+use Rattle.proof_group_network.specs.Network.{GroupNetwork, NoticeLink, also, noticed_on, notify_all}
 use Rattle.proof_group_network.specs.Notices.{Notice}
-use Rattle.proof_group_network.specs.NoticesStand.{heard_member}
 use Rattle.proof_group_network.specs.SessionLaws.{IsNext}
-use Rattle.proof_link_truth.specs.Events as below
-use Rattle.proof_link_truth.specs.Events.{EventsAreTrue, HearingIsTrue, HearsTruth, IsFromDatagram, IsTrueWord, LeavesTrue, links_heeded}
+use Rattle.proof_link_truth.specs.Events.{all_addressed}
 use Rattle.proof_link_truth.specs.Links as lower
 use Rattle.proof_link_truth.specs.Wire.{place_of}
 use Rattle.proof_links.specs.Links.{LinksOf}
-use Rattle.proof_pure_network.proofs.JobLemmas.{settled_known}
-use Rattle.proof_pure_network.specs.Engine.{core_ready, core_settled}
+use Rattle.proof_pure_network.specs.Core.{Core}
 use Rattle.proof_pure_network.specs.Network.{here}
 use Rattle.proof_session_carrying.proofs.Arriving.{brought_arrives}
 use Rattle.proof_session_carrying.proofs.Carrying.{next_stands}
@@ -63,35 +59,25 @@ use Rattle.proof_session_carrying.specs.CarryLaws as carrying
 use Rattle.proof_session_carrying.specs.CarryLaws.{ArrivesAs}
 use Rattle.proof_session_carrying.specs.EventLaws.{AreJoined, all_carried}
 use Rattle.rank_core.specs.CoreState.{CoreState, with_numbers}
-use Rattle.rank_core.specs.Hearing.{after_news, replaced}
-use Rattle.rank_core.specs.Waiting.{answered_by, woken, woken_by}
-use Rattle.rank_calls.specs.Hearing.{transfers_met}
-use Rattle.rendezvous.specs.State as rendezvous
 use Rattle.rendezvous.specs.declared.transfers.Numbers.{Numbers}
-use Rattle.requests.specs.declared.answer.Answer.{Answer}
-use Rattle.requests.specs.declared.awaited.Awaited.{Awaited}
-use Rattle.requests.specs.declared.table.Request.{Request}
 use Rattle.sessions.specs.Events as below_events
 use Rattle.sessions.specs.Events.{after_event}
-use Rattle.sessions.specs.Heard.{Hands, HeardText, WordText}
+use Rattle.sessions.specs.Heard.{HeardText}
 use Rattle.sessions.specs.SessionsState.{SessionsState}
 use Rattle.vocabulary.specs.Endpoints.{is_same}
 use Rattle.vocabulary.specs.declared.endpoint.Endpoint.{Endpoint}
-use Rattle.proof_network_bridge.specs.Following.{LeavesFollowed}
-use Rattle.proof_network_bridge.specs.Joined.{IsFollowed, IsHeldBy, network_after, sessions_in}
 use Rattle.proof_network_bridge.specs.Payloads.{ArePayloads}
-use Rattle.proof_network_bridge.specs.Seen.{told_completion}
-use Rattle.proof_network_bridge.proofs.Followed.{followed_after}
+use Rattle.proof_network_bridge.proofs.Carried.{numbers_there}
 use Rattle.proof_network_bridge.proofs.Halves.{Keeps, sends_keep}
-use Rattle.proof_network_bridge.proofs.Heard.{ended_alike, is_from_other, is_word, known_alike, lesson_same, news, told_alike}
-use Rattle.proof_network_bridge.proofs.KnownMembers.{Knows, hear_knows, members_are_known}
+use Rattle.proof_network_bridge.proofs.KnownMembers.{Knows}
 use Rattle.proof_network_bridge.proofs.KnownTargets.{IsKnownAs, targets_known}
-use Rattle.proof_network_bridge.proofs.Payloads.{payloads_grow, payloads_taught, said_same}
-use Rattle.proof_network_bridge.proofs.Sending.{AreBounded, IsKnown, are_within, bring, meets_none, step_is_true}
+use Rattle.proof_network_bridge.proofs.Midway.{IsHearing, IsOpen, IsStepped, opened, stepped}
+use Rattle.proof_network_bridge.proofs.Payloads.{payloads_grow, said_same}
+use Rattle.proof_network_bridge.proofs.Sending.{AreBounded, IsKnown, are_within, bring, meets_none, step_leaves}
 use Rattle.proof_network_bridge.proofs.Sent.{IsSending, IsStepSent, as_many, numbers_bounded_by, shown_same, step_sent, texts_gone}
 use Rattle.proof_network_bridge.proofs.StepTargets.{GoTo}
-use Rattle.proof_network_bridge.proofs.Words.{HeardUnder, core_hears, queues_plainly}
-use Rattle.proof_network_bridge.proofs.Worlds.{is_at, only_handed, place_is}
+use Rattle.proof_network_bridge.proofs.Words.{hands_next, hands_on}
+use Rattle.proof_network_bridge.proofs.Worlds.{only_handed}
 
 -- ---- what is heard
 
@@ -174,64 +160,33 @@ or_none : (o : Option Ending) → or_before o None ≡ o
 or_none (Some x) = refl
 or_none None = refl
 
--- an event gives one ending: where the lesson gave one, the rank is in no collective any more
-one_ending : (s : State) (h : ContextsState) (l : Option Endpoint) (own : Endpoint) (notes : List Note) (step : Prepared) → IsPrepared own (collective_calls.met s h l).present h notes step →
-    or_before (ending_of h step.outcome) (lesson_ends s h l) ≡ or_given (lesson_ends s h l) (ending_of h step.outcome)
-one_ending s h None own notes step is = or_none (ending_of h step.outcome)
-one_ending s h (Some a) own notes step is = go (collective_calls.is_ended a.rank a.incarnation h s.present) is
-  where
-    go : (b : Bool) → IsPrepared own (if b then None else s.present) h notes step →
-        or_before (ending_of h step.outcome) (if b then Some endings.Replaced else None) ≡ or_given (if b then Some endings.Replaced else None) (ending_of h step.outcome)
-    go true none = ap (λ (p : Prepared). or_before (ending_of h p.outcome) (Some endings.Replaced)) none
-    go false inside = or_none (ending_of h step.outcome)
+-- an event gives one ending: where it has given one, the rank is in no collective any more
+one_ending : (e own : Endpoint) (h : ContextsState) (given : Option Ending) (i : Option Inside) (p : Option Present) (notes : List Note) (step : Prepared) → HasEnded e h given i p → IsPrepared own i h notes step →
+    or_given given (ending_of h step.outcome) ≡ or_before (ending_of h step.outcome) given
+one_ending e own h None i p notes step ended is = sym (or_none (ending_of h step.outcome))
+one_ending e own h (Some x) i p notes step ended is = sym (ap (λ (q : Prepared). or_before (ending_of h q.outcome) (Some x)) (subst (λ (o : Option Inside). IsPrepared own o h notes step) ended.0 is))
+
+-- and whoever is known teaches no lesson that would give one
+no_lesson : (known : ℕ → ℕ) (s : Endpoint) → known s.rank ≡ s.incarnation → lesson_of known s ≡ None
+no_lesson known s is =
+    let plain : nat_lt (known s.rank) s.incarnation ≡ false = le-ltb (known s.rank) s.incarnation (omega (arith, is)) in
+    ap (λ (b : Bool). if b then Some s else None) plain
+
+given_still : (given : Option Ending) → or_given given None ≡ given
+given_still None = refl
+given_still (Some x) = refl
 
 -- ---- whom it goes to
 
 -- what the rank sends then goes to endpoints that its sessions know
-targets : (n r : ℕ) (engines : List EngineState) (datagrams : List (ℕ × List ℕ)) (history : List Entry) (old mid : EngineState) (before : payloads.State) (h : HeardText) (u : Whole) (f : IsFollowed n engines datagrams history) →
-    slice_get engines r ≡ Some old → (i : IsNoticed old before h u mid) → lesson_at (network_after n f.happenings) r h.source ≡ lesson_in h → (known : List ℕ) →
-    ((x : ℕ) → (met_core (network_after n f.happenings) r h.source).known x ≡ slice_index known x) → GoTo (IsKnown known) i.ready.step.messages
-targets n r engines datagrams history old mid before h u f there i same known alike =
-    each_one i.ready.step.messages (targets_known own (met_by old h).own old.groups.contexts (lesson_ends old.groups.collective old.groups.contexts (lesson_at w r h.source))
-    (met_by old h).present (heard_member w r h.source).membership.present (met_core w r h.source).known (with_note (met_by old h) i.ready.note).kept i.ready.step
-    (subst (λ (o : Option Endpoint). collectives.HasEnded own old.groups.contexts (lesson_ends old.groups.collective old.groups.contexts (lesson_at w r h.source)) (collective_calls.met old.groups.collective old.groups.contexts o).present (heard_member w r h.source).membership.present) same heard.present)
-    knows i.is_ready.3)
+targets : (own self : Endpoint) (h : ContextsState) (given : Option Ending) (i : Option Inside) (p : Option Present) (there : ℕ → ℕ) (notes : List Note) (step : Prepared) (known : List ℕ) → HasEnded own h given i p → Knows there p →
+    IsPrepared self i h notes step → ((x : ℕ) → there x ≡ slice_index known x) → GoTo (IsKnown known) step.messages
+targets own self h given i p there notes step known ended knows is alike =
+    each_one step.messages (targets_known own self h given i p there notes step ended knows is)
   where
-    w : GroupNetwork
-    w = network_after n f.happenings
-
-    own : Endpoint
-    own = here w.net r
-
-    heard : collectives.IsShown own (collective_calls.met old.groups.collective old.groups.contexts (lesson_at w r h.source)) old.groups.contexts (heard_member w r h.source) (lesson_ends old.groups.collective old.groups.contexts (lesson_at w r h.source))
-    heard = (lessons_of_ranks_follow w r h.source old.groups.collective old.groups.contexts (f.joined.held r old there).groups).1
-
-    knows : Knows (met_core w r h.source).known (heard_member w r h.source).membership.present
-    knows = hear_knows (w.net.core own) h.source (w.member own) (members_are_known n f.happenings own)
-
-    each_one : (ms : List Message) → GoTo (IsKnownAs (met_core w r h.source).known) ms → GoTo (IsKnown known) ms
+    each_one : (ms : List Message) → GoTo (IsKnownAs there) ms → GoTo (IsKnown known) ms
     each_one [] all = tt
     each_one (m ∷ ms) all = (sym (alike m.target.rank) ∙ all.0, each_one ms all.1)
-
--- ---- the numbers of transfers
-
--- what is answered plays no part in transfers
-answered_transfers : (c : CoreState) (o : Option (Answer × List Request)) → (answered_by c o).transfers ≡ c.transfers
-answered_transfers c None = refl
-answered_transfers c (Some (answer, used)) = refl
-
-woken_transfers : (c : CoreState) → (woken c).transfers ≡ c.transfers
-unfolding woken
-woken_transfers c = go c.blocked
-  where
-    go : (o : Option Awaited) → (woken_by c o).transfers ≡ c.transfers
-    go None = refl
-    go (Some a) = answered_transfers c _
-
--- a core that learnt a lesson has the numbers that are met by it
-lesson_numbers : (c : CoreState) (s : Endpoint) (lesson : Bool) → (after_news c (news s lesson None)).transfers.numbers ≡ (transfers_met lesson c.transfers s.rank).numbers
-lesson_numbers c s false = refl
-lesson_numbers c s true = ap (λ (t : rendezvous.State). t.numbers) (woken_transfers (replaced c s))
 
 -- what is handed up was accepted before
 same_notices : (ns : Endpoint → Endpoint → NoticeLink) (s d : Endpoint) (i : ℕ) (a b : Endpoint) → (ns a b).accepted ≡ (noticed_on ns s d i a b).accepted
@@ -246,60 +201,37 @@ same_notices ns s d i a b = go (is_same a s && is_same b d) refl
 -- ---- a message of a collective
 
 -- a message of a collective that is taken in is followed, with whatever payloads there were before
-pub notice_taken : NewsAreShown → HearingIsTrue → EventsAreTrue → (n r : ℕ) (engines : List EngineState) (datagrams : List (ℕ × List ℕ)) (history : List Entry) (old mid : EngineState) (h : HeardText) (before : payloads.State) (b : FrameText) (u : Whole) →
-    (f : IsFollowed n engines datagrams history) → slice_get engines r ≡ Some old → IsFromDatagram datagrams r old.sessions h → h.word ≡ Hands b →
-    IsOfNotices (network_after n f.happenings) f.joined.sessions (here (network_after n f.happenings).net r) h.source u →
-    ArePayloads f.joined.sessions f.joined.said (here (network_after n f.happenings).net r) (known_after h.lesson old.sessions.known h.source) before →
-    IsNoticed old before h u mid →
-    LeavesFollowed n engines datagrams r mid (history ++ told_completion old.sessions.place.endpoint (completion_of mid))
-notice_taken shows hearing events n r engines datagrams history old mid h before b u f there comes hands notice kept_before i =
-    subst (λ (es : List Entry). LeavesFollowed n engines datagrams r mid (history ++ es)) told_is
-    (followed_after n r engines datagrams history entries mid (Word s r 0 (number ∷ [])) (core_settled (met_core w r s)) w.net.link follows.member (notify_all (noticed_on w.notices s own number) own follows.out)
-    (say_all f.joined.said own messages) (lower.accept_all (lower.handed_on texts s own) own gone) sessions f follows.happened
-    (notices_are_carried n w (happens n w (Word s r 0 (number ∷ []))) f.joined.said texts f.joined.sessions s own (core_settled (met_core w r s)) mid.groups.collective mid.groups.contexts messages entries gone number f.joined.between notice.there follows
-    (bring known ns messages i.whole goes_to) stepped.numbered)
-    (only_handed f.joined.sessions s own (all_carried (noticed_on w.notices s own number) own follows.out gone)) leaves (λ serial. record {
-      queues = subst (λ (c : CoreState). IsShown (announcements_in serial sessions own) c mid.sessions.known (core_settled (met_core w r s))) (sym i.core)
-          (subst (λ (k : List ℕ). IsShown (announcements_in serial sessions own) (with_numbers heard_core (step_numbers ns messages)) k (core_settled (met_core w r s))) (sym known_then) (stepped.after.shown serial));
-      groups = follows.shown;
-      placed = ap (λ (c : CoreState). c.place) i.core ∙ (core_heard 0).place ∙ held.placed ∙ sym (keeps.place ∙ refl) ∙ sym (ap (λ (x : SessionsState). x.place) i.sessions);
+pub notice_taken : (n r : ℕ) (engines : List EngineState) (u : GroupNetwork) (T : SessionsState → LinksOf FrameText → Type 0) (old mid : EngineState) (h : HeardText) (before : payloads.State) (b : FrameText) (t : Whole) →
+    (x : IsHearing n r engines u T old h) → frame_in h.word ≡ Some b → IsOfNotices u x.opens.sessions (here u.net r) h.source t →
+    ArePayloads x.opens.sessions x.opens.said (here u.net r) (opened old h).sessions.known before → IsNoticed old before h t mid → IsStepped n r engines u h.source T mid
+notice_taken n r engines u T old mid h before b t x is notice kept_before i =
+    stepped n r 0 (number ∷ []) engines u s T e mid (met_core u r s) u.net.link follows.member (notify_all (noticed_on u.notices s own number) own follows.out) x.texts
+    (say_all o.said own messages) (lower.accept_all (lower.handed_on x.texts s own) own gone) sessions o follows.happened
+    (notices_are_carried n u (unsettled u own s 0 (number ∷ [])) o.said x.texts o.sessions s own (met_core u r s) mid.groups.collective mid.groups.contexts given messages [] gone number o.between notice.there follows
+    (bring known ns messages i.whole goes_to) sent.numbered)
+    (only_handed o.sessions s own (all_carried (noticed_on u.notices s own number) own follows.out gone)) sent.grows leaves
+    (record {
+      queues = λ serial. subst (λ (k : Core). IsShown (announcements_in serial sessions own) mid.core mid.sessions.known k) (sym (met_known (u.net.core own) s known_core))
+          (subst (λ (c : CoreState). IsShown (announcements_in serial sessions own) c mid.sessions.known (u.net.core own)) (sym i.core)
+          (subst (λ (k : List ℕ). IsShown (announcements_in serial sessions own) (with_numbers e.core (step_numbers ns messages)) k (u.net.core own)) (sym known_then) (sent.after.shown serial)));
+      groups = subst (λ (given : Option Ending). collectives.IsShown own mid.groups.collective mid.groups.contexts follows.member given) given_is follows.shown;
+      placed = ap (λ (c : CoreState). c.place) i.core ∙ o.held.placed ∙ sym (ap (λ (y : SessionsState). y.place) i.sessions ∙ keeps.place);
     })
-    stepped.grows
-    (subst (λ (p : payloads.State). ArePayloads sessions (say_all f.joined.said own messages) own mid.sessions.known p) (sym i.payloads)
-    (subst (λ (k : List ℕ). ArePayloads sessions (say_all f.joined.said own messages) own k (payloads.after_announcing before (step_payloads ns messages))) (sym known_then) stepped.after.kept)))
+    (ap (λ (c : CoreState). c.completion) i.core ∙ o.completion)
+    (subst (λ (p : payloads.State). ArePayloads sessions (say_all o.said own messages) own mid.sessions.known p) (sym i.payloads)
+    (subst (λ (k : List ℕ). ArePayloads sessions (say_all o.said own messages) own k (payloads.after_announcing before (step_payloads ns messages))) (sym known_then) sent.after.kept))
   where
-    w : GroupNetwork
-    w = network_after n f.happenings
-
     own : Endpoint
-    own = here w.net r
+    own = here u.net r
 
     s : Endpoint
     s = h.source
 
-    texts : LinksOf FrameText
-    texts = f.joined.texts
+    e : EngineState
+    e = opened old h
 
-    held : IsHeldBy w f.joined.sessions r old
-    held = f.joined.held r old there
-
-    place : (r < n) × (old.sessions.place ≡ place_of n own)
-    place = place_is n r engines datagrams w old f.joined there
-
-    here_is : below.IsAt (sessions_in engines) r old.sessions
-    here_is = is_at n r engines datagrams w old f.joined there
-
-    truth : HearsTruth n r w.net.current old.sessions texts h
-    truth = hearing n r (sessions_in engines) datagrams texts w.net.current old.sessions h f.joined.links here_is comes
-
-    same : lesson_at w r s ≡ lesson_in h
-    same = lesson_same n r w f.joined.sessions old s h.lesson held truth.heard
-
-    word : IsWord n r w s
-    word = is_word n r engines datagrams w old s h.lesson f.joined there truth.heard
-
-    heard_core : CoreState
-    heard_core = after_news old.core (lesson_alone h)
+    o : IsOpen n r engines u.net.current u x.texts s e
+    o = x.opens
 
     ns : List Numbers
     ns = numbers_met old.core h
@@ -310,124 +242,85 @@ notice_taken shows hearing events n r engines datagrams history old mid h before
     messages : List Message
     messages = i.ready.step.messages
 
-    note : HasNote own s notice.notice (met_by old h) old.groups.contexts i.ready.step mid.groups.collective mid.groups.contexts
-    note = has_note own old mid before h u notice.message notice.notice i notice.context notice.collective notice.bytes notice.brought
+    known : List ℕ
+    known = e.sessions.known
 
-    lesson : Option Ending
-    lesson = lesson_ends old.groups.collective old.groups.contexts (lesson_at w r s)
+    known_core : (u.net.core own).known s.rank ≡ s.incarnation
+    known_core = (o.held.queues 0).known_alike s.rank ∙ o.known
+
+    note : HasNote own s notice.notice (met_by old h) old.groups.contexts i.ready.step mid.groups.collective mid.groups.contexts
+    note = has_note own old mid before h t notice.message notice.notice i notice.context notice.collective notice.bytes notice.brought
+
+    ending : Option Ending
+    ending = ending_of old.groups.contexts i.ready.step.outcome
 
     given : Option Ending
-    given = or_given lesson (ending_of old.groups.contexts i.ready.step.outcome)
+    given = or_given (or_given e.ended (lesson_ends e.groups.collective old.groups.contexts (lesson_at u r s))) ending
 
-    entries : List Entry
-    entries = told_of own None (ready_by (option_map ending_is given) (core_ready (met_core w r s)))
+    taught_none : lesson_at u r s ≡ None
+    taught_none = no_lesson (u.net.core own).known s known_core
 
-    follows : Follows n w (happens n w (Word s r 0 (number ∷ []))) own (core_settled (met_core w r s)) w.net.link (noticed_on w.notices s own number) mid.groups.collective mid.groups.contexts messages entries
-    follows = notices_of_ranks_follow n r f.happenings s number notice.notice note.note old.groups.collective old.groups.contexts (ending_of old.groups.contexts i.ready.step.outcome, i.ready.step) mid.groups.collective mid.groups.contexts
-        (omega (arith, f.few)) held.groups word notice.accepted note.noted
-        (subst (λ (o : Option Endpoint). MessageGives (collective_calls.met old.groups.collective old.groups.contexts o) old.groups.contexts note.note (Ok (ending_of old.groups.contexts i.ready.step.outcome, i.ready.step)) mid.groups.collective mid.groups.contexts) (sym same) note.gives)
+    follows : Follows n u (unsettled u own s 0 (number ∷ [])) own (met_core u r s) u.net.link (noticed_on u.notices s own number) mid.groups.collective mid.groups.contexts given messages []
+    follows = notices_of_ranks_follow n r u s number notice.notice note.note e.groups.collective old.groups.contexts e.ended (ending, i.ready.step) mid.groups.collective mid.groups.contexts
+        (omega (arith, x.few)) o.told.there x.stands.notices o.held.groups notice.accepted note.noted
+        (subst (λ (l : Option Endpoint). MessageGives (collective_calls.met e.groups.collective old.groups.contexts l) old.groups.contexts note.note (Ok (ending, i.ready.step)) mid.groups.collective mid.groups.contexts) (sym taught_none) note.gives)
         (are_within messages i.whole)
-
-    known : List ℕ
-    known = (below_events.after_heard old.sessions (Some h)).known
 
     keeps : Keeps (below_events.after_heard old.sessions (Some h)) (after_event old.sessions (Some h) (step_sendings old.sessions.place ns messages))
     keeps = sends_keep (below_events.after_heard old.sessions (Some h)) (step_sendings old.sessions.place ns messages)
 
-    core_heard : HeardUnder w f.joined.sessions own old s h.lesson None None
-    core_heard = core_hears shows n r engines datagrams history old f there s h.lesson None None
-        (is_from_other n r w.net old.core old.sessions.known (lesson_alone h) (held.placed ∙ place.1) truth.heard) (λ serial. tt) tt refl
-
-    queues : (serial : ℕ) → IsShown (announcements_in serial f.joined.sessions own) heard_core known (core_settled (met_core w r s))
-    queues serial = queues_plainly serial f.joined.sessions own old (w.net.core own) s h.lesson known (core_heard serial) (known_alike h.lesson old.sessions.known s)
-
     known_then : mid.sessions.known ≡ known
-    known_then = ap (λ (x : SessionsState). x.known) i.sessions ∙ keeps.known
-
-    known_is : (x : ℕ) → (met_core w r s).known x ≡ slice_index known x
-    known_is x = ap (λ (k : ℕ → ℕ). k x) (sym (settled_known (met_core w r s))) ∙ (queues 0).known_alike x
+    known_then = ap (λ (y : SessionsState). y.known) i.sessions ∙ keeps.known
 
     goes_to : GoTo (IsKnown known) messages
-    goes_to = targets n r engines datagrams history old mid before h u f there i same known known_is
+    goes_to = targets own (met_by old h).own old.groups.contexts e.ended (met_by old h).present (u.member own).membership.present (u.net.core own).known (with_note (met_by old h) i.ready.note).kept i.ready.step known
+        o.held.groups.present (x.knows own) i.is_ready.3 (λ y. (o.held.queues 0).known_alike y)
 
     gone : List (Endpoint × FrameText)
     gone = texts_gone known ns messages
 
     -- what the engine holds before it sends
-    started : IsSending n own known (core_settled (met_core w r s)) (lower.handed_on f.joined.sessions s own) f.joined.said (noticed_on w.notices s own number) (with_numbers heard_core ns) before
+    started : IsSending n own known (u.net.core own) (lower.handed_on o.sessions s own) o.said (noticed_on u.notices s own number) (with_numbers e.core ns) before
     started = record {
-      placed = (core_heard 0).place ∙ held.placed ∙ place.1;
-      shown = λ serial. shown_same serial f.joined.sessions (lower.handed_on f.joined.sessions s own) own (with_numbers heard_core ns) known (core_settled (met_core w r s))
-          (λ x d. ap announced_in (same_accepted f.joined.sessions s own x d))
-          (subst (λ (k : List Numbers). IsShown (announcements_in serial f.joined.sessions own) (with_numbers heard_core k) known (core_settled (met_core w r s))) (lesson_numbers old.core s h.lesson) (queues serial));
-      many = λ d. as_many own d (f.joined.said own d) (w.notices own d).accepted (f.joined.between.brought own d) ∙ ap (λ (xs : List Notice). length xs) (same_notices w.notices s own number own d);
-      kept = payloads_grow f.joined.sessions (lower.handed_on f.joined.sessions s own) f.joined.said f.joined.said own known before (only_handed f.joined.sessions s own []).grow (said_same f.joined.said)
-          (subst (λ (k : List ℕ). ArePayloads f.joined.sessions f.joined.said own k before) (sym (known_alike h.lesson old.sessions.known s)) kept_before);
+      placed = o.held.placed ∙ o.told.place;
+      shown = λ serial. shown_same serial o.sessions (lower.handed_on o.sessions s own) own (with_numbers e.core ns) known (u.net.core own)
+          (λ y d. ap announced_in (same_accepted o.sessions s own y d))
+          (subst (λ (k : List Numbers). IsShown (announcements_in serial o.sessions own) (with_numbers e.core k) known (u.net.core own)) (sym (numbers_there old.core h)) (o.held.queues serial));
+      many = λ d. as_many own d (o.said own d) (u.notices own d).accepted (o.between.brought own d) ∙ ap (λ (ys : List Notice). length ys) (same_notices u.notices s own number own d);
+      kept = payloads_grow o.sessions (lower.handed_on o.sessions s own) o.said o.said own known before (only_handed o.sessions s own []).grow (said_same o.said) kept_before;
     }
 
     can : all_can_go (place_of n own) ns messages ≡ true
-    can = subst (λ (p : Place). all_can_go p ns messages ≡ true) place.1 (meets_none old.sessions ns (Some h) messages i.goes).can
+    can = subst (λ (p : Place). all_can_go p ns messages ≡ true) o.told.place (meets_none old.sessions ns (Some h) messages i.goes).can
 
-    stepped : IsStepSent n own known (core_settled (met_core w r s)) (lower.handed_on f.joined.sessions s own) f.joined.said (noticed_on w.notices s own number) ns heard_core before messages follows.out
-    stepped = step_sent n own known (core_settled (met_core w r s)) (lower.handed_on f.joined.sessions s own) f.joined.said (noticed_on w.notices s own number) ns heard_core before messages follows.out
+    sent : IsStepSent n own known (u.net.core own) (lower.handed_on o.sessions s own) o.said (noticed_on u.notices s own number) ns e.core before messages follows.out
+    sent = step_sent n own known (u.net.core own) (lower.handed_on o.sessions s own) o.said (noticed_on u.notices s own number) ns e.core before messages follows.out
         started can follows.sendable goes_to follows.said
 
     bounded : AreBounded n ns
-    bounded = numbers_bounded_by n own known (core_settled (met_core w r s)) (lower.handed_on f.joined.sessions s own) f.joined.said (noticed_on w.notices s own number) ns heard_core before started
+    bounded = numbers_bounded_by n own known (u.net.core own) (lower.handed_on o.sessions s own) o.said (noticed_on u.notices s own number) ns e.core before started
 
     sessions : Sessions
-    sessions = lower.accept_all (lower.handed_on f.joined.sessions s own) own (all_carried (noticed_on w.notices s own number) own follows.out gone)
+    sessions = lower.accept_all (lower.handed_on o.sessions s own) own (all_carried (noticed_on u.notices s own number) own follows.out gone)
 
-    leaves : LeavesTrue n (sessions_in engines) datagrams r mid.sessions (lower.accept_all (lower.handed_on texts s own) own gone) w.net.current
-    leaves = subst (λ (y : SessionsState). LeavesTrue n (sessions_in engines) datagrams r y (lower.accept_all (lower.handed_on texts s own) own gone) w.net.current) (sym i.sessions)
-        (subst (λ (x : WordText). LeavesTrue n (sessions_in engines) datagrams r (after_event old.sessions (Some h) (step_sendings old.sessions.place ns messages)) (lower.accept_all (links_heeded texts s own x) own gone) w.net.current) hands
-        (step_is_true events n r (sessions_in engines) datagrams texts w.net.current old.sessions (Some h) ns messages f.joined.links here_is comes place.1 bounded follows.sendable i.whole i.goes))
+    leaves : T mid.sessions (lower.accept_all (lower.handed_on x.texts s own) own gone)
+    leaves = subst (λ (y : SessionsState). T y (lower.accept_all (lower.handed_on x.texts s own) own gone)) (sym i.sessions)
+        (step_leaves T n own old.sessions (Some h) (lower.handed_on x.texts s own) known ns messages
+        (λ sendings may free. subst (λ (ls : LinksOf FrameText). T (after_event old.sessions (Some h) sendings) (lower.accept_all ls own (all_addressed known sendings))) (hands_on x.texts s own h.word b is) (x.leaves sendings may free))
+        o.told.place bounded follows.sendable i.whole i.goes)
 
-    completion : Option Answer
-    completion = heard_core.completion
-
-    at_own : old.core.place.endpoint ≡ own
-    at_own = ap (λ (p : Place). p.endpoint) (held.placed ∙ place.1)
-
-    tells : told own None (core_ready (met_core w r s)) ≡ in_queues.told_completion own completion
-    tells = subst (λ (e : Endpoint). told e None (core_ready (met_core w r s)) ≡ in_queues.told_completion e completion) at_own (core_heard 0).tells
-
-    free : old.ended ≡ None
-    free = (f.joined.clean r old there).ended
-
-    -- the engine's ending is the one that the network tells
-    ended_is : given ≡ mid.ended
-    ended_is =
-        ap (λ (o : Option Endpoint). or_given (lesson_ends old.groups.collective old.groups.contexts o) (ending_of old.groups.contexts i.ready.step.outcome)) same
-        ∙ sym (one_ending old.groups.collective old.groups.contexts (lesson_in h) (met_by old h).own (with_note (met_by old h) i.ready.note).kept i.ready.step i.is_ready.3)
-        ∙ ap (or_before (ending_of old.groups.contexts i.ready.step.outcome)) (sym (ended_alike old.groups (lesson_in h) old.ended free))
+    -- the engine's ending is the one that the network gave
+    given_is : given ≡ mid.ended
+    given_is =
+        ap (λ (l : Option Endpoint). or_given (or_given e.ended (lesson_ends e.groups.collective old.groups.contexts l)) ending) taught_none
+        ∙ ap (λ (before : Option Ending). or_given before ending) (given_still e.ended)
+        ∙ one_ending own (met_by old h).own old.groups.contexts e.ended (met_by old h).present (u.member own).membership.present (with_note (met_by old h) i.ready.note).kept i.ready.step o.held.groups.present i.is_ready.3
         ∙ sym i.ended
 
-    told_is : entries ≡ told_completion old.sessions.place.endpoint (completion_of mid)
-    told_is =
-        told_alike own given (core_ready (met_core w r s)) completion tells
-        ∙ ap (λ (o : Option Ending). told_completion own (completion_by o completion)) ended_is
-        ∙ ap (λ (c : CoreState). told_completion own (completion_by mid.ended c.completion)) (sym i.core)
-        ∙ ap (λ (p : Place). told_completion p.endpoint (completion_of mid)) (sym place.1)
-
 -- a message in an eager frame is followed
-pub notice_follows : NewsAreShown → HearingIsTrue → EventsAreTrue → (n r : ℕ) (engines : List EngineState) (datagrams : List (ℕ × List ℕ)) (history : List Entry) (old mid : EngineState) (h : HeardText) (t : EagerText) →
-    IsFollowed n engines datagrams history → slice_get engines r ≡ Some old → IsFromDatagram datagrams r old.sessions h → h.word ≡ Hands (EagerFrame t) → t.plane ≡ planes.Collective →
-    IsNoticed old (payloads_met old.payloads (lesson_in h)) h (whole_in t) mid →
-    LeavesFollowed n engines datagrams r mid (history ++ told_completion old.sessions.place.endpoint (completion_of mid))
-notice_follows shows hearing events n r engines datagrams history old mid h t f there comes hands plane i =
-    notice_taken shows hearing events n r engines datagrams history old mid h (payloads_met old.payloads (lesson_in h)) (EagerFrame t) (whole_in t) f there comes hands
-    (is_of_notices w f.joined.said f.joined.texts f.joined.sessions own h.source t f.joined.between says_next.next plane)
-    (payloads_taught f.joined.sessions f.joined.said own old.sessions.known old.payloads h.source h.lesson (f.joined.payloads r old there)) i
-  where
-    w : GroupNetwork
-    w = network_after n f.happenings
-
-    own : Endpoint
-    own = here w.net r
-
-    truth : HearsTruth n r w.net.current old.sessions f.joined.texts h
-    truth = hearing n r (sessions_in engines) datagrams f.joined.texts w.net.current old.sessions h f.joined.links (is_at n r engines datagrams w old f.joined there) comes
-
-    says_next : IsTrueWord f.joined.texts h.source own (Hands (EagerFrame t))
-    says_next = subst (λ (x : WordText). IsTrueWord f.joined.texts h.source own x) hands truth.word
+pub notice_step : (n r : ℕ) (engines : List EngineState) (u : GroupNetwork) (T : SessionsState → LinksOf FrameText → Type 0) (old mid : EngineState) (h : HeardText) (t : EagerText) → IsHearing n r engines u T old h →
+    frame_in h.word ≡ Some (EagerFrame t) → t.plane ≡ planes.Collective → IsNoticed old (payloads_met old.payloads (lesson_in h)) h (whole_in t) mid → IsStepped n r engines u h.source T mid
+notice_step n r engines u T old mid h t x is plane i =
+    notice_taken n r engines u T old mid h (payloads_met old.payloads (lesson_in h)) (EagerFrame t) (whole_in t) x is
+    (is_of_notices u x.opens.said x.texts x.opens.sessions (here u.net r) h.source t x.opens.between (hands_next n x.texts h.source (here u.net r) h.word (EagerFrame t) is x.says).next plane)
+    x.opens.payloads i

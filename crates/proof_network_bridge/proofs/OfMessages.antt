@@ -1,48 +1,44 @@
 -- A frame that a rank's core takes is of messages: no number that the core holds is a notice's.
-use Rattle.std.proofs.Common.{◌≡◌, ℕ, zero, suc, ◌<◌, ◌≤◌, Bool, true, false, not, List, [], ◌∷◌, ◌++◌, length, filter, Option, Some, None, is_some, if◌then◌else◌, refl, sym, ap, subst, ◌∙◌, arith}
-use Rattle.std.specs.Prelude.{nat_lt, slice_get, slice_index, take, ◌==◌}
+use Rattle.std.proofs.Common.{◌≡◌, ℕ, zero, suc, ◌<◌, Bool, true, false, List, [], ◌∷◌, ◌++◌, length, Option, Some, None, is_some, refl, sym, ap, subst, ◌∙◌, arith}
+use Rattle.std.specs.Prelude.{slice_get, slice_index, take}
 use Rattle.std.specs.List.{AllByRecursion}
-use Rattle.std.proofs.lemmas.Bool.{and_from, eq-eqb, ltb-false}
+use Rattle.std.proofs.lemmas.Bool.{and_from, eq-eqb}
 use Rattle.std.proofs.lemmas.Option.{same_Some, slice_get_within}
 use Rattle.datagram.specs.Spelling.{ClearFrame, DataFrame, EagerFrame, FrameText, RequestFrame}
 use Rattle.datagram.specs.declared.kinds.Plane.{Plane}
 use Rattle.datagram.specs.declared.kinds.Plane.TheVariants.{Collective}
 use Rattle.engine_parts.specs.EngineState.{EngineState}
-use Rattle.perfect_groups.specs.Events.{Entry}
 use Rattle.perfect_queues.proofs.EndpointLemmas.{same_refl}
 use Rattle.proof_engine_steps.proofs.AnsweredOffers.{IsAnswered, offer_there}
 use Rattle.proof_engine_steps.proofs.DueData.{IsDueFor, collection_there}
-use Rattle.proof_engine_steps.specs.Steps.{IsFromOther}
 use Rattle.proof_engine_view.specs.Frames.{endpoint_of}
 use Rattle.proof_engine_view.specs.Rows.{Row, jobs_of}
 use Rattle.proof_engine_view.specs.Shown.{IsShown}
 use Rattle.proof_engine_view.specs.Standing as standing
 use Rattle.proof_engine_view.specs.Transfers.{Transfer}
 use Rattle.proof_engine_view.specs.UnderWay.{IsCollectionOf, IsOfferOf}
-use Rattle.proof_group_network.proofs.LinksOfMessages.{group_transfers_stand}
 use Rattle.proof_group_network.specs.Carried.{Announces, Answers, BringsPart, Carried, OfMessages, OfNotices, Sessions}
 use Rattle.proof_group_network.specs.Network.{GroupNetwork}
 use Rattle.proof_group_network.specs.SessionLaws.{IsNext}
+use Rattle.proof_links.specs.Links.{LinksOf}
 use Rattle.proof_pure_network.specs.Announced.{IsIn, TransfersStand, transfers_of}
 use Rattle.proof_pure_network.specs.Core.{Core}
 use Rattle.proof_pure_network.specs.Frames.{Cts, Data, Eager, Frame, Rts}
 use Rattle.proof_pure_network.specs.Held.{is_part}
 use Rattle.proof_pure_network.specs.Jobs.{Collecting, Job, is_collecting}
-use Rattle.proof_pure_network.specs.Network.{here}
 use Rattle.proof_session_carrying.proofs.Carrying.{next_stands}
 use Rattle.proof_session_carrying.specs.Announced.{Announced, LargeNotice, all_announced, announcements_in, transfer_as, transfers_as}
-use Rattle.proof_session_carrying.specs.Carrying.{StandsForCarried}
+use Rattle.proof_session_carrying.specs.Carrying.{Saying, StandsForCarried}
 use Rattle.proof_session_carrying.specs.CarryLaws as carrying
-use Rattle.rank_calls.specs.Hearing.{bad_unless, first_of, plane_fault, transfers_met}
+use Rattle.proof_session_carrying.specs.EventLaws.{AreJoined}
+use Rattle.rank_calls.specs.Hearing.{bad_unless, first_of, plane_fault}
 use Rattle.rank_calls.specs.declared.refused.Refused.{Refused}
 use Rattle.rank_core.specs.Hearing.{news_fault}
-use Rattle.rendezvous.specs.Collecting as rendezvous
 use Rattle.rendezvous.specs.State.{is_due, offered}
 use Rattle.rendezvous.specs.declared.offer.Offer.{Offer}
 use Rattle.vocabulary.specs.Endpoints.{is_same}
 use Rattle.vocabulary.specs.declared.endpoint.Endpoint.{Endpoint}
 use Rattle.proof_network_bridge.proofs.Heard.{news}
-use Rattle.proof_network_bridge.specs.Joined.{IsFollowed, IsHeldBy, network_after}
 
 -- ---- lists
 
@@ -55,15 +51,6 @@ all_place : {A : Type 0} (P : A → Type 0) (xs : List A) (k : ℕ) (x : A) → 
 all_place P [] k x all h = absurd (grind arith)
 all_place P (y ∷ ys) zero x all h = subst P (same_Some y x h) all.0
 all_place P (y ∷ ys) (suc k) x all h = all_place P ys k x all.1 h
-
--- what is kept passes
-all_kept : {A : Type 0} (p : A → Bool) (xs : List A) → AllByRecursion (λ (x : A). p x ≡ true) (filter p xs)
-all_kept p [] = tt
-all_kept p (y ∷ ys) = go (p y) refl (all_kept p ys)
-  where
-    go : (t : Bool) → p y ≡ t → AllByRecursion (λ x. p x ≡ true) (filter p ys) → AllByRecursion (λ x. p x ≡ true) (if t then y ∷ filter p ys else filter p ys)
-    go true h rest = (h, rest)
-    go false h rest = rest
 
 -- what stands among the first of a list stands in it
 in_all : (fs : List Frame) (i : ℕ) (k : ℕ) → IsIn k (transfers_of (take i fs)) → IsIn k (transfers_of fs)
@@ -162,88 +149,35 @@ taken_is : (t : Bool) → bad_unless t ≡ None → t ≡ true
 taken_is true h = refl
 taken_is false h = absurd cc
 
--- who is heard with no lesson is known as he is
-known_as : (old : EngineState) (s : Endpoint) → slice_index old.sessions.known s.rank ≤ s.incarnation → nat_lt (slice_index old.sessions.known s.rank) s.incarnation ≡ false → endpoint_of old.sessions.known s.rank ≡ s
-known_as old s fresh plain =
-    let up : s.incarnation ≤ slice_index old.sessions.known s.rank = ltb-false (slice_index old.sessions.known s.rank) s.incarnation plain in
-    let is : slice_index old.sessions.known s.rank ≡ s.incarnation = omega (arith, fresh, up) in
-    λ j. record { rank = s.rank; incarnation = is j }
+-- who is known at its incarnation is known as it is
+pub known_as : (known : List ℕ) (s : Endpoint) → slice_index known s.rank ≡ s.incarnation → endpoint_of known s.rank ≡ s
+known_as known s is = λ j. record { rank = s.rank; incarnation = is j }
 
--- with a lesson nothing of its rank is offered or collected any more
-not_same : (t : Bool) → not t ≡ true → t ≡ true → ⊥
-not_same true a b = absurd cc
-not_same false a b = absurd cc
-
--- So no answer that the core takes is to a notice's announcement
-answer_of_messages : (sessions : Sessions) (own s : Endpoint) (old : EngineState) (core : Core) → ((serial : ℕ) → IsShown (announcements_in serial sessions own) old.core old.sessions.known core) → (lesson : Bool) (number i : ℕ) →
-    slice_index old.sessions.known s.rank ≤ s.incarnation → nat_lt (slice_index old.sessions.known s.rank) s.incarnation ≡ lesson → slice_get (all_announced sessions own s) number ≡ Some (LargeNotice i) →
-    is_some (offered (transfers_met lesson old.core.transfers s.rank) s.rank number) ≡ true → ⊥
-answer_of_messages sessions own s old core held false number i fresh is named taken = no_offer sessions own s old core held (known_as old s fresh is) number i named (offer_there old.core.transfers s.rank number taken)
-answer_of_messages sessions own s old core held true number i fresh is named taken = not_same (a.offer.target == s.rank) dropped (eq-eqb a.offer.target s.rank a.target)
+-- A frame of an endpoint that is known at its incarnation, which a rank's core takes, stands for one of messages
+pub is_of_messages : (u : GroupNetwork) (said : Saying) (texts : LinksOf FrameText) (sessions : Sessions) (own : Endpoint) (e : EngineState) → AreJoined u said texts sessions → TransfersStand u.net →
+    ((serial : ℕ) → IsShown (announcements_in serial sessions own) e.core e.sessions.known (u.net.core own)) → (s : Endpoint) (b : FrameText) → slice_index e.sessions.known s.rank ≡ s.incarnation →
+    slice_get (texts s own).accepted (texts s own).handed ≡ Some b → news_fault e.core (news s false (Some b)) ≡ None → IsOfMessages sessions own s b
+is_of_messages u said texts sessions own e j stand held s b known next taken = go b next_is.carried next_is.there next_is.stands taken
   where
-    a : IsAnswered (transfers_met true old.core.transfers s.rank) s.rank number
-    a = offer_there (transfers_met true old.core.transfers s.rank) s.rank number taken
-
-    dropped : not (a.offer.target == s.rank) ≡ true
-    dropped = all_front (λ (o : Offer). not (o.target == s.rank) ≡ true) a.front a.offer a.back
-        (subst (λ (os : List Offer). AllByRecursion (λ (o : Offer). not (o.target == s.rank) ≡ true) os) a.offers (all_kept (λ (o : Offer). not (o.target == s.rank)) old.core.transfers.offers))
-
--- and no data that it takes are a notice's
-data_of_messages : (w : GroupNetwork) (sessions : Sessions) (own s : Endpoint) (old : EngineState) → TransfersStand w.net → ((serial : ℕ) → IsShown (announcements_in serial sessions own) old.core old.sessions.known (w.net.core own)) →
-    (lesson : Bool) (number i offset : ℕ) (bytes : List ℕ) → slice_index old.sessions.known s.rank ≤ s.incarnation → nat_lt (slice_index old.sessions.known s.rank) s.incarnation ≡ lesson →
-    slice_get (all_announced sessions s own) number ≡ Some (LargeNotice i) → is_due (transfers_met lesson old.core.transfers s.rank).collections s.rank number offset bytes ≡ true → ⊥
-data_of_messages w sessions own s old stand held false number i offset bytes fresh is named taken =
-    no_collection w sessions own s old stand held (known_as old s fresh is) number i offset named (collection_there old.core.transfers.collections s.rank number offset bytes taken)
-data_of_messages w sessions own s old stand held true number i offset bytes fresh is named taken = not_same (a.collection.source == s.rank) dropped (eq-eqb a.collection.source s.rank a.source_is)
-  where
-    a : IsDueFor (transfers_met true old.core.transfers s.rank).collections s.rank number offset
-    a = collection_there (transfers_met true old.core.transfers s.rank).collections s.rank number offset bytes taken
-
-    dropped : not (a.collection.source == s.rank) ≡ true
-    dropped = all_place (λ (c : rendezvous.Collecting). not (c.source == s.rank) ≡ true) (transfers_met true old.core.transfers s.rank).collections a.place a.collection
-        (all_kept (λ (c : rendezvous.Collecting). not (c.source == s.rank)) old.core.transfers.collections) a.there
-
--- A frame that a rank's core takes stands for one of messages
-pub is_of_messages : (n r : ℕ) (engines : List EngineState) (datagrams : List (ℕ × List ℕ)) (history : List Entry) (old : EngineState) (f : IsFollowed n engines datagrams history) →
-    slice_get engines r ≡ Some old → (s : Endpoint) (lesson : Bool) (b : FrameText) → IsFromOther old.core old.sessions.known (news s lesson (Some b)) →
-    slice_get (f.joined.texts s (here (network_after n f.happenings).net r)).accepted (f.joined.texts s (here (network_after n f.happenings).net r)).handed ≡ Some b →
-    news_fault old.core (news s lesson (Some b)) ≡ None → IsOfMessages f.joined.sessions (here (network_after n f.happenings).net r) s b
-is_of_messages n r engines datagrams history old f there s lesson b other next taken = go b next_is.carried next_is.there next_is.stands taken
-  where
-    w : GroupNetwork
-    w = network_after n f.happenings
-
-    own : Endpoint
-    own = here w.net r
-
-    sessions : Sessions
-    sessions = f.joined.sessions
-
-    held : IsHeldBy w sessions r old
-    held = f.joined.held r old there
-
-    stand : TransfersStand w.net
-    stand = group_transfers_stand n f.happenings (omega (arith, f.few))
-
     out : List Announced
     out = all_announced sessions s own
 
     back : List Announced
     back = all_announced sessions own s
 
-    next_is : carrying.IsNext out back (f.joined.said s own) (sessions s own) b
-    next_is = next_stands out back (f.joined.said s own) (f.joined.texts s own) (sessions s own) b (f.joined.between.alike s own) next
+    next_is : carrying.IsNext out back (said s own) (sessions s own) b
+    next_is = next_stands out back (said s own) (texts s own) (sessions s own) b (j.alike s own) next
 
     -- what is of collectives isn't taken
     not_collective : (p : Plane) (rest : Option Refused) → p ≡ Collective → first_of (plane_fault p) rest ≡ None → ⊥
     not_collective p rest is h = let bad : first_of (plane_fault Collective) rest ≡ None = ap (λ (q : Plane). first_of (plane_fault q) rest) (sym is) ∙ h in absurd cc
 
-    no_data : (number i offset : ℕ) (bytes : List ℕ) → slice_get out number ≡ Some (LargeNotice i) → bad_unless (is_due (transfers_met lesson old.core.transfers s.rank).collections s.rank number offset bytes) ≡ None → ⊥
+    no_data : (number i offset : ℕ) (bytes : List ℕ) → slice_get out number ≡ Some (LargeNotice i) → bad_unless (is_due e.core.transfers.collections s.rank number offset bytes) ≡ None → ⊥
     no_data number i offset bytes named h =
-        data_of_messages w sessions own s old stand held.queues lesson number i offset bytes other.fresh other.lesson named
-        (taken_is (is_due (transfers_met lesson old.core.transfers s.rank).collections s.rank number offset bytes) h)
+        no_collection u sessions own s e stand held (known_as e.sessions.known s known) number i offset named
+        (collection_there e.core.transfers.collections s.rank number offset bytes (taken_is (is_due e.core.transfers.collections s.rank number offset bytes) h))
 
-    go : (b : FrameText) (c : Carried) → IsNext sessions s own c → StandsForCarried out back (f.joined.said s own) b c → news_fault old.core (news s lesson (Some b)) ≡ None → IsOfMessages sessions own s b
+    go : (b : FrameText) (c : Carried) → IsNext sessions s own c → StandsForCarried out back (said s own) b c → news_fault e.core (news s false (Some b)) ≡ None → IsOfMessages sessions own s b
     go b (OfMessages x) at stands taken = record { frame = x; there = at; stands = stands }
     go (EagerFrame t) (OfNotices i) at stands taken = absurd (not_collective t.plane None stands.2.plane (eager_fault t.plane taken))
       where
@@ -259,8 +193,8 @@ is_of_messages n r engines datagrams history old f there s lesson b other next t
     go (EagerFrame t) (Answers i) at stands taken = absurd stands
     go (RequestFrame t) (Answers i) at stands taken = absurd stands
     go (ClearFrame t) (Answers i) at stands taken =
-        absurd (answer_of_messages sessions own s old (w.net.core own) held.queues lesson t.transfer i other.fresh other.lesson stands.0
-        (taken_is (is_some (offered (transfers_met lesson old.core.transfers s.rank) s.rank t.transfer)) taken))
+        absurd (no_offer sessions own s e (u.net.core own) held (known_as e.sessions.known s known) t.transfer i stands.0
+        (offer_there e.core.transfers s.rank t.transfer (taken_is (is_some (offered e.core.transfers s.rank t.transfer)) taken)))
     go (DataFrame t) (Answers i) at stands taken = absurd stands
     go (EagerFrame t) (BringsPart i part) at stands taken = absurd stands.2
     go (RequestFrame t) (BringsPart i part) at stands taken = absurd stands.2

@@ -1,38 +1,34 @@
 -- A piece of a payload of a collective, which a rank takes in, is followed: with the last one the message is.
 use Rattle.std.proofs.Common.{◌≡◌, ◌⊎◌, inl, inr, ℕ, suc, ◌*◌, ◌<◌, Bool, true, false, List, [], ◌++◌, length, Option, Some, None, Ok, option_map, refl, sym, ap, subst, ◌∙◌, arith}
-use Rattle.std.specs.Prelude.{slice_get, slice_index, take}
+use Rattle.std.specs.Prelude.{slice_get, take}
 use Rattle.std.specs.List.{AllByRecursion}
 use Rattle.std.proofs.lemmas.Bool.{eq-eqb, ne_eqb}
 use Rattle.std.proofs.lemmas.Option.{same_Some, slice_get-map}
 use Rattle.collective_notes.specs.declared.message.Message.{Message}
+use Rattle.collective_steps.specs.declared.step.Ending.{Ending}
 use Rattle.collective_transfers.specs.Payloads.{Coming, Whole, is_whole, whole_of, with_piece}
 use Rattle.collective_transfers.specs.State as payloads
 use Rattle.collective_transfers.specs.State.{is_due, put_back, whole_with}
 use Rattle.datagram.specs.Spelling.{DataFrame, DataText, FrameText}
-use Rattle.engine.specs.Datagrams.{IsPieceTaken, PieceGives, PieceGivesBy, is_from_collective, payloads_grown}
-use Rattle.engine_parts.specs.EngineState.{EngineState, completion_of}
-use Rattle.incarnation.specs.declared.place.Place.{Place}
-use Rattle.perfect_groups.specs.Events.{Entry, ended_with, ready_by, told_of}
-use Rattle.proof_collective_steps.specs.RankLaws.{lesson_at}
+use Rattle.engine.specs.Datagrams.{IsPieceTaken, PieceGives, PieceGivesBy, ended_by, frame_in, groups_met, is_from_collective, payloads_grown, payloads_met}
+use Rattle.engine_parts.specs.EngineState.{EngineState, GroupsState, or_before}
+use Rattle.proof_collective_steps.specs.Shown as collectives
 use Rattle.proof_engine_steps.proofs.UnderWay.{others_may_announce}
-use Rattle.proof_engine_steps.specs.Steps.{NewsAreShown}
-use Rattle.proof_engine_view.specs.Frames.{endpoint_of, known_after}
+use Rattle.proof_engine_view.specs.Frames.{endpoint_of}
 use Rattle.proof_engine_view.specs.Shown.{IsShown}
 use Rattle.proof_engine_view.specs.Standing as standing
 use Rattle.proof_engine_view.specs.Transfers.{Transfer}
-use Rattle.proof_group_network.proofs.HappeningSteps.{words_happen}
+use Rattle.proof_group_network.proofs.MidwaySteps.{words_come}
 use Rattle.proof_group_network.proofs.SessionParts.{same_accepted}
 use Rattle.proof_group_network.specs.Carried.{Announces, Answers, BringsPart, Carried, OfMessages, OfNotices, Sessions}
 use Rattle.proof_group_network.specs.Happened.{IsAfter, met_core}
-use Rattle.proof_group_network.specs.Network.{GroupNetwork, Word, happens, member_settled}
+use Rattle.proof_group_network.specs.Midway.{unsettled}
+use Rattle.proof_group_network.specs.Network.{GroupNetwork}
 use Rattle.proof_group_network.specs.NoticesStand.{heard_member}
 use Rattle.proof_group_network.specs.SessionLaws.{IsNext}
 use Rattle.proof_link_truth.specs.Events as below
-use Rattle.proof_link_truth.specs.Events.{EventsAreTrue, HearingIsTrue, HearsTruth, IsFromDatagram, IsTrueWord, LeavesTrue, links_heeded}
-use Rattle.proof_link_truth.specs.Wire.{place_of}
 use Rattle.proof_links.specs.Links.{LinksOf, handed_on}
 use Rattle.proof_pure_network.specs.Core.{Core}
-use Rattle.proof_pure_network.specs.Engine.{core_ready, core_settled}
 use Rattle.proof_pure_network.specs.Frames.{Cts, Data, Eager, Frame, Rts}
 use Rattle.proof_pure_network.specs.Network.{here}
 use Rattle.proof_session_carrying.proofs.Carrying.{next_stands}
@@ -43,21 +39,22 @@ use Rattle.proof_session_carrying.specs.Carrying.{IsPiece, Saying, StandsForCarr
 use Rattle.proof_session_carrying.specs.CarryLaws as carrying
 use Rattle.proof_session_carrying.specs.EventLaws.{AreJoined}
 use Rattle.rank_core.specs.CoreState.{CoreState}
+use Rattle.rank_core.specs.Hearing as core
 use Rattle.rendezvous.specs.Pieces.{piece_bytes, piece_count}
-use Rattle.sessions.specs.Events.{after_event, taught_known}
-use Rattle.sessions.specs.Heard.{Hands, HeardText, WordText}
+use Rattle.sessions.specs.Events.{after_event}
+use Rattle.sessions.specs.Heard.{HeardText}
+use Rattle.sessions.specs.SessionsState.{SessionsState}
 use Rattle.vocabulary.specs.declared.endpoint.Endpoint.{Endpoint}
-use Rattle.proof_network_bridge.specs.Following.{LeavesFollowed}
-use Rattle.proof_network_bridge.specs.Joined.{IsFollowed, IsHeldBy, network_after, sessions_in}
 use Rattle.proof_network_bridge.specs.Payloads.{ArePayloads, IsComingPayload, IsLargeNotice}
-use Rattle.proof_network_bridge.specs.Seen.{told_completion}
-use Rattle.proof_network_bridge.proofs.Followed.{followed_after}
-use Rattle.proof_network_bridge.proofs.Heard.{groups_after, is_from_other, is_word, lesson_same, news, told_after}
+use Rattle.proof_network_bridge.proofs.Heard.{taught}
+use Rattle.proof_network_bridge.proofs.Midway.{IsHearing, IsOpen, IsStepped, opened, stepped}
 use Rattle.proof_network_bridge.proofs.Noticed.{IsOfNotices, brought_at, notice_taken}
+use Rattle.proof_network_bridge.proofs.OfMessages.{known_as}
+use Rattle.proof_network_bridge.proofs.Opens.{taught_nothing}
 use Rattle.proof_network_bridge.proofs.Payloads.{payloads_grow, said_same}
 use Rattle.proof_network_bridge.proofs.Pieces.{IsComing, all_there, coming_then, due_place, grows_by, is_coming, length_of_pieces, more_behind, one_of_all, out_more, out_whole, put_more, put_whole, whole_is}
-use Rattle.proof_network_bridge.proofs.Words.{HeardUnder, core_hears, queues_plainly}
-use Rattle.proof_network_bridge.proofs.Worlds.{is_at, only_handed, place_is}
+use Rattle.proof_network_bridge.proofs.Words.{hands_next, hands_on}
+use Rattle.proof_network_bridge.proofs.Worlds.{only_handed}
 
 -- ---- what the session hands up next
 
@@ -205,80 +202,55 @@ abbrev kept_by : EngineState → HeardText → payloads.State → EngineState
 kept_by old h p = record old { payloads = p; sessions = after_event old.sessions (Some h) [] }
 
 -- one that isn't the last is followed, with whatever payloads stand in the sessions then
-part_follows : NewsAreShown → HearingIsTrue → EventsAreTrue → (n r : ℕ) (engines : List EngineState) (datagrams : List (ℕ × List ℕ)) (history : List Entry) (old : EngineState) (h : HeardText) (b : FrameText) (p : payloads.State) →
-    (f : IsFollowed n engines datagrams history) → slice_get engines r ≡ Some old → IsFromDatagram datagrams r old.sessions h → h.word ≡ Hands b → h.lesson ≡ false →
-    (number part : ℕ) → IsNext f.joined.sessions h.source (here (network_after n f.happenings).net r) (BringsPart number part) →
-    ArePayloads f.joined.sessions f.joined.said (here (network_after n f.happenings).net r) old.sessions.known p →
-    LeavesFollowed n engines datagrams r (kept_by old h p) (history ++ told_completion old.sessions.place.endpoint (completion_of (kept_by old h p)))
-part_follows shows hearing events n r engines datagrams history old h b p f there comes hands plain number part next kept =
-    subst (λ (es : List Entry). LeavesFollowed n engines datagrams r (kept_by old h p) (history ++ es))
-    (told_after r w f.joined.sessions (announcements_in 0 f.joined.sessions own) old s false (kept_by old h p).sessions None None held (f.joined.clean r old there).ended same stands (core_heard 0))
-    (followed_after n r engines datagrams history entries (kept_by old h p) (Word s r 0 []) (core_settled (met_core w r s)) w.net.link (member_settled (heard_member w r s)) w.notices
-    f.joined.said (handed_on f.joined.texts s own) (handed_on f.joined.sessions s own) f happened
-    (parts_are_carried w (happens n w (Word s r 0 [])) f.joined.said f.joined.texts f.joined.sessions s own (core_settled (met_core w r s)) (member_settled (heard_member w r s)) entries number part f.joined.between next happened)
-    (only_handed f.joined.sessions s own []) leaves
-    (λ serial. record {
-      queues = shown_handed serial f.joined.sessions s own old.core (kept_by old h p).sessions.known (core_settled (met_core w r s))
-          (queues_plainly serial f.joined.sessions own old (w.net.core own) s false (kept_by old h p).sessions.known (core_heard serial) known_same);
-      groups = groups_after r w f.joined.sessions old s false held same;
-      placed = held.placed;
-    }) (said_same f.joined.said)
-    (payloads_grow f.joined.sessions (handed_on f.joined.sessions s own) f.joined.said f.joined.said own (kept_by old h p).sessions.known p (only_handed f.joined.sessions s own []).grow (said_same f.joined.said)
-    (subst (λ (known : List ℕ). ArePayloads f.joined.sessions f.joined.said own known p) (sym known_same) kept)))
+part_step : (n r : ℕ) (engines : List EngineState) (u : GroupNetwork) (T : SessionsState → LinksOf FrameText → Type 0) (old : EngineState) (h : HeardText) (b : FrameText) (p : payloads.State) → (x : IsHearing n r engines u T old h) →
+    frame_in h.word ≡ Some b → h.lesson ≡ false → (number part : ℕ) → IsNext x.opens.sessions h.source (here u.net r) (BringsPart number part) →
+    ArePayloads x.opens.sessions x.opens.said (here u.net r) (opened old h).sessions.known p → IsStepped n r engines u h.source T (kept_by old h p)
+part_step n r engines u T old h b p x is plain number part next kept =
+    stepped n r 0 [] engines u s T e mid (met_core u r s) u.net.link (heard_member u r s) u.notices x.texts o.said (handed_on x.texts s own) (handed_on o.sessions s own) o comes
+    (parts_are_carried u (unsettled u own s 0 []) o.said x.texts o.sessions s own (met_core u r s) (heard_member u r s) [] number part o.between next comes)
+    (only_handed o.sessions s own []) (said_same o.said) leaves
+    (taught_nothing u r s (handed_on o.sessions s own) mid ((o.held.queues 0).known_alike s.rank ∙ o.known) (record {
+      queues = λ serial. shown_handed serial o.sessions s own mid.core mid.sessions.known (u.net.core own)
+          (subst (λ (c : CoreState). IsShown (announcements_in serial o.sessions own) c e.sessions.known (u.net.core own)) core_is (o.held.queues serial));
+      groups = subst (λ (g : GroupsState). collectives.IsShown own g.collective g.contexts (u.member own) old.ended) groups_are
+          (subst (λ (given : Option Ending). collectives.IsShown own e.groups.collective e.groups.contexts (u.member own) given) ended_is o.held.groups);
+      placed = ap (λ (c : CoreState). c.place) (sym core_is) ∙ o.held.placed;
+    }))
+    (ap (λ (c : CoreState). c.completion) (sym core_is) ∙ o.completion)
+    (payloads_grow o.sessions (handed_on o.sessions s own) o.said o.said own mid.sessions.known p (only_handed o.sessions s own []).grow (said_same o.said) kept)
   where
-    w : GroupNetwork
-    w = network_after n f.happenings
-
     own : Endpoint
-    own = here w.net r
+    own = here u.net r
 
     s : Endpoint
     s = h.source
 
-    held : IsHeldBy w f.joined.sessions r old
-    held = f.joined.held r old there
+    e : EngineState
+    e = opened old h
 
-    place : (r < n) × (old.sessions.place ≡ place_of n own)
-    place = place_is n r engines datagrams w old f.joined there
+    mid : EngineState
+    mid = kept_by old h p
 
-    stands : old.sessions.place.endpoint ≡ own
-    stands = ap (λ (x : Place). x.endpoint) place.1
+    o : IsOpen n r engines u.net.current u x.texts s e
+    o = x.opens
 
-    here_is : below.IsAt (sessions_in engines) r old.sessions
-    here_is = is_at n r engines datagrams w old f.joined there
-
-    truth : HearsTruth n r w.net.current old.sessions f.joined.texts h
-    truth = hearing n r (sessions_in engines) datagrams f.joined.texts w.net.current old.sessions h f.joined.links here_is comes
+    comes : IsAfter u (unsettled u own s 0 []) own (met_core u r s) u.net.link (heard_member u r s) u.notices []
+    comes = words_come r u s
 
     -- it teaches nothing
-    heard : below.IsHeard n r w.net.current old.sessions.known s false
-    heard = subst (λ (l : Bool). below.IsHeard n r w.net.current old.sessions.known s l) plain truth.heard
+    core_is : e.core ≡ old.core
+    core_is = ap (λ (lesson : Bool). core.taught lesson old.core s) plain
 
-    known_same : (kept_by old h p).sessions.known ≡ old.sessions.known
-    known_same = ap (λ (l : Bool). taught_known l old.sessions.known s) plain
+    groups_are : e.groups ≡ old.groups
+    groups_are = ap (λ (lesson : Bool). groups_met old.groups (taught s lesson)) plain
 
-    same : lesson_at w r s ≡ None
-    same = lesson_same n r w f.joined.sessions old s false held heard
+    ended_is : e.ended ≡ old.ended
+    ended_is = ap (λ (lesson : Bool). or_before (ended_by old.groups (taught s lesson)) old.ended) plain
 
-    core_heard : HeardUnder w f.joined.sessions own old s false None None
-    core_heard = core_hears shows n r engines datagrams history old f there s false None None
-        (is_from_other n r w.net old.core old.sessions.known (news s false None) (held.placed ∙ place.1) heard) (λ serial. tt) tt refl
-
-    entries : List Entry
-    entries = told_of own None (ready_by (ended_with (heard_member w r s).membership.present) (core_ready (met_core w r s)))
-
-    happened : IsAfter w (happens n w (Word s r 0 [])) own (core_settled (met_core w r s)) w.net.link (member_settled (heard_member w r s)) w.notices entries
-    happened = words_happen n r w s (is_word n r engines datagrams w old s false f.joined there heard)
-
-    leaves : LeavesTrue n (sessions_in engines) datagrams r (after_event old.sessions (Some h) []) (handed_on f.joined.texts s own) w.net.current
-    leaves = subst (λ (x : WordText). LeavesTrue n (sessions_in engines) datagrams r (after_event old.sessions (Some h) []) (links_heeded f.joined.texts s own x) w.net.current) hands
-        (events n r (sessions_in engines) datagrams f.joined.texts w.net.current old.sessions (Some h) [] f.joined.links here_is comes tt refl)
+    leaves : T mid.sessions (handed_on x.texts s own)
+    leaves = subst (λ (ls : LinksOf FrameText). T mid.sessions ls) (hands_on x.texts s own h.word b is) (x.leaves [] tt refl)
 
 -- ---- any piece
-
--- who is known at his incarnation is known as he is
-known_as : (known : List ℕ) (s : Endpoint) → slice_index known s.rank ≡ s.incarnation → endpoint_of known s.rank ≡ s
-known_as known s is = λ j. record { rank = s.rank; incarnation = is j }
 
 -- what a rank takes in as data of a payload is no lesson, and of one that comes
 record IsOfPayload (p : payloads.State) (lesson : Bool) (rank transfer : ℕ) : Type 0 where
@@ -295,79 +267,73 @@ taken_so true o old h t mid gives = (refl, gives)
 taken_so false o old h t mid gives = absurd gives
 
 -- a piece that a rank takes in is followed
-pub piece_follows : NewsAreShown → HearingIsTrue → EventsAreTrue → (n r : ℕ) (engines : List EngineState) (datagrams : List (ℕ × List ℕ)) (history : List Entry) (old mid : EngineState) (h : HeardText) (t : DataText) →
-    IsFollowed n engines datagrams history → slice_get engines r ≡ Some old → IsFromDatagram datagrams r old.sessions h → h.word ≡ Hands (DataFrame t) →
-    is_from_collective h.lesson old.payloads h.source.rank t.transfer ≡ true → PieceGives old h t (Ok tt) mid →
-    LeavesFollowed n engines datagrams r mid (history ++ told_completion old.sessions.place.endpoint (completion_of mid))
-piece_follows shows hearing events n r engines datagrams history old mid h t f there comes hands ours gives =
-    elim (next_piece w f.joined.said f.joined.texts f.joined.sessions own s old.sessions.known c t f.joined.between says.next payload source_is o.payload.transfer_is behind) [
+pub piece_step : (n r : ℕ) (engines : List EngineState) (u : GroupNetwork) (T : SessionsState → LinksOf FrameText → Type 0) (old mid : EngineState) (h : HeardText) (t : DataText) → IsHearing n r engines u T old h →
+    frame_in h.word ≡ Some (DataFrame t) → is_from_collective h.lesson old.payloads h.source.rank t.transfer ≡ true → PieceGives old h t (Ok tt) mid → IsStepped n r engines u h.source T mid
+piece_step n r engines u T old mid h t x is ours gives =
+    elim (next_piece u o.said x.texts o.sessions own s known c t o.between says.next payload source_is p.payload.transfer_is behind) [
       | inl part ↦ by_part part
       | inr last ↦ by_last last
     ]
   where
-    w : GroupNetwork
-    w = network_after n f.happenings
-
     own : Endpoint
-    own = here w.net r
+    own = here u.net r
 
     s : Endpoint
     s = h.source
 
-    o : IsOfPayload old.payloads h.lesson s.rank t.transfer
-    o = of_payload old.payloads h.lesson s.rank t.transfer ours
+    o : IsOpen n r engines u.net.current u x.texts s (opened old h)
+    o = x.opens
+
+    known : List ℕ
+    known = (opened old h).sessions.known
+
+    p : IsOfPayload old.payloads h.lesson s.rank t.transfer
+    p = of_payload old.payloads h.lesson s.rank t.transfer ours
 
     c : Coming
-    c = o.payload.payload
+    c = p.payload.payload
 
-    kept : ArePayloads f.joined.sessions f.joined.said own old.sessions.known old.payloads
-    kept = f.joined.payloads r old there
+    kept : ArePayloads o.sessions o.said own known old.payloads
+    kept = subst (λ (lesson : Bool). ArePayloads o.sessions o.said own known (payloads_met old.payloads (taught s lesson))) p.plain o.payloads
 
-    payload : IsComingPayload f.joined.sessions f.joined.said own old.sessions.known c
-    payload = one_of_all (IsComingPayload f.joined.sessions f.joined.said own old.sessions.known) old.payloads.coming o.payload.place c kept.coming o.payload.there
+    payload : IsComingPayload o.sessions o.said own known c
+    payload = one_of_all (IsComingPayload o.sessions o.said own known) old.payloads.coming p.payload.place c kept.coming p.payload.there
 
-    truth : HearsTruth n r w.net.current old.sessions f.joined.texts h
-    truth = hearing n r (sessions_in engines) datagrams f.joined.texts w.net.current old.sessions h f.joined.links (is_at n r engines datagrams w old f.joined there) comes
-
-    says : IsTrueWord f.joined.texts s own (Hands (DataFrame t))
-    says = subst (λ (x : WordText). IsTrueWord f.joined.texts s own x) hands truth.word
+    says : below.IsNext x.texts s own (DataFrame t)
+    says = hands_next n x.texts s own h.word (DataFrame t) is x.says
 
     -- who is heard is known as he is
-    source_is : endpoint_of old.sessions.known c.source ≡ s
-    source_is = ap (endpoint_of old.sessions.known) o.payload.source_is ∙ known_as old.sessions.known s
-        (subst (λ (l : Bool). below.IsHeard n r w.net.current old.sessions.known s l) o.plain truth.heard).incarnation
+    source_is : endpoint_of known c.source ≡ s
+    source_is = ap (endpoint_of known) p.payload.source_is ∙ known_as known s o.known
 
     taken : (is_due old.payloads s.rank t.transfer t.offset t.bytes ≡ true) × IsPieceTaken (whole_with old.payloads s.rank t.transfer t.bytes) old h t mid
     taken = taken_so (is_due old.payloads s.rank t.transfer t.offset t.bytes) (whole_with old.payloads s.rank t.transfer t.bytes) old h t mid gives
 
     behind : t.offset ≡ length c.bytes
-    behind = due_place old.payloads s.rank t.transfer t.offset t.bytes o.payload taken.0
+    behind = due_place old.payloads s.rank t.transfer t.offset t.bytes p.payload taken.0
 
     -- it is taken as the payload with it says
-    taken_as : (x : Option Whole) → whole_with old.payloads s.rank t.transfer t.bytes ≡ x → IsPieceTaken x old h t mid
-    taken_as x is = subst (λ (y : Option Whole). IsPieceTaken y old h t mid) is taken.1
+    taken_as : (y : Option Whole) → whole_with old.payloads s.rank t.transfer t.bytes ≡ y → IsPieceTaken y old h t mid
+    taken_as y same = subst (λ (z : Option Whole). IsPieceTaken z old h t mid) same taken.1
 
     handed : whole_with old.payloads s.rank t.transfer t.bytes ≡ payloads.handed_out (with_piece c t.bytes)
-    handed = whole_is old.payloads s.rank t.transfer t.bytes o.payload
+    handed = whole_is old.payloads s.rank t.transfer t.bytes p.payload
 
     -- what is kept then
-    kept_then : AllByRecursion (IsComingPayload f.joined.sessions f.joined.said own old.sessions.known) (put_back old.payloads.coming o.payload.place (with_piece c t.bytes)) →
-        ArePayloads f.joined.sessions f.joined.said own old.sessions.known (payloads_grown old h t)
+    kept_then : AllByRecursion (IsComingPayload o.sessions o.said own known) (put_back old.payloads.coming p.payload.place (with_piece c t.bytes)) → ArePayloads o.sessions o.said own known (payloads_grown old h t)
     kept_then all = record {
       announced = kept.announced;
-      coming = subst (λ (cs : List Coming). AllByRecursion (IsComingPayload f.joined.sessions f.joined.said own old.sessions.known) cs) (sym (coming_then old.payloads s.rank t.transfer t.bytes o.payload)) all;
+      coming = subst (λ (cs : List Coming). AllByRecursion (IsComingPayload o.sessions o.said own known) cs) (sym (coming_then old.payloads s.rank t.transfer t.bytes p.payload)) all;
     }
 
-    by_part : IsPart f.joined.sessions f.joined.said own s old.sessions.known (with_piece c t.bytes) → LeavesFollowed n engines datagrams r mid (history ++ told_completion old.sessions.place.endpoint (completion_of mid))
+    by_part : IsPart o.sessions o.said own s known (with_piece c t.bytes) → IsStepped n r engines u s T mid
     by_part part =
-        subst (λ (e : EngineState). LeavesFollowed n engines datagrams r e (history ++ told_completion old.sessions.place.endpoint (completion_of e)))
-        (sym (taken_as None (handed ∙ out_more (with_piece c t.bytes) part.more)).1)
-        (part_follows shows hearing events n r engines datagrams history old h (DataFrame t) (payloads_grown old h t) f there comes hands o.plain part.number part.part part.there
-        (kept_then (put_more (IsComingPayload f.joined.sessions f.joined.said own old.sessions.known) old.payloads.coming o.payload.place (with_piece c t.bytes) part.more part.goes_on kept.coming)))
+        subst (λ (e : EngineState). IsStepped n r engines u s T e) (sym (taken_as None (handed ∙ out_more (with_piece c t.bytes) part.more)).1)
+        (part_step n r engines u T old h (DataFrame t) (payloads_grown old h t) x is p.plain part.number part.part part.there
+        (kept_then (put_more (IsComingPayload o.sessions o.said own known) old.payloads.coming p.payload.place (with_piece c t.bytes) part.more part.goes_on kept.coming)))
 
-    by_last : IsLast w f.joined.sessions own s (with_piece c t.bytes) → LeavesFollowed n engines datagrams r mid (history ++ told_completion old.sessions.place.endpoint (completion_of mid))
+    by_last : IsLast u o.sessions own s (with_piece c t.bytes) → IsStepped n r engines u s T mid
     by_last last =
-        notice_taken shows hearing events n r engines datagrams history old mid h (payloads_grown old h t) (DataFrame t) (whole_of (with_piece c t.bytes)) f there comes hands last.notice
-        (subst (λ (l : Bool). ArePayloads f.joined.sessions f.joined.said own (known_after l old.sessions.known s) (payloads_grown old h t)) (sym o.plain)
-        (kept_then (put_whole (IsComingPayload f.joined.sessions f.joined.said own old.sessions.known) old.payloads.coming o.payload.place (with_piece c t.bytes) last.whole kept.coming)))
+        notice_taken n r engines u T old mid h (payloads_grown old h t) (DataFrame t) (whole_of (with_piece c t.bytes)) x is last.notice
+        (kept_then (put_whole (IsComingPayload o.sessions o.said own known) old.payloads.coming p.payload.place (with_piece c t.bytes) last.whole kept.coming))
         (taken_as (Some (whole_of (with_piece c t.bytes))) (handed ∙ out_whole (with_piece c t.bytes) last.whole))

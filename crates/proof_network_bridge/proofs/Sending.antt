@@ -205,25 +205,29 @@ meets_none s ns heard ms none = tested (all_can_go s.place ns ms) refl none
         }
     tested false is h = absurd cc
 
--- An event that sends what a step does, by rank, leaves true links, which took it in in the order of the step
+-- What an event that sends leaves true of the links it leaves true where it sends what a step does, by rank: they take it in in the
+-- order of the step
+pub step_leaves : (T : SessionsState → Links → Type 0) (n : ℕ) (own : Endpoint) (old : SessionsState) (heard : Option HeardText) (links : Links) (known : List ℕ) (ns : List Numbers) (ms : List Message) →
+    ((sendings : List Sending) → MaySendAll n own.rank sendings → sends_limit (after_heard old heard) sendings ≡ None → T (after_event old heard sendings) (accept_all links own (all_addressed known sendings))) →
+    old.place ≡ place_of n own → AreBounded n ns → AllByRecursion (IsSendable n own) ms → AreWhole ms → step_limit old ns heard ms ≡ None →
+    T (after_event old heard (step_sendings old.place ns ms)) (accept_all links own (all_addressed known (messages_sent ns ms)))
+step_leaves T n own old heard links known ns ms leaves place bounded sendable whole none =
+    subst (λ (p : Place). T (after_event old heard (step_sendings p ns ms)) (accept_all links own (all_addressed known (messages_sent ns ms)))) (sym place)
+    (subst (λ (ls : Links). T (after_event old heard (step_sendings (place_of n own) ns ms)) ls)
+    (by_rank_same n links own known (messages_sent ns ms) (ranks_there n own ns ms sendable))
+    (leaves (step_sendings (place_of n own) ns ms)
+    (may_be_sent n own ns ms bounded sendable whole (subst (λ (p : Place). all_can_go p ns ms ≡ true) place free.can))
+    (subst (λ (p : Place). sends_limit (after_heard old heard) (step_sendings p ns ms) ≡ None) place free.free)))
+  where
+    free : MeetsNone old ns heard ms
+    free = meets_none old ns heard ms none
+
+-- so it is with the links of a world
 pub step_is_true : EventsAreTrue → (n r : ℕ) (sessions : List SessionsState) (datagrams : List (ℕ × List ℕ)) (links : Links) (current : ℕ → ℕ) (old : SessionsState) (heard : Option HeardText) (ns : List Numbers) (ms : List Message) →
     AreTrue n sessions datagrams links current → IsAt sessions r old → Comes datagrams r old heard → old.place ≡ place_of n (at r (current r)) → AreBounded n ns →
     AllByRecursion (IsSendable n (at r (current r))) ms → AreWhole ms → step_limit old ns heard ms ≡ None →
     LeavesTrue n sessions datagrams r (after_event old heard (step_sendings old.place ns ms))
     (accept_all (links_heard links (at r (current r)) heard) (at r (current r)) (all_addressed (after_heard old heard).known (messages_sent ns ms))) current
 step_is_true truth n r sessions datagrams links current old heard ns ms true_now stands comes place bounded sendable whole none =
-    subst (λ (p : Place). LeavesTrue n sessions datagrams r (after_event old heard (step_sendings p ns ms)) (accept_all (links_heard links own heard) own (all_addressed known (messages_sent ns ms))) current) (sym place)
-    (subst (λ (ls : Links). LeavesTrue n sessions datagrams r (after_event old heard (step_sendings (place_of n own) ns ms)) ls current)
-    (by_rank_same n (links_heard links own heard) own known (messages_sent ns ms) (ranks_there n own ns ms sendable))
-    (truth n r sessions datagrams links current old heard (step_sendings (place_of n own) ns ms) true_now stands comes
-    (may_be_sent n own ns ms bounded sendable whole (subst (λ (p : Place). all_can_go p ns ms ≡ true) place free.can))
-    (subst (λ (p : Place). sends_limit (after_heard old heard) (step_sendings p ns ms) ≡ None) place free.free)))
-  where
-    own : Endpoint
-    own = at r (current r)
-
-    known : List ℕ
-    known = (after_heard old heard).known
-
-    free : MeetsNone old ns heard ms
-    free = meets_none old ns heard ms none
+    step_leaves (λ (t : SessionsState) (ls : Links). LeavesTrue n sessions datagrams r t ls current) n (at r (current r)) old heard (links_heard links (at r (current r)) heard) (after_heard old heard).known ns ms
+    (λ sendings may free. truth n r sessions datagrams links current old heard sendings true_now stands comes may free) place bounded sendable whole none

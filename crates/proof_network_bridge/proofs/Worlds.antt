@@ -18,20 +18,22 @@ use Rattle.proof_engine_view.specs.Transfers.{announced_in as frames_announced}
 use Rattle.proof_engine_view.proofs.Growing.{announced_append as frames_append}
 use Rattle.proof_group_network.proofs.SessionParts.{same_accepted}
 use Rattle.proof_group_network.specs.Carried.{Carried, OfMessages, Session, Sessions, frames_carried}
-use Rattle.proof_links.specs.Links.{accept, accept_all, handed_on}
+use Rattle.proof_links.specs.Links.{LinksOf, accept, accept_all, handed_on}
 use Rattle.proof_session_carrying.proofs.Carrying.{accepted_begins}
 use Rattle.proof_session_carrying.proofs.Growing.{announced_append, announced_grow, at_here, same_begins, transfers_grow}
 use Rattle.collective_notes.specs.declared.message.Message.{Message}
 use Rattle.datagram.specs.Spelling.{FrameText}
 use Rattle.proof_link_truth.specs.Sessions.{SessionsTell, is_pair}
-use Rattle.proof_session_carrying.specs.Carrying.{StandFor}
 use Rattle.proof_session_carrying.specs.Announced.{Announced, all_announced, announced_in, announcements_in, transfer_as, transfers_as}
 use Rattle.proof_engine_steps.proofs.UnderWay.{others_may_announce}
 use Rattle.proof_pure_network.specs.Network.{Network, here}
 use Rattle.proof_engine_view.specs.Shown.{IsShown}
 use Rattle.proof_group_network.specs.Network.{GroupNetwork, Happening, happens, run}
 use Rattle.proof_link_truth.specs.Events.{IsAt}
-use Rattle.proof_link_truth.specs.Wire.{place_of}
+use Rattle.proof_link_truth.specs.Truth.{AreTrue}
+use Rattle.proof_link_truth.specs.Wire.{at, place_of}
+use Rattle.proof_session_carrying.specs.Carrying.{Saying, StandFor}
+use Rattle.proof_session_carrying.specs.EventLaws.{AreJoined}
 use Rattle.proof_network_bridge.specs.Joined.{IsJoined, sessions_in}
 use Rattle.proof_network_bridge.proofs.Halves.{sessions_there}
 
@@ -49,31 +51,41 @@ set_cases (z ∷ zs) (suc k) y (suc j) e h =
     ]
 
 -- two ranks have two endpoints
-pub ranks_apart : (w : Network) (x r : ℕ) → (x ≡ r → ⊥) → is_same (here w x) (here w r) ≡ false
-ranks_apart w x r apart = go (is_same (here w x) (here w r)) refl
+pub places_apart : (current : ℕ → ℕ) (x r : ℕ) → (x ≡ r → ⊥) → is_same (at x (current x)) (at r (current r)) ≡ false
+places_apart current x r apart = go (is_same (at x (current x)) (at r (current r))) refl
   where
-    go : (t : Bool) → is_same (here w x) (here w r) ≡ t → is_same (here w x) (here w r) ≡ false
+    go : (t : Bool) → is_same (at x (current x)) (at r (current r)) ≡ t → is_same (at x (current x)) (at r (current r)) ≡ false
     go false h = h
-    go true h = absurd (apart (ap (λ (e : Endpoint). e.rank) (same_eq (here w x) (here w r) h)))
+    go true h = absurd (apart (ap (λ (e : Endpoint). e.rank) (same_eq (at x (current x)) (at r (current r)) h)))
+
+pub ranks_apart : (w : Network) (x r : ℕ) → (x ≡ r → ⊥) → is_same (here w x) (here w r) ≡ false
+ranks_apart w x r apart = places_apart w.current x r apart
 
 -- an endpoint that is to come is not the one that is there
-pub later_apart : (w : Network) (d : Endpoint) (r : ℕ) → w.current d.rank < d.incarnation → is_same d (here w r) ≡ false
-later_apart w d r later = go (is_same d (here w r)) refl
+pub to_come_apart : (current : ℕ → ℕ) (d : Endpoint) (r : ℕ) → current d.rank < d.incarnation → is_same d (at r (current r)) ≡ false
+to_come_apart current d r later = go (is_same d (at r (current r))) refl
   where
-    go : (t : Bool) → is_same d (here w r) ≡ t → is_same d (here w r) ≡ false
+    go : (t : Bool) → is_same d (at r (current r)) ≡ t → is_same d (at r (current r)) ≡ false
     go false h = h
     go true h =
-        let is : d ≡ here w r = same_eq d (here w r) h in
-        let rank_is : w.current d.rank ≡ w.current r = ap (λ (e : Endpoint). w.current e.rank) is in
-        let incarnation_is : d.incarnation ≡ w.current r = ap (λ (e : Endpoint). e.incarnation) is in
+        let is : d ≡ at r (current r) = same_eq d (at r (current r)) h in
+        let rank_is : current d.rank ≡ current r = ap (λ (e : Endpoint). current e.rank) is in
+        let incarnation_is : d.incarnation ≡ current r = ap (λ (e : Endpoint). e.incarnation) is in
         absurd (omega (arith, later, rank_is, incarnation_is))
 
+pub later_apart : (w : Network) (d : Endpoint) (r : ℕ) → w.current d.rank < d.incarnation → is_same d (here w r) ≡ false
+later_apart w d r later = to_come_apart w.current d r later
+
 -- where the sessions of the engine at a rank stand
+pub place_by : (n r : ℕ) (engines : List EngineState) (datagrams : List (ℕ × List ℕ)) (texts : LinksOf FrameText) (current : ℕ → ℕ) (e : EngineState) → AreTrue n (sessions_in engines) datagrams texts current →
+    slice_get engines r ≡ Some e → (r < n) × (e.sessions.place ≡ place_of n (at r (current r)))
+place_by n r engines datagrams texts current e links there =
+    let sessions = sessions_there engines r e there in
+    (omega (arith, slice_get_within (sessions_in engines) r e.sessions sessions, links.count), (links.tells r e.sessions sessions).place)
+
 pub place_is : (n r : ℕ) (engines : List EngineState) (datagrams : List (ℕ × List ℕ)) (w : GroupNetwork) (e : EngineState) → IsJoined n engines datagrams w → slice_get engines r ≡ Some e →
     (r < n) × (e.sessions.place ≡ place_of n (here w.net r))
-place_is n r engines datagrams w e j there =
-    let sessions = sessions_there engines r e there in
-    (omega (arith, slice_get_within (sessions_in engines) r e.sessions sessions, j.links.count), (j.links.tells r e.sessions sessions).place)
+place_is n r engines datagrams w e j there = place_by n r engines datagrams j.texts w.net.current e j.links there
 
 -- the sessions of a rank of the world, out of which everything was taken
 pub is_at : (n r : ℕ) (engines : List EngineState) (datagrams : List (ℕ × List ℕ)) (w : GroupNetwork) (old : EngineState) → IsJoined n engines datagrams w → slice_get engines r ≡ Some old →
@@ -89,22 +101,26 @@ nothing_stands out back said [] (x ∷ xs) stand none = absurd stand
 nothing_stands out back said (t ∷ ts) xs stand none = absurd cc
 
 -- so nothing was announced
+pub announced_none : (w : GroupNetwork) (said : Saying) (texts : LinksOf FrameText) (sessions : Sessions) → AreJoined w said texts sessions → (serial : ℕ) (own d : Endpoint) → (texts own d).accepted ≡ [] →
+    (announcements_in serial sessions own).to d ≡ []
+announced_none w said texts sessions j serial own d none =
+    ap (λ (xs : List Carried). transfers_as serial (announced_in xs))
+    (nothing_stands (all_announced sessions own d) (all_announced sessions d own) (said own d) (texts own d).accepted (sessions own d).accepted (j.alike own d).accepted none)
+
 pub none_announced : (n : ℕ) (engines : List EngineState) (datagrams : List (ℕ × List ℕ)) (w : GroupNetwork) → (j : IsJoined n engines datagrams w) → (serial : ℕ) (own d : Endpoint) → (j.texts own d).accepted ≡ [] →
     (announcements_in serial j.sessions own).to d ≡ []
-none_announced n engines datagrams w j serial own d none =
-    ap (λ (xs : List Carried). transfers_as serial (announced_in xs))
-    (nothing_stands (all_announced j.sessions own d) (all_announced j.sessions d own) (j.said own d) (j.texts own d).accepted (j.sessions own d).accepted (j.between.alike own d).accepted none)
+none_announced n engines datagrams w j serial own d none = announced_none w j.said j.texts j.sessions j.between serial own d none
 
 -- a rank sent nothing to an endpoint that it doesn't know yet
-pub none_untold : (n r : ℕ) (engines : List EngineState) (datagrams : List (ℕ × List ℕ)) (w : GroupNetwork) (e : EngineState) → (j : IsJoined n engines datagrams w) → slice_get engines r ≡ Some e → (d : Endpoint) →
-    slice_index e.sessions.known d.rank < d.incarnation → (j.texts (here w.net r) d).accepted ≡ []
-none_untold n r engines datagrams w e j there d late = go (is_pair n (here w.net r) d) refl
+pub none_untold : (n r : ℕ) (engines : List EngineState) (datagrams : List (ℕ × List ℕ)) (texts : LinksOf FrameText) (current : ℕ → ℕ) (e : EngineState) → AreTrue n (sessions_in engines) datagrams texts current →
+    slice_get engines r ≡ Some e → (d : Endpoint) → slice_index e.sessions.known d.rank < d.incarnation → (texts (at r (current r)) d).accepted ≡ []
+none_untold n r engines datagrams texts current e links there d late = go (is_pair n (at r (current r)) d) refl
   where
-    tells : SessionsTell n w.net.current r e.sessions j.texts
-    tells = j.links.tells r e.sessions (sessions_there engines r e there)
+    tells : SessionsTell n current r e.sessions texts
+    tells = links.tells r e.sessions (sessions_there engines r e there)
 
-    go : (t : Bool) → is_pair n (here w.net r) d ≡ t → (j.texts (here w.net r) d).accepted ≡ []
-    go false is = j.links.strangers (here w.net r) d is
+    go : (t : Bool) → is_pair n (at r (current r)) d ≡ t → (texts (at r (current r)) d).accepted ≡ []
+    go false is = links.strangers (at r (current r)) d is
     go true is =
         let p = and_parts (not (r == d.rank)) (nat_lt r n && nat_lt d.rank n) is in
         (tells.peers d.rank (ltb-true d.rank n (and_parts (nat_lt r n) (nat_lt d.rank n) p.1).1) (other (r == d.rank) refl p.0)).no_accepted d.incarnation late
