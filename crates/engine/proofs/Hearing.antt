@@ -88,24 +88,24 @@ learnt known source there above =
     get_or-set_same known source.rank (max (slice_index known source.rank) source.incarnation) 0 there ∙ omega (arith, above)
 
 stale_knows : (body : BodyText) (s : SessionsState) (source : Endpoint) → Knows (stale source body) s source
-stale_knows AckBody s source = tt
+stale_knows (AckBody held) s source = tt
 stale_knows (FrameBody f) s source = tt
 stale_knows ResetBody s source = tt
 
-judged_knows : (j : Result Judgement judging.Refused) (s : SessionsState) (d : DatagramText) → length s.known ≡ s.place.size →
-    judgement (knowledge s) d.header ≡ j → Knows (heard_by j s d) s d.header.source
-judged_knows (Ok Current) s d each is =
-    said_knows (word_of (session_met false (peer_at s.peers d.header.source.rank)) d.header.sequence d.body) s d.header.source false (is_current s d.header is)
-judged_knows (Ok (Learn i)) s d each is =
+judged_knows : (j : Result Judgement judging.Refused) (s : SessionsState) (d : DatagramText) (bytes : List ℕ) → length s.known ≡ s.place.size →
+    judgement (knowledge s) d.header ≡ j → Knows (heard_by j s d bytes) s d.header.source
+judged_knows (Ok Current) s d bytes each is =
+    said_knows (word_of (session_met false (peer_at s.peers d.header.source.rank)) d.header.sequence d.body bytes) s d.header.source false (is_current s d.header is)
+judged_knows (Ok (Learn i)) s d bytes each is =
     let later : IsLater s d.header = is_later s d.header i is in
-    said_knows (word_of (session_met true (peer_at s.peers d.header.source.rank)) d.header.sequence d.body) s d.header.source true
+    said_knows (word_of (session_met true (peer_at s.peers d.header.source.rank)) d.header.sequence d.body bytes) s d.header.source true
     (learnt s.known d.header.source (omega (arith, each, later.there)) later.above)
-judged_knows (Err judgings.StaleTarget) s d each is = stale_knows d.body s d.header.source
-judged_knows (Err judgings.Limit) s d each is = tt
-judged_knows (Err judgings.OutOfMemory) s d each is = tt
-judged_knows (Err judgings.ForeignJob) s d each is = tt
-judged_knows (Err judgings.NotForMe) s d each is = tt
-judged_knows (Err judgings.StaleSource) s d each is = tt
+judged_knows (Err judgings.StaleTarget) s d bytes each is = stale_knows d.body s d.header.source
+judged_knows (Err judgings.Limit) s d bytes each is = tt
+judged_knows (Err judgings.OutOfMemory) s d bytes each is = tt
+judged_knows (Err judgings.ForeignJob) s d bytes each is = tt
+judged_knows (Err judgings.NotForMe) s d bytes each is = tt
+judged_knows (Err judgings.StaleSource) s d bytes each is = tt
 
 -- frames that are sent teach nothing
 known_sends : (s : SessionsState) (fs : List Sending) → (after_sends s fs).known ≡ s.known
@@ -113,9 +113,9 @@ known_sends s [] = refl
 known_sends s (f ∷ fs) = known_sends (after_send s f) fs
 
 -- what was heard was carried out, with these frames
-record IsCarried (old : SessionsState) (h : HeardText) (new : SessionsState) : Type 0 where
-  frames : List Sending
-  carried : new ≡ links.after_event old (Some h) frames
+pub record IsCarried (old : SessionsState) (h : HeardText) (new : SessionsState) : Type 0 where
+  pub frames : List Sending
+  pub carried : new ≡ links.after_event old (Some h) frames
 
 piece_carried : (due : Bool) (w : Option Whole) (old new : EngineState) (h : HeardText) (t : DataText) (x : Unit {0}) → PieceGivesBy due w old h t (Ok x) new →
     IsCarried old.sessions h new.sessions
@@ -124,7 +124,7 @@ piece_carried true (Some w) old new h t x gives =
     record { frames = step_sendings old.sessions.place (numbers_met old.core h) gives.ready.step.messages; carried = gives.sessions }
 piece_carried false w old new h t x gives = absurd gives
 
-carried_by : (n : Option NoticeText) (old new : EngineState) (h : HeardText) (x : Unit {0}) → HeardGivesBy n old h (Ok x) new → IsCarried old.sessions h new.sessions
+pub carried_by : (n : Option NoticeText) (old new : EngineState) (h : HeardText) (x : Unit {0}) → HeardGivesBy n old h (Ok x) new → IsCarried old.sessions h new.sessions
 carried_by None old new h x gives = record { frames = replies old.core h; carried = ap (λ (e : EngineState). e.sessions) gives.1 }
 carried_by (Some (OfMessage t)) old new h x gives =
     record { frames = step_sendings old.sessions.place (numbers_met old.core h) gives.ready.step.messages; carried = gives.sessions }
@@ -133,19 +133,22 @@ carried_by (Some (OfAnswer t)) old new h x gives = record { frames = data_for ol
 carried_by (Some (OfPiece t)) old new h x gives =
     piece_carried (is_due old.payloads h.source.rank t.transfer t.offset t.bytes) (whole_with old.payloads h.source.rank t.transfer t.bytes) old new h t x gives
 
+-- what was carried out teaches what was heard, and no more
+pub known_carried : (old new : SessionsState) (h : HeardText) → IsCarried old h new → new.known ≡ taught_known h.lesson old.known h.source
+known_carried old new h goes = ap (λ (s : SessionsState). s.known) goes.carried ∙ known_sends (links.after_heard old (Some h)) goes.frames
+
 -- the source of what was taken in is known at the incarnation in its header
 pub heard_is_known : (old new : EngineState) (bytes : List ℕ) (h : HeardText) (result : Result (Unit {0}) Refused) →
-    length old.sessions.known ≡ old.sessions.place.size → heard_of old.sessions bytes ≡ Ok h → HeardGives old h result new →
-    OnOk result (SourceIsKnown new bytes)
+    length old.sessions.known ≡ old.sessions.place.size → heard_of old.sessions bytes ≡ Ok h →
+    OnOk result (new.sessions.known ≡ taught_known h.lesson old.sessions.known h.source) → OnOk result (SourceIsKnown new bytes)
 unfolding heard_of
-heard_is_known old new bytes h (Err e) each heard gives = tt
-heard_is_known old new bytes h (Ok x) each heard gives = λ d is.
-    let by : heard_by (judgement (knowledge old.sessions) d.header) old.sessions d ≡ Ok h = sym (ap (heard_in old.sessions) is) ∙ heard in
-    let goes : IsCarried old.sessions h new.sessions = carried_by (notice_in h.lesson old.payloads h.source.rank h.word) old new h x gives in
-    ap (λ (s : SessionsState). slice_index s.known d.header.source.rank) goes.carried
-    ∙ ap (λ (known : List ℕ). slice_index known d.header.source.rank) (known_sends (links.after_heard old.sessions (Some h)) goes.frames)
+heard_is_known old new bytes h (Err e) each heard known = tt
+heard_is_known old new bytes h (Ok x) each heard known = λ d is.
+    let by : heard_by (judgement (knowledge old.sessions) d.header) old.sessions d bytes ≡ Ok h =
+    sym (ap (λ (r : Result DatagramText reading.Refused). heard_in old.sessions r bytes) is) ∙ heard in
+    ap (λ (ks : List ℕ). slice_index ks d.header.source.rank) known
     ∙ subst (λ (r : Result HeardText Unheard). Knows r old.sessions d.header.source) by
-    (judged_knows (judgement (knowledge old.sessions) d.header) old.sessions d each refl)
+    (judged_knows (judgement (knowledge old.sessions) d.header) old.sessions d bytes each refl)
 
 -- ---- what a refusal leaves
 
@@ -189,27 +192,29 @@ said_tells (Ok w) source lesson = tt
 said_tells (Err e) source lesson = tt
 
 stale_tells : (body : BodyText) (source : Endpoint) → ResetsTell (stale source body)
-stale_tells AckBody source = refl
+stale_tells (AckBody held) source = refl
 stale_tells (FrameBody f) source = refl
 stale_tells ResetBody source = tt
 
-judged_tells : (j : Result Judgement judging.Refused) (s : SessionsState) (d : DatagramText) → ResetsTell (heard_by j s d)
-judged_tells (Ok Current) s d = said_tells (word_of (session_met false (peer_at s.peers d.header.source.rank)) d.header.sequence d.body) d.header.source false
-judged_tells (Ok (Learn i)) s d = said_tells (word_of (session_met true (peer_at s.peers d.header.source.rank)) d.header.sequence d.body) d.header.source true
-judged_tells (Err judgings.StaleTarget) s d = stale_tells d.body d.header.source
-judged_tells (Err judgings.Limit) s d = tt
-judged_tells (Err judgings.OutOfMemory) s d = tt
-judged_tells (Err judgings.ForeignJob) s d = tt
-judged_tells (Err judgings.NotForMe) s d = tt
-judged_tells (Err judgings.StaleSource) s d = tt
+judged_tells : (j : Result Judgement judging.Refused) (s : SessionsState) (d : DatagramText) (bytes : List ℕ) → ResetsTell (heard_by j s d bytes)
+judged_tells (Ok Current) s d bytes =
+    said_tells (word_of (session_met false (peer_at s.peers d.header.source.rank)) d.header.sequence d.body bytes) d.header.source false
+judged_tells (Ok (Learn i)) s d bytes =
+    said_tells (word_of (session_met true (peer_at s.peers d.header.source.rank)) d.header.sequence d.body bytes) d.header.source true
+judged_tells (Err judgings.StaleTarget) s d bytes = stale_tells d.body d.header.source
+judged_tells (Err judgings.Limit) s d bytes = tt
+judged_tells (Err judgings.OutOfMemory) s d bytes = tt
+judged_tells (Err judgings.ForeignJob) s d bytes = tt
+judged_tells (Err judgings.NotForMe) s d bytes = tt
+judged_tells (Err judgings.StaleSource) s d bytes = tt
 
-read_tells : (text : Result DatagramText reading.Refused) (s : SessionsState) → ResetsTell (heard_in s text)
-read_tells (Err e) s = tt
-read_tells (Ok d) s = judged_tells (judgement (knowledge s) d.header) s d
+read_tells : (text : Result DatagramText reading.Refused) (s : SessionsState) (bytes : List ℕ) → ResetsTell (heard_in s text bytes)
+read_tells (Err e) s bytes = tt
+read_tells (Ok d) s bytes = judged_tells (judgement (knowledge s) d.header) s d bytes
 
 bytes_tell : (bytes : List ℕ) (s : SessionsState) → ResetsTell (heard_of s bytes)
 unfolding heard_of
-bytes_tell bytes s = read_tells (datagram_of bytes) s
+bytes_tell bytes s = read_tells (datagram_of bytes) s bytes
 
 -- nothing but the sessions changed
 abbrev IsElsewhere : EngineState → EngineState → Type 0
@@ -238,7 +243,7 @@ piece_leaves : (due : Bool) (w : Option Whole) (old new : EngineState) (h : Hear
 piece_leaves true w old new h t e gives = gives.1
 piece_leaves false w old new h t e gives = gives.1
 
-unheard_leaves : (n : Option NoticeText) (old new : EngineState) (h : HeardText) (e : Refused) → HeardGivesBy n old h (Err e) new → new ≡ old
+pub unheard_leaves : (n : Option NoticeText) (old new : EngineState) (h : HeardText) (e : Refused) → HeardGivesBy n old h (Err e) new → new ≡ old
 unheard_leaves None old new h e gives = gives.2
 unheard_leaves (Some (OfMessage t)) old new h e gives = gives.1
 unheard_leaves (Some (OfAnnouncement t)) old new h e gives = gives.1

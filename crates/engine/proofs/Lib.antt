@@ -4,4 +4,5 @@ pub mod Taken
 pub mod Replies
 pub mod Announced
 pub mod Hearing
+pub mod Turning
 pub mod LastPiece

@@ -1,4 +1,4 @@
--- The frames that the core calls for: they all go to the rank that spoke, the sessions can send them, and they are few.
+-- The frames that the core calls for: they all go to the rank that spoke, and the sessions can send them.
 use Rattle.std.proofs.Common.{◌≡◌, ℕ, ◌+◌, ◌<◌, ◌≤◌, Bool, List, [], ◌∷◌, length, map, Option, Some, None, refl, sym, ap, subst, ◌∙◌, arith}
 use Rattle.std.specs.Prelude.{All}
 use Rattle.std.specs.List.{AllByRecursion}
@@ -28,8 +28,8 @@ use Rattle.sessions.specs.declared.heard.Outgoing.{Outgoing}
 use Rattle.sessions.specs.declared.refused.Refused as lower
 use Rattle.sessions.specs.declared.refused.Refused.TheVariants as lowers
 use Rattle.sessions.specs.Refusals as lowest
-use Rattle.sessions.specs.Events.{AreFor, CanSend, Sending, most_answers, sendings}
-use Rattle.sessions.specs.Heard.{Acknowledges, Hands, HeardText, Nothing, Repeats, WordText}
+use Rattle.sessions.specs.Events.{AreFor, CanSend, Sending, sendings}
+use Rattle.sessions.specs.Heard.{HeardText}
 use Rattle.engine_parts.specs.Frames.{outgoing_of, sending_of}
 use Rattle.engine.specs.Datagrams.{frame_in, news_of, replies}
 
@@ -95,31 +95,6 @@ pub outgoing_can_go : (c : CoreState) (place : Place) (h : HeardText) (os : List
 outgoing_can_go c place h os says same go =
     subst (λ (fs : List Sending). All (CanSend place) fs) (sym says)
     (can_send c.place.size place (news_frames c (news_of h)) (ap (λ (p : Place). p.size) same) go)
-
--- ---- they are few
-
-few_by : (c : CoreState) (s : Endpoint) (lesson : Bool) (w : WordText) (out old : ℕ) →
-    out ≤ old + (most_answers (Some (record { source = s; lesson = lesson; word = w }))
-    + length (news_frames c (record { source = s; lesson = lesson; frame = frame_in w }))) →
-    out ≤ old + (most_answers (Some (record { source = s; lesson = lesson; word = w })) + 64) → out ≤ old + 65
-few_by c s lesson (Acknowledges n) out old each window = omega (arith, each)
-few_by c s lesson Repeats out old each window = omega (arith, window)
-few_by c s lesson (Hands f) out old each window = omega (arith, window)
-few_by c s lesson Nothing out old each window = omega (arith, window)
-
--- with what answers the word at most 65 go out: an acknowledgement lets frames into the window and calls for none, and of the
--- frames that anything else calls for the window lets 64 out
-pub few_go_out : (c : CoreState) (h : HeardText) (os : List Outgoing) (out old : ℕ) → sendings os ≡ replies c h →
-    out ≤ old + (most_answers (Some h) + length os) →
-    ((rank count : ℕ) → AreFor rank count (sendings os) → out ≤ old + (most_answers (Some h) + 64)) → out ≤ old + 65
-few_go_out c h os out old says each window =
-    let many : length os ≡ length (news_frames c (news_of h)) =
-    sym (length-map os _) ∙ ap length says ∙ length-map (news_frames c (news_of h)) sending_of in
-    let are : AreFor h.source.rank (length (news_frames c (news_of h))) (sendings os) =
-    subst (λ (fs : List Sending). AreFor h.source.rank (length (news_frames c (news_of h))) fs) (sym says)
-    (replies_are_for c h (length (news_frames c (news_of h))) refl) in
-    few_by c h.source h.lesson h.word out old (subst (λ (n : ℕ). out ≤ old + (most_answers (Some h) + n)) many each)
-    (window h.source.rank (length (news_frames c (news_of h))) are)
 
 -- ---- what becomes of it
 

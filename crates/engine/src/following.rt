@@ -4,17 +4,16 @@
 //! A delivery has one acknowledgement, which stands first in what goes out. It is spelled before a turn is taken, since nothing
 //! may fail behind one, and says then what the turn has reached.
 
-ghost use Rattle.std.specs.Prelude.{◌≡◌, ◌≤◌, ◌<◌, ◌+◌, ◌*◌, length, IfSome, OnErr, OnOk, Some, false, slice_set};
+ghost use Rattle.std.specs.Prelude.{◌≡◌, ◌≤◌, ◌<◌, ◌+◌, ◌*◌, length, Err, IfErr, IfSome, OnOk, Some, slice_set};
 ghost use Rattle.reliable_link.specs.ReceiverState.{advanced};
-ghost use Rattle.rank_core.specs.Waiting.{woken};
 ghost use Rattle.sessions.specs.Arranging.{IsArranged};
-ghost use Rattle.sessions.specs.Following.{ready_from};
-ghost use Rattle.sessions.specs.Heard.{heard_text, word_text, CanHear, CanHeed, WordFits};
+ghost use Rattle.sessions.specs.Events.{taught_known};
+ghost use Rattle.sessions.specs.Following.{ready_from, turn_of};
+ghost use Rattle.sessions.specs.Heard.{heard_text, word_text, CanHear, WordFits};
 ghost use Rattle.sessions.specs.Peers.{peer_at};
 ghost use Rattle.sessions.specs.Spellings.{ack_of};
 ghost use Rattle.sessions.specs.Windows.{room};
-ghost use Rattle.sessions.specs.declared.peers.Peer.{Peer};
-ghost use Rattle.engine.specs.Datagrams.{FollowGives, FollowedBy, HasFollowed, HearingGives, IsTakenIn, RefusedDatagramLeaves, without_next, woken_engine};
+ghost use Rattle.engine.specs.Datagrams.{FollowGives, HasFollowed, HeardGives, IsTakenIn, without_next, woken_engine};
 
 use crate::engine::Engine;
 use datagram::Bytes;
@@ -37,12 +36,12 @@ impl Engine {
         }
     }
 
-    /// The acknowledgement that says that the frame was handed up; none where its number is the last one, or there is no memory.
-    fn spell_turn(&mut self, heard: Heard<'_>) -> Option<Bytes>
-        requires there { heard.source.rank < self.old.sessions.place.size }
-        requires can { (p : Peer) → CanHeed p (word_text heard.word) }
-        requires follows { IsTurn (heard_text heard) }
-        ensures ack { IfSome result (λ bytes. bytes ≡ ack_of self.old.sessions.place heard.entry.source (advanced (peer_at self.old.sessions.peers heard.entry.source.rank).receiver)) }
+    /// The acknowledgement that says that what the next frame of an endpoint says in these bytes was handed up; none where its
+    /// number is the last one, or there is no memory.
+    fn spell_turn(&mut self, source: Endpoint, bytes: &Bytes, heard: Heard<'_>) -> Option<Bytes>
+        requires there { source.rank < self.old.sessions.place.size }
+        requires turn { Some (heard_text heard) ≡ turn_of source bytes.now }
+        ensures ack { IfSome result (λ ack. ack ≡ ack_of self.old.sessions.place source (advanced (peer_at self.old.sessions.peers source.rank).receiver)) }
         ensures kept { self.new ≡ self.old }
     {
         // The place shows that there is a session for each rank.
@@ -50,7 +49,7 @@ impl Engine {
         if self.sessions.limit_of(Some(heard), &[]).is_some() {
             return None;
         }
-        match self.sessions.spell_behind(heard.source) {
+        match self.sessions.spell_behind(source) {
             Ok(ack) => Some(ack),
             Err(_) => None,
         }
@@ -95,7 +94,7 @@ impl Engine {
             self.discard(source);
             return;
         };
-        let Some(ack) = self.spell_turn(heard) else {
+        let Some(ack) = self.spell_turn(source, &bytes, heard) else {
             return;
         };
         match self.take_heard(heard) {
@@ -144,6 +143,7 @@ impl Engine {
         requires fits { WordFits (word_text heard.word) }
         requires there { heard.source.rank < self.old.sessions.place.size }
         ensures taken { OnOk result (IsTakenIn self.old (heard_text heard.entry) self.new) }
+        ensures known { OnOk result (self.new.sessions.known ≡ taught_known heard.entry.lesson self.old.sessions.known heard.entry.source) }
         ensures refused { IfErr result (λ e. HeardGives self.old (heard_text heard.entry) (Err e) self.new) }
         ensures few { length self.new.sessions.out ≤ length self.old.sessions.out + 65 * self.old.sessions.place.size }
         ensures placed { self.new.sessions.place ≡ self.old.sessions.place }

@@ -1,7 +1,7 @@
 -- The data go out on the answer, or the limit or want of memory stops them.
 use Rattle.std.proofs.Common.{All, List, Some, sym, ap, subst, ◌∙◌}
 use Rattle.std.proofs.lemmas.Result.{err_from_is_err_and}
-use Rattle.sessions.specs.Events.{AreFor, CanSend, Sending, event_limit, sendings}
+use Rattle.sessions.specs.Events.{CanSend, Sending, event_limit, sendings}
 use Rattle.sessions.specs.Heard.{heard_text}
 use Rattle.engine.proofs.Announced.{data_can_go, data_go_to, limit_met, memory_wanting, on_ok}
 use Rattle.engine.specs.Datagrams.{data_sent}
@@ -35,15 +35,6 @@ carry_out-requires-clause-limit c =
     ap (λ (fs : List Sending). fault_of_sessions (event_limit c.args.sessions.now (Some (heard_text c.args.heard)) fs)) says
     ∙ sym (c.limit_of.ensures (data_sent r c.args.transfer c.args.bytes.now) (data_go_to r c.args.transfer c.count_of.result c.args.bytes.now c.count_of.ensures))
     ∙ c.in_default.is
-
-pub carry_out-requires-clause-one : goal.carry_out-requires-clause-one
-carry_out-requires-clause-one c =
-    let r = c.args.heard.source.rank in
-    let says = ap sendings c.deref.ensures.value ∙ c.in_ok-frames.ensures.ok in (
-      c.count_of.result,
-      subst (λ (fs : List Sending). AreFor r c.count_of.result fs) (sym says)
-          (data_go_to r c.args.transfer c.count_of.result c.args.bytes.now c.count_of.ensures),
-    )
 
 pub returns-clause-none : goal.returns-clause-none
 returns-clause-none c =

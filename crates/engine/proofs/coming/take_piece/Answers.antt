@@ -1,13 +1,10 @@
 -- The message of a whole payload is taken in beside the others, or the payload is put back.
-use Rattle.std.proofs.Common.{arith, sym, ◌∙◌}
+use Rattle.std.proofs.Common.{sym, ◌∙◌}
 use Rattle.datagram.specs.Spelling.{data_text}
 use Rattle.sessions.specs.Heard.{heard_text}
 use Rattle.engine.proofs.LastPiece.{last_refused, last_taken, put_back}
 use Rattle.engine_parts.specs.Asks.{groups_of}
 use Rattle.engine.proofs.coming.take_piece.Goals as goal
-
-pub returns-in-Ok-clause-few : goal.returns-in-Ok-clause-few
-returns-in-Ok-clause-few c = omega (arith, c.take_next.ensures.few, c.place-place.ensures.rank)
 
 pub returns-in-Some-clause-ok : goal.returns-in-Some-clause-ok
 returns-in-Some-clause-ok c =

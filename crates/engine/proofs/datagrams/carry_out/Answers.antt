@@ -1,5 +1,5 @@
 -- The sessions send what the core calls for.
-use Rattle.std.proofs.Common.{List, Some, length, map, ap, subst, ◌∙◌}
+use Rattle.std.proofs.Common.{List, Some, map, ap, subst, ◌∙◌}
 use Rattle.std.specs.List.{AllByRecursion}
 use Rattle.rank_calls.specs.Hearing.{CanGo, NewsText}
 use Rattle.rank_core.specs.Hearing.{news_frames}
@@ -7,7 +7,7 @@ use Rattle.sessions.specs.Events.{Sending, after_event, event_limit, sendings}
 use Rattle.sessions.specs.Heard.{heard_text}
 use Rattle.engine_parts.specs.Frames.{outgoing_of}
 use Rattle.engine_parts.specs.Refusals.{of_sessions}
-use Rattle.engine.proofs.Replies.{few_go_out, only_memory, outgoing_can_go, outgoing_says}
+use Rattle.engine.proofs.Replies.{only_memory, outgoing_can_go, outgoing_says}
 use Rattle.engine.proofs.datagrams.carry_out.Goals as goal
 
 pub carry_out-requires-clause-frames : goal.carry_out-requires-clause-frames
@@ -30,16 +30,6 @@ returns-in-Ok-clause-ok c =
     (outgoing_says core h c.deref-2.result.now c.in_ok-frames.frames.items
     (c.deref-2.ensures.value ∙ c.in_ok-outgoing.ensures.ok ∙ ap (map outgoing_of) c.deref.ensures.value)
     (c.in_ok-frames.ensures.exact ∙ ap (news_frames core) c.news_of.ensures))
-
-pub returns-in-Ok-clause-few : goal.returns-in-Ok-clause-few
-returns-in-Ok-clause-few c =
-    let core = c.args.core.now.state in
-    let h = heard_text c.args.heard in
-    few_go_out core h c.deref-2.result.now (length c.carry_out.new.self.out) (length c.args.sessions.now.out)
-    (outgoing_says core h c.deref-2.result.now c.in_ok-frames.frames.items
-    (c.deref-2.ensures.value ∙ c.in_ok-outgoing.ensures.ok ∙ ap (map outgoing_of) c.deref.ensures.value)
-    (c.in_ok-frames.ensures.exact ∙ ap (news_frames core) c.news_of.ensures))
-    c.carry_out.ensures.few c.carry_out.ensures.window
 
 pub returns-clause-err : goal.returns-clause-err
 returns-clause-err c =

@@ -16,3 +16,9 @@ returns-in-Acknowledges c = search rules
 
 pub returns-in-Repeats : goal.returns-in-Repeats
 returns-in-Repeats c = search rules
+
+pub returns-in-Holds : goal.returns-in-Holds
+returns-in-Holds c = search rules
+
+pub returns-in-Follows : goal.returns-in-Follows
+returns-in-Follows c = search rules

@@ -1,0 +1,192 @@
+-- What a turn is, and what comes of one.
+use Rattle.std.proofs.Common.{◌≡◌, ℕ, zero, suc, ◌+◌, ◌-◌, ◌*◌, ◌<◌, ◌≤◌, Bool, true, false, cond, List, [], ◌∷◌, length, refl, sym, ap, subst, ◌∙◌, arith, inl, inr, Option, Some, None, Result, Ok, Err, slice_set}
+use Rattle.std.proofs.lemmas.Grind.{common_steps}
+use Rattle.std.proofs.lemmas.List.{length-append, length-set}
+use Rattle.std.specs.Option.{is_some, option_map}
+use Rattle.vocabulary.specs.declared.endpoint.Endpoint.{Endpoint}
+use Rattle.datagram.specs.declared.refused.Refused as reading
+use Rattle.datagram.specs.Spelling.{AckBody, BodyText, DatagramText, FrameBody, FrameText, ResetBody}
+use Rattle.datagram.specs.Reading.{datagram_of}
+use Rattle.reliable_link.specs.ReceiverState.{ReceiverState, advanced}
+use Rattle.reliable_link.specs.SenderState.{SenderState}
+use Rattle.sessions.specs.declared.peers.Peer.{Peer}
+use Rattle.sessions.specs.SessionsState.{SessionsState}
+use Rattle.sessions.specs.Peers.{peer_at}
+use Rattle.sessions.specs.Spellings.{ack_of}
+use Rattle.sessions.specs.Heard.{CanHear, Follows, Hands, HeardText, WordText}
+use Rattle.sessions.specs.Events.{Sending, after_event, after_heard, after_send, after_sends, event_limit, next_bytes, out_on_accept}
+use Rattle.sessions.specs.Following.{acknowledged_at, ready_from, turn_of, turn_of_body, turn_read}
+use Rattle.sessions.specs.Windows.{StaysWithin, room}
+use Rattle.sessions.proofs.Amounts.{place_after}
+use Rattle.sessions.proofs.Meeting.{peer_there}
+use Rattle.rank_calls.specs.declared.refused.Refused.{Refused}
+use Rattle.rank_calls.specs.declared.refused.Refused.TheVariants as refusals
+use Rattle.engine_parts.specs.EngineState.{EngineState}
+use Rattle.engine.specs.Datagrams.{FollowGives, HeardGives, TurnGives, acknowledged, notice_in, turn_from, without_next}
+use Rattle.engine.proofs.Hearing.{IsCarried, carried_by, unheard_leaves}
+
+-- ---- what follows
+
+-- a frame of this source that follows
+abbrev pub turn : Endpoint → FrameText → HeardText
+turn source f = record { source = source; lesson = false; word = Follows f }
+
+pub record IsTurnOf (source : Endpoint) (h : HeardText) : Type 0 where
+  pub frame : FrameText
+  pub is : turn source frame ≡ h
+
+abbrev or_else : HeardText → Option HeardText → HeardText
+or_else d (Some h) = h
+or_else d None = d
+
+of_body : (source : Endpoint) (b : BodyText) (h : HeardText) → Some h ≡ turn_of_body source b → IsTurnOf source h
+of_body source (FrameBody f) h e = record { frame = f; is = sym (ap (or_else h) e) }
+of_body source (AckBody held) h e = absurd (grind (arith, common_steps, e))
+of_body source ResetBody h e = absurd (grind (arith, common_steps, e))
+
+of_read : (source : Endpoint) (r : Result DatagramText reading.Refused) (h : HeardText) → Some h ≡ turn_read source r → IsTurnOf source h
+of_read source (Ok d) h e = of_body source d.body h e
+of_read source (Err w) h e = absurd (grind (arith, common_steps, e))
+
+pub of_bytes : (source : Endpoint) (bytes : List ℕ) (h : HeardText) → Some h ≡ turn_of source bytes → IsTurnOf source h
+unfolding turn_of
+of_bytes source bytes h e = of_read source (datagram_of bytes) h e
+
+-- it can be heard
+pub can_hear : (s : SessionsState) (source : Endpoint) (h : HeardText) → IsTurnOf source h → source.rank < length s.peers → CanHear s (Some h)
+can_hear s source h t there = subst (λ (x : HeardText). CanHear s (Some x)) t.is (there, tt)
+
+pub source_there : (source : Endpoint) (h : HeardText) (size : ℕ) → IsTurnOf source h → source.rank < size → h.source.rank < size
+source_there source h size t there = subst (λ (x : HeardText). x.source.rank < size) t.is there
+
+-- where it meets no limit, its number isn't the last one
+pub left : (s : SessionsState) (source : Endpoint) (h : HeardText) → IsTurnOf source h → is_some (event_limit s (Some h) []) ≡ false →
+    (peer_at s.peers source.rank).receiver.next ≡ 18446744073709551615 → ⊥
+left s source h t free e =
+    let k : is_some (event_limit s (Some (turn source t.frame)) []) ≡ false = subst (λ (x : HeardText). is_some (event_limit s (Some x) []) ≡ false) (sym t.is) free in
+    grind (arith, common_steps, k, e)
+
+-- ---- what a turn leaves of the sessions
+
+-- with another sender a receiver is what it was
+receiver_kept : (peers : List Peer) (q r : ℕ) (p : Peer) → p.receiver ≡ (peer_at peers q).receiver → (peer_at (slice_set peers q p) r).receiver ≡ (peer_at peers r).receiver
+receiver_kept [] q r p is = refl
+receiver_kept (a ∷ rest) zero zero p is = is
+receiver_kept (a ∷ rest) zero (suc r) p is = refl
+receiver_kept (a ∷ rest) (suc q) zero p is = refl
+receiver_kept (a ∷ rest) (suc q) (suc r) p is = receiver_kept rest q r p is
+
+receiver_sends : (s : SessionsState) (fs : List Sending) (rank : ℕ) → (peer_at (after_sends s fs).peers rank).receiver ≡ (peer_at s.peers rank).receiver
+receiver_sends s [] rank = refl
+receiver_sends s (f ∷ fs) rank = receiver_sends (after_send s f) fs rank ∙ receiver_kept s.peers f.rank rank _ refl
+
+-- the acknowledgement that was spelled before says what is reached behind it
+ack_is : (s mid : SessionsState) (source : Endpoint) (h : HeardText) → IsTurnOf source h → source.rank < length s.peers → IsCarried s h mid →
+    ack_of mid.place source (peer_at mid.peers source.rank).receiver ≡ ack_of s.place source (advanced (peer_at s.peers source.rank).receiver)
+ack_is s mid source h t there goes =
+    let new : Peer = record { sender = (peer_at s.peers source.rank).sender; receiver = advanced (peer_at s.peers source.rank).receiver } in
+    let carried : mid ≡ after_event s (Some (turn source t.frame)) goes.frames = goes.carried ∙ ap (λ (x : HeardText). after_event s (Some x) goes.frames) (sym t.is) in
+    let receiver : (peer_at mid.peers source.rank).receiver ≡ advanced (peer_at s.peers source.rank).receiver =
+    ap (λ (x : SessionsState). (peer_at x.peers source.rank).receiver) carried
+    ∙ receiver_sends (after_heard s (Some (turn source t.frame))) goes.frames source.rank
+    ∙ ap (λ (p : Peer). p.receiver) (peer_there s.peers source.rank new there) in
+    let place : mid.place ≡ s.place = ap (λ (x : SessionsState). x.place) goes.carried ∙ place_after s (Some h) goes.frames in
+    ap (λ (r : ReceiverState). ack_of mid.place source r) receiver
+    ∙ ap (λ p. ack_of p source (advanced (peer_at s.peers source.rank).receiver)) place
+
+heard_carried : (old mid : EngineState) (h : HeardText) → HeardGives old h (Ok tt) mid → IsCarried old.sessions h mid.sessions
+heard_carried old mid h gives = carried_by (notice_in h.lesson old.payloads h.source.rank h.word) old mid h tt gives
+
+-- so what is put in the place of the former one is just that
+pub replaced : (old mid : EngineState) (at : ℕ) (source : Endpoint) (h : HeardText) (ack : List ℕ) → IsTurnOf source h → source.rank < length old.sessions.peers →
+    HeardGives old h (Ok tt) mid → ack ≡ ack_of old.sessions.place source (advanced (peer_at old.sessions.peers source.rank).receiver) →
+    record mid { sessions = record mid.sessions { out = slice_set mid.sessions.out at (source.rank, ack) } } ≡ acknowledged at source mid
+replaced old mid at source h ack t there gives is =
+    let same : ack ≡ ack_of mid.sessions.place source (peer_at mid.sessions.peers source.rank).receiver =
+    is ∙ sym (ack_is old.sessions mid.sessions source h t there (heard_carried old mid h gives)) in
+    ap (λ (bytes : List ℕ). record mid { sessions = record mid.sessions { out = slice_set mid.sessions.out at (source.rank, bytes) } }) same
+
+-- ---- what goes out
+
+longer_sends : (s : SessionsState) (fs : List Sending) → length s.out ≤ length (after_sends s fs).out
+longer_sends s [] = omega arith
+longer_sends s (f ∷ fs) =
+    omega (
+      arith,
+      longer_sends (after_send s f) fs,
+      length-append s.out (out_on_accept (peer_at s.peers f.rank).sender f.rank (next_bytes s f)),
+    )
+
+-- what went out stays
+pub longer : (old mid : EngineState) (source : Endpoint) (h : HeardText) → IsTurnOf source h → HeardGives old h (Ok tt) mid →
+    length old.sessions.out ≤ length mid.sessions.out
+longer old mid source h t gives =
+    let goes = heard_carried old mid h gives in
+    let s = old.sessions in
+    let carried : mid.sessions ≡ after_event s (Some (turn source t.frame)) goes.frames = goes.carried ∙ ap (λ (x : HeardText). after_event s (Some x) goes.frames) (sym t.is) in
+    omega (
+      arith,
+      ap (λ (x : SessionsState). length x.out) carried,
+      longer_sends (after_heard s (Some (turn source t.frame))) goes.frames,
+      length-append s.out [],
+    )
+
+-- the acknowledgement of a frame that is handed up stands behind what went out before
+pub acknowledged_first : (old first : EngineState) (h : HeardText) (f : FrameText) → h.word ≡ Hands f → HeardGives old h (Ok tt) first →
+    length old.sessions.out < length first.sessions.out
+acknowledged_first old first h f is gives =
+    let goes = heard_carried old first h gives in
+    let s = old.sessions in
+    let said : HeardText = record { source = h.source; lesson = h.lesson; word = Hands f } in
+    let same : h ≡ said = ap (λ (w : WordText). record h { word = w }) is in
+    let carried : first.sessions ≡ after_event s (Some said) goes.frames = goes.carried ∙ ap (λ (x : HeardText). after_event s (Some x) goes.frames) same in
+    omega (
+      arith,
+      ap (λ (x : SessionsState). length x.out) carried,
+      longer_sends (after_heard s (Some said)) goes.frames,
+      length-append s.out (_ ∷ []),
+    )
+
+-- a turn takes of the room in the windows
+pub turn_within : (s t : SessionsState) (source : Endpoint) (h : HeardText) → IsTurnOf source h → StaysWithin (Some h) s t →
+    length t.out + room t.peers ≤ length s.out + room s.peers
+turn_within s t source h is stays =
+    let w : StaysWithin (Some (turn source is.frame)) s t = subst (λ (x : HeardText). StaysWithin (Some x) s t) (sym is.is) stays in
+    omega (arith, w)
+
+-- ---- so many turns
+
+-- whatever is held may stay
+pub stays : (turns at : ℕ) (source : Endpoint) (old : EngineState) → FollowGives turns at source old old
+stays zero at source old = refl
+stays (suc k) at source old = go (turn_from old source)
+  where
+    go : (t : Option (Option HeardText)) → TurnGives t at source (FollowGives k at source) old old
+    go None = refl
+    go (Some None) = inr refl
+    go (Some (Some h)) = inr (inr refl)
+
+-- what spells no frame is taken out
+pub taken_out : (turns at : ℕ) (source : Endpoint) (old new : EngineState) → 0 < turns → turn_from old source ≡ Some None → new ≡ without_next old source →
+    FollowGives turns at source old new
+taken_out zero at source old new some is gone = absurd (omega (arith, some))
+taken_out (suc k) at source old new some is gone = rw is (inl gone)
+
+-- and so is what breaks a rule
+pub refused : (turns at : ℕ) (source : Endpoint) (old mid new : EngineState) (h : HeardText) → 0 < turns → turn_from old source ≡ Some (Some h) →
+    HeardGives old h (Err refusals.BadFrame) mid → new ≡ without_next mid source → FollowGives turns at source old new
+refused zero at source old mid new h some is gives gone = absurd (omega (arith, some))
+refused (suc k) at source old mid new h some is gives gone =
+    let same : mid ≡ old = unheard_leaves (notice_in h.lesson old.payloads h.source.rank h.word) old mid h refusals.BadFrame gives in
+    rw is (inr (inl (
+      subst (λ (e : EngineState). HeardGives old h (Err refusals.BadFrame) e) same gives,
+      gone ∙ ap (λ (e : EngineState). without_next e source) same,
+    )))
+
+-- a turn that is taken in, and the rest
+pub taken : (turns at : ℕ) (source : Endpoint) (old mid new : EngineState) (h : HeardText) → 0 < turns → turn_from old source ≡ Some (Some h) →
+    HeardGives old h (Ok tt) mid → FollowGives (turns - 1) at source (acknowledged at source mid) new → FollowGives turns at source old new
+taken zero at source old mid new h some is gives rest = absurd (omega (arith, some))
+taken (suc k) at source old mid new h some is gives rest =
+    let back : suc k - 1 ≡ k = omega arith in
+    rw is (inl (mid, gives, subst (λ (n : ℕ). FollowGives n at source (acknowledged at source mid) new) back rest))
