@@ -35,6 +35,7 @@ use Rattle.engine.specs.Datagrams.{
   HeardGives,
   HeardGivesBy,
   HearingGives,
+  IsTakenIn,
   NoticeText,
   OfAnnouncement,
   OfAnswer,
@@ -263,6 +264,13 @@ hearing_leaves (Err u) old new result tells gives =
 pub refusal_leaves : (old new : EngineState) (bytes : List ℕ) (result : Result (Unit {0}) Refused) → DatagramGives old bytes result new →
     RefusedDatagramLeaves result old new
 refusal_leaves old new bytes result gives = hearing_leaves (heard_of old.sessions bytes) old new result (bytes_tell bytes old.sessions) gives
+
+-- ---- what is taken in, with what follows
+
+pub hearing_is : (h : HeardText) (old new : EngineState) (r : Result (Unit {0}) Refused) → OnOk r (IsTakenIn old h new) →
+    IfErr r (λ e. HeardGives old h (Err e) new) → HearingGives (Ok h) old r new
+hearing_is h old new (Ok x) taken refused = taken
+hearing_is h old new (Err e) taken refused = refused
 
 -- ---- turning away
 

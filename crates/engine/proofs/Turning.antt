@@ -1,7 +1,8 @@
 -- What a turn is, and what comes of one.
-use Rattle.std.proofs.Common.{◌≡◌, ℕ, zero, suc, ◌+◌, ◌-◌, ◌*◌, ◌<◌, ◌≤◌, Bool, true, false, cond, List, [], ◌∷◌, length, refl, sym, ap, subst, ◌∙◌, arith, inl, inr, Option, Some, None, Result, Ok, Err, slice_set}
+use Rattle.std.proofs.Common.{◌≡◌, ℕ, zero, suc, ◌+◌, ◌-◌, ◌*◌, ◌<◌, ◌≤◌, Bool, true, false, cond, List, [], ◌∷◌, length, drop, refl, sym, ap, subst, ◌∙◌, arith, inl, inr, Option, Some, None, Result, Ok, Err, slice_set}
 use Rattle.std.proofs.lemmas.Grind.{common_steps}
-use Rattle.std.proofs.lemmas.List.{length-append, length-set}
+use Rattle.std.proofs.lemmas.List.{length-append, length-drop, length-take}
+use Rattle.std.proofs.lemmas.List.Sorted.{length_permutation}
 use Rattle.std.specs.Option.{is_some, option_map}
 use Rattle.vocabulary.specs.declared.endpoint.Endpoint.{Endpoint}
 use Rattle.datagram.specs.declared.refused.Refused as reading
@@ -13,9 +14,10 @@ use Rattle.sessions.specs.declared.peers.Peer.{Peer}
 use Rattle.sessions.specs.SessionsState.{SessionsState}
 use Rattle.sessions.specs.Peers.{peer_at}
 use Rattle.sessions.specs.Spellings.{ack_of}
-use Rattle.sessions.specs.Heard.{CanHear, Follows, Hands, HeardText, WordText}
-use Rattle.sessions.specs.Events.{Sending, after_event, after_heard, after_send, after_sends, event_limit, next_bytes, out_on_accept}
+use Rattle.sessions.specs.Heard.{CanHear, Follows, Hands, HeardText, WordText, session_met}
+use Rattle.sessions.specs.Events.{Sending, after_event, after_heard, after_send, after_sends, answer_in, event_limit, next_bytes, out_on_accept}
 use Rattle.sessions.specs.Following.{acknowledged_at, ready_from, turn_of, turn_of_body, turn_read}
+use Rattle.sessions.specs.Arranging.{IsArranged, IsInOrder}
 use Rattle.sessions.specs.Windows.{StaysWithin, room}
 use Rattle.sessions.proofs.Amounts.{place_after}
 use Rattle.sessions.proofs.Meeting.{peer_there}
@@ -144,7 +146,7 @@ acknowledged_first old first h f is gives =
       arith,
       ap (λ (x : SessionsState). length x.out) carried,
       longer_sends (after_heard s (Some said)) goes.frames,
-      length-append s.out (_ ∷ []),
+      length-append s.out (answer_in said.word s.place (session_met h.lesson (peer_at s.peers h.source.rank)) h.source),
     )
 
 -- a turn takes of the room in the windows
@@ -153,6 +155,28 @@ pub turn_within : (s t : SessionsState) (source : Endpoint) (h : HeardText) → 
 turn_within s t source h is stays =
     let w : StaysWithin (Some (turn source is.frame)) s t = subst (λ (x : HeardText). StaysWithin (Some x) s t) (sym is.is) stays in
     omega (arith, w)
+
+-- as much goes out as before, arranged
+arranged_length : (from : ℕ) (old new : List (ℕ × List ℕ)) → IsInOrder from old new → length new ≡ length old
+arranged_length from old new in_order =
+    omega (
+      arith,
+      ap (λ (x : List (ℕ × List ℕ)). length x) in_order.front,
+      length_permutation (drop from old) (drop from new) in_order.moved,
+      length-take from old,
+      length-take from new,
+      length-drop from old,
+      length-drop from new,
+    )
+
+-- so it takes as much of the room
+pub arranged_within : (from : ℕ) (old new : SessionsState) → IsArranged from old new → length new.out + room new.peers ≡ length old.out + room old.peers
+arranged_within from old new arranged =
+    omega (
+      arith,
+      arranged_length from old.out new.out arranged.out,
+      ap (λ (s : SessionsState). room s.peers) arranged.same,
+    )
 
 -- ---- so many turns
 

@@ -18,7 +18,7 @@ use Rattle.rendezvous.specs.declared.transfers.Numbers.{Numbers}
 use Rattle.sessions.specs.declared.peers.Peer.{Peer}
 use Rattle.sessions.specs.declared.refused.Refused as lower
 use Rattle.sessions.specs.declared.refused.Refused.TheVariants as lowers
-use Rattle.sessions.specs.Events.{CanSend, Sending, after_event, after_heard, after_send, after_sends, event_limit, first_limit, heard_limit, last_limit, most_answers, sendings, sends_limit, word_limit}
+use Rattle.sessions.specs.Events.{CanSend, Sending, after_event, after_heard, after_send, after_sends, event_limit, first_limit, heard_limit, last_limit, sendings, sends_limit, word_limit}
 use Rattle.sessions.specs.Refusals.{IsRefusal}
 use Rattle.sessions.specs.declared.heard.Outgoing.{Outgoing}
 use Rattle.sessions.specs.Heard.{Acknowledges, CanHear, Follows, Hands, HeardText, Holds, Nothing, Repeats, WordText, session_met}

@@ -1,16 +1,19 @@
-use Rattle.std.proofs.Common.{Result, Err, sym, subst}
+use Rattle.std.proofs.Common.{◌≡◌, Result, Ok, Err, OnOk, sym, subst}
 use Rattle.rank_calls.specs.declared.refused.Refused.{Refused}
-use Rattle.sessions.specs.Heard.{heard_text}
-use Rattle.engine.proofs.Hearing.{heard_is_known, refusal_leaves, turned_away}
-use Rattle.engine.specs.Datagrams.{HeardGives}
+use Rattle.sessions.specs.Events.{taught_known}
+use Rattle.sessions.specs.Heard.{HeardText, heard_text}
+use Rattle.engine.proofs.Hearing.{heard_is_known, hearing_is, refusal_leaves, turned_away}
+use Rattle.engine.specs.Datagrams.{HearingGives}
 use Rattle.engine_parts.specs.EngineState.{EngineState}
 use Rattle.engine_parts.specs.Steps.{engine_held}
 use Rattle.engine.proofs.engine.Engine.on_datagram.Goals as goal
 
 pub returns-in-Ok-clause-exact : goal.returns-in-Ok-clause-exact
 returns-in-Ok-clause-exact c =
+    let h : HeardText = heard_text c.in-Ok.heard in
     rw (← c.self.view_is, c.in-Ok.ensures.exact)
-    (subst (λ (e : EngineState). HeardGives e (heard_text c.in-Ok.heard) c.take_heard.result c.take_heard.new.self) (sym c.self.view_is) c.take_heard.ensures.exact)
+    (subst (λ (e : EngineState). HearingGives (Ok h) e c.take_in.result c.take_in.new.self) (sym c.self.view_is)
+    (hearing_is h c.args.self.now c.take_in.new.self c.take_in.result c.take_in.ensures.taken c.take_in.ensures.refused))
 
 pub returns-in-Err-clause-exact : goal.returns-in-Err-clause-exact
 returns-in-Err-clause-exact c =
@@ -21,12 +24,14 @@ returns-in-Err-clause-exact c =
 pub returns-in-Ok-clause-known : goal.returns-in-Ok-clause-known
 returns-in-Ok-clause-known c =
     let i = c.self.inside in
-    heard_is_known (engine_held i.core i.communicators i.ended i.payloads.state i.sessions) c.take_heard.new.self c.args.bytes.now (heard_text c.in-Ok.heard) c.take_heard.result
+    let h : HeardText = heard_text c.in-Ok.heard in
+    heard_is_known (engine_held i.core i.communicators i.ended i.payloads.state i.sessions) c.take_in.new.self c.args.bytes.now h c.take_in.result
     c.place-place.ensures.known c.in-Ok.ensures.exact
-    (subst (λ (e : EngineState). HeardGives e (heard_text c.in-Ok.heard) c.take_heard.result c.take_heard.new.self) (sym c.self.view_is) c.take_heard.ensures.exact)
+    (subst (λ (e : EngineState). OnOk c.take_in.result (c.take_in.new.self.sessions.known ≡ taught_known h.lesson e.sessions.known h.source)) (sym c.self.view_is)
+    c.take_in.ensures.known)
 
 pub returns-in-Ok-clause-unchanged : goal.returns-in-Ok-clause-unchanged
-returns-in-Ok-clause-unchanged c = refusal_leaves c.args.self.now _ c.args.bytes.now c.take_heard.result (returns-in-Ok-clause-exact c)
+returns-in-Ok-clause-unchanged c = refusal_leaves c.args.self.now _ c.args.bytes.now c.take_in.result (returns-in-Ok-clause-exact c)
 
 pub returns-in-Err-clause-unchanged : goal.returns-in-Err-clause-unchanged
 returns-in-Err-clause-unchanged c =
