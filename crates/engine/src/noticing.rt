@@ -103,7 +103,9 @@ pub(crate) fn notice_in<'a>(payloads: &CollectiveTransfers, heard: Heard<'a>) ->
 {
     match heard.word {
         Word::Hands(frame) => { notice_of_frame(payloads, heard.lesson, heard.source.rank, frame) }
-        Word::Follows(frame) => { notice_of_frame(payloads, heard.lesson, heard.source.rank, frame) }
+        Word::Follows(frame) => {
+            notice_of_frame(payloads, heard.lesson, heard.source.rank, frame)
+        }
         Word::Acknowledges(..) | Word::Repeats | Word::Holds(_) | Word::Nothing => None,
     }
 }

@@ -1,7 +1,6 @@
 -- The frames of a step: in the order of the ranks, and within the format's limits.
 use Rattle.std.proofs.Common.{◌≡◌, ℕ, zero, suc, ◌+◌, ◌*◌, ◌<◌, ◌≤◌, ◌==◌, ◌&&◌, ◌||◌, ◌⊎◌, inl, inr, not, set, append_assoc, Bool, true, false, cond, List, [], ◌∷◌, ◌++◌, length, map, filter, take, get_or, Option, Some, None, refl, sym, ap, subst, ◌∙◌, arith}
 use Rattle.std.specs.Prelude.{All, if◌then◌else◌, nat_le, nat_lt}
-use Rattle.std.specs.List.{AllByRecursion}
 use Rattle.std.proofs.lemmas.Bool.{leb-true, ltb-false, ltb-true}
 use Rattle.std.proofs.lemmas.List.{append-nil, length-set, map_more}
 use Rattle.std.proofs.lemmas.List.Elements.{All-append, All-cons, All-filter, All-nil, filter-append}
@@ -18,10 +17,10 @@ use Rattle.rendezvous.specs.declared.transfers.Numbers.{Numbers}
 use Rattle.sessions.specs.declared.peers.Peer.{Peer}
 use Rattle.sessions.specs.declared.refused.Refused as lower
 use Rattle.sessions.specs.declared.refused.Refused.TheVariants as lowers
-use Rattle.sessions.specs.Events.{CanSend, Sending, after_event, after_heard, after_send, after_sends, event_limit, first_limit, heard_limit, last_limit, sendings, sends_limit, word_limit}
+use Rattle.sessions.specs.Events.{CanSend, Sending, after_event, after_heard, after_send, event_limit, first_limit, heard_limit, last_limit, sendings, sends_limit, word_limit}
 use Rattle.sessions.specs.Refusals.{IsRefusal}
 use Rattle.sessions.specs.declared.heard.Outgoing.{Outgoing}
-use Rattle.sessions.specs.Heard.{Acknowledges, CanHear, Follows, Hands, HeardText, Holds, Nothing, Repeats, WordText, session_met}
+use Rattle.sessions.specs.Heard.{Acknowledges, Follows, Hands, HeardText, Holds, Nothing, Repeats, WordText, session_met}
 use Rattle.sessions.specs.Peers.{peer_at}
 use Rattle.sessions.specs.SessionsState.{SessionsState}
 use Rattle.engine_parts.specs.Frames.{AreWhole, IsWhole, all_can_go, by_rank, can_go, is_large, is_sendable, messages_sent, numbers_after, payload_frame, payload_kept, sending_of_message, step_limit, step_numbers, step_payloads, step_sendings, transfer_of}
