@@ -8,4 +8,5 @@ pub mod Runs
 pub mod Sound
 pub mod Strays
 pub mod Refusals
+pub mod Ordered
 pub mod Headlines

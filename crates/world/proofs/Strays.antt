@@ -83,7 +83,7 @@ stray_refused e bytes job other result new gives =
     fault_is : stray_fault bytes ≡ fault_of_text (datagram_of bytes)
     fault_is = ap (λ (b : Bool). if b then CarriesJob else fault_of_text (datagram_of bytes)) other
 
-    go : (t : Result DatagramText reading.Refused) → datagram_of bytes ≡ t → HearingGives (heard_in e.sessions t) e result new →
+    go : (t : Result DatagramText reading.Refused) → datagram_of bytes ≡ t → HearingGives (heard_in e.sessions t bytes) e result new →
         (new ≡ e) × ((x : lower.Refused) × (result ≡ Err x) × (fault_of_text t ≡ Engine x))
     go (Err x) is g = refused_plainly e new (sessions_refusals.of_datagram x) (Engine (of_datagram x)) result (ap Engine (same_unread x)) g
     go (Ok d) is g =
@@ -91,7 +91,7 @@ stray_refused e bytes job other result new gives =
         let unlike : (number_at 16 8 bytes == 1) ≡ false = second_fails _ _ other read.0 in
         let apart : (d.header.job == e.sessions.place.job) ≡ false = ap (λ (j : ℕ). d.header.job == j) job ∙ (ap (λ (j : ℕ). j == 1) read.1 ∙ unlike) in
         refused_plainly e new sessions_refused.ForeignJob (Engine lowers.ForeignJob) result refl
-        (subst (λ (j : Result Judgement judging.Refused). HearingGives (heard_by j e.sessions d) e result new) (foreign (knowledge e.sessions) d.header apart) g)
+        (subst (λ (j : Result Judgement judging.Refused). HearingGives (heard_by j e.sessions d bytes) e result new) (foreign (knowledge e.sessions) d.header apart) g)
 
 -- the fault of stray bytes at a rank that is there
 stray_fault_there : (size : ℕ) (d : List (ℕ × List ℕ)) (rank : ℕ) (bytes : List ℕ) → rank < size → event_fault size d (events.Stray rank bytes) ≡ Some (stray_fault bytes)

@@ -8,7 +8,7 @@
 -- (perfect_groups, Calls); the sessions of all engines, `sessions_in` (proof_network_bridge, Joined), and when they are
 -- quiet, `AreQuiet` (proof_link_truth, Quiet); the links and what sessions and datagrams tell of them, `Links` (Links) and
 -- `AreTrue` (Truth, with Told and Witness). That a world is sound, `IsSound` below, is what its proofs carry from event to event
-use Rattle.std.specs.Prelude.{◌≡◌, ℕ, ◌≤◌, false, List, [], ◌∷◌, ◌++◌, length, Option, Some, flat_map, ◌==◌, slice_get, slice_index}
+use Rattle.std.specs.Prelude.{◌≡◌, ℕ, ◌+◌, ◌≤◌, false, List, [], ◌∷◌, ◌++◌, length, Option, Some, None, flat_map, ◌==◌, slice_get, slice_index}
 use Rattle.vocabulary.specs.declared.endpoint.Endpoint.{Endpoint}
 use Rattle.engine_parts.specs.Calls.{CallGives, IsTaken}
 use Rattle.engine_parts.specs.EngineState.{EngineState, member_of}
@@ -16,7 +16,8 @@ use Rattle.engine_parts.specs.declared.call.Call.{Call}
 use Rattle.engine_parts.specs.declared.reply.Reply.{Reply}
 use Rattle.engine_parts.specs.declared.reply.Reply.TheVariants as replies
 use Rattle.sessions.specs.Peers.{peer_at}
-use Rattle.reliable_link.specs.SenderState.{SenderState, next_number}
+use Rattle.reliable_link.specs.ReceiverState.{ReceiverState, held_at as frame_held}
+use Rattle.reliable_link.specs.SenderState.{SenderState, frame_at, next_number}
 use Rattle.rank_calls.specs.declared.refused.Refused.{Refused}
 use Rattle.perfect_groups.specs.Calls.{held_at}
 use Rattle.perfect_groups.specs.Communicators.{Communicator}
@@ -105,10 +106,11 @@ pub record SessionsAreTrue (w : WorldState) : Type 0 where
   pub truth : AreTrue (length w.engines) (sessions_in w.engines) w.datagrams links current
 
 -- the same in numbers, of one direction: every frame below the lowest unacknowledged number was handed up, and no more than
--- were accepted
-pub record IsInOrder (sender : SenderState) (next : ℕ) : Type 0 where
-  pub acknowledged : sender.lowest ≤ next
-  pub accepted : next ≤ next_number sender
+-- were accepted; and what is held before its turn is what the sender still keeps under its number
+pub record IsInOrder (sender : SenderState) (receiver : ReceiverState) : Type 0 where
+  pub acknowledged : sender.lowest ≤ receiver.next
+  pub accepted : receiver.next ≤ next_number sender
+  pub held : (place : ℕ) (bytes : List ℕ) → frame_held receiver.held place ≡ Some bytes → frame_at sender (receiver.next + place) ≡ Some bytes
 
 -- so it is of each direction between two ranks that know each other as they are
 abbrev pub SessionsAreInOrder : List EngineState → Type 0
@@ -117,6 +119,14 @@ SessionsAreInOrder engines =
     slice_index e.sessions.known x ≡ d.sessions.place.endpoint.incarnation →
     slice_index d.sessions.known r ≡ e.sessions.place.endpoint.incarnation →
     IsInOrder (peer_at e.sessions.peers x).sender (peer_at d.sessions.peers r).receiver
+
+-- and where a world is quiet, nothing is held there before its turn
+abbrev pub NothingIsHeld : List EngineState → Type 0
+NothingIsHeld engines =
+    (r x : ℕ) (e d : EngineState) → slice_get engines r ≡ Some e → slice_get engines x ≡ Some d → (x == r) ≡ false →
+    slice_index e.sessions.known x ≡ d.sessions.place.endpoint.incarnation →
+    slice_index d.sessions.known r ≡ e.sessions.place.endpoint.incarnation →
+    (place : ℕ) → frame_held (peer_at d.sessions.peers r).receiver.held place ≡ None
 
 -- what is true of every world: its engines know how many they are, and it follows the pure network
 pub record IsSound (engines : List EngineState) (datagrams : List (ℕ × List ℕ)) (history : List Entry) : Type 0 where

@@ -2,6 +2,7 @@
 use Rattle.std.specs.Prelude.{◌≡◌, ℕ, ◌*◌, ◌+◌, ◌<◌, ◌≤◌, Bool, ◌||◌, ◌==◌, nat_lt, List, [], length, All, Some, slice_get}
 use Rattle.engine_parts.specs.EngineState.{EngineState}
 use Rattle.proof_network_bridge.specs.Joined.{IsClean, opening_engines}
+use Rattle.vocabulary.specs.Limits.{most_ranks}
 use Rattle.world.specs.declared.event.Entry.{Entry}
 
 -- a world
@@ -21,7 +22,7 @@ pub record HasRoom (w : WorldState) : Type 0 where
 
 -- no world has so many ranks: 1 to 1,024 it has
 abbrev pub is_outside : ℕ → Bool
-is_outside n = (n == 0) || nat_lt 1024 n
+is_outside n = (n == 0) || nat_lt most_ranks n
 
 -- a world of n ranks in which nothing happened yet
 abbrev pub opening_world : ℕ → WorldState
@@ -35,7 +36,7 @@ pub record StandsIn (n : ℕ) (e : EngineState) : Type 0 where
 -- the engine is one of at most 1,024 ranks, and everything was taken out of it
 pub record IsReady (e : EngineState) : Type 0 where
   pub there : e.sessions.place.endpoint.rank < e.sessions.place.size
-  pub few : e.sessions.place.size ≤ 1024
+  pub few : e.sessions.place.size ≤ most_ranks
   pub clean : IsClean e
 
 -- the engine's place is that of rank r among n, in the world's job
@@ -50,4 +51,4 @@ ArePlaced engines = (r : ℕ) (e : EngineState) → slice_get engines r ≡ Some
 
 -- a world's engines know how many they are
 abbrev pub IsWorld : List EngineState → Type 0
-IsWorld engines = (length engines ≤ 1024) × All (StandsIn (length engines)) engines
+IsWorld engines = (length engines ≤ most_ranks) × All (StandsIn (length engines)) engines

@@ -5,6 +5,7 @@ ghost use Rattle.rank_calls.specs.declared.refused.Refused.TheVariants as lowers
 ghost use Rattle.engine_parts.specs.EngineState.{opening};
 ghost use Rattle.proof_network_bridge.specs.Joined.{opening_engines};
 ghost use Rattle.proof_link_truth.specs.Wire.{at, place_of};
+ghost use Rattle.vocabulary.specs.Limits.{most_ranks};
 ghost use Rattle.world.specs.Faults.{target_of, bytes_fault, event_fault};
 ghost use Rattle.world.specs.WorldState.{IsWorld, ArePlaced};
 ghost use Rattle.world.specs.Steps.{RanAt, emitted, fault_by};
@@ -128,7 +129,7 @@ pub fn run_event(
 /// The engine of a rank among so many, at its first incarnation.
 fn new_engine(alloc: Global, rank: u16, size: u16) -> Result<Engine, Refused>
     requires there { rank < size }
-    requires few { size ≤ 1024 }
+    requires few { size ≤ most_ranks }
     ensures ok { IfOk result (λ engine. engine ≡ opening (place_of size (at rank 0))) }
     ensures err { IfErr result (λ e. e ≡ Refused.Engine lowers.OutOfMemory) }
 {
@@ -150,7 +151,7 @@ fn new_engine(alloc: Global, rank: u16, size: u16) -> Result<Engine, Refused>
 /// The engines of a world of `size` ranks.
 #[tactic(auto, using(crate::proofs::Openings::opening_more))]
 pub fn new_engines(alloc: Global, size: u16) -> Result<Vec<Engine>, Refused>
-    requires { size ≤ 1024 }
+    requires { size ≤ most_ranks }
     ensures ok { IfOk result (λ engines. engines.items ≡ opening_engines size 0 size) }
     ensures err { IfErr result (λ e. e ≡ Refused.Engine lowers.OutOfMemory) }
 {

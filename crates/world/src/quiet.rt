@@ -21,11 +21,12 @@ fn is_quiet_towards(engine: &Engine, other: &Engine) -> bool
     }
 }
 
-/// Whether an engine is quiet towards each of these.
+/// Whether an engine is quiet towards each of these. One that holds no frame at all is quiet towards each, and no session of it is
+/// looked at.
 fn is_quiet_with(engine: &Engine, engines: &[Engine]) -> bool
     ensures { IsTrue result ↔ All (IsQuietIfOther engine.now) engines.now }
 {
-    engines.iter().all(|other| is_quiet_towards(engine, other))
+    engine.is_idle() || engines.iter().all(|other| is_quiet_towards(engine, other))
 }
 
 /// Whether each of these engines is quiet towards each of them.

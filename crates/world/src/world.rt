@@ -4,8 +4,9 @@ ghost use Rattle.std.specs.Prelude.{◌≡◌, ◌≤◌, ◌+◌, ◌*◌, [], 
 ghost use Rattle.rank_calls.specs.declared.refused.Refused.TheVariants as lowers;
 ghost use Rattle.proof_link_truth.specs.Quiet.{AreQuiet};
 ghost use Rattle.proof_network_bridge.specs.Joined.{sessions_in};
+ghost use Rattle.vocabulary.specs.Limits.{most_ranks};
 ghost use Rattle.world.specs.WorldState.{is_outside, opening_world};
-ghost use Rattle.world.specs.Headline.{IsRunOfMachine, IsSound, SessionsAreInOrder, SessionsAreTrue};
+ghost use Rattle.world.specs.Headline.{IsRunOfMachine, IsSound, NothingIsHeld, SessionsAreInOrder, SessionsAreTrue};
 ghost use Rattle.world.specs.Steps.{StepGives, RunGives, IsNotRun, entry_of, first_of};
 ghost use Rattle.world.specs.Views.{gave_in};
 
@@ -43,7 +44,7 @@ impl Model for World {
 
 /// Makes the room that an event may take, 65 datagrams for each rank and an entry, and tells whether it could.
 fn make_room(datagrams: &mut Vec<(u16, Bytes)>, history: &mut Vec<Entry>, size: usize) -> bool
-    requires { size ≤ 1024 }
+    requires { size ≤ most_ranks }
     ensures datagrams { datagrams.new.items ≡ datagrams.old.items }
     ensures history { history.new.items ≡ history.old.items }
     ensures room { IsTrue result → vec_len datagrams.new + 65 * size ≤ vec_capacity datagrams.new }
@@ -208,7 +209,7 @@ impl World {
     /// members are all there as they were, know each other so and have all entered it alike was left by all. In each session
     /// that ever was, what was handed up is a beginning of what was accepted, and every frame below the lowest unacknowledged
     /// number was handed up (`law`, which the datagrams pin for former incarnations too; `sessions` says it in numbers of
-    /// ranks that know each other).
+    /// ranks that know each other, and that a frame which is held before its turn is one that its sender still keeps).
     pub fn history(&self) -> &[Entry]
         ensures entries { result.now ≡ self.now.history }
         ensures headline { IsRunOfMachine self.now }
@@ -221,10 +222,11 @@ impl World {
     /// Whether, of any two ranks that know each other at their present incarnations, no session with the other holds a
     /// frame that waits or is unacknowledged. Left out of account is a session of which one side does not know the other as
     /// it is: with a former incarnation, or with one that was not yet heard of. Between ranks that know each other, then, no
-    /// receive that waits accepts a pending message, and what was matched is finished on both sides: see `history`. It takes
-    /// no memory.
+    /// receive that waits accepts a pending message, and what was matched is finished on both sides: see `history`; and no
+    /// rank holds a frame of the other before its turn. It takes no memory.
     pub fn is_quiet(&self) -> bool
-        ensures { IsTrue result ↔ AreQuiet (sessions_in self.now.engines) }
+        ensures quiet { IsTrue result ↔ AreQuiet (sessions_in self.now.engines) }
+        ensures held { IsTrue result → NothingIsHeld self.now.engines }
     {
         are_quiet(&self.engines)
     }

@@ -1,4 +1,5 @@
-use Rattle.world.proofs.Headlines.{is_run_of_machine, sessions_are_in_order, sessions_are_true}
+use Rattle.world.proofs.Headlines.{is_run_of_machine, sessions_are_true}
+use Rattle.world.proofs.Ordered.{sessions_are_in_order}
 use Rattle.world.proofs.world.World.run.Goals as goal
 
 pub returns-then-is_err-clause-headline : goal.returns-then-is_err-clause-headline
