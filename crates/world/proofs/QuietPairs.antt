@@ -1,11 +1,10 @@
 -- Of which pairs of engines the quiet clause speaks.
-use Rattle.std.proofs.Common.{◌≡◌, ◌≢◌, ℕ, ◌<◌, Bool, true, false, List, Option, Some, None, refl, sym, ap, subst, ◌∙◌, get_or, arith}
+use Rattle.std.proofs.Common.{◌≡◌, ◌≢◌, ℕ, ◌<◌, Bool, true, false, List, Some, refl, sym, ap, subst, ◌∙◌, get_or, arith}
 use Rattle.std.specs.Prelude.{◌↔◌, IsTrue, All, slice_get, slice_index, ◌==◌, nat_lt, if◌then◌else◌}
 use Rattle.std.proofs.lemmas.Option.{get_or_from_slice_get, slice_get-get_or, slice_get_within}
 use Rattle.std.proofs.lemmas.Bool.{eqb-false, lt-ltb, ne_eqb}
 use Rattle.engine_parts.specs.EngineState.{EngineState}
-use Rattle.sessions.specs.Peers.{IsIdlePeer, peer_at, peer_or_new}
-use Rattle.sessions.specs.declared.peers.Peer.{Peer}
+use Rattle.sessions.specs.Peers.{IsIdlePeer, peer_at}
 use Rattle.incarnation.specs.declared.place.Place.{Place}
 use Rattle.incarnation.specs.Judging.{is_other}
 use Rattle.sessions.specs.SessionsState.{SessionsState}
@@ -18,18 +17,6 @@ use Rattle.world.specs.WorldState.{ArePlaced}
 -- what is true of each element is true of the one at a place
 pub all_at : {A : Type 0} (P : A → Type 0) (xs : List A) (k : ℕ) (x : A) → All P xs → slice_get xs k ≡ Some x → P x
 all_at P xs k x all is = subst P (get_or_from_slice_get xs k x x is) (all k x (slice_get_within xs k x is))
-
--- a session of which no frame waits or is unacknowledged, whether or not there is one
-idle_there : (peers : List Peer) (k : ℕ) → All IsIdlePeer peers → IsIdlePeer (peer_at peers k)
-idle_there peers k all = go (slice_get peers k) refl
-  where
-    go : (o : Option Peer) → slice_get peers k ≡ o → IsIdlePeer (peer_or_new o)
-    go None is = refl
-    go (Some p) is = all_at IsIdlePeer peers k p all is
-
--- an engine that holds no frame is quiet towards each
-pub idle_is_quiet : (e : EngineState) (engines : List EngineState) → All IsIdlePeer e.sessions.peers → All (IsQuietIfOther e) engines
-idle_is_quiet e engines idle k d within other away knows known = idle_there e.sessions.peers (get_or engines k d).sessions.place.endpoint.rank idle
 
 other_from : (p : Place) (x : ℕ) → (x == p.endpoint.rank) ≡ false → x < p.size → is_other p x ≡ true
 other_from p x apart within = ap (λ (b : Bool). if b then false else nat_lt x p.size) apart ∙ lt-ltb x p.size within
