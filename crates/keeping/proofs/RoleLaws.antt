@@ -10,29 +10,29 @@ use Rattle.keeping.specs.Words.{Word}
 use Rattle.keeping.specs.Roles.{keeper_words, KeptText, kept_text, kept_by, kept_of}
 use Rattle.numerals.proofs.Numerals.{number_takes, number_again}
 
-pub kept_again : (rank : ℕ) (rest : List Word) → rank ≤ 255 → kept_of (keeper_words rank rest) ≡ Some (record { rank = rank; words = rest })
+pub kept_again : (rank : ℕ) (rest : List Word) → rank ≤ 1023 → kept_of (keeper_words rank rest) ≡ Some (record { rank = rank; words = rest })
 unfolding kept_of
 kept_again rank rest few =
-    let number : number_between (decimal rank) 0 255 ≡ Some rank = number_again 0 255 rank (omega arith) (omega arith) few in
+    let number : number_between (decimal rank) 0 1023 ≡ Some rank = number_again 0 1023 rank (omega arith) (omega arith) few in
     rw number refl
 
 some_is : {A : Type 0} (x y : A) → Some x ≡ Some y → x ≡ y
 some_is x y e = cc
 
-read_by : (value : Option ℕ) (first number : Word) (rest : List Word) (kept : KeptText) → first ≡ codes "-keeper" → number_between number 0 255 ≡ value →
+read_by : (value : Option ℕ) (first number : Word) (rest : List Word) (kept : KeptText) → first ≡ codes "-keeper" → number_between number 0 1023 ≡ value →
     kept_by value rest ≡ Some kept → first ∷ number ∷ rest ≡ keeper_words kept.rank kept.words
 read_by None first number rest kept first_is value_is e = absurd cc
 read_by (Some rank) first number rest kept first_is value_is e =
-    let n = number_takes number 0 255 rank (omega arith) value_is in
+    let n = number_takes number 0 1023 rank (omega arith) value_is in
     let made : KeptText = record { rank = rank; words = rest } in
     let kept_is : made ≡ kept = some_is made kept e in
     let there : first ∷ number ∷ rest ≡ keeper_words rank rest = ap (λ (w : Word). w ∷ number ∷ rest) first_is ∙ ap (λ (w : Word). codes "-keeper" ∷ w ∷ rest) n.spelled in
     there ∙ ap (λ (k : KeptText). keeper_words k.rank k.words) kept_is
 
 made_by : (test : Bool) (first number : Word) (rest : List Word) (kept : KeptText) → bytes_eq first (codes "-keeper") ≡ test →
-    cond test (kept_by (number_between number 0 255) rest) None ≡ Some kept → first ∷ number ∷ rest ≡ keeper_words kept.rank kept.words
+    cond test (kept_by (number_between number 0 1023) rest) None ≡ Some kept → first ∷ number ∷ rest ≡ keeper_words kept.rank kept.words
 made_by false first number rest kept is e = absurd cc
-made_by true first number rest kept is e = read_by (number_between number 0 255) first number rest kept ((bytes_eq-Decides first (codes "-keeper")).0 is) refl e
+made_by true first number rest kept is e = read_by (number_between number 0 1023) first number rest kept ((bytes_eq-Decides first (codes "-keeper")).0 is) refl e
 
 pub kept_takes : (words : List Word) (kept : KeptText) → kept_of words ≡ Some kept → words ≡ keeper_words kept.rank kept.words
 unfolding kept_of

@@ -15,12 +15,12 @@ use std::alloc::{AllocError, Global};
 const KEEPER: &[u8] = b"-keeper";
 
 /// The greatest rank.
-const GREATEST_RANK: u64 = 255;
+const GREATEST_RANK: u64 = 1_023;
 
 /// What a keeper's words say: the rank that it keeps, and the words of the launch.
 #[derive(Clone, Copy)]
 pub struct Kept<'a> {
-    /// The rank, 0 to 255.
+    /// The rank, 0 to 1,023.
     pub rank: u16,
     /// The words of the launch.
     pub words: &'a [Word],
@@ -78,7 +78,7 @@ fn kept_of(words: &[Word]) -> Option<Kept<'_>>
 /// keeper's. It takes no memory.
 pub fn kept_rank(words: &[Word]) -> Option<Kept<'_>>
     ensures found { IfSome result (λ kept. words.now ≡ keeper_words kept.rank kept.words.now) }
-    ensures only { (rank : ℕ) (rest : List Word) → rank ≤ 255 → words.now ≡ keeper_words rank rest
+    ensures only { (rank : ℕ) (rest : List Word) → rank ≤ 1023 → words.now ≡ keeper_words rank rest
         → kept_text result ≡ Some (record { rank = rank; words = rest }) }
 {
     kept_of(words)

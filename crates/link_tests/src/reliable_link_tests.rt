@@ -27,13 +27,13 @@ fn fill(alloc: Global, sender: &mut Sender) -> u64 {
 
 /// The numbers that come into the window by an acknowledgement.
 fn entered_by(sender: &mut Sender, number: u64) -> Result<(u64, u64), Refused> {
-    let entered = sender.on_ack(number)?;
+    let entered = sender.on_ack(number, 0)?;
     Ok((entered.start, entered.end))
 }
 
 /// Those that would.
 fn would_enter(sender: &Sender, number: u64) -> Option<(u64, u64)> {
-    if !sender.allows(number) {
+    if !sender.allows(number, 0) {
         return None;
     }
     let entering = sender.entering(number);
@@ -195,15 +195,58 @@ fn a_new_session_begins_with_number_0(rt: HostRuntime) {
     );
 }
 
+/// Whether just these frames are due at 20 ms: the one whose bit is clear where three were sent at 0 ms and the receiver holds two,
+/// none where it holds them all but the first and that one was acknowledged, and the next one where it is told that it isn't held.
+fn marked(alloc: Global, sender: &mut Sender) -> ([Option<Refused>; 3], [bool; 3]) {
+    for number in 0..3u8 {
+        let _entered = accepted(alloc, sender, number);
+    }
+    let unsent = sender.on_ack(0, 8).err();
+    let two = sender.on_ack(0, 6).err();
+    let first = are_due(sender, 20, &[0]);
+    let one = sender.on_ack(1, 2).err();
+    let next = are_due(sender, 20, &[1]);
+    let _clock = mark(sender, 20);
+    ([unsent, two, one], [first, next, are_due(sender, 40, &[1])])
+}
+
+#[test]
+fn frames_that_are_held_are_not_sent_again(rt: HostRuntime) {
+    let mut sender = Sender::new(rt.alloc());
+    assert_eq!(rt;
+        marked(rt.alloc(), &mut sender),
+        ([Some(Refused::OutOfWindow), None, None], [true; 3])
+    );
+}
+
+/// The next session of a sender that has a frame, with its places: whether it is empty, its clock, and what comes into its
+/// window first.
+fn renewed(alloc: Global, mut sender: Sender) -> (bool, u64, Option<Option<u64>>) {
+    let _first = accepted(alloc, &mut sender, 0);
+    let _clock = mark(&mut sender, 7);
+    let mut next = sender.renewed();
+    next.take_places(sender);
+    let is_empty = next.is_empty();
+    (is_empty, next.clock(), accepted(alloc, &mut next, 9))
+}
+
+#[test]
+fn a_renewed_sender_begins_with_number_0(rt: HostRuntime) {
+    assert_eq!(rt;
+        renewed(rt.alloc(), Sender::new(rt.alloc())),
+        (true, 7, Some(Some(0)))
+    );
+}
+
 type Judged = Result<Verdict, Refused>;
 
 /// What becomes of frame 1, of frame 0 twice, and of frame 1 again, and the number that is next then.
 fn hand_up(receiver: &mut Receiver) -> ([Judged; 4], u64) {
     let verdicts = [
-        receiver.on_frame(1),
-        receiver.on_frame(0),
-        receiver.on_frame(0),
-        receiver.on_frame(1),
+        receiver.on_frame(1, b"1"),
+        receiver.on_frame(0, b"0"),
+        receiver.on_frame(0, b"0"),
+        receiver.on_frame(1, b"1"),
     ];
     (verdicts, receiver.next())
 }
@@ -211,16 +254,16 @@ fn hand_up(receiver: &mut Receiver) -> ([Judged; 4], u64) {
 /// What a new session says of frame 0 and takes it for.
 fn begin_again(receiver: &mut Receiver) -> [Judged; 2] {
     receiver.reset();
-    [receiver.verdict(0), receiver.on_frame(0)]
+    [receiver.verdict(0), receiver.on_frame(0, b"0")]
 }
 
 #[test]
 fn frames_are_handed_up_once_and_in_order(rt: HostRuntime) {
-    let mut receiver = Receiver::new();
+    let mut receiver = Receiver::new(rt.alloc());
     let handed = hand_up(&mut receiver);
     let again = begin_again(&mut receiver);
     let verdicts = [
-        Err(Refused::OutOfWindow),
+        Ok(Verdict::Accepted),
         Ok(Verdict::Accepted),
         Ok(Verdict::Repeated),
         Ok(Verdict::Accepted),
@@ -230,6 +273,60 @@ fn frames_are_handed_up_once_and_in_order(rt: HostRuntime) {
         ((verdicts, 2), [Ok(Verdict::Accepted); 2])
     );
     frames_are_handed_up_in_order();
+}
+
+#[test]
+fn a_frame_is_held_up_to_63_numbers_early(rt: HostRuntime) {
+    let mut receiver = Receiver::new(rt.alloc());
+    let verdicts = [
+        receiver.on_frame(63, b"last"),
+        receiver.on_frame(63, b"last"),
+        receiver.on_frame(64, b"beyond"),
+    ];
+    assert_eq!(rt;
+        verdicts,
+        [
+            Ok(Verdict::Accepted),
+            Ok(Verdict::Repeated),
+            Err(Refused::OutOfWindow)
+        ]
+    );
+    assert_eq!(rt; (receiver.next(), receiver.held()), (0, 1 << 63));
+}
+
+/// Whether these bytes are held as the next frame.
+fn is_ready(receiver: &Receiver, bytes: &[u8]) -> bool {
+    match receiver.ready() {
+        Some(frame) => frame.as_slice() == bytes,
+        None => false,
+    }
+}
+
+/// What is told of the frames 1 and 2 that came early, once they came, once frame 0 came too, and once frame 1 is handed up.
+fn told(receiver: &mut Receiver) -> [u64; 4] {
+    let _second = receiver.on_frame(2, b"2");
+    let _first = receiver.on_frame(1, b"1");
+    let early = receiver.held();
+    let _next = receiver.on_frame(0, b"0");
+    let behind = receiver.held_behind();
+    let first = receiver.held();
+    if receiver.next() < 9 {
+        receiver.advance();
+    }
+    [early, first, behind, receiver.held()]
+}
+
+#[test]
+fn held_frames_are_told_until_their_turn_comes(rt: HostRuntime) {
+    let mut receiver = Receiver::new(rt.alloc());
+    assert_eq!(rt; told(&mut receiver), [6, 2, 0, 0]);
+    assert!(rt; is_ready(&receiver, b"2"));
+    receiver.discard();
+    assert!(rt; receiver.ready().is_none());
+    assert_eq!(rt; receiver.next(), 2);
+    let mut next = receiver.renewed();
+    next.take_places(receiver);
+    assert_eq!(rt; (next.next(), next.held()), (0, 0));
 }
 
 #[test]

@@ -244,19 +244,19 @@ fn an_unacknowledged_frame_goes_out_again_after_20_ms(rt: HostRuntime) {
 
 /// Rank 0 announces a message of 1,025 bytes with tag 5 to rank 1 as transfer 6, in frame 0 of job 1.
 const REQUEST: [u8; 56] = [
-    0x4d, 0x50, 0x55, 0x44, 1, 1, 0, 0, 0, 1, 0, 0, 0, 0, 0, 24, 0, 0, 0, 0, 0, 0, 0, 1, 0, 0, 0,
+    0x4d, 0x50, 0x55, 0x44, 2, 1, 0, 0, 0, 1, 0, 0, 0, 0, 0, 24, 0, 0, 0, 0, 0, 0, 0, 1, 0, 0, 0,
     0, 0, 0, 0, 0, 2, 0, 9, 0, 0, 0, 0, 5, 0, 0, 0, 0, 0, 0, 0, 0, 0, 0, 4, 1, 0, 0, 0, 6,
 ];
 
 /// Rank 0 tells rank 1 that the data of transfer 7 are not to come, in frame 0 of job 1.
 const CLEAR: [u8; 40] = [
-    0x4d, 0x50, 0x55, 0x44, 1, 1, 0, 0, 0, 1, 0, 0, 0, 0, 0, 8, 0, 0, 0, 0, 0, 0, 0, 1, 0, 0, 0, 0,
+    0x4d, 0x50, 0x55, 0x44, 2, 1, 0, 0, 0, 1, 0, 0, 0, 0, 0, 8, 0, 0, 0, 0, 0, 0, 0, 1, 0, 0, 0, 0,
     0, 0, 0, 0, 3, 1, 0, 0, 0, 0, 0, 7,
 ];
 
 /// Rank 0 sends the bytes 1 and 2 of transfer 8 from offset 1,024 on to rank 1, in frame 0 of job 1.
 const PART: [u8; 46] = [
-    0x4d, 0x50, 0x55, 0x44, 1, 1, 0, 0, 0, 1, 0, 0, 0, 0, 0, 14, 0, 0, 0, 0, 0, 0, 0, 1, 0, 0, 0,
+    0x4d, 0x50, 0x55, 0x44, 2, 1, 0, 0, 0, 1, 0, 0, 0, 0, 0, 14, 0, 0, 0, 0, 0, 0, 0, 1, 0, 0, 0,
     0, 0, 0, 0, 0, 4, 0, 0, 0, 0, 0, 0, 8, 0, 0, 4, 0, 1, 2,
 ];
 
@@ -323,6 +323,56 @@ fn data_of_an_announced_message_are_handed_up(rt: HostRuntime) {
         bytes: &[1, 2],
     });
     assert_eq!(rt; passed(rt.alloc(), frame, &PART), Some((true, Some(8))));
+}
+
+/// How many bytes are handed up by the second of two frames that comes before the first, and by the first then.
+type HandedUp = (Option<usize>, Option<usize>);
+
+/// How many bytes the next frame of rank 0 has, where it is held and its turn has come.
+fn following(sessions: &Sessions, source: Endpoint) -> Option<usize> {
+    if source.rank >= sessions.place().size {
+        return None;
+    }
+    let bytes = sessions.ready(source.rank).ok()??;
+    match turn_in(source, &bytes)?.word {
+        Word::Follows(Frame::Eager(eager)) => Some(eager.elements.len()),
+        _ => None,
+    }
+}
+
+/// What two frames hand up that come in the wrong order, and how many bytes follow before the first one, behind it, and once
+/// what is held was given up.
+fn turned_round(ranks: &mut [Sessions]) -> Option<(HandedUp, [Option<usize>; 3])> {
+    let [a, b] = ranks else {
+        return None;
+    };
+    if !send(a, 1, 1, b"x") || !send(a, 1, 2, b"yz") {
+        return None;
+    }
+    let source = a.place().endpoint;
+    let emitted = a.take_out();
+    let early = take_in(b, emitted.get(1)?.1.as_slice());
+    let before = following(b, source);
+    let first = take_in(b, emitted.first()?.1.as_slice());
+    let behind = following(b, source);
+    if source.rank >= b.place().size {
+        return None;
+    }
+    b.discard(source.rank);
+    Some(((early, first), [before, behind, following(b, source)]))
+}
+
+fn held(alloc: Global) -> Option<(HandedUp, [Option<usize>; 3])> {
+    let mut ranks = two_ranks(alloc, 0)?;
+    turned_round(&mut ranks)
+}
+
+#[test]
+fn a_frame_that_comes_early_follows_in_its_turn(rt: HostRuntime) {
+    assert_eq!(rt;
+        held(rt.alloc()),
+        Some(((None, Some(1)), [None, Some(2), None]))
+    );
 }
 
 /// How many datagrams go out three times in turn: the first list is given back when it was taken out, the second one when the

@@ -9,7 +9,7 @@ use Rattle.rank_settings.specs.declared.faults.Wanted.TheVariants as wanted
 -- between which numbers the value of an option lies
 unfoldable pub range_of : List ℕ → Option (ℕ × ℕ)
 range_of option =
-    if bytes_eq option (codes "--rank") then Some (0, 255)
+    if bytes_eq option (codes "--rank") then Some (0, 1023)
     else (if bytes_eq option (codes "--size") then Some (1, 1024)
     else (if bytes_eq option (codes "--inc") then Some (0, 65535)
     else (if bytes_eq option (codes "--job") then Some (0, 18446744073709551615)

@@ -29,7 +29,7 @@ ArePorts rank size port = (rank < port) × (port + size ≤ 65536 + rank)
 
 -- Each number is the value that the words gave its option, in its range.
 pub record AreGiven (rows : List Row) (s : Settings) : Type 0 where
-  pub rank : number_in rows (codes "rank") 0 255 ≡ Some s.rank
+  pub rank : number_in rows (codes "rank") 0 1023 ≡ Some s.rank
   pub size : number_in rows (codes "size") 1 1024 ≡ Some s.size
   pub incarnation : number_in rows (codes "inc") 0 65535 ≡ Some s.incarnation
   pub job : number_in rows (codes "job") 0 18446744073709551615 ≡ Some s.job

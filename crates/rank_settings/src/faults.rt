@@ -47,7 +47,7 @@ fn range_of(option: &str) -> Option<(u64, u64)>
     ensures { result ≡ range_of option.now }
 {
     match option {
-        "--rank" => Some((0, 255)),
+        "--rank" => Some((0, 1_023)),
         "--size" => Some((1, 1_024)),
         "--inc" => Some((0, 65_535)),
         "--job" => Some((0, u64::MAX)),
@@ -170,7 +170,7 @@ fn bounds_fault<'a, S: AsStr>(words: &'a [S]) -> Option<WordFault<'a>>
     let rank_word = value_of(words, "--rank")?;
     let port_word = value_of(words, "--port")?;
     let size = number_between(value_of(words, "--size")?.as_bytes(), 1, 1_024)?;
-    let rank = number_between(rank_word.as_bytes(), 0, 255)?;
+    let rank = number_between(rank_word.as_bytes(), 0, 1_023)?;
     match value_fault(rank_word, 0, size - 1) {
         Some(fault) => Some(fault),
         None => value_fault(port_word, rank + 1, 65_536 + rank - size),

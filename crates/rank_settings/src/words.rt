@@ -54,7 +54,7 @@ fn patience_in(matches: &ArgMatches) -> Result<u64, Refused>
 
 /// Whether the ports of all ranks are 1 to 65,535.
 fn are_ports(rank: u64, size: u64, port: u64) -> bool
-    requires rank { rank ≤ 255 }
+    requires rank { rank ≤ 1023 }
     requires size { size ≤ 1024 }
     requires port { port ≤ 65535 }
     ensures { IsTrue result ↔ ArePorts rank size port }
@@ -66,7 +66,7 @@ fn are_ports(rank: u64, size: u64, port: u64) -> bool
 fn found_settings<'a>(matches: &ArgMatches<'a>) -> Result<Settings<'a>, Refused>
     ensures { RowsAnswer (rows_of (found_of matches.now)) result }
 {
-    let rank = number_of(matches, "rank", 0, 255)?;
+    let rank = number_of(matches, "rank", 0, 1_023)?;
     let size = number_of(matches, "size", 1, 1_024)?;
     let incarnation = number_of(matches, "inc", 0, 65_535)?;
     let job = number_of(matches, "job", 0, u64::MAX)?;
