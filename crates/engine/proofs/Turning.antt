@@ -8,24 +8,28 @@ use Rattle.vocabulary.specs.declared.endpoint.Endpoint.{Endpoint}
 use Rattle.datagram.specs.declared.refused.Refused as reading
 use Rattle.datagram.specs.Spelling.{AckBody, BodyText, DatagramText, FrameBody, FrameText, ResetBody}
 use Rattle.datagram.specs.Reading.{datagram_of}
-use Rattle.reliable_link.specs.ReceiverState.{ReceiverState, advanced}
+use Rattle.reliable_link.specs.ReceiverState.{ReceiverState, advanced, discarded}
 use Rattle.reliable_link.specs.SenderState.{SenderState}
 use Rattle.sessions.specs.declared.peers.Peer.{Peer}
 use Rattle.sessions.specs.SessionsState.{SessionsState}
 use Rattle.sessions.specs.Peers.{peer_at}
 use Rattle.sessions.specs.Spellings.{ack_of}
-use Rattle.sessions.specs.Heard.{CanHear, Follows, Hands, HeardText, WordText, session_met}
-use Rattle.sessions.specs.Events.{Sending, after_event, after_heard, after_send, after_sends, answer_in, event_limit, next_bytes, out_on_accept}
+use Rattle.datagram.specs.declared.frame.Frame.{Frame}
+use Rattle.sessions.specs.declared.heard.Word.{Word}
+use Rattle.sessions.specs.declared.heard.Word.TheVariants as words
+use Rattle.sessions.specs.Heard.{CanHear, Follows, Hands, HeardText, WordText, session_met, word_text}
+use Rattle.sessions.specs.Events.{Sending, after_event, after_heard, after_send, after_sends, answer_in, event_limit, next_bytes, out_on_accept, taught_known}
 use Rattle.sessions.specs.Following.{acknowledged_at, ready_from, turn_of, turn_of_body, turn_read}
 use Rattle.sessions.specs.Arranging.{IsArranged, IsInOrder}
 use Rattle.sessions.specs.Windows.{StaysWithin, room}
 use Rattle.sessions.proofs.Amounts.{place_after}
 use Rattle.sessions.proofs.Meeting.{peer_there}
+use Rattle.sessions.proofs.Windows.{room_set}
 use Rattle.rank_calls.specs.declared.refused.Refused.{Refused}
 use Rattle.rank_calls.specs.declared.refused.Refused.TheVariants as refusals
 use Rattle.engine_parts.specs.EngineState.{EngineState}
-use Rattle.engine.specs.Datagrams.{FollowGives, HeardGives, TurnGives, acknowledged, notice_in, turn_from, without_next}
-use Rattle.engine.proofs.Hearing.{IsCarried, carried_by, unheard_leaves}
+use Rattle.engine.specs.Datagrams.{FollowGives, FollowedBy, HasFollowed, HeardGives, TurnGives, acknowledged, notice_in, turn_from, without_next}
+use Rattle.engine.proofs.Hearing.{IsCarried, carried_by, known_carried, unheard_leaves}
 
 -- ---- what follows
 
@@ -96,7 +100,7 @@ ack_is s mid source h t there goes =
     ap (λ (r : ReceiverState). ack_of mid.place source r) receiver
     ∙ ap (λ p. ack_of p source (advanced (peer_at s.peers source.rank).receiver)) place
 
-heard_carried : (old mid : EngineState) (h : HeardText) → HeardGives old h (Ok tt) mid → IsCarried old.sessions h mid.sessions
+pub heard_carried : (old mid : EngineState) (h : HeardText) → HeardGives old h (Ok tt) mid → IsCarried old.sessions h mid.sessions
 heard_carried old mid h gives = carried_by (notice_in h.lesson old.payloads h.source.rank h.word) old mid h tt gives
 
 -- so what is put in the place of the former one is just that
@@ -156,6 +160,26 @@ turn_within s t source h is stays =
     let w : StaysWithin (Some (turn source is.frame)) s t = subst (λ (x : HeardText). StaysWithin (Some x) s t) (sym is.is) stays in
     omega (arith, w)
 
+-- and it teaches nothing
+pub turn_known : (old mid : EngineState) (source : Endpoint) (h : HeardText) → IsTurnOf source h → HeardGives old h (Ok tt) mid →
+    mid.sessions.known ≡ old.sessions.known
+turn_known old mid source h t gives =
+    known_carried old.sessions mid.sessions h (heard_carried old mid h gives)
+    ∙ subst (λ (x : HeardText). taught_known x.lesson old.sessions.known x.source ≡ old.sessions.known) t.is refl
+
+-- what isn't held any more leaves the room as it was
+pub discard_within : (old new : EngineState) (source : Endpoint) → source.rank < old.sessions.place.size → length old.sessions.peers ≡ old.sessions.place.size →
+    new ≡ without_next old source → length new.sessions.out + room new.sessions.peers ≤ length old.sessions.out + room old.sessions.peers
+discard_within old new source there each is =
+    let peers : List Peer = old.sessions.peers in
+    let p : Peer = record { sender = (peer_at peers source.rank).sender; receiver = discarded (peer_at peers source.rank).receiver } in
+    omega (
+      arith,
+      ap (λ (e : EngineState). length e.sessions.out) is,
+      ap (λ (e : EngineState). room e.sessions.peers) is,
+      room_set peers source.rank p (omega (arith, there, each)),
+    )
+
 -- as much goes out as before, arranged
 arranged_length : (from : ℕ) (old new : List (ℕ × List ℕ)) → IsInOrder from old new → length new ≡ length old
 arranged_length from old new in_order =
@@ -214,3 +238,20 @@ taken zero at source old mid new h some is gives rest = absurd (omega (arith, so
 taken (suc k) at source old mid new h some is gives rest =
     let back : suc k - 1 ≡ k = omega arith in
     rw is (inl (mid, gives, subst (λ (n : ℕ). FollowGives n at source (acknowledged at source mid) new) back rest))
+
+-- ---- behind what is heard
+
+-- nothing follows another word
+pub follows_none : (w : Word) (at : ℕ) (source : Endpoint) (e : EngineState) → ((f : Frame) → w ≡ words.Hands f → ⊥) → FollowedBy (word_text w) at source e e
+follows_none (words.Acknowledges n held) at source e other = refl
+follows_none words.Repeats at source e other = refl
+follows_none (words.Hands f) at source e other = absurd (other f refl)
+follows_none (words.Holds early) at source e other = refl
+follows_none (words.Follows f) at source e other = refl
+follows_none words.Nothing at source e other = refl
+
+-- a frame that is handed up is followed
+pub follows_handed : (w : WordText) (f : FrameText) (at place : ℕ) (source : Endpoint) (first last : EngineState) → w ≡ Hands f → at ≡ place →
+    HasFollowed 64 at source first last → FollowedBy w place source first last
+follows_handed w f at place source first last is same followed =
+    subst (λ (x : WordText). FollowedBy x place source first last) (sym is) (subst (λ (n : ℕ). HasFollowed 64 n source first last) same followed)

@@ -12,7 +12,7 @@ ghost use Rattle.engine_parts.specs.EngineState.{or_before};
 ghost use Rattle.engine_parts.specs.Frames.{outgoing_of};
 ghost use Rattle.engine_parts.specs.Refusals.{fault_of_sessions};
 ghost use Rattle.engine_parts.specs.Steps.{engine_held};
-ghost use Rattle.engine.specs.Datagrams.{DatagramGives, HeardGives, NewsGives, SourceIsKnown, RefusedDatagramLeaves, frame_in, news_of, received, replies, says_nothing, whole_in};
+ghost use Rattle.engine.specs.Datagrams.{DatagramGives, HeardGives, NewsGives, SourceIsKnown, RefusedDatagramLeaves, form_fault, frame_in, hold_fault, news_of, received, replies, says_nothing, whole_in};
 
 use crate::announcing::{take_announcement, take_answer};
 use crate::coming::take_piece;

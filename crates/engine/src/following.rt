@@ -4,7 +4,7 @@
 //! A delivery has one acknowledgement, which stands first in what goes out. It is spelled before a turn is taken, since nothing
 //! may fail behind one, and says then what the turn has reached.
 
-ghost use Rattle.std.specs.Prelude.{◌≡◌, ◌≤◌, ◌<◌, ◌+◌, ◌*◌, length, Err, IfErr, IfSome, OnOk, Some, slice_set};
+ghost use Rattle.std.specs.Prelude.{◌≡◌, ◌≤◌, ◌<◌, ◌+◌, ◌*◌, length, Err, IfErr, IfSome, OnOk, Some, slice_set, suc};
 ghost use Rattle.reliable_link.specs.ReceiverState.{advanced};
 ghost use Rattle.sessions.specs.Arranging.{IsArranged};
 ghost use Rattle.sessions.specs.Events.{taught_known};
@@ -28,8 +28,11 @@ impl Engine {
     /// The bytes of the next frame of a rank, where they are held and may have one more owner.
     fn next_held(&self, rank: u16) -> Option<Bytes>
         requires { rank < self.now.sessions.place.size }
-        ensures { IfSome result (λ bytes. Some bytes ≡ ready_from self.now.sessions rank) }
+        ensures bytes { IfSome result (λ bytes. Some bytes ≡ ready_from self.now.sessions rank) }
+        ensures peers { length self.now.sessions.peers ≡ self.now.sessions.place.size }
     {
+        // The place shows that there is a session for each rank.
+        let _place = self.sessions.place();
         match self.sessions.ready(rank) {
             Ok(bytes) => bytes,
             Err(_) => None,
@@ -107,13 +110,15 @@ impl Engine {
         }
     }
 
-    /// From this place on what goes out stands by rising rank, and for one rank by its numbers.
-    fn arrange(&mut self, from: usize)
-        requires { from ≤ length self.old.sessions.out }
+    /// Behind this place what goes out stands by rising rank, and for one rank by its numbers.
+    fn arrange(&mut self, at: usize)
+        requires { at < length self.old.sessions.out }
         ensures same { self.new ≡ record self.old { sessions = self.new.sessions } }
-        ensures arranged { IsArranged from self.old.sessions self.new.sessions }
+        ensures arranged { IsArranged (suc at) self.old.sessions self.new.sessions }
     {
-        self.sessions.arrange(from);
+        // What is counted shows that there is a place behind.
+        let _emitted = self.sessions.emitted();
+        self.sessions.arrange(at + 1);
     }
 
     /// Takes in what was held behind a frame of an endpoint that was handed up, whose acknowledgement stands at this place.
@@ -127,12 +132,13 @@ impl Engine {
         ensures core_placed { self.new.core.place ≡ self.old.core.place }
     {
         self.follow(at, source, MOST_TURNS);
-        self.arrange(at + 1);
+        self.arrange(at);
     }
 
     /// The blocked call is answered, if its answer is ready by now.
     fn wake(&mut self)
-        ensures { self.new ≡ woken_engine self.old }
+        ensures exact { self.new ≡ woken_engine self.old }
+        ensures core_placed { self.new.core.place ≡ self.old.core.place }
     {
         self.core.wake();
     }
@@ -149,6 +155,8 @@ impl Engine {
         ensures placed { self.new.sessions.place ≡ self.old.sessions.place }
         ensures core_placed { self.new.core.place ≡ self.old.core.place }
     {
+        // The place shows that there is a session for each rank.
+        let _place = self.sessions.place();
         let at = self.sessions.emitted();
         self.take_heard(heard)?;
         if let Word::Hands(_) = heard.word {
