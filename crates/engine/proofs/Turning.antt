@@ -1,15 +1,14 @@
 -- What a turn is, and what comes of one.
-use Rattle.std.proofs.Common.{◌≡◌, ℕ, zero, suc, ◌+◌, ◌-◌, ◌*◌, ◌<◌, ◌≤◌, Bool, true, false, cond, List, [], ◌∷◌, length, drop, refl, sym, ap, subst, ◌∙◌, arith, inl, inr, Option, Some, None, Result, Ok, Err, slice_set}
+use Rattle.std.proofs.Common.{◌≡◌, ℕ, zero, suc, ◌+◌, ◌-◌, ◌<◌, ◌≤◌, false, List, [], ◌∷◌, length, drop, refl, sym, ap, subst, ◌∙◌, arith, inl, inr, Option, Some, None, Result, Ok, Err, slice_set}
 use Rattle.std.proofs.lemmas.Grind.{common_steps}
 use Rattle.std.proofs.lemmas.List.{length-append, length-drop, length-take}
 use Rattle.std.proofs.lemmas.List.Sorted.{length_permutation}
-use Rattle.std.specs.Option.{is_some, option_map}
+use Rattle.std.specs.Option.{is_some}
 use Rattle.vocabulary.specs.declared.endpoint.Endpoint.{Endpoint}
 use Rattle.datagram.specs.declared.refused.Refused as reading
 use Rattle.datagram.specs.Spelling.{AckBody, BodyText, DatagramText, FrameBody, FrameText, ResetBody}
 use Rattle.datagram.specs.Reading.{datagram_of}
 use Rattle.reliable_link.specs.ReceiverState.{ReceiverState, advanced, discarded}
-use Rattle.reliable_link.specs.SenderState.{SenderState}
 use Rattle.sessions.specs.declared.peers.Peer.{Peer}
 use Rattle.sessions.specs.SessionsState.{SessionsState}
 use Rattle.sessions.specs.Peers.{peer_at}
@@ -19,13 +18,12 @@ use Rattle.sessions.specs.declared.heard.Word.{Word}
 use Rattle.sessions.specs.declared.heard.Word.TheVariants as words
 use Rattle.sessions.specs.Heard.{CanHear, Follows, Hands, HeardText, WordText, session_met, word_text}
 use Rattle.sessions.specs.Events.{Sending, after_event, after_heard, after_send, after_sends, answer_in, event_limit, next_bytes, out_on_accept, taught_known}
-use Rattle.sessions.specs.Following.{acknowledged_at, ready_from, turn_of, turn_of_body, turn_read}
+use Rattle.sessions.specs.Following.{turn_of, turn_of_body, turn_read}
 use Rattle.sessions.specs.Arranging.{IsArranged, IsInOrder}
 use Rattle.sessions.specs.Windows.{StaysWithin, room}
 use Rattle.sessions.proofs.Amounts.{place_after}
 use Rattle.sessions.proofs.Meeting.{peer_there}
 use Rattle.sessions.proofs.Windows.{room_set}
-use Rattle.rank_calls.specs.declared.refused.Refused.{Refused}
 use Rattle.rank_calls.specs.declared.refused.Refused.TheVariants as refusals
 use Rattle.engine_parts.specs.EngineState.{EngineState}
 use Rattle.engine.specs.Datagrams.{FollowGives, FollowedBy, HasFollowed, HeardGives, TurnGives, acknowledged, notice_in, turn_from, without_next}

@@ -43,6 +43,8 @@ fn go_in(
     ensures placed { sessions.new.place ≡ sessions.old.place }
     ensures core_placed { core.new.state.place ≡ core.old.state.place }
 {
+    // The place shows that there is a session for each rank.
+    let _place = sessions.place();
     let mut numbers = match core.numbers() {
         Ok(numbers) => numbers,
         Err(refused) => {

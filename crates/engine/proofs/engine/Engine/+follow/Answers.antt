@@ -1,5 +1,5 @@
 -- A turn that is taken in and those behind it; or what is held stays, or is taken out.
-use Rattle.std.proofs.Common.{◌≡◌, ◌≤◌, ◌<◌, ◌+◌, ◌-◌, ◌∙◌, length, refl, sym, ap, subst, arith, false, Err, Ok, Some, slice_set}
+use Rattle.std.proofs.Common.{◌≡◌, ◌<◌, ◌-◌, ◌∙◌, length, refl, sym, ap, subst, arith, Err, Ok, Some}
 use Rattle.std.proofs.lemmas.Grind.{common_steps}
 use Rattle.std.proofs.lemmas.List.{length-set}
 use Rattle.std.specs.Option.{option_map}
@@ -43,14 +43,14 @@ follow-requires t c =
     ∙ ap (λ p. p.size) c.take_heard.ensures.placed ∙ ap (λ (e : EngineState). e.sessions.place.size) c.spell_turn.ensures.kept in (
       omega (arith, some, c.decreases),
       (
-          omega (arith, c.requires.there, size),
-          omega (
-              arith,
-              c.requires.at,
-              longer old mid c.args.source h (of_bytes c.args.source _ h c.in-Some-turn_in.ensures.exact) gives,
-              ap (λ (e : EngineState). length e.sessions.out) c.replace.ensures,
-              length-set mid.sessions.out c.args.at (c.args.source.rank, c.in-Some-spell_turn.ack),
-          ),
+        omega (arith, c.requires.there, size),
+        omega (
+          arith,
+          c.requires.at,
+          longer old mid c.args.source h (of_bytes c.args.source _ h c.in-Some-turn_in.ensures.exact) gives,
+          ap (λ (e : EngineState). length e.sessions.out) c.replace.ensures,
+          length-set mid.sessions.out c.args.at (c.args.source.rank, c.in-Some-spell_turn.ack),
+        ),
       ),
     )
 

@@ -1,5 +1,5 @@
 -- What is heard is taken in, then what follows it, and then the blocked call is answered.
-use Rattle.std.proofs.Common.{◌≡◌, ◌+◌, ◌≤◌, ◌<◌, ◌∙◌, length, sym, ap, subst, arith, Some}
+use Rattle.std.proofs.Common.{◌≡◌, ◌+◌, ◌≤◌, ◌∙◌, length, sym, ap, subst, arith, Some}
 use Rattle.datagram.specs.Spelling.{frame_text}
 use Rattle.sessions.specs.Heard.{HeardText, heard_text, word_text}
 use Rattle.sessions.specs.Windows.{room}
