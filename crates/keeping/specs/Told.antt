@@ -53,3 +53,7 @@ lost_keeper_line rank = codes "mpiexec: the keeper of rank " ++ decimal rank ++ 
 abbrev pub taken_ports_line : ℕ → List ℕ
 taken_ports_line base_port =
     codes "mpiexec: another job may use the ports from " ++ decimal base_port ++ codes " on: give each job its own -baseport and -job"
+
+-- the line of a keeper that couldn't be started
+abbrev pub unstarted_keeper_line : ℕ → List ℕ
+unstarted_keeper_line rank = codes "mpiexec: the keeper of rank " ++ decimal rank ++ codes " can't be started; it takes two more open files (ulimit -n)"

@@ -16,6 +16,6 @@ pub use joined::{join, join_from};
 pub use keeper::{After, Keeper};
 pub use report::Report;
 pub use role::{Kept, keeper_words, kept_rank};
-pub use told::{EndingLine, LostKeeperLine, TakenPortsLine};
+pub use told::{EndingLine, LostKeeperLine, TakenPortsLine, UnstartedKeeperLine};
 pub use word::Word;
 pub use words::Words;

@@ -167,6 +167,28 @@ impl fmt::Display for LostKeeperLine {
     }
 }
 
+/// The line of a keeper that couldn't be started: for want of open files, most likely, since the launcher has two for each.
+#[derive(Clone, Copy)]
+pub struct UnstartedKeeperLine {
+    /// The rank that it was to keep.
+    pub rank: u16,
+}
+
+impl fmt::Display for UnstartedKeeperLine {
+    ghost use Rattle.std.specs.Prelude.{Some};
+    ghost use Rattle.keeping.specs.Told.{unstarted_keeper_line};
+
+    ghost output = { λ u. Some (unstarted_keeper_line u.rank) };
+
+    fn fmt<W: fmt::Write>(&self, f: &mut fmt::Formatter<W>) -> fmt::Result {
+        let rank = self.rank;
+        write!(
+            f,
+            "mpiexec: the keeper of rank {rank} can't be started; it takes two more open files (ulimit -n)"
+        )
+    }
+}
+
 /// The line of a launch whose base port another one holds.
 #[derive(Clone, Copy)]
 pub struct TakenPortsLine {

@@ -2,7 +2,8 @@
 
 use crate::text::text_of;
 use keeping::{
-    LostKeeperLine, Report, TakenPortsLine, Word, join_from, keeper_words, launch_status,
+    LostKeeperLine, Report, TakenPortsLine, UnstartedKeeperLine, Word, join_from, keeper_words,
+    launch_status,
 };
 use launch::Plan;
 use std::alloc::{AllocError, Global};
@@ -34,8 +35,23 @@ fn start<R: AllocGlobal + Processes>(
     keeper_command(rt.alloc(), itself, rank, words)?.spawn(rt)
 }
 
+/// The same. Where it can't be started, that is told on the standard error.
+fn start_or_tell<R: Eprint + AllocGlobal + Processes>(
+    rt: &R,
+    itself: &str,
+    rank: u16,
+    words: &[Word],
+) -> io::Result<Child<R::Started>> {
+    let started = start(rt, itself, rank, words);
+    if started.is_err() {
+        let line = UnstartedKeeperLine { rank };
+        let _ = eprintln!(rt; "{line}");
+    }
+    started
+}
+
 /// Starts the keepers of so many ranks, in rank order.
-fn start_all<R: Env + Files + AllocGlobal + Processes>(
+fn start_all<R: Env + Files + Eprint + AllocGlobal + Processes>(
     rt: &R,
     size: u16,
     words: &[Word],
@@ -44,7 +60,7 @@ fn start_all<R: Env + Files + AllocGlobal + Processes>(
     let itself = env::current_exe(rt)?;
     let mut keepers = Vec::new(alloc);
     for rank in 0..size {
-        let keeper = start(rt, itself.as_str(), rank, words)?;
+        let keeper = start_or_tell(rt, itself.as_str(), rank, words)?;
         keepers.push(keeper).map_err(AllocError::from)?;
     }
     Ok(keepers)

@@ -1,6 +1,8 @@
 //! What the launcher tells on the standard error: the word at fault, and the lines.
 
-use keeping::{After, Ending, EndingLine, LostKeeperLine, TakenPortsLine, Word};
+use keeping::{
+    After, Ending, EndingLine, LostKeeperLine, TakenPortsLine, UnstartedKeeperLine, Word,
+};
 use launch_faults::{explain, fault_place};
 use shown_words::Shown;
 use std::alloc::Global;
@@ -137,10 +139,17 @@ fn lines_of_keepers(rt: HostRuntime) {
 fn lines_of_the_launcher(rt: HostRuntime) {
     let alloc = rt.alloc();
     let lost = LostKeeperLine { rank: 2 };
+    let unstarted = UnstartedKeeperLine { rank: 508 };
     let taken = TakenPortsLine { base_port: 47_000 };
     assert_eq!(rt;
         format!(in alloc; "{lost}").ok().as_deref(),
         Some("mpiexec: the keeper of rank 2 ended before its report")
+    );
+    assert_eq!(rt;
+        format!(in alloc; "{unstarted}").ok().as_deref(),
+        Some(
+            "mpiexec: the keeper of rank 508 can't be started; it takes two more open files (ulimit -n)"
+        )
     );
     assert_eq!(rt;
         format!(in alloc; "{taken}").ok().as_deref(),
