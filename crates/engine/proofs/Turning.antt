@@ -24,9 +24,11 @@ use Rattle.sessions.specs.Windows.{StaysWithin, room}
 use Rattle.sessions.proofs.Amounts.{place_after}
 use Rattle.sessions.proofs.Meeting.{peer_there}
 use Rattle.sessions.proofs.Windows.{room_set}
+use Rattle.rank_calls.specs.declared.refused.Refused.{Refused}
 use Rattle.rank_calls.specs.declared.refused.Refused.TheVariants as refusals
 use Rattle.engine_parts.specs.EngineState.{EngineState}
 use Rattle.engine.specs.Datagrams.{FollowGives, FollowedBy, HasFollowed, HeardGives, TurnGives, acknowledged, notice_in, turn_from, without_next}
+use Rattle.engine.specs.Following.{FollowEnds, StaysFor, TurnEnds}
 use Rattle.engine.proofs.Hearing.{IsCarried, carried_by, known_carried, unheard_leaves}
 
 -- ---- what follows
@@ -202,40 +204,66 @@ arranged_within from old new arranged =
 
 -- ---- so many turns
 
--- whatever is held may stay
-pub stays : (turns at : ℕ) (source : Endpoint) (old : EngineState) → FollowGives turns at source old old
-stays zero at source old = refl
-stays (suc k) at source old = go (turn_from old source)
+-- nothing follows where nothing is held
+pub nothing_held : (why : Option Refused) (turns at : ℕ) (source : Endpoint) (old : EngineState) → 0 < turns → turn_from old source ≡ None →
+    FollowEnds why turns at source old old
+nothing_held why zero at source old some is = absurd (omega (arith, some))
+nothing_held why (suc k) at source old some is = rw is refl
+
+-- whatever is held may stay for want of memory or a limit
+pub stays : (why : Option Refused) (turns at : ℕ) (source : Endpoint) (old new : EngineState) → 0 < turns → StaysFor why → new ≡ old →
+    FollowEnds why turns at source old new
+stays why zero at source old new some for same = absurd (omega (arith, some))
+stays why (suc k) at source old new some for same = go (turn_from old source)
   where
-    go : (t : Option (Option HeardText)) → TurnGives t at source (FollowGives k at source) old old
-    go None = refl
-    go (Some None) = inr refl
-    go (Some (Some h)) = inr (inr refl)
+    go : (t : Option (Option HeardText)) → TurnEnds t why at source (FollowEnds why k at source) old new
+    go None = same
+    go (Some None) = inr (for, same)
+    go (Some (Some h)) = inr (inr (for, same))
 
 -- what spells no frame is taken out
 pub taken_out : (turns at : ℕ) (source : Endpoint) (old new : EngineState) → 0 < turns → turn_from old source ≡ Some None → new ≡ without_next old source →
-    FollowGives turns at source old new
+    FollowEnds None turns at source old new
 taken_out zero at source old new some is gone = absurd (omega (arith, some))
-taken_out (suc k) at source old new some is gone = rw is (inl gone)
+taken_out (suc k) at source old new some is gone = rw is (inl (refl, gone))
 
 -- and so is what breaks a rule
 pub refused : (turns at : ℕ) (source : Endpoint) (old mid new : EngineState) (h : HeardText) → 0 < turns → turn_from old source ≡ Some (Some h) →
-    HeardGives old h (Err refusals.BadFrame) mid → new ≡ without_next mid source → FollowGives turns at source old new
+    HeardGives old h (Err refusals.BadFrame) mid → new ≡ without_next mid source → FollowEnds None turns at source old new
 refused zero at source old mid new h some is gives gone = absurd (omega (arith, some))
 refused (suc k) at source old mid new h some is gives gone =
     let same : mid ≡ old = unheard_leaves (notice_in h.lesson old.payloads h.source.rank h.word) old mid h refusals.BadFrame gives in
     rw is (inr (inl (
+      refl,
       subst (λ (e : EngineState). HeardGives old h (Err refusals.BadFrame) e) same gives,
       gone ∙ ap (λ (e : EngineState). without_next e source) same,
     )))
 
 -- a turn that is taken in, and the rest
-pub taken : (turns at : ℕ) (source : Endpoint) (old mid new : EngineState) (h : HeardText) → 0 < turns → turn_from old source ≡ Some (Some h) →
-    HeardGives old h (Ok tt) mid → FollowGives (turns - 1) at source (acknowledged at source mid) new → FollowGives turns at source old new
-taken zero at source old mid new h some is gives rest = absurd (omega (arith, some))
-taken (suc k) at source old mid new h some is gives rest =
+pub taken : (why : Option Refused) (turns at : ℕ) (source : Endpoint) (old mid new : EngineState) (h : HeardText) → 0 < turns →
+    turn_from old source ≡ Some (Some h) → HeardGives old h (Ok tt) mid → FollowEnds why (turns - 1) at source (acknowledged at source mid) new →
+    FollowEnds why turns at source old new
+taken why zero at source old mid new h some is gives rest = absurd (omega (arith, some))
+taken why (suc k) at source old mid new h some is gives rest =
     let back : suc k - 1 ≡ k = omega arith in
-    rw is (inl (mid, gives, subst (λ (n : ℕ). FollowGives n at source (acknowledged at source mid) new) back rest))
+    rw is (inl (mid, gives, subst (λ (n : ℕ). FollowEnds why n at source (acknowledged at source mid) new) back rest))
+
+-- the reason is forgotten
+forget_turn : (why : Option Refused) (k at : ℕ) (source : Endpoint) (old new : EngineState) (t : Option (Option HeardText)) →
+    ((e : EngineState) → FollowEnds why k at source e new → FollowGives k at source e new) →
+    TurnEnds t why at source (FollowEnds why k at source) old new → TurnGives t at source (FollowGives k at source) old new
+forget_turn why k at source old new None rest ends = ends
+forget_turn why k at source old new (Some None) rest (inl ends) = inl ends.1
+forget_turn why k at source old new (Some None) rest (inr ends) = inr ends.1
+forget_turn why k at source old new (Some (Some h)) rest (inl ends) = inl (ends.0, ends.1, rest (acknowledged at source ends.0) ends.2)
+forget_turn why k at source old new (Some (Some h)) rest (inr (inl ends)) = inr (inl (ends.1, ends.2))
+forget_turn why k at source old new (Some (Some h)) rest (inr (inr ends)) = inr (inr ends.1)
+
+pub forget : (why : Option Refused) (turns at : ℕ) (source : Endpoint) (old new : EngineState) → FollowEnds why turns at source old new →
+    FollowGives turns at source old new
+forget why zero at source old new ends = ends.1
+forget why (suc k) at source old new ends =
+    forget_turn why k at source old new (turn_from old source) (λ (e : EngineState) rest. forget why k at source e new rest) ends
 
 -- ---- behind what is heard
 

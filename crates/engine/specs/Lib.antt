@@ -2,6 +2,7 @@ pub mod Answering
 pub mod Places
 pub mod Entering
 pub mod Datagrams
+pub mod Following
 pub mod Ticks
 pub use Rattle.datagram.specs.Spelling
 pub use Rattle.datagram.specs.Reading

@@ -1,6 +1,6 @@
 //! How payloads of collectives go in pieces: announcements and answers of them.
 
-ghost use Rattle.std.specs.Prelude.{◌≡◌, ◌≤◌, ◌<◌, ◌+◌, ◌*◌, ℕ, [], ◌∷◌, All, List, true, length, map, is_some, IfErr, IfOk, None, Ok, OnErr, OnOk, Option, Some};
+ghost use Rattle.std.specs.Prelude.{◌≡◌, ◌≤◌, ◌<◌, [], ◌∷◌, All, List, true, length, map, is_some, IfErr, IfOk, None, Ok, OnErr, OnOk, Option, Some};
 ghost use Rattle.collective_steps.specs.declared.step.Ending.{Ending};
 ghost use Rattle.collective_transfers.specs.State.{after_answer, announced_to};
 ghost use Rattle.datagram.specs.Spelling.{clear_text, request_text};
@@ -11,7 +11,7 @@ ghost use Rattle.rank_core.specs.Hearing.{after_news};
 ghost use Rattle.rendezvous.specs.State.{with_announced};
 ghost use Rattle.sessions.specs.Windows.{StaysWithin};
 ghost use Rattle.sessions.specs.Heard.{heard_text, CanHear};
-ghost use Rattle.sessions.specs.Events.{AreFor, CanSend, Sending, after_event, event_limit, most_answers, sendings};
+ghost use Rattle.sessions.specs.Events.{AreFor, CanSend, Sending, after_event, event_limit, sendings};
 ghost use Rattle.vocabulary.specs.Limits.{send_limit};
 ghost use Rattle.engine_parts.specs.EngineState.{or_before};
 ghost use Rattle.engine_parts.specs.Frames.{outgoing_of};

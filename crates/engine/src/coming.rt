@@ -1,13 +1,13 @@
 //! How payloads of collectives come in pieces.
 
-ghost use Rattle.std.specs.Prelude.{◌≡◌, ◌≤◌, ◌<◌, ◌+◌, ◌*◌, [], true, false, length, IfErr, IfOk, None, Ok, OnErr, OnOk, Option, Some};
+ghost use Rattle.std.specs.Prelude.{◌≡◌, ◌≤◌, ◌<◌, [], true, false, length, IfErr, IfOk, None, Ok, OnErr, OnOk, Option, Some};
 ghost use Rattle.collective_steps.specs.declared.step.Ending.{Ending};
 ghost use Rattle.collective_transfers.specs.State.{after_data, after_return, is_due};
 ghost use Rattle.datagram.specs.Spelling.{data_text};
 ghost use Rattle.rank_calls.specs.Refusals.{IsRefusal};
 ghost use Rattle.sessions.specs.Windows.{StaysWithin};
 ghost use Rattle.sessions.specs.Heard.{heard_text, CanHear};
-ghost use Rattle.sessions.specs.Events.{after_event, event_limit, most_answers};
+ghost use Rattle.sessions.specs.Events.{after_event, event_limit};
 ghost use Rattle.engine_parts.specs.EngineState.{or_before};
 ghost use Rattle.engine_parts.specs.Refusals.{fault_of_sessions};
 ghost use Rattle.engine_parts.specs.Steps.{engine_held};

@@ -4,7 +4,7 @@
 //! A delivery has one acknowledgement, which stands first in what goes out. It is spelled before a turn is taken, since nothing
 //! may fail behind one, and says then what the turn has reached.
 
-ghost use Rattle.std.specs.Prelude.{◌≡◌, ◌≤◌, ◌<◌, ◌+◌, ◌*◌, length, Err, IfErr, IfSome, OnOk, Some, slice_set, suc};
+ghost use Rattle.std.specs.Prelude.{◌≡◌, ◌≤◌, ◌<◌, ◌+◌, ◌*◌, length, Err, IfErr, IfOk, OnOk, Some, slice_set, suc};
 ghost use Rattle.reliable_link.specs.ReceiverState.{advanced};
 ghost use Rattle.sessions.specs.Arranging.{IsArranged};
 ghost use Rattle.sessions.specs.Events.{taught_known};
@@ -13,7 +13,8 @@ ghost use Rattle.sessions.specs.Heard.{heard_text, word_text, CanHear, WordFits}
 ghost use Rattle.sessions.specs.Peers.{peer_at};
 ghost use Rattle.sessions.specs.Spellings.{ack_of};
 ghost use Rattle.sessions.specs.Windows.{room};
-ghost use Rattle.engine.specs.Datagrams.{FollowGives, HasFollowed, HeardGives, IsTakenIn, without_next, woken_engine};
+ghost use Rattle.engine.specs.Following.{FollowEnds, StaysFor};
+ghost use Rattle.engine.specs.Datagrams.{HasFollowed, HeardGives, IsTakenIn, without_next, woken_engine};
 
 use crate::engine::Engine;
 use datagram::Bytes;
@@ -25,36 +26,43 @@ use vocabulary::Endpoint;
 const MOST_TURNS: u32 = 64;
 
 impl Engine {
-    /// The bytes of the next frame of a rank, where they are held and may have one more owner.
-    fn next_held(&self, rank: u16) -> Option<Bytes>
+    /// The bytes of the next frame of a rank, where they are held; or they have too many owners (14).
+    fn next_held(&self, rank: u16) -> Result<Option<Bytes>, Refused>
         requires { rank < self.now.sessions.place.size }
-        ensures bytes { IfSome result (λ bytes. Some bytes ≡ ready_from self.now.sessions rank) }
+        ensures ok { IfOk result (λ bytes. bytes ≡ ready_from self.now.sessions rank) }
+        ensures err { IfErr result (λ e. e ≡ Refused.OutOfMemory) }
         ensures peers { length self.now.sessions.peers ≡ self.now.sessions.place.size }
     {
         // The place shows that there is a session for each rank.
         let _place = self.sessions.place();
         match self.sessions.ready(rank) {
-            Ok(bytes) => bytes,
-            Err(_) => None,
+            Ok(bytes) => Ok(bytes),
+            Err(_) => Err(Refused::OutOfMemory),
         }
     }
 
-    /// The acknowledgement that says that what the next frame of an endpoint says in these bytes was handed up; none where its
-    /// number is the last one, or there is no memory.
-    fn spell_turn(&mut self, source: Endpoint, bytes: &Bytes, heard: Heard<'_>) -> Option<Bytes>
+    /// The acknowledgement that says that what the next frame of an endpoint says in these bytes was handed up. Refused is 13
+    /// where its number is the last one, and 14.
+    fn spell_turn(
+        &mut self,
+        source: Endpoint,
+        bytes: &Bytes,
+        heard: Heard<'_>,
+    ) -> Result<Bytes, Refused>
         requires there { source.rank < self.old.sessions.place.size }
         requires turn { Some (heard_text heard) ≡ turn_of source bytes.now }
-        ensures ack { IfSome result (λ ack. ack ≡ ack_of self.old.sessions.place source (advanced (peer_at self.old.sessions.peers source.rank).receiver)) }
+        ensures ack { IfOk result (λ ack. ack ≡ ack_of self.old.sessions.place source (advanced (peer_at self.old.sessions.peers source.rank).receiver)) }
+        ensures err { IfErr result (λ e. StaysFor (Some e)) }
         ensures kept { self.new ≡ self.old }
     {
         // The place shows that there is a session for each rank.
         let _place = self.sessions.place();
         if self.sessions.limit_of(Some(heard), &[]).is_some() {
-            return None;
+            return Err(Refused::Limit);
         }
         match self.sessions.spell_behind(source) {
-            Ok(ack) => Some(ack),
-            Err(_) => None,
+            Ok(ack) => Ok(ack),
+            Err(_) => Err(Refused::OutOfMemory),
         }
     }
 
@@ -76,11 +84,11 @@ impl Engine {
 
     /// Takes in the frames of an endpoint that were held behind the one that was handed up, so many at most, and the acknowledgement
     /// at this place says so. One that breaks a rule isn't held any more, and one that meets a limit, or for which there is no
-    /// memory, stays held; nothing follows either.
-    fn follow(&mut self, at: usize, source: Endpoint, turns: u32)
+    /// memory, stays held; nothing follows either. Answered is why one stays held (13, 14), if one does.
+    fn follow(&mut self, at: usize, source: Endpoint, turns: u32) -> Option<Refused>
         requires there { source.rank < self.old.sessions.place.size }
         requires at { at < length self.old.sessions.out }
-        ensures exact { FollowGives turns at source self.old self.new }
+        ensures exact { FollowEnds result turns at source self.old self.new }
         ensures within { length self.new.sessions.out + room self.new.sessions.peers ≤ length self.old.sessions.out + room self.old.sessions.peers }
         ensures longer { length self.old.sessions.out ≤ length self.new.sessions.out }
         ensures known { self.new.sessions.known ≡ self.old.sessions.known }
@@ -88,25 +96,34 @@ impl Engine {
         ensures core_placed { self.new.core.place ≡ self.old.core.place }
     {
         if turns == 0 {
-            return;
+            return None;
         }
-        let Some(bytes) = self.next_held(source.rank) else {
-            return;
+        let held = match self.next_held(source.rank) {
+            Ok(held) => held,
+            Err(refused) => return Some(refused),
+        };
+        let Some(bytes) = held else {
+            return None;
         };
         let Some(heard) = turn_in(source, &bytes) else {
             self.discard(source);
-            return;
+            return None;
         };
-        let Some(ack) = self.spell_turn(source, &bytes, heard) else {
-            return;
+        let ack = match self.spell_turn(source, &bytes, heard) {
+            Ok(ack) => ack,
+            Err(refused) => return Some(refused),
         };
         match self.take_heard(heard) {
             Ok(()) => {
                 self.replace(at, source.rank, ack);
-                self.follow(at, source, turns - 1);
+                self.follow(at, source, turns - 1)
             }
-            Err(Refused::BadFrame) => self.discard(source),
-            Err(_) => {}
+            Err(Refused::BadFrame) => {
+                self.discard(source);
+                None
+            }
+            Err(Refused::Limit) => Some(Refused::Limit),
+            Err(_) => Some(Refused::OutOfMemory),
         }
     }
 
@@ -131,7 +148,7 @@ impl Engine {
         ensures placed { self.new.sessions.place ≡ self.old.sessions.place }
         ensures core_placed { self.new.core.place ≡ self.old.core.place }
     {
-        self.follow(at, source, MOST_TURNS);
+        let _why = self.follow(at, source, MOST_TURNS);
         self.arrange(at);
     }
 

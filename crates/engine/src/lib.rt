@@ -10,6 +10,9 @@
 //! through all of them: each finds the rule or limit that it breaks, then the core and the communicators make room and name
 //! the frames that they call for, then the sessions carry it out and send those frames, or find no memory, and then the
 //! others do their part, which cannot fail.
+//!
+//! A datagram may bring more than its own frame: frames that were held behind it follow, each through all parts as one that
+//! comes then, and one acknowledgement tells of all. The blocked call is answered once, at the end of that.
 #![tactic(auto)]
 
 mod announcing;

@@ -1,6 +1,6 @@
 //! How a rank takes in messages of collectives, and lessons that end one.
 
-ghost use Rattle.std.specs.Prelude.{◌≡◌, ◌≤◌, ◌+◌, ◌*◌, All, length, IfErr, IfOk, None, OnErr, OnOk, Option, Some};
+ghost use Rattle.std.specs.Prelude.{◌≡◌, ◌≤◌, All, length, IfErr, IfOk, None, OnErr, OnOk, Option, Some};
 ghost use Rattle.collective_notes.specs.Messages.{IsFitting};
 ghost use Rattle.collectives.specs.Calls.{met};
 ghost use Rattle.collective_steps.specs.declared.step.Ending.{Ending};
@@ -8,7 +8,6 @@ ghost use Rattle.payload.specs.Reading.{payload_of};
 ghost use Rattle.payload.specs.Spelling.{payload_text};
 ghost use Rattle.sessions.specs.Windows.{StaysWithin};
 ghost use Rattle.sessions.specs.Heard.{CanHear, heard_text};
-ghost use Rattle.sessions.specs.Events.{most_answers};
 ghost use Rattle.engine.specs.Datagrams.{IsNoticed, IsTold, WhyUnnoticed, lesson_in, numbers_met, payloads_met, received};
 ghost use Rattle.engine_parts.specs.EngineState.{or_before};
 ghost use Rattle.engine_parts.specs.Frames.{step_limit};
