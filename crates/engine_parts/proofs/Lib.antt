@@ -3,3 +3,4 @@ pub mod Clear
 pub mod Asks
 pub mod Answering
 pub mod Stepping
+pub mod Ordered

@@ -1,6 +1,6 @@
 //! The frames of a step of a collective.
 
-ghost use Rattle.std.specs.Prelude.{◌≡◌, ◌≤◌, ◌++◌, ◌==◌, [], ◌∷◌, false, All, IfErr, IfOk, None, Some, OnErr, OnOk, filter, length, map};
+ghost use Rattle.std.specs.Prelude.{◌≡◌, ◌≤◌, ◌++◌, ◌==◌, [], ◌∷◌, false, All, IfErr, IfOk, IfSome, None, Some, OnErr, OnOk, filter, length, map};
 ghost use Rattle.collective_notes.specs.Messages.{IsFitting, says};
 ghost use Rattle.payload.specs.Spelling.{spelling};
 ghost use Rattle.sessions.specs.Events.{CanSend, after_event, event_limit, sending_text, sendings};
@@ -232,6 +232,38 @@ fn frame_of(message: &Written) -> Outgoing<'_>
     }
 }
 
+/// Puts the frame of a message behind these.
+fn put_frame<'a>(message: &'a Written, frames: &mut Vec<Outgoing<'a>>) -> Result<(), Refused>
+    ensures ok { OnOk result (sendings frames.new.items ≡ sendings frames.old.items ++ written message.now ∷ []) }
+    ensures err { IfErr result (λ e. e ≡ Refused.OutOfMemory) }
+{
+    match frames.push(frame_of(message)) {
+        Ok(()) => Ok(()),
+        Err(_) => Err(Refused::OutOfMemory),
+    }
+}
+
+/// The frames of messages that stand in the order of the ranks that they go to, each of these so many; nothing where they don't.
+fn frames_in_order<'a>(
+    alloc: Global,
+    size: u16,
+    messages: &'a [Written],
+) -> Result<Option<Vec<Outgoing<'a>>>, Refused>
+    ensures ok { IfOk result (λ ordered. IfSome ordered (λ frames. sendings frames.items ≡ by_rank size (map written messages.now))) }
+    ensures err { IfErr result (λ e. e ≡ Refused.OutOfMemory) }
+{
+    let mut frames = Vec::new(alloc);
+    let mut last = 0;
+    for message in messages {
+        if message.target < last || message.target >= size {
+            return Ok(None);
+        }
+        last = message.target;
+        put_frame(message, &mut frames)?;
+    }
+    Ok(Some(frames))
+}
+
 /// Puts the frame of a message behind these, if it goes to this rank.
 fn add_if_for<'a>(
     rank: u16,
@@ -244,10 +276,7 @@ fn add_if_for<'a>(
     if message.target != rank {
         return Ok(());
     }
-    match frames.push(frame_of(message)) {
-        Ok(()) => Ok(()),
-        Err(_) => Err(Refused::OutOfMemory),
-    }
+    put_frame(message, frames)
 }
 
 /// Puts the frames of those messages behind these that go to this rank.
@@ -265,9 +294,9 @@ fn add_for<'a>(
     Ok(())
 }
 
-/// The frames of messages, in the order of the ranks that they go to.
+/// The frames of messages that go to the first rank, then those that go to the second, and so on.
 #[tactic(auto, using(crate::proofs::Stepping::by_rank_more))]
-fn frames_by_rank<'a>(
+fn frames_rank_for_rank<'a>(
     alloc: Global,
     size: u16,
     messages: &'a [Written],
@@ -280,6 +309,22 @@ fn frames_by_rank<'a>(
         add_for(rank, messages, &mut frames)?;
     }
     Ok(frames)
+}
+
+/// The frames of messages, in the order of the ranks that they go to. Mostly they stand in it.
+fn frames_by_rank<'a>(
+    alloc: Global,
+    size: u16,
+    messages: &'a [Written],
+) -> Result<Vec<Outgoing<'a>>, Refused>
+    ensures ok { IfOk result (λ frames. sendings frames.items ≡ by_rank size (map written messages.now)) }
+    ensures err { IfErr result (λ e. e ≡ Refused.OutOfMemory) }
+{
+    match frames_in_order(alloc, size, messages) {
+        Ok(Some(frames)) => Ok(frames),
+        Ok(None) => frames_rank_for_rank(alloc, size, messages),
+        Err(refused) => Err(refused),
+    }
 }
 
 /// The sessions take in what was heard, if anything was, and send messages that were written out, in the order of the ranks.
