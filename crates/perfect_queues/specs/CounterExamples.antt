@@ -6,6 +6,7 @@ use Rattle.perfect_queues.specs.Calls.{Reply, Isend, Irecv, Wait, Started, Done,
 use Rattle.perfect_queues.specs.Completions.{One, ForOne}
 use Rattle.perfect_queues.specs.Events.{Entry, Called, Restarted}
 use Rattle.perfect_queues.specs.Example.{rank_0, rank_1, holds, numbers, three_from_0}
+use Rattle.vocabulary.specs.declared.mode.Mode.TheVariants.{Standard}
 use Rattle.perfect_queues.specs.Outcomes.{Outcome, Received, Replaced}
 use Rattle.perfect_queues.specs.Refusals.{world}
 use Rattle.perfect_queues.specs.Runs.{IsHistory}
@@ -14,7 +15,7 @@ use Rattle.vocabulary.specs.declared.envelope.Source.TheVariants.{Rank}
 
 -- rank 0 sends these elements to rank 1 with tag 7, and its request has this serial
 abbrev pub sends : (serial : ℕ) → List ℕ → Entry
-sends k values = Called rank_0 (Isend world (Rank 1) (Some 7) (numbers values)) (Started k)
+sends k values = Called rank_0 (Isend Standard world (Rank 1) (Some 7) (numbers values)) (Started k)
 
 -- rank 1 starts a receive of three elements from rank 0 with tag 7, whose request has this serial
 abbrev pub receives : (serial : ℕ) → Entry

@@ -5,6 +5,7 @@ use Rattle.perfect_queues.specs.Buffers.{Handed, whole}
 use Rattle.perfect_queues.specs.Calls.{Isend, Irecv, Wait, Started, Done}
 use Rattle.perfect_queues.specs.Completions.{One, ForOne}
 use Rattle.perfect_queues.specs.Events.{Entry, Called}
+use Rattle.vocabulary.specs.declared.mode.Mode.TheVariants.{Standard}
 use Rattle.perfect_queues.specs.Outcomes.{Received}
 use Rattle.perfect_queues.specs.Receives.{Receive}
 use Rattle.perfect_queues.specs.Refusals.{world}
@@ -42,7 +43,7 @@ three_from_0 =
 -- what is seen: each call with its reply; the wait answers source 0, tag 7, count 3 and the data
 abbrev pub received_once : List Entry
 received_once =
-    Called rank_0 (Isend world (Rank 1) (Some 7) (numbers (1 ∷ 2 ∷ 3 ∷ []))) (Started 0) ∷
+    Called rank_0 (Isend Standard world (Rank 1) (Some 7) (numbers (1 ∷ 2 ∷ 3 ∷ []))) (Started 0) ∷
     Called rank_1 (Irecv three_from_0) (Started 0) ∷
     Called rank_1 (Wait (One (Some 0)))
     (Done (ForOne (Received (record { source = Rank 0; tag = Some 7; count = 3 }) (holds (1 ∷ 2 ∷ 3 ∷ []))))) ∷ []
@@ -74,7 +75,7 @@ blocks_from_0 =
 -- what is seen: the first and the last element come, and take the first two of three places
 abbrev pub received_through_layouts : List Entry
 received_through_layouts =
-    Called rank_0 (Isend world (Rank 1) (Some 7) first_and_last) (Started 0) ∷
+    Called rank_0 (Isend Standard world (Rank 1) (Some 7) first_and_last) (Started 0) ∷
     Called rank_1 (Irecv blocks_from_0) (Started 0) ∷
     Called rank_1 (Wait (One (Some 0)))
     (Done (ForOne (Received (record { source = Rank 0; tag = Some 7; count = 2 }) (holds (0 ∷ 1 ∷ 4 ∷ 0 ∷ 0 ∷ 0 ∷ []))))) ∷ []

@@ -1,18 +1,20 @@
-use Rattle.std.proofs.Common.{◌≡◌, ℕ, suc, ◌≤◌, ◌<◌, ◌≢◌, Bool, true, false, ◌&&◌, List, [], ◌∷◌, ◌++◌, length, Option, Some, None, if◌then◌else◌, ◌==◌, slice_get, refl, sym, ap, ap₂, ◌∙◌, subst, arith, append_assoc, append-nil}
+use Rattle.std.proofs.Common.{◌≡◌, ℕ, suc, ◌≤◌, ◌<◌, ◌≢◌, Bool, true, false, ◌&&◌, List, [], ◌∷◌, ◌++◌, length, Option, Some, None, if◌then◌else◌, ◌==◌, slice_get, refl, sym, ap, ap₂, ◌∙◌, subst, arith, append_assoc, append-nil, ⊎_elim}
 use Rattle.std.specs.List.{AllByRecursion}
 use Rattle.vocabulary.specs.declared.envelope.Source.TheVariants.{Any, Null, Rank}
 use Rattle.perfect_queues.specs.Buffers.{Handed, data_of}
-use Rattle.perfect_queues.specs.Calls.{Call, Cancel, Irecv, Isend, Reply, Test, Wait, after_call, after_settling, message_sent, message_to, ready_answer, receiver, send}
+use Rattle.perfect_queues.specs.Calls.{Call, Cancel, Improbe, Iprobe, Irecv, Isend, Mrecv, Reply, Test, Wait, after_call, after_settling, message_sent, message_to, ready_answer, receiver, send}
 use Rattle.perfect_queues.specs.Completions.{Answer}
 use Rattle.vocabulary.specs.Endpoints.{is_same}
 use Rattle.perfect_queues.specs.Events.{At, Entry, Event, IsEvent, Restart, Restarted, after_event, call_and_reply, call_fault, entries, start, told}
 use Rattle.perfect_queues.specs.Messages.{Message}
+use Rattle.vocabulary.specs.declared.mode.Mode.{Mode}
 use Rattle.perfect_queues.specs.Runs.{IsRun, after_run, seen}
 use Rattle.perfect_queues.specs.State.{Local, State, opening, put, with_local, with_message, with_number}
-use Rattle.perfect_queues.specs.Steps.{AllAllowed, AreSteps, Finish, FinishSend, IsMatched, Learn, Match, Possible, Step, after_step, after_steps, step_at, steps_at, learns}
+use Rattle.perfect_queues.specs.Steps.{AllAllowed, AreSteps, Finish, FinishSend, IsMatched, Learn, Match, Possible, See, Step, TakeOut, after_step, after_steps, step_at, steps_at, learns}
 use Rattle.vocabulary.specs.declared.endpoint.Endpoint.{Endpoint}
 use Rattle.perfect_queues.proofs.EndpointLemmas.{same_eq, same_refl}
-use Rattle.proof_pure_network.specs.Contract.{Asked, Came, GivenOut, Heard, Input, IsBy, Work, held_on, kept, linked, taken_in}
+use Rattle.proof_pure_network.specs.Contract.{AreBy, Asked, Came, GivenOut, Heard, Input, IsBy, IsReceived, Work, held_on, kept, linked, taken_in}
+use Rattle.perfect_queues.specs.Requests.{Request, TakenOut}
 use Rattle.proof_pure_network.specs.Frames.{Cts, Data, Eager, Frame, Rts, Values, frame_of, message}
 use Rattle.proof_pure_network.specs.Links.{Link, accept_all, handed_on}
 use Rattle.proof_pure_network.proofs.Links.{LinksFit, accept_fit, coming, coming_else, coming_first, coming_still, handed_fit, put_more, send_more, silent, silent_fit}
@@ -39,14 +41,17 @@ pub record Midway (V : Values) (s : State) (e : Endpoint) (call : Option Call) (
 
 start_current : (s : State) (e : Endpoint) (c : Option Call) → (start s e c).current ≡ s.current
 start_current s e None = refl
-start_current s e (Some (Isend c Any tag from)) = refl
-start_current s e (Some (Isend c Null tag from)) = refl
-start_current s e (Some (Isend c (Rank to) None from)) = refl
-start_current s e (Some (Isend c (Rank to) (Some tag) from)) = refl
+start_current s e (Some (Isend mode c Any tag from)) = refl
+start_current s e (Some (Isend mode c Null tag from)) = refl
+start_current s e (Some (Isend mode c (Rank to) None from)) = refl
+start_current s e (Some (Isend mode c (Rank to) (Some tag) from)) = refl
 start_current s e (Some (Irecv p)) = refl
 start_current s e (Some (Wait a)) = refl
 start_current s e (Some (Test r)) = refl
 start_current s e (Some (Cancel r)) = refl
+start_current s e (Some (Iprobe q)) = refl
+start_current s e (Some (Improbe q)) = refl
+start_current s e (Some (Mrecv k into)) = refl
 
 -- a word comes from an endpoint that was there
 abbrev pub IsFromBelow : (ℕ → ℕ) → Input → Type 0
@@ -59,18 +64,43 @@ abbrev pub Answers : State → Endpoint → Input → Type 0
 Answers s e input = (a : Endpoint) (k : ℕ) (wanted : Bool) → input ≡ Came a (Cts k wanted) → (is_same a e ≡ false) × IsMatched s e k a
 
 answers_after : (s : State) (e : Endpoint) (input : Input) (l : Local) → Answers s e input → Answers (put s e l) e input
-answers_after s e input l ans a k w is = (p.0, λ c. subst (λ (b : Bool). AllByRecursion (λ m. m.request ≢ Some k) ((if b then l else s.at a).queue e c)) (sym p.0) (p.1 c))
+answers_after s e input l ans a k w is = (
+  p.0,
+  record {
+    not_pending = λ c. subst (λ (b : Bool). AllByRecursion (λ m. m.request ≢ Some k) ((if b then l else s.at a).queue e c)) (sym p.0) (p.1.not_pending c);
+    not_taken_out = subst (λ (b : Bool). (j : ℕ) (g : Option (List ℕ)) (m : Message) → slice_get (if b then l else s.at a).requests j ≡ Some (TakenOut g (Some m)) → m.sender ≡ e → m.request ≢ Some k) (sym p.0) p.1.not_taken_out;
+  },
+)
   where
     p : (is_same a e ≡ false) × IsMatched s e k a
     p = ans a k w is
 
-possible : (s : State) (e : Endpoint) (rest : Endpoint → ℕ → List Message) (input : Input) (x : Step) → IsFromBelow s.current input → Answers s e input → IsBy input x → Possible s e (widened rest x)
-possible s e rest input (Match k p earlier m later) le ans h = tt
-possible s e rest input (Finish k p m) le ans h = tt
-possible s e rest input (FinishSend k d) le ans h = (ans d k h.0 h.1).1
-possible s e rest (Asked c) (Learn r i) le ans h = absurd h
-possible s e rest (Heard a) (Learn r i) le ans h = rw (h.0, h.1) le
-possible s e rest (Came a f) (Learn r i) le ans h = absurd h
+-- what is received among what has arrived is received, where nothing more of it is to come
+received_more : (s : State) (e : Endpoint) (l : Local) (rest : Endpoint → ℕ → List Message) (k : ℕ) → Sim (s.at e) l rest → ((c : ℕ) → rest e c ≡ []) → IsReceived l e k → IsMatched s e k e
+received_more s e l rest k sim none r =
+    record {
+      not_pending = λ c. subst (λ (ms : List Message). AllByRecursion (λ m. m.request ≢ Some k) ms) (sym (sim.queue e c ∙ (ap (λ (ms : List Message). l.queue e c ++ ms) (nothing c) ∙ append-nil (l.queue e c)))) (r.not_pending c);
+      not_taken_out = λ j g m h from. r.not_taken_out j g m (ap (λ (rs : List Request). slice_get rs j) (sym sim.requests) ∙ h) from;
+    }
+  where
+    nothing : (c : ℕ) → yet l.known rest e c ≡ []
+    nothing c = go (is_stale l.known e)
+      where
+        go : (t : Bool) → (if t then [] else rest e c) ≡ []
+        go true = refl
+        go false = none c
+
+possible : (s : State) (e : Endpoint) (l : Local) (rest : Endpoint → ℕ → List Message) (input : Input) (x : Step) → Sim (s.at e) l rest → ((c : ℕ) → rest e c ≡ []) → IsFromBelow s.current input → Answers s e input → IsBy e input l x →
+    Possible s e (widened (yet l.known rest) x)
+possible s e l rest input (Match k p earlier m later) sim none le ans h = tt
+possible s e l rest input (Finish k p m) sim none le ans h = tt
+possible s e l rest input (FinishSend k d) sim none le ans h =
+    ⊎_elim (λ a. (ans d k a.0 a.1).1) (λ a. subst (λ (x : Endpoint). IsMatched s e k x) (sym a.0) (received_more s e l rest k sim none a.1)) h
+possible s e l rest (Asked c) (Learn r i) sim none le ans h = absurd h
+possible s e l rest (Heard a) (Learn r i) sim none le ans h = rw (h.0, h.1) le
+possible s e l rest (Came a f) (Learn r i) sim none le ans h = absurd h
+possible s e l rest input (See q earlier m later) sim none le ans h = tt
+possible s e l rest input (TakeOut q earlier m later) sim none le ans h = tt
 
 -- steps among what has arrived are steps of the machine
 pub record Moved (s : State) (e : Endpoint) (l : Local) (rest : Endpoint → ℕ → List Message) (taught : List (ℕ × ℕ)) : Type 0 where
@@ -86,11 +116,13 @@ taught_more : (rest : Endpoint → ℕ → List Message) (x : Step) (ys xs : Lis
 taught_more rest (Match k p earlier m later) ys xs h = h
 taught_more rest (Finish k p m) ys xs h = h
 taught_more rest (FinishSend k d) ys xs h = h
+taught_more rest (See q earlier m later) ys xs h = h
+taught_more rest (TakeOut q earlier m later) ys xs h = h
 taught_more rest (Learn r i) ys xs h = ap (λ (ls : List (ℕ × ℕ)). (r, i) ∷ ls) h
 
-pub move : (s : State) (e : Endpoint) (rest : Endpoint → ℕ → List Message) (l : Local) (input : Input) (xs : List Step) → Sim (s.at e) l rest → AllAllowed l xs → IsFromBelow s.current input → Answers s e input → AllByRecursion (IsBy input) xs → Moved s e (after_steps l xs) rest (learns xs)
-move s e rest l input [] sim a le ans by = record { steps = []; taken = tt; learns_are = refl; here = sim; others = λ x h. refl; now = refl }
-move s e rest l input (x ∷ xs) sim a le ans by = more (move s1 e rest (after_step l x) input xs sim1 a.1 le (answers_after s e input (after_step (s.at e) y) ans) by.1)
+pub move : (s : State) (e : Endpoint) (rest : Endpoint → ℕ → List Message) (l : Local) (input : Input) (xs : List Step) → Sim (s.at e) l rest → AllAllowed l xs → IsFromBelow s.current input → ((c : ℕ) → rest e c ≡ []) → Answers s e input → AreBy e input l xs → Moved s e (after_steps l xs) rest (learns xs)
+move s e rest l input [] sim a le none ans by = record { steps = []; taken = tt; learns_are = refl; here = sim; others = λ x h. refl; now = refl }
+move s e rest l input (x ∷ xs) sim a le none ans by = more (move s1 e rest (after_step l x) input xs sim1 a.1 le none (answers_after s e input (after_step (s.at e) y) ans) by.1)
   where
     y : Step
     y = widened (yet l.known rest) x
@@ -105,7 +137,7 @@ move s e rest l input (x ∷ xs) sim a le ans by = more (move s1 e rest (after_s
     more m = record {
       steps = y ∷ m.steps;
       learns_are = taught_more (yet l.known rest) x m.steps xs m.learns_are;
-      taken = (allowed_more (s.at e) l rest x sim a.0, possible s e (yet l.known rest) input x le ans by.0, m.taken);
+      taken = (allowed_more (s.at e) l rest x sim a.0, possible s e l rest input x sim none le ans by.0, m.taken);
       here = m.here;
       others = λ z h. m.others z h ∙ rw h refl;
       now = m.now;
@@ -141,7 +173,7 @@ worked V s locals links cur e input new out now le ans mid fit w =
     here = subst (λ (b : Bool). Sim (s.at e) (if b then taken_in V e (locals e) input else locals e) rest) (same_refl e) (mid e)
 
     m : Moved s e (after_steps (taken_in V e (locals e) input) w.steps) rest (learns w.steps)
-    m = move s e rest (taken_in V e (locals e) input) input w.steps here w.allowed le ans w.by
+    m = move s e rest (taken_in V e (locals e) input) input w.steps here w.allowed le (λ c. fit.own e c) ans w.by
 
     last : Sim ((steps_at s e m.steps).at e) new rest
     last = subst (λ (l : Local). Sim ((steps_at s e m.steps).at e) l rest) (sym w.leaves) m.here
@@ -176,18 +208,18 @@ mid_send V s locals links cur e g l d m from live is j here x =
     subst (λ (y : Endpoint). Sim g l (coming V (λ z. links z y)) → Sim ((send (put s y g) (Some (d, m))).at x) (with_local locals y (kept y l (Some (d, m))) x) (coming V (λ z. accept_all links y (linked y (Some (d, m))) z x))) from
     (λ h. send_more V s.current s.at locals links g l d m (subst (λ (y : Endpoint). is_stale (locals d).known y ≡ false) (sym from) live) is j.fit j.each h x) here
 
-mid_isend : (V : Values) (s : State) (locals : Endpoint → Local) (links : Endpoint → Endpoint → Link) (cur : ℕ → ℕ) (e : Endpoint) (c to tag : ℕ) (from : Handed) → IsHeard locals e → IsSpelled V (message_sent e (locals e) (Isend c (Rank to) (Some tag) from)) → Joined V s locals links cur →
-    Mid V s locals (accept_all links e (linked e (message_sent e (locals e) (Isend c (Rank to) (Some tag) from)))) e (Isend c (Rank to) (Some tag) from)
-mid_isend V s locals links cur e c to tag from heard is j x =
+mid_isend : (V : Values) (s : State) (locals : Endpoint → Local) (links : Endpoint → Endpoint → Link) (cur : ℕ → ℕ) (e : Endpoint) (mode : Mode) (c to tag : ℕ) (from : Handed) → IsHeard locals e → IsSpelled V (message_sent e (locals e) (Isend mode c (Rank to) (Some tag) from)) → Joined V s locals links cur →
+    Mid V s locals (accept_all links e (linked e (message_sent e (locals e) (Isend mode c (Rank to) (Some tag) from)))) e (Isend mode c (Rank to) (Some tag) from)
+mid_isend V s locals links cur e mode c to tag from heard is j x =
     subst (λ (sm : Option (Endpoint × Message)). Sim ((send (put s e (after_call e (s.at e) call)) sm).at x) (with_local locals e (taken_in V e (locals e) (Asked call)) x) (coming V (λ y. accept_all links e (linked e (message_sent e (locals e) call)) y x)))
     (sym (sent_same (s.at e) (locals e) (coming V (λ y. links y e)) e call (j.each e)))
     (mid_send V s locals links cur e (after_call e (s.at e) call) (after_call e (locals e) call) dm.0 dm.1 refl (heard to) is j (started_more e (s.at e) (locals e) (coming V (λ y. links y e)) call (j.each e)) x)
   where
     call : Call
-    call = Isend c (Rank to) (Some tag) from
+    call = Isend mode c (Rank to) (Some tag) from
 
     dm : Endpoint × Message
-    dm = message_to e (receiver (locals e).known to) c tag from.buffer.basic (data_of from) (length (locals e).requests)
+    dm = message_to mode e (receiver (locals e).known to) c tag from.buffer.basic (data_of from) (length (locals e).requests)
 
 linked_fit : (V : Values) (links : Endpoint → Endpoint → Link) (e : Endpoint) (sm : Option (Endpoint × Message)) → LinksFit V links → LinksFit V (accept_all links e (linked e sm))
 linked_fit V links e None fit = fit
@@ -202,22 +234,22 @@ ask_worked V s locals links cur e c new out j heard is w = go c is w w.gives
     effect c w mid fit = worked V (start s e (Some c)) locals (accept_all links e out) cur e (Asked c) new out (start_current s e (Some c) ∙ j.now) tt (λ a k b q. absurd (grind arith)) mid fit w
 
     go : (c : Call) → IsSpelled V (message_sent e (locals e) c) → (w : Work V e (locals e) (Asked c) new out) → GivenOut e (locals e) (Asked c) out → Worked V (start s e (Some c)) e (with_local locals e new) (accept_all links e out) cur (learns w.steps)
-    go (Isend c Any tag from) is w g =
-        effect (Isend c Any tag from) w
-        (subst (λ (o : List (Endpoint × Frame)). Mid V s locals (accept_all links e o) e (Isend c Any tag from)) (sym g) (mid_none V s locals links cur e (Isend c Any tag from) j))
+    go (Isend mode c Any tag from) is w g =
+        effect (Isend mode c Any tag from) w
+        (subst (λ (o : List (Endpoint × Frame)). Mid V s locals (accept_all links e o) e (Isend mode c Any tag from)) (sym g) (mid_none V s locals links cur e (Isend mode c Any tag from) j))
         (subst (λ (o : List (Endpoint × Frame)). LinksFit V (accept_all links e o)) (sym g) j.fit)
-    go (Isend c Null tag from) is w g =
-        effect (Isend c Null tag from) w
-        (subst (λ (o : List (Endpoint × Frame)). Mid V s locals (accept_all links e o) e (Isend c Null tag from)) (sym g) (mid_none V s locals links cur e (Isend c Null tag from) j))
+    go (Isend mode c Null tag from) is w g =
+        effect (Isend mode c Null tag from) w
+        (subst (λ (o : List (Endpoint × Frame)). Mid V s locals (accept_all links e o) e (Isend mode c Null tag from)) (sym g) (mid_none V s locals links cur e (Isend mode c Null tag from) j))
         (subst (λ (o : List (Endpoint × Frame)). LinksFit V (accept_all links e o)) (sym g) j.fit)
-    go (Isend c (Rank to) None from) is w g =
-        effect (Isend c (Rank to) None from) w
-        (subst (λ (o : List (Endpoint × Frame)). Mid V s locals (accept_all links e o) e (Isend c (Rank to) None from)) (sym g) (mid_none V s locals links cur e (Isend c (Rank to) None from) j))
+    go (Isend mode c (Rank to) None from) is w g =
+        effect (Isend mode c (Rank to) None from) w
+        (subst (λ (o : List (Endpoint × Frame)). Mid V s locals (accept_all links e o) e (Isend mode c (Rank to) None from)) (sym g) (mid_none V s locals links cur e (Isend mode c (Rank to) None from) j))
         (subst (λ (o : List (Endpoint × Frame)). LinksFit V (accept_all links e o)) (sym g) j.fit)
-    go (Isend c (Rank to) (Some tag) from) is w g =
-        effect (Isend c (Rank to) (Some tag) from) w
-        (subst (λ (o : List (Endpoint × Frame)). Mid V s locals (accept_all links e o) e (Isend c (Rank to) (Some tag) from)) (sym g) (mid_isend V s locals links cur e c to tag from heard is j))
-        (subst (λ (o : List (Endpoint × Frame)). LinksFit V (accept_all links e o)) (sym g) (linked_fit V links e (message_sent e (locals e) (Isend c (Rank to) (Some tag) from)) j.fit))
+    go (Isend mode c (Rank to) (Some tag) from) is w g =
+        effect (Isend mode c (Rank to) (Some tag) from) w
+        (subst (λ (o : List (Endpoint × Frame)). Mid V s locals (accept_all links e o) e (Isend mode c (Rank to) (Some tag) from)) (sym g) (mid_isend V s locals links cur e mode c to tag from heard is j))
+        (subst (λ (o : List (Endpoint × Frame)). LinksFit V (accept_all links e o)) (sym g) (linked_fit V links e (message_sent e (locals e) (Isend mode c (Rank to) (Some tag) from)) j.fit))
     go (Irecv p) is w g =
         effect (Irecv p) w
         (λ x. sim_rest ((start s e (Some (Irecv p))).at x) (with_local locals e (taken_in V e (locals e) (Asked (Irecv p))) x) (coming V (λ y. links y x)) (coming V (λ y. accept_all links e out y x)) (mid_none V s locals links cur e (Irecv p) j x) (silent V links e out g j.fit x))
@@ -225,6 +257,12 @@ ask_worked V s locals links cur e c new out j heard is w = go c is w w.gives
     go (Wait a) is w g = effect (Wait a) w (subst (λ (o : List (Endpoint × Frame)). Mid V s locals (accept_all links e o) e (Wait a)) (sym g) (mid_none V s locals links cur e (Wait a) j)) (subst (λ (o : List (Endpoint × Frame)). LinksFit V (accept_all links e o)) (sym g) j.fit)
     go (Test r) is w g = effect (Test r) w (subst (λ (o : List (Endpoint × Frame)). Mid V s locals (accept_all links e o) e (Test r)) (sym g) (mid_none V s locals links cur e (Test r) j)) (subst (λ (o : List (Endpoint × Frame)). LinksFit V (accept_all links e o)) (sym g) j.fit)
     go (Cancel r) is w g = effect (Cancel r) w (subst (λ (o : List (Endpoint × Frame)). Mid V s locals (accept_all links e o) e (Cancel r)) (sym g) (mid_none V s locals links cur e (Cancel r) j)) (subst (λ (o : List (Endpoint × Frame)). LinksFit V (accept_all links e o)) (sym g) j.fit)
+    go (Iprobe q) is w g = effect (Iprobe q) w (subst (λ (o : List (Endpoint × Frame)). Mid V s locals (accept_all links e o) e (Iprobe q)) (sym g) (mid_none V s locals links cur e (Iprobe q) j)) (subst (λ (o : List (Endpoint × Frame)). LinksFit V (accept_all links e o)) (sym g) j.fit)
+    go (Improbe q) is w g = effect (Improbe q) w (subst (λ (o : List (Endpoint × Frame)). Mid V s locals (accept_all links e o) e (Improbe q)) (sym g) (mid_none V s locals links cur e (Improbe q) j)) (subst (λ (o : List (Endpoint × Frame)). LinksFit V (accept_all links e o)) (sym g) j.fit)
+    go (Mrecv k into) is w g =
+        effect (Mrecv k into) w
+        (λ x. sim_rest ((start s e (Some (Mrecv k into))).at x) (with_local locals e (taken_in V e (locals e) (Asked (Mrecv k into))) x) (coming V (λ y. links y x)) (coming V (λ y. accept_all links e out y x)) (mid_none V s locals links cur e (Mrecv k into) j x) (silent V links e out g j.fit x))
+        (silent_fit V links e out g j.fit)
 
 pub ask_works : (V : Values) (s : State) (locals : Endpoint → Local) (links : Endpoint → Endpoint → Link) (cur : ℕ → ℕ) (e : Endpoint) (c : Call) (new : Local) (out : List (Endpoint × Frame)) →
     Joined V s locals links cur → IsHeard locals e → IsSpelled V (message_sent e (locals e) c) → Work V e (locals e) (Asked c) new out →

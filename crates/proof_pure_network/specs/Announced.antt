@@ -1,11 +1,12 @@
 -- Which large messages each link has announced, and that all else speaks of announced ones.
-use Rattle.std.specs.Prelude.{◌≡◌, ℕ, ◌<◌, ◌≤◌, Bool, true, List, [], ◌∷◌, ◌++◌, length, Some, slice_get}
+use Rattle.std.specs.Prelude.{◌≡◌, ℕ, ◌<◌, ◌≤◌, Bool, true, List, [], ◌∷◌, ◌++◌, length, Option, Some, slice_get}
 use Rattle.perfect_queues.specs.Receives.{Receive}
 use Rattle.vocabulary.specs.declared.basic_type.BasicType.{BasicType}
 use Rattle.vocabulary.specs.declared.endpoint.Endpoint.{Endpoint}
+use Rattle.proof_pure_network.specs.Claims.{ClaimsOnce}
 use Rattle.proof_pure_network.specs.Frames.{Cts, Data, Eager, Frame, Rts}
 use Rattle.proof_pure_network.specs.Held.{Held, Part}
-use Rattle.proof_pure_network.specs.Jobs.{Collecting, Job, Offering, is_collecting}
+use Rattle.proof_pure_network.specs.Jobs.{Collecting, Job, Offering, Probed, is_collecting}
 use Rattle.proof_pure_network.specs.Links.{Link, handed_up}
 use Rattle.proof_pure_network.specs.Network.{Network}
 use Rattle.proof_pure_network.specs.Transfers.{cut}
@@ -39,13 +40,15 @@ pub record TransfersStand (w : Network) : Type 0 where
   -- no large message is announced twice, and each is of a request of its sender
   pub once : (s d : Endpoint) → AreDifferent (transfers_of (w.link s d).accepted)
   pub logged : (s d : Endpoint) (k : ℕ) → IsIn k (transfers_of (w.link s d).accepted) → k < length (w.log s)
-  -- what is answered, collected or held by its receiver was announced, and the announcement was handed up
+  -- what is answered, collected, held or taken out by its receiver was announced, and the announcement was handed up
   pub answered : (s d : Endpoint) (k : ℕ) (wanted : Bool) → IsIn (Cts k wanted) (w.link d s).accepted →
       IsIn k (transfers_of (handed_up (w.link s d)))
   pub collected : (s d : Endpoint) (k j : ℕ) (p : Receive) (h : Held) (got : List ℕ) → slice_get (w.core d).jobs j ≡ Some (Collecting p h got) →
       is_collecting s k (Collecting p h got) ≡ true → IsIn k (transfers_of (handed_up (w.link s d)))
   pub held : (d : Endpoint) (h : Held) (k count : ℕ) → IsIn h (w.core d).held → h.body ≡ Part k count →
       IsIn k (transfers_of (handed_up (w.link h.sender d)))
+  pub taken : (d : Endpoint) (j : ℕ) (g : Option (List ℕ)) (h : Held) (k count : ℕ) → slice_get (w.core d).jobs j ≡ Some (Probed g (Some h)) →
+      h.body ≡ Part k count → IsIn k (transfers_of (handed_up (w.link h.sender d)))
   -- what its sender offers was announced, and so was that whose data it sent
   pub offered : (s d : Endpoint) (k : ℕ) (basic : BasicType) (values : List ℕ) → slice_get (w.core s).jobs k ≡ Some (Offering d basic values) →
       IsIn k (transfers_of (w.link s d).accepted)
@@ -57,6 +60,8 @@ pub record TransfersStand (w : Network) : Type 0 where
       IsAnnounced (w.link s d).accepted k kind number → (basic ≡ kind) × (count ≡ number)
   pub held_as : (d : Endpoint) (h : Held) (k count : ℕ) → IsIn h (w.core d).held → h.body ≡ Part k count →
       IsAnnounced (handed_up (w.link h.sender d)) k h.basic count
+  pub taken_as : (d : Endpoint) (j : ℕ) (g : Option (List ℕ)) (h : Held) (k count : ℕ) → slice_get (w.core d).jobs j ≡ Some (Probed g (Some h)) →
+      h.body ≡ Part k count → IsAnnounced (handed_up (w.link h.sender d)) k h.basic count
   pub collected_as : (d : Endpoint) (j : ℕ) (p : Receive) (h : Held) (got : List ℕ) (k count : ℕ) → slice_get (w.core d).jobs j ≡ Some (Collecting p h got) →
       h.body ≡ Part k count → IsAnnounced (handed_up (w.link h.sender d)) k h.basic count
   pub offered_as : (s d : Endpoint) (k : ℕ) (basic : BasicType) (values : List ℕ) → slice_get (w.core s).jobs k ≡ Some (Offering d basic values) →
@@ -69,10 +74,12 @@ pub record LinksGrow (old new : Endpoint → Endpoint → Link) : Type 0 where
   pub accepted : (s d : Endpoint) → Begins (old s d).accepted (new s d).accepted
   pub handed : (s d : Endpoint) → (old s d).handed ≤ (new s d).handed
 
--- What a rank's core rests on, of the whole network: no two requests of an endpoint collect one transfer; nothing was sent to an
--- endpoint that its sender doesn't know; and one that has not come has sent nothing
+-- What a rank's core rests on, of the whole network: no two requests of an endpoint collect one transfer, and no two of its
+-- messages name one of its own sends; nothing was sent to an endpoint that its sender doesn't know; and one that has not come has
+-- sent nothing
 pub record MeetingsStand (w : Network) : Type 0 where
   pub once : (s d : Endpoint) (k i j : ℕ) (x y : Job) → slice_get (w.core d).jobs i ≡ Some x → is_collecting s k x ≡ true →
       slice_get (w.core d).jobs j ≡ Some y → is_collecting s k y ≡ true → i ≡ j
+  pub claimed : (d : Endpoint) → ClaimsOnce (w.core d)
   pub untold : (s d : Endpoint) → (w.core s).known d.rank < d.incarnation → (w.link s d).accepted ≡ []
   pub unsent : (s d : Endpoint) → w.current s.rank < s.incarnation → (w.link s d).accepted ≡ []
