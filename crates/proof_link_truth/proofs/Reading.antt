@@ -26,7 +26,7 @@ said_frame : (t : FrameText) → (f : Frame) × (frame_text f ≡ t)
 said_frame (EagerFrame e) =
     (frames.Eager (record { plane = e.plane; basic = e.basic; tag = e.tag; context = e.context; count = e.count; elements = record { ref_ptr = (0, 0); now = e.elements } }), refl)
 said_frame (RequestFrame r) =
-    (frames.RequestToSend (record { plane = r.plane; basic = r.basic; tag = r.tag; context = r.context; count = r.count; transfer = r.transfer }), refl)
+    (frames.RequestToSend (record { mode = r.mode; plane = r.plane; basic = r.basic; tag = r.tag; context = r.context; count = r.count; transfer = r.transfer }), refl)
 said_frame (ClearFrame c) = (frames.ClearToSend (record { transfer = c.transfer; clearance = c.clearance }), refl)
 said_frame (DataFrame d) = (frames.Data (record { transfer = d.transfer; offset = d.offset; bytes = record { ref_ptr = (0, 0); now = d.bytes } }), refl)
 
