@@ -1,12 +1,13 @@
 //! The session with each rank of the job.
 
-ghost use Rattle.std.specs.Prelude.{◌≡◌, ◌≢◌, ◌≤◌, ◌<◌, ◌+◌, ◌-◌, ◌*◌, ◌++◌, ◌↔◌, length, All, IsTrue, IfOk, OnOk, OnErr, IfErr, nat_lt, ◌^◌, [], ◌∷◌, if◌then◌else◌, vec_len, vec_capacity};
+ghost use Rattle.std.specs.Prelude.{◌≡◌, ◌≢◌, ◌≤◌, ◌<◌, ◌+◌, ◌-◌, ◌*◌, ◌++◌, length, All, IsTrue, IfOk, OnOk, OnErr, IfErr, nat_lt, ◌^◌, [], ◌∷◌, if◌then◌else◌, slice_set, vec_len, vec_capacity};
 ghost use Rattle.reliable_link.specs.SenderState.{after_accept, after_ack, IsOfSent, entered_on_ack, due_at, out_end, StandsAt};
 ghost use Rattle.reliable_link.specs.Accepting.{HasNumberLeft};
 ghost use Rattle.reliable_link.specs.ReceiverState.{advanced, after_frame, discarded};
 ghost use Rattle.std.specs.List.{range_with_len};
 ghost use Rattle.sessions.specs.Carrying.{taken_back};
-ghost use Rattle.sessions.specs.Peers.{new_peers, peer_at, with_sender, with_receiver, with_new_session, frames_out, due_out, after_all_due, IsIdlePeer};
+ghost use Rattle.sessions.specs.Busy.{busy_among, busy_in};
+ghost use Rattle.sessions.specs.Peers.{new_peers, peer_at, with_sender, with_receiver, with_new_session, frames_out, due_out, after_all_due};
 
 use crate::refused::Refused;
 use datagram::{Bytes, Drafts};
@@ -213,6 +214,14 @@ pub(crate) fn begin_anew_at(peers: &mut Vec<Peer>, rank: u16) -> Peer
     mem::replace(peer, anew)
 }
 
+/// This is the session with a rank.
+pub(crate) fn put_at(peers: &mut Vec<Peer>, rank: u16, peer: Peer)
+    requires { rank < vec_len peers.old }
+    ensures { peers.new.items ≡ slice_set peers.old.items rank peer }
+{
+    peers[rank as usize] = peer;
+}
+
 /// The places of the former session with a rank, which is done with, become those of the present one. Contracts see nothing
 /// of it.
 pub(crate) fn take_places_at(peers: &mut Vec<Peer>, rank: u16, former: Peer)
@@ -379,9 +388,31 @@ pub(crate) fn mark_all_sent(peers: &mut Vec<Peer>, now: u64)
     mark_each_sent(peers, now);
 }
 
-/// Whether no frame waits or is unacknowledged.
-pub(crate) fn are_idle(peers: &[Peer]) -> bool
-    ensures { IsTrue result ↔ All IsIdlePeer peers.now }
+/// 1 where a frame of the session waits or is unacknowledged, else 0.
+fn busy_of(peer: &Peer) -> usize
+    ensures count { result ≡ busy_in peer.now }
+    ensures once { result ≤ 1 }
 {
-    peers.iter().all(|peer| peer.sender.is_empty())
+    if peer.sender.is_empty() { 0 } else { 1 }
+}
+
+/// The same of the session with a rank.
+pub(crate) fn busy_at(peers: &[Peer], rank: u16) -> usize
+    requires { rank < length peers.now }
+    ensures count { result ≡ busy_in (peer_at peers.now rank) }
+    ensures once { result ≤ 1 }
+{
+    busy_of(peer_at(peers, rank))
+}
+
+/// In how many sessions a frame waits or is unacknowledged.
+#[tactic(auto, using(crate::proofs::Busy::busy_more))]
+pub(crate) fn count_busy(peers: &[Peer]) -> usize
+    ensures { result ≡ busy_among peers.now }
+{
+    let mut busy = 0;
+    for peer in peers {
+        busy += busy_of(peer);
+    }
+    busy
 }
