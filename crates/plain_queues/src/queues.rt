@@ -5,7 +5,7 @@ ghost use Rattle.std.specs.Prelude.{◌≡◌, ◌&&◌, ◌≤◌, ◌<◌, not
 ghost use Rattle.std.specs.VecDeque.{deque_len, deque_capacity};
 ghost use Rattle.vocabulary.specs.Endpoints.{is_former};
 ghost use Rattle.perfect_queues.specs.Receives.{names};
-ghost use Rattle.match_queues.specs.State.{message_at, receive_at, message_for, receive_for, posted_for, after_post, after_arrival, after_cancel, after_drop, keys_naming};
+ghost use Rattle.match_queues.specs.State.{message_at, receive_at, message_for, receive_for, posted_for, after_post, after_take, after_arrival, after_cancel, after_drop, keys_naming};
 ghost use Rattle.match_queues.specs.Accepts.{accepts};
 ghost use Rattle.match_queues.specs.Arrivals.{arrival_of};
 
@@ -155,7 +155,7 @@ impl PlainQueues {
         receive_at(&self.posted, place_of_other(message, &self.posted, rank))
     }
 
-    /// The oldest unexpected message that the receive accepts, which stays where it is.
+    /// The oldest unexpected message that the receive accepts, which stays where it is: what a probe finds (MPI 3.1, 3.8.1).
     pub fn message_for(&self, receive: &Receive) -> Option<&Message>
         ensures { option_copied result ≡ message_at self.now.state.unexpected (message_for receive.now self.now.state.unexpected) }
     {
@@ -178,6 +178,20 @@ impl PlainQueues {
                 self.posted.push_back_reserved(receive);
                 None
             }
+        }
+    }
+
+    /// Takes the oldest unexpected message that the receive accepts out of matching: no receive finds it from now on. Where
+    /// none is accepted, nothing changes. No receive is posted, and it takes no memory (MPI 3.1, 3.8.2).
+    pub fn take(&mut self, receive: &Receive) -> Option<Message>
+        ensures state { self.new.state ≡ after_take self.old.state receive.now }
+        ensures found { result ≡ message_at self.old.state.unexpected (message_for receive.now self.old.state.unexpected) }
+        ensures room { self.old.messages ≤ self.new.messages }
+        ensures receives { self.new.receives ≡ self.old.receives }
+    {
+        match place_of_message(receive, &self.unexpected) {
+            Some(found) => self.unexpected.remove(found),
+            None => None,
         }
     }
 

@@ -18,4 +18,7 @@ pub use list::RequestList;
 pub use outcome::{Failure, Outcome, received};
 pub use refused::Refused;
 pub use region::{Places, ReceiveRegion, Region};
-pub use table::{Entry, Matched, Posted, Progress, Request, Requests, Tested, match_announced};
+pub use table::{
+    Entry, Matched, Posted, Progress, Request, Requests, TakenOut, Tested, match_announced,
+    match_body, status_of,
+};

@@ -3,4 +3,4 @@
 
 mod members;
 
-pub use members::{Members, shared, status_in};
+pub use members::{Members, shared, status_among, status_in};

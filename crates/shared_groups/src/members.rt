@@ -1,6 +1,7 @@
 //! Groups of communicators, which their receives share.
 
-ghost use Rattle.std.specs.Prelude.{◌≡◌, ◌≤◌, ◌==◌, length, position, IfOk};
+ghost use Rattle.std.specs.Prelude.{◌≡◌, ◌≤◌, ◌==◌, length, position, IfOk, IfSome};
+ghost use Rattle.std.specs.Option.{option_copied};
 ghost use Rattle.perfect_queues.specs.Groups.{rank_in};
 ghost use Rattle.shared_groups.specs.Statuses.{status_in};
 
@@ -99,6 +100,21 @@ pub fn status_in(group: &Option<Members>, status: Status) -> Status
     };
     Status {
         source: Source::Rank(members.rank_of(rank)),
+        tag: status.tag,
+        count: status.count,
+    }
+}
+
+/// The same, where the group's members are lent, at most 65,535. It takes no memory.
+pub fn status_among(group: Option<&[u16]>, status: Status) -> Status
+    requires { IfSome (option_copied group) (λ ranks. length ranks ≤ 65535) }
+    ensures { result ≡ status_in (option_copied group.entry) status }
+{
+    let (Some(ranks), Source::Rank(rank)) = (group, status.source) else {
+        return status;
+    };
+    Status {
+        source: Source::Rank(rank_among(ranks, rank) as u16),
         tag: status.tag,
         count: status.count,
     }
