@@ -1,5 +1,5 @@
 -- What is known of a send that breaks no rule.
-use Rattle.std.proofs.Common.{◌≡◌, ◌<◌, ◌≤◌, ◌*◌, ℕ, ◌==◌, length, Bool, true, false, Option, Some, None, arith}
+use Rattle.std.proofs.Common.{◌≡◌, ◌<◌, ◌≤◌, ◌*◌, ℕ, ◌==◌, length, Bool, true, false, Option, Some, None, refl, arith}
 use Rattle.std.specs.Prelude.{IfSome}
 use Rattle.std.proofs.lemmas.Grind.{common_steps}
 use Rattle.vocabulary.specs.BasicTypes.{size_of}
@@ -14,7 +14,10 @@ use Rattle.requests.specs.Regions.{byte_count, handed_of, sent_from}
 use Rattle.incarnation.specs.declared.place.Place.{Place}
 use Rattle.rank_calls.specs.declared.call.Send.{Send}
 use Rattle.rank_calls.specs.declared.sending.Destination.{Destination}
-use Rattle.rank_calls.specs.Sending.{IsSendable, destination, rank_to, rank_unless, send_fault}
+use Rattle.vocabulary.specs.declared.mode.Mode.{Mode}
+use Rattle.vocabulary.specs.declared.mode.Mode.TheVariants.{Standard, Synchronous}
+use Rattle.vocabulary.specs.Modes.{may_be_announced}
+use Rattle.rank_calls.specs.Sending.{IsSendable, destination, is_announced, rank_to, rank_unless, send_fault}
 
 -- THE RULES
 
@@ -44,6 +47,11 @@ unfolding send_fault
 has_target p s none = grind (arith, common_steps, none)
 
 -- THE FRAME
+
+-- what is announced may be
+pub announced_is : (m : Mode) (c : Contents) → is_announced m c ≡ true → may_be_announced m (length c.values * size_of c.basic) ≡ true
+announced_is Standard c h = h
+announced_is Synchronous c h = refl
 
 -- what may be sent has few elements
 pub few_elements : (tag : ℕ) (c : Contents) → IsSendable tag c → length c.values ≤ send_limit

@@ -8,7 +8,11 @@ use Rattle.datatypes.specs.Contents.{Contents, bytes_of}
 use Rattle.datagram.specs.declared.kinds.Plane.TheVariants.{PointToPoint}
 use Rattle.datagram.specs.Spelling.{FrameText, EagerFrame, RequestFrame}
 use Rattle.match_queues.specs.declared.envelope.Message.{Message}
-use Rattle.match_queues.specs.declared.envelope.Body.TheVariants.{Whole}
+use Rattle.match_queues.specs.declared.envelope.Body.{Body}
+use Rattle.match_queues.specs.declared.envelope.Body.TheVariants.{Own, Whole}
+use Rattle.requests.specs.declared.table.Request.{Request}
+use Rattle.vocabulary.specs.declared.mode.Mode.{Mode}
+use Rattle.vocabulary.specs.declared.mode.Mode.TheVariants.{Standard, Synchronous}
 use Rattle.perfect_queues.specs.Buffers.{differs_in_type, is_too_short}
 use Rattle.perfect_queues.specs.Refusals.{is_no_tag, is_no_target}
 use Rattle.requests.specs.declared.table.Progress.{Progress}
@@ -71,6 +75,11 @@ pub record IsSendable (tag : ℕ) (c : Contents) : Type 0 where
 abbrev pub is_large : Contents → Bool
 is_large c = nat_lt eager_limit (length c.values * size_of c.basic)
 
+-- whether their message is announced: that of a synchronous send is, whatever it has (3.4)
+abbrev pub is_announced : Mode → Contents → Bool
+is_announced Standard c = is_large c
+is_announced Synchronous c = true
+
 -- the frame of these elements in this context and under this tag
 abbrev pub eager_frame : (context tag : ℕ) → Contents → FrameText
 eager_frame context tag c = EagerFrame (record {
@@ -83,8 +92,9 @@ eager_frame context tag c = EagerFrame (record {
 })
 
 -- the frame that announces these elements in this context and under this tag as the transfer with this number
-abbrev pub request_frame : (transfer context tag : ℕ) → Contents → FrameText
-request_frame transfer context tag c = RequestFrame (record {
+abbrev pub request_frame : Mode → (transfer context tag : ℕ) → Contents → FrameText
+request_frame mode transfer context tag c = RequestFrame (record {
+  mode = mode;
   plane = PointToPoint;
   basic = c.basic;
   tag = tag;
@@ -94,19 +104,19 @@ request_frame transfer context tag c = RequestFrame (record {
 })
 
 -- the frame of these elements: they go in it, or it announces them as the next transfer to their rank
-abbrev pub frame_with : State → Destination → Contents → FrameText
-frame_with t d c =
-    if is_large c then request_frame (next_to t.numbers d.rank) d.context d.tag c else eager_frame d.context d.tag c
+abbrev pub frame_with : State → Mode → Destination → Contents → FrameText
+frame_with t mode d c =
+    if is_announced mode c then request_frame mode (next_to t.numbers d.rank) d.context d.tag c else eager_frame d.context d.tag c
 
 -- the frame that goes to another rank
-abbrev pub frame_unless : Bool → State → Destination → Contents → Option FrameFor
-frame_unless true t d c = None
-frame_unless false t d c = Some (record { rank = d.rank; frame = frame_with t d c })
+abbrev pub frame_unless : Bool → State → Mode → Destination → Contents → Option FrameFor
+frame_unless true t mode d c = None
+frame_unless false t mode d c = Some (record { rank = d.rank; frame = frame_with t mode d c })
 
 -- the frame with which these elements go to their destination, where it is another rank
-abbrev pub frame_to : Place → State → Option Destination → Contents → Option FrameFor
-frame_to p t None c = None
-frame_to p t (Some d) c = frame_unless (d.rank == p.endpoint.rank) t d c
+abbrev pub frame_to : Place → State → Mode → Option Destination → Contents → Option FrameFor
+frame_to p t mode None c = None
+frame_to p t mode (Some d) c = frame_unless (d.rank == p.endpoint.rank) t mode d c
 
 -- the rank of a destination, where it is another one
 abbrev pub rank_unless : Bool → Destination → Option ℕ
@@ -118,15 +128,20 @@ abbrev pub rank_to : Place → Option Destination → Option ℕ
 rank_to p None = None
 rank_to p (Some d) = rank_unless (d.rank == p.endpoint.rank) d
 
--- to which other rank the message of a send is announced, if it is one that doesn't go in one frame
+-- to which other rank the message of a send is announced, if it is: that of a synchronous send, or one that doesn't go in one frame
 abbrev pub announced_to : Place → Send → Option ℕ
-announced_to p s = if is_large (sent_from s.from) then rank_to p (destination s.target s.tag s.context) else None
+announced_to p s = if is_announced s.mode (sent_from s.from) then rank_to p (destination s.target s.tag s.context) else None
 
 -- THE MESSAGE TO THE OWN RANK
 
+-- the body of a message to the own rank: it names the send that waits for its match, if one does
+abbrev pub own_body : Option Request → Contents → Body
+own_body None c = Whole c
+own_body (Some q) c = Own (record { key = q.key; serial = q.serial; elements = c })
+
 -- the message of these elements to the own rank, in this context and under this tag
-abbrev pub own_message : Place → (context tag : ℕ) → Contents → Message
-own_message p context tag c = record { sender = p.endpoint; context = context; tag = tag; body = Whole c }
+abbrev pub own_message : Place → (context tag : ℕ) → (waiting : Option Request) → Contents → Message
+own_message p context tag waiting c = record { sender = p.endpoint; context = context; tag = tag; body = own_body waiting c }
 
 -- how far a send is in its own call: one whose message is announced waits for its receiver's answer
 abbrev pub progress_of_send : Option ℕ → Progress

@@ -6,11 +6,13 @@ use crate::refused::Refused;
 use requests::{Answer, Region, Request, RequestList};
 use shared_groups::{Members, shared};
 use std::alloc::{AllocError, Global};
-use vocabulary::Source;
+use vocabulary::{Mode, Source, Status};
 
-/// A standard send on a communicator (MPI 3.1, 3.4 and 3.7.2).
+/// A send on a communicator (MPI 3.1, 3.4 and 3.7.2).
 #[derive(Drop)]
 pub struct Send {
+    /// How it ends (3.4).
+    pub mode: Mode,
     /// The rank of world that it goes to, or the null process (3.11). Any rank is no target: it is refused.
     pub target: Source,
     /// The tag, at most 2,147,483,647. The wildcard, `None`, is no tag of a send: it is refused.
@@ -36,6 +38,19 @@ pub struct Receive {
     pub into: Region,
 }
 
+/// What a probe on a communicator asks for (MPI 3.1, 3.8.1).
+#[derive(Drop)]
+pub struct Probe {
+    /// Whom it names, as a rank of world.
+    pub source: Source,
+    /// The tag that it wants, at most 2,147,483,647; `None` is the wildcard.
+    pub tag: Option<u32>,
+    /// The context of the communicator (6.2.4); that of world is 0.
+    pub context: u64,
+    /// The group of the communicator, by which its status names the source (3.2.5); `None` is that of world.
+    pub group: Option<Members>,
+}
+
 /// What a program may ask of its rank. Where a request is named, none is the null request.
 #[derive(Drop)]
 pub enum Call {
@@ -53,6 +68,10 @@ pub enum Call {
     Waitall(RequestList),
     /// Ends a receive that waits as cancelled; one that was matched goes on (3.8.4).
     Cancel(Option<Request>),
+    /// Takes a message out of matching that such a receive would take, if there is one (3.8.2).
+    Improbe(Probe),
+    /// Receives a message that was taken out; `None` is that of the null process (3.8.3).
+    Mrecv(Option<Request>, Region),
 }
 
 /// What a call answers.
@@ -66,6 +85,8 @@ pub enum Reply {
     Pending,
     /// The cancel was taken.
     Accepted,
+    /// What a matching probe found: the message, or that of the null process, which is `None`, with its status (3.8.2).
+    Matched(Option<(Option<Request>, Status)>),
     /// The answer is not ready. It is handed out once, as the completion of the event in which it is.
     Blocked,
     /// The call broke this rule, or met a limit or want of memory. It is handed back, and nothing changed.
@@ -88,6 +109,7 @@ impl Call {
     {
         match self {
             Call::Isend(send) => Ok(Call::Isend(Send {
+                mode: send.mode,
                 target: send.target,
                 tag: send.tag,
                 context: send.context,
@@ -105,6 +127,13 @@ impl Call {
             Call::Waitany(list) => Ok(Call::Waitany(list.try_clone(alloc)?)),
             Call::Waitall(list) => Ok(Call::Waitall(list.try_clone(alloc)?)),
             Call::Cancel(request) => Ok(Call::Cancel(*request)),
+            Call::Improbe(probe) => Ok(Call::Improbe(Probe {
+                source: probe.source,
+                tag: probe.tag,
+                context: probe.context,
+                group: shared(&probe.group)?,
+            })),
+            Call::Mrecv(request, into) => Ok(Call::Mrecv(*request, into.try_clone(alloc)?)),
         }
     }
 }

@@ -7,7 +7,7 @@ ghost use Rattle.requests.specs.Regions.{sent_from};
 ghost use Rattle.rank_calls.specs.Calls.{IsPacked, IsWithin};
 ghost use Rattle.rank_calls.specs.declared.call.Call.TheVariants as calls;
 ghost use Rattle.rank_calls.specs.Frames.{addressed};
-ghost use Rattle.rank_calls.specs.Sending.{IsSendable, announced_to, destination, eager_frame, frame_to, frame_with, is_large, is_own, own_message, rank_to, request_frame, send_fault};
+ghost use Rattle.rank_calls.specs.Sending.{IsSendable, announced_to, destination, eager_frame, frame_to, frame_with, is_announced, is_large, is_own, own_message, rank_to, request_frame, send_fault};
 
 use crate::call::Send;
 use crate::prepared::Prepared;
@@ -16,9 +16,10 @@ use crate::refused::Refused;
 use datagram::{Eager, Frame, Plane, RequestToSend};
 use datatypes::Buffer;
 use incarnation::Place;
-use match_queues::{Body, Message};
+use match_queues::{Body, Message, OwnSend};
 use rendezvous::Transfers;
-use vocabulary::{EAGER_LIMIT, SEND_LIMIT, Source};
+use requests::Request;
+use vocabulary::{EAGER_LIMIT, Mode, SEND_LIMIT, Source};
 
 /// A frame for a rank.
 #[derive(Clone, Copy)]
@@ -125,14 +126,28 @@ fn is_large(elements: &Buffer) -> bool
     elements.byte_len() > EAGER_LIMIT
 }
 
-/// To which other rank the message of a send is announced, if it is one that does not go in one frame.
+/// To which other rank the message of a send is announced, if it is: that of a synchronous send, or one that does not go in one
+/// frame.
 pub fn announced_to(place: Place, send: &Send) -> Option<u16>
     ensures { result ≡ announced_to place send.now }
 {
-    if !send.from.is_above(EAGER_LIMIT) {
+    if let Mode::Standard = send.mode
+        && !send.from.is_above(EAGER_LIMIT)
+    {
         return None;
     }
     rank_to(place, destination_of(send.target, send.tag, send.context))
+}
+
+/// Whether the message of these elements is announced.
+fn is_announced(mode: Mode, elements: &Buffer) -> bool
+    ensures exact { result ≡ is_announced mode elements.now }
+    ensures small { result ≡ false → is_large elements.now ≡ false }
+{
+    match mode {
+        Mode::Standard => is_large(elements),
+        Mode::Synchronous => true,
+    }
 }
 
 /// The frame of these elements in a context and under a tag, lent from them.
@@ -153,13 +168,20 @@ fn eager_frame(context: u64, tag: u32, elements: &Buffer) -> Frame<'_>
 }
 
 /// The frame that announces these elements in a context and under a tag, as the transfer with this number.
-fn request_frame(transfer: u32, context: u64, tag: u32, elements: &Buffer) -> Frame<'static>
+fn request_frame(
+    mode: Mode,
+    transfer: u32,
+    context: u64,
+    tag: u32,
+    elements: &Buffer,
+) -> Frame<'static>
     requires sendable { IsSendable tag elements.now }
-    requires large { is_large elements.now ≡ true }
-    ensures exact { frame_text result ≡ request_frame transfer context tag elements.now }
+    requires large { is_announced mode elements.now ≡ true }
+    ensures exact { frame_text result ≡ request_frame mode transfer context tag elements.now }
     ensures fits { FrameFits (frame_text result) }
 {
     Frame::RequestToSend(RequestToSend {
+        mode,
         plane: Plane::PointToPoint,
         basic: elements.basic(),
         tag,
@@ -172,15 +194,17 @@ fn request_frame(transfer: u32, context: u64, tag: u32, elements: &Buffer) -> Fr
 /// The frame of these elements for a rank: they go in it, or it announces them as the next transfer there.
 fn frame_with<'a>(
     transfers: &Transfers,
+    mode: Mode,
     destination: Destination,
     elements: &'a Buffer,
 ) -> Frame<'a>
     requires { IsSendable destination.tag elements.now }
-    ensures exact { frame_text result ≡ frame_with transfers.now.state destination elements.now }
+    ensures exact { frame_text result ≡ frame_with transfers.now.state mode destination elements.now }
     ensures fits { FrameFits (frame_text result) }
 {
-    if is_large(elements) {
+    if is_announced(mode, elements) {
         return request_frame(
+            mode,
             transfers.next_to(destination.rank),
             destination.context,
             destination.tag,
@@ -194,12 +218,13 @@ fn frame_with<'a>(
 pub fn frame_to<'a>(
     place: Place,
     transfers: &Transfers,
+    mode: Mode,
     destination: Option<Destination>,
     elements: &'a Buffer,
 ) -> Option<Addressed<'a>>
     requires sendable { IfSome destination (λ d. IsSendable d.tag elements.now) }
     requires there { IfSome destination (λ d. d.rank < place.size) }
-    ensures exact { addressed result ≡ frame_to place transfers.now.state destination elements.now }
+    ensures exact { addressed result ≡ frame_to place transfers.now.state mode destination elements.now }
     ensures fits { IfSome result (λ a. FrameFits (frame_text a.frame)) }
     ensures there { IfSome result (λ a. a.rank < place.size) }
 {
@@ -210,7 +235,7 @@ pub fn frame_to<'a>(
             }
             Some(Addressed {
                 rank: destination.rank,
-                frame: frame_with(transfers, destination, elements),
+                frame: frame_with(transfers, mode, destination, elements),
             })
         }
         None => None,
@@ -244,15 +269,29 @@ pub fn into_elements(send: Send, prepared: Prepared) -> Buffer
     }
 }
 
-/// The message of these elements to the own rank, in a context and under a tag.
-pub fn own_message(place: Place, context: u64, tag: u32, elements: Buffer) -> Message
-    ensures { result ≡ own_message place context tag elements }
+/// The message of these elements to the own rank, in a context and under a tag; and of this send, if one waits for its match.
+pub fn own_message(
+    place: Place,
+    context: u64,
+    tag: u32,
+    waiting: Option<Request>,
+    elements: Buffer,
+) -> Message
+    ensures { result ≡ own_message place context tag waiting elements }
 {
+    let body = match waiting {
+        None => Body::Whole(elements),
+        Some(request) => Body::Own(OwnSend {
+            key: request.key,
+            serial: request.serial,
+            elements,
+        }),
+    };
     Message {
         sender: place.endpoint,
         context,
         tag,
-        body: Body::Whole(elements),
+        body,
     }
 }
 

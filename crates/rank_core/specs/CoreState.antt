@@ -1,5 +1,5 @@
 -- What a rank is to the machine: what its calls and its messages have made of it.
-use Rattle.std.specs.Prelude.{◌≡◌, ℕ, ◌*◌, length, ◌+◌, ◌<◌, ◌≤◌, ◌^◌, List, [], Option, None, count_by, is_some, replicate}
+use Rattle.std.specs.Prelude.{◌≡◌, ℕ, ◌*◌, length, ◌+◌, ◌<◌, ◌≤◌, ◌^◌, List, [], Option, Some, None, count_by, is_some, IfSome, replicate}
 use Rattle.incarnation.specs.declared.place.Place.{Place}
 use Rattle.match_queues.specs.State.{State}
 use Rattle.std.specs.List.{AllByRecursion}
@@ -7,11 +7,12 @@ use Rattle.vocabulary.specs.BasicTypes.{size_of}
 use Rattle.vocabulary.specs.Limits.{send_limit}
 use Rattle.match_queues.specs.declared.envelope.Message.{Message}
 use Rattle.match_queues.specs.declared.envelope.Body.{Body}
-use Rattle.match_queues.specs.declared.envelope.Body.TheVariants.{Announced, Whole}
+use Rattle.match_queues.specs.declared.envelope.Body.TheVariants.{Announced, Own, Whole}
 use Rattle.rendezvous.specs.declared.offer.Offer.{Offer}
 use Rattle.rendezvous.specs.State as transfers
 use Rattle.rendezvous.specs.declared.transfers.Numbers.{Numbers}
 use Rattle.requests.specs.declared.table.Entry.{Entry}
+use Rattle.requests.specs.Table.{message_in, slot_at}
 use Rattle.requests.specs.declared.answer.Answer.{Answer}
 use Rattle.requests.specs.declared.awaited.Awaited.{Awaited}
 
@@ -39,13 +40,20 @@ pub record IsOfferFor (size : ℕ) (o : Offer) : Type 0 where
 -- an announced message comes from a rank of the job
 abbrev pub IsAnswerable : (size : ℕ) → Message → Body → Type 0
 IsAnswerable size m (Whole elements) = Unit {0}
+IsAnswerable size m (Own own) = Unit {0}
 IsAnswerable size m (Announced a) = m.sender.rank < size
 
+-- so does an announced message that was taken out of matching and stands here in the table of requests
+abbrev pub IsAnswerableAt : (size : ℕ) → Option Entry → Type 0
+IsAnswerableAt size None = Unit {0}
+IsAnswerableAt size (Some e) = IfSome (message_in (Some e.progress)) (λ m. IsAnswerable size m m.body)
+
 -- there are numbers for each rank of the job, and whoever is to be answered or sent to is one of them
-pub record IsKept (p : Place) (q : State) (t : transfers.State) : Type 0 where
+pub record IsKept (p : Place) (q : State) (t : transfers.State) (slots : List (Option Entry)) : Type 0 where
   pub width : length t.numbers ≡ p.size
   pub answerable : AllByRecursion (λ m. IsAnswerable p.size m m.body) q.unexpected
   pub offers : AllByRecursion (IsOfferFor p.size) t.offers
+  pub taken : (key : ℕ) → IsAnswerableAt p.size (slot_at slots key)
 
 -- THE NUMBERS OF TRANSFERS
 

@@ -9,7 +9,7 @@ use Rattle.match_queues.specs.State as queues
 use Rattle.match_queues.specs.State.{keys_naming, receive_at, receive_for}
 use Rattle.rendezvous.specs.Collecting.{Collecting}
 use Rattle.rendezvous.specs.State.{after_cts, after_data, after_drop, after_rts, given, keys_with, offered}
-use Rattle.requests.specs.Table.{after_replaces}
+use Rattle.requests.specs.Table.{after_replaces, keys_of_messages}
 use Rattle.rank_calls.specs.Frames.{FrameFor, as_list}
 use Rattle.rank_calls.specs.Receiving.{answer_on_arrival, collection_on_arrival}
 use Rattle.rank_calls.specs.declared.news.Ready.{Ready}
@@ -27,16 +27,16 @@ news_fault c n = heard_fault (transfers_met n.lesson c.transfers n.source.rank) 
 
 -- WHAT BECOMES OF IT
 
--- the keys of the requests that end when a rank was started anew: receives that name it, sends that offer to it, and receives
--- that collect from it
-abbrev pub keys_ending : CoreState → (rank : ℕ) → List ℕ
-keys_ending c rank = keys_naming rank c.queues.posted ++ keys_with c.transfers rank
+-- the keys of what ends when a rank was started anew: receives that name it, sends that offer to it, receives that collect from
+-- it, and messages that its former incarnations sent and that were taken out
+abbrev pub keys_ending : CoreState → Endpoint → List ℕ
+keys_ending c s = keys_naming s.rank c.queues.posted ++ (keys_with c.transfers s.rank ++ keys_of_messages s.rank s.incarnation c.slots)
 
 -- The rank was started anew: those requests end, their buffers as they were; messages from its former incarnations that were
 -- not received are dropped, and nothing of a message of which some data came is left (MPI 3.1 has no restarts; this is our own)
 abbrev pub replaced : CoreState → Endpoint → CoreState
 replaced c s = record c {
-  slots = after_replaces c.slots (keys_ending c s.rank);
+  slots = after_replaces c.slots (keys_ending c s);
   queues = queues.after_drop c.queues s.rank s.incarnation;
   transfers = after_drop c.transfers s.rank;
 }
@@ -135,7 +135,7 @@ news_frames c n = called_for (taught n.lesson c n.source) n.source n.frame
 abbrev pub KeysFit : Bool → Option (Vec ℕ) → CoreState → Endpoint → Type 0
 KeysFit false keys c s = keys ≡ None
 KeysFit true None c s = ⊥
-KeysFit true (Some keys) c s = keys.items ≡ keys_ending c s.rank
+KeysFit true (Some keys) c s = keys.items ≡ keys_ending c s
 
 -- what is collected of the message that is announced, if a receive finds it and wants its data
 abbrev pub collection_for_announced : CoreState → Endpoint → RequestText → Option Collecting

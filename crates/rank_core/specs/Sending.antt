@@ -6,7 +6,10 @@ use Rattle.match_queues.specs.Arrivals.{arrival_of}
 use Rattle.match_queues.specs.State.{after_arrival}
 use Rattle.requests.specs.declared.table.Entry.{Entry}
 use Rattle.requests.specs.declared.table.Request.{Request}
+use Rattle.requests.specs.declared.table.Progress.{Progress}
 use Rattle.requests.specs.declared.table.Progress.TheVariants.{Offering}
+use Rattle.vocabulary.specs.declared.mode.Mode.{Mode}
+use Rattle.vocabulary.specs.declared.mode.Mode.TheVariants.{Standard, Synchronous}
 use Rattle.requests.specs.Regions.{sent_from}
 use Rattle.requests.specs.Table.{slot_at, IsSet, is_full}
 use Rattle.rank_calls.specs.declared.call.Send.{Send}
@@ -17,7 +20,7 @@ use Rattle.rank_calls.specs.declared.refused.Refused.TheVariants as refusals
 use Rattle.rank_core.specs.CoreState.{CoreState}
 use Rattle.rank_calls.specs.Receiving.{slots_on_arrival, transfers_on_arrival}
 use Rattle.rendezvous.specs.State.{after_begin}
-use Rattle.rank_calls.specs.Sending.{destination, frame_to, announced_to, own_message, progress_of_send, offered_by}
+use Rattle.rank_calls.specs.Sending.{destination, frame_to, announced_to, is_to_itself, own_message, progress_of_send, offered_by}
 
 -- a rule's fault, or else the limit of requests
 abbrev pub or_full : Option Refused → CoreState → Option Refused
@@ -28,7 +31,7 @@ or_full None c = if is_full c.slots c.serial then Some refusals.Limit else None
 
 -- the frame that a send gives to another rank
 abbrev pub frame_of : CoreState → Send → Option FrameFor
-frame_of c s = frame_to c.place c.transfers (destination s.target s.tag s.context) (sent_from s.from)
+frame_of c s = frame_to c.place c.transfers s.mode (destination s.target s.tag s.context) (sent_from s.from)
 
 -- THE MESSAGE TO THE OWN RANK
 
@@ -41,14 +44,25 @@ arrived c m = record c {
 }
 
 -- so it is where the destination is the own rank
-abbrev pub arrived_if : Bool → CoreState → Destination → Contents → CoreState
-arrived_if true c d elements = arrived c (own_message c.place d.context d.tag elements)
-arrived_if false c d elements = c
+abbrev pub arrived_if : Bool → CoreState → Destination → (waiting : Option Request) → Contents → CoreState
+arrived_if true c d waiting elements = arrived c (own_message c.place d.context d.tag waiting elements)
+arrived_if false c d waiting elements = c
 
 -- what these elements make of the core where they go to the own rank
-abbrev pub arrived_at_itself : CoreState → Option Destination → Contents → CoreState
-arrived_at_itself c None elements = c
-arrived_at_itself c (Some d) elements = arrived_if (d.rank == c.place.endpoint.rank) c d elements
+abbrev pub arrived_at_itself : CoreState → Option Destination → (waiting : Option Request) → Contents → CoreState
+arrived_at_itself c None waiting elements = c
+arrived_at_itself c (Some d) waiting elements = arrived_if (d.rank == c.place.endpoint.rank) c d waiting elements
+
+-- the request of a send to the own rank that waits for its match: a synchronous one's
+abbrev pub waiting_of : Mode → (own : Bool) → Request → Option Request
+waiting_of Standard own r = None
+waiting_of Synchronous false r = None
+waiting_of Synchronous true r = Some r
+
+-- how far a send is in its own call
+abbrev pub begun : Option Request → Option ℕ → Progress
+begun None announced = progress_of_send announced
+begun (Some r) announced = Offering
 
 -- a message is announced to a rank: the request of its send waits for the answer (3.4)
 pub record IsOffering (old : CoreState) (rank : ℕ) (c : Contents) (r : Request) (new : CoreState) : Type 0 where
@@ -68,7 +82,7 @@ pub record IsSending (old : CoreState) (s : Send) (r : Request) (new : CoreState
   pub started : List (Option Entry)
   pub entry : IsSet old.slots started r.key (Some (record {
     serial = old.serial;
-    progress = progress_of_send (announced_to old.place s);
+    progress = begun (waiting_of s.mode (is_to_itself old.place s) r) (announced_to old.place s);
   }))
   pub rest : new ≡
       arrived_at_itself
@@ -77,4 +91,4 @@ pub record IsSending (old : CoreState) (s : Send) (r : Request) (new : CoreState
         serial = old.serial + 1;
         transfers = offered_by old.transfers (announced_to old.place s) r.key (sent_from s.from);
       })
-      (destination s.target s.tag s.context) (sent_from s.from)
+      (destination s.target s.tag s.context) (waiting_of s.mode (is_to_itself old.place s) r) (sent_from s.from)

@@ -8,38 +8,79 @@ ghost use Rattle.requests.specs.Lists.{is_twice, named};
 ghost use Rattle.requests.specs.Regions.{CanReceive};
 ghost use Rattle.requests.specs.declared.awaited.Awaited.TheVariants.{AllOf};
 ghost use Rattle.rank_calls.specs.Calls.{HasOutcomeRoom, IsPacked, IsTaken};
-ghost use Rattle.rank_core.specs.Calls.{Answers, CanAnswer, CanPost, collection_on_receive, call_fault, free_fault};
+ghost use Rattle.rank_core.specs.Calls.{Answers, CanAnswer, CanPost, CanSearch, collection_on_receive, call_fault, free_fault};
 ghost use Rattle.rank_core.specs.CoreState.{CanStart};
 ghost use Rattle.rank_calls.specs.Receiving.{collection_on_post, transfers_with};
 ghost use Rattle.rank_core.specs.Receiving.{found_by, IsPosting, IsReceiving, IsReceivingNothing};
 ghost use Rattle.rank_calls.specs.Sending.{announced_to, is_own, is_to_itself};
 ghost use Rattle.rank_core.specs.Sending.{IsOffering, IsSending, arrived_at_itself};
 ghost use Rattle.rank_core.specs.Waiting.{Tests, Waits, cancelled};
+ghost use Rattle.rank_core.specs.Messages.{Receives, Searches, collection_on_message, own_key_sent, own_send_of, probed_by};
+ghost use Rattle.std.specs.Option.{option_copied};
 ghost use Rattle.rank_calls.specs.declared.call.Call.TheVariants as calls;
 
 use crate::rank::{Core, give_way};
 use datatypes::Buffer;
+use match_queues::{Body, Message};
 use rank_calls::{
-    Call, Destination, Prepared, Receive, Reply, Send, announced_to, destination_of, into_elements,
-    null_status, own_message, posted_by, progress_on_post,
+    Call, Destination, Prepared, Probe, Receive, Reply, Send, announced_to, destination_of,
+    into_elements, is_own, null_status, own_message, posted_by, progress_on_post, status_of,
 };
 use rendezvous::Collection;
 use requests::{
-    Awaited, AwaitedAll, Outcome, Posted, Progress, ReceiveRegion, Request, RequestList,
+    Answer, Awaited, AwaitedAll, Outcome, Posted, Progress, ReceiveRegion, Region, Request,
+    RequestList, TakenOut,
 };
-use vocabulary::Source;
+use shared_groups::status_in;
+use vocabulary::{Mode, Source};
+
+/// The key of the own send that waits for the match of this message, if one does.
+fn own_send_of(message: Option<&Message>) -> Option<usize>
+    ensures { result ≡ own_send_of (option_copied message.entry) }
+{
+    match message {
+        Some(message) => match &message.body {
+            Body::Own(own) => Some(own.key),
+            Body::Whole(_) | Body::Announced(_) => None,
+        },
+        None => None,
+    }
+}
+
+/// The receive that a probe stands for, as it would stand in the queue.
+pub(crate) fn probed_by(source: Source, tag: Option<u32>, context: u64) -> match_queues::Receive
+    ensures { result ≡ probed_by source tag context }
+{
+    match_queues::Receive {
+        request: 0,
+        context,
+        source,
+        tag,
+    }
+}
 
 impl Core {
     /// These elements come to the own rank, where that is their destination.
-    fn arrive_at_itself(&mut self, destination: Option<Destination>, elements: Buffer)
+    fn arrive_at_itself(
+        &mut self,
+        destination: Option<Destination>,
+        waiting: Option<Request>,
+        elements: Buffer,
+    )
         requires { is_own self.old.state.place destination ≡ true → 0 < self.old.messages }
-        ensures exact { self.new.state ≡ arrived_at_itself self.old.state destination elements }
+        ensures exact { self.new.state ≡ arrived_at_itself self.old.state destination waiting elements }
         ensures placed { self.new.state.place ≡ self.old.state.place }
     {
         if let Some(destination) = destination
             && destination.rank == self.place.endpoint.rank
         {
-            self.arrive(own_message(self.place, destination.context, destination.tag, elements));
+            self.arrive(own_message(
+                self.place,
+                destination.context,
+                destination.tag,
+                waiting,
+                elements,
+            ));
         }
     }
 
@@ -55,12 +96,18 @@ impl Core {
     {
         let announced = announced_to(self.place, &send);
         let destination = destination_of(send.target, send.tag, send.context);
+        let waits = send.mode == Mode::Synchronous && is_own(self.place, destination);
         let elements = into_elements(send, prepared);
         match announced {
             Some(rank) => self.offer(rank, elements),
             None => {
+                if waits {
+                    let waiting = self.requests.start(Progress::Offering);
+                    self.arrive_at_itself(destination, Some(waiting), elements);
+                    return waiting;
+                }
                 let request = self.requests.start(Progress::Finished(Outcome::Sent));
-                self.arrive_at_itself(destination, elements);
+                self.arrive_at_itself(destination, None, elements);
                 request
             }
         }
@@ -117,10 +164,73 @@ impl Core {
         let posted = posted_by(self.requests.next_key(), &receive);
         self.collect(collection);
         let found = self.queues.post(posted);
+        let own = own_send_of(found.as_ref());
         let Receive { into, group, .. } = receive;
         let into = ReceiveRegion::new(into);
         let progress = progress_on_post(Posted { into, group }, found);
-        self.requests.start(progress)
+        let request = self.requests.start(progress);
+        self.finish_own(own);
+        request
+    }
+
+    /// The own send under this key ends, if there is one.
+    fn finish_own(&mut self, own: Option<usize>)
+        ensures { self.new ≡ record self.old { state = record self.old.state { slots = own_key_sent own self.old.state.slots } } }
+    {
+        if let Some(key) = own {
+            self.requests.finish_send(key);
+        }
+    }
+
+    /// Takes the message out of matching that such a receive would take, if there is one, for which there is room.
+    fn search(&mut self, probe: Probe) -> Reply
+        requires { CanSearch probe.source self.old probe }
+        ensures exact { Searches self.old.state probe result self.new.state }
+        ensures taken { IsTaken result }
+        ensures placed { self.new.state.place ≡ self.old.state.place }
+    {
+        if let Source::Null = probe.source {
+            return Reply::Matched(Some((None, null_status())));
+        }
+        let posted = probed_by(probe.source, probe.tag, probe.context);
+        if self.queues.message_for(&posted).is_none() {
+            return Reply::Matched(None);
+        }
+        let Some(message) = self.queues.take(&posted) else {
+            unreachable!()
+        };
+        let status = status_in(&probe.group, status_of(&message));
+        let request = self.requests.start(Progress::TakenOut(TakenOut {
+            group: probe.group,
+            message: Some(message),
+        }));
+        Reply::Matched(Some((Some(request), status)))
+    }
+
+    /// Receives a message that was taken out: its receive is over, or it is waited for.
+    fn receive_message(
+        &mut self,
+        message: Option<Request>,
+        into: Region,
+        collection: Option<Collection>,
+    ) -> Reply
+        requires free { self.old.state.blocked ≡ None }
+        requires fit { CanReceive into }
+        requires collection { collection ≡ collection_on_message self.old.state message into }
+        requires place { is_some collection ≡ true → 0 < self.old.collections }
+        ensures exact { Receives self.old.state message into result self.new.state }
+        ensures taken { IsTaken result }
+        ensures placed { self.new.state.place ≡ self.old.state.place }
+    {
+        let Some(request) = message else {
+            drop(collection);
+            return Reply::Done(Answer::One(Outcome::Received(null_status(), into.buffer)));
+        };
+        let own = own_send_of(self.requests.message(request));
+        self.collect(collection);
+        self.requests.receive(request.key, ReceiveRegion::new(into));
+        self.finish_own(own);
+        self.wait(Awaited::One(Some(request)))
     }
 
     fn receive(&mut self, receive: Receive, collection: Option<Collection>) -> Request
@@ -191,7 +301,7 @@ impl Core {
     }
 
     /// Answers a call that breaks no rule, in what was made ready for it.
-    #[tactic(auto, using(crate::proofs::Allowed::receive_fits, crate::proofs::Allowed::allowed_send))]
+    #[tactic(auto, using(crate::proofs::Allowed::receive_fits, crate::proofs::Allowed::message_fits, crate::proofs::Allowed::allowed_send))]
     pub fn answer(&mut self, call: Call, prepared: Prepared) -> Reply
         requires allowed { call_fault self.old.state call ≡ None }
         requires room { CanAnswer self.old call prepared }
@@ -203,6 +313,13 @@ impl Core {
             Call::Isend(send) => Reply::Started(self.send(send, prepared)),
             Call::Irecv(receive) => Reply::Started(self.receive(receive, prepared.into_place())),
             Call::Waitall(list) => self.wait_all(list, prepared),
+            Call::Mrecv(message, into) => {
+                self.receive_message(message, into, prepared.into_place())
+            }
+            Call::Improbe(probe) => {
+                drop(prepared);
+                self.search(probe)
+            }
             // The others need nothing. It is dropped by name: that is one step of the proof each, and not one for each variant.
             Call::Wait(request) => {
                 drop(prepared);

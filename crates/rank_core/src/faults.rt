@@ -11,18 +11,20 @@ ghost use Rattle.rank_calls.specs.Frames.{addressed};
 ghost use Rattle.rank_calls.specs.declared.call.Call.{Call};
 ghost use Rattle.rank_core.specs.CoreState.{CoreState};
 ghost use Rattle.rank_core.specs.Receiving.{receive_frame, receive_rule};
+ghost use Rattle.rank_core.specs.Messages.{looked, message_fault, message_frame, probe_rule, region_rule, search_limit};
 ghost use Rattle.rank_calls.specs.Sending.{announced_to, or_worn_out, send_fault};
 ghost use Rattle.rank_core.specs.Sending.{frame_of, or_full};
 ghost use Rattle.rank_core.specs.Waiting.{cancel_fault, requests_fault, wait_fault};
 
+use crate::answering::probed_by;
 use crate::rank::Core;
 use rank_calls::{
-    Addressed, Call, Prepared, Receive, Refused, Send, announced_to, answer_on_post,
-    destination_of, elements_of, fault_of, frame_to, is_source_beyond, is_tag_above, posted_by,
-    rank_to, show_widths,
+    Addressed, Call, Prepared, Probe, Receive, Refused, Send, announced_to, answer_on_post,
+    destination_of, elements_of, fault_of, frame_to, is_source_beyond, is_tag_above, null_status,
+    posted_by, rank_to, show_widths, status_of,
 };
-use requests::{Request, RequestList};
-use vocabulary::Source;
+use requests::{Region, Request, RequestList};
+use vocabulary::{Source, Status};
 
 /// A law of `fault_of_requests`, `fault_of_arguments` and `limit_of`: the first fault that they find, asked in this order, is
 /// that of the call. So whoever has rules of its own that stand between them may ask it, and where all three find none, a call
@@ -31,6 +33,32 @@ use vocabulary::Source;
 pub fn faults_are_cut()
     ensures { (c : CoreState) (call : Call) → IsCutFault c call }
 {}
+
+#[tactic(auto, unfolding(crate::specs::Messages::probe_rule))]
+pub(crate) fn rule_of_probe(size: u16, source: Source, tag: Option<u32>) -> Option<Refused>
+    ensures { result ≡ probe_rule size source tag }
+{
+    if is_tag_above(tag) {
+        return Some(Refused::Tag);
+    }
+    if is_source_beyond(size, source) {
+        return Some(Refused::Rank);
+    }
+    None
+}
+
+#[tactic(auto, unfolding(crate::specs::Messages::region_rule))]
+fn rule_of_region(into: &Region) -> Option<Refused>
+    ensures { result ≡ region_rule into.now }
+{
+    if into.is_unfit_to_receive() {
+        return Some(Refused::WrongType);
+    }
+    if into.is_too_short() {
+        return Some(Refused::Count);
+    }
+    None
+}
 
 impl Core {
     #[tactic(auto, unfolding(crate::specs::Receiving::receive_rule))]
@@ -72,6 +100,20 @@ impl Core {
             Some(Refused::Limit)
         } else {
             None
+        }
+    }
+
+    /// A matching probe needs a place only for a message that it finds.
+    fn limit_of_search(&self, probe: &Probe) -> Option<Refused>
+        ensures { result ≡ search_limit probe.now.source self.now.state probe.now }
+    {
+        if let Source::Null = probe.source {
+            return None;
+        }
+        let posted = probed_by(probe.source, probe.tag, probe.context);
+        match self.queues.message_for(&posted) {
+            Some(_) => self.limit_of_receive(),
+            None => None,
         }
     }
 
@@ -118,8 +160,25 @@ impl Core {
         }
     }
 
+    /// The message of the null process can always be received.
+    fn fault_of_message(&self, message: Option<Request>) -> Option<Refused>
+        ensures { result ≡ message_fault self.now.state message }
+    {
+        match message {
+            None => None,
+            Some(message) => {
+                if self.requests.is_message(message) {
+                    None
+                } else {
+                    Some(Refused::Request)
+                }
+            }
+        }
+    }
+
     /// The fault of a call by its requests, which is 6: an earlier call is blocked, there is no such request, a list names
-    /// one twice, or what is cancelled is no receive. It takes no memory (MPI 3.1, 3.7 and 3.8.4).
+    /// one twice, what is cancelled is no receive, or what is received is no message that was taken out and isn't received.
+    /// It takes no memory (MPI 3.1, 3.7, 3.8.3 and 3.8.4).
     pub fn fault_of_requests(&self, call: &Call) -> Option<Refused>
         ensures { result ≡ request_fault self.now.state call.now }
     {
@@ -131,13 +190,15 @@ impl Core {
             Call::Wait(request) | Call::Test(request) => self.fault_of_wait(*request),
             Call::Waitany(list) | Call::Waitall(list) => self.fault_of_list(list),
             Call::Cancel(request) => self.fault_of_cancel(*request),
+            Call::Improbe(_) => None,
+            Call::Mrecv(message, _) => self.fault_of_message(*message),
         }
     }
 
     /// The fault of a call by what it hands in, the first of 2 (buffer and layout are of different basic types, or a receive
     /// names a place twice), 1 (more than 1,048,576 bytes of data in a send, or the buffer is too short), 3 (the tag is above
-    /// the greatest, or the wildcard in a send) and 5 (no such rank of world, or any rank in a send). It takes no memory
-    /// (MPI 3.1, 3.2.2 and 4.1.11).
+    /// the greatest, or the wildcard in a send) and 5 (no such rank of world, or any rank in a send). Of a matching probe these
+    /// are 3 and 5, and of the receive of a message 2 and 1. It takes no memory (MPI 3.1, 3.2.2 and 4.1.11).
     pub fn fault_of_arguments(&self, call: &Call) -> Option<Refused>
         ensures fault { result ≡ argument_fault self.now.state.place call.now }
         ensures within { IsWithin call.now }
@@ -148,19 +209,23 @@ impl Core {
                 fault_of(self.place, send)
             }
             Call::Irecv(receive) => self.rule_of_receive(receive),
+            Call::Improbe(probe) => rule_of_probe(self.place.size, probe.source, probe.tag),
+            Call::Mrecv(_, into) => rule_of_region(into),
             Call::Wait(_) | Call::Test(_) | Call::Waitany(_) | Call::Waitall(_) | Call::Cancel(_) =>
                 { None }
         }
     }
 
     /// The limit that a call meets, which is 13: 65,536 requests are there, no serial is left, or no number of a transfer to
-    /// the rank. It takes no memory.
+    /// the rank. A matching probe meets it only where it finds a message. It takes no memory.
     pub fn limit_of(&self, call: &Call) -> Option<Refused>
         ensures { result ≡ limit_fault self.now.state call.now }
     {
         match call {
             Call::Isend(send) => self.limit_of_send(send),
             Call::Irecv(_) => self.limit_of_receive(),
+            Call::Improbe(probe) => self.limit_of_search(probe),
+            Call::Mrecv(_, _) => None,
             Call::Wait(_) | Call::Test(_) | Call::Waitany(_) | Call::Waitall(_) | Call::Cancel(_) =>
                 { None }
         }
@@ -190,6 +255,21 @@ impl Core {
         }
     }
 
+    /// What a receive of this source, tag and context that is posted now would be matched with: the status of that message,
+    /// whose source is a rank of world, or none. It takes no memory and changes nothing (MPI 3.1, 3.8.1).
+    pub fn look(&self, source: Source, tag: Option<u32>, context: u64) -> Option<Status>
+        ensures { result ≡ looked self.now.state source tag context None }
+    {
+        if let Source::Null = source {
+            return Some(null_status());
+        }
+        let posted = probed_by(source, tag, context);
+        match self.queues.message_for(&posted) {
+            Some(message) => Some(status_of(message)),
+            None => None,
+        }
+    }
+
     /// To which other rank a call gives a frame. It takes no memory.
     #[tactic(auto, using(crate::proofs::Allowed::send_there))]
     pub fn rank_of(&self, call: &Call) -> Option<u16>
@@ -205,6 +285,11 @@ impl Core {
                 Some(answer) => Some(answer.rank),
                 None => None,
             },
+            Call::Mrecv(message, into) => match self.answer_of_message(*message, into) {
+                Some(answer) => Some(answer.rank),
+                None => None,
+            },
+            Call::Improbe(_) => None,
             Call::Wait(_) | Call::Test(_) | Call::Waitany(_) | Call::Waitall(_) | Call::Cancel(_) =>
                 None,
         }
@@ -226,6 +311,23 @@ impl Core {
         }
     }
 
+    /// The frame that answers a message that is received, if it was announced. It takes no memory.
+    #[tactic(auto, using(crate::proofs::Posting::message_is_there))]
+    fn answer_of_message(
+        &self,
+        message: Option<Request>,
+        into: &Region,
+    ) -> Option<Addressed<'static>>
+        ensures exact { addressed result ≡ message_frame self.now.state message into.now }
+        ensures fits { IfSome result (λ a. FrameFits (frame_text a.frame)) }
+        ensures there { IfSome result (λ a. a.rank < self.now.state.place.size) }
+    {
+        match message {
+            Some(message) => answer_on_post(into, self.requests.message(message)),
+            None => None,
+        }
+    }
+
     #[tactic(auto, using(rank_calls::proofs::Sends::is_sendable, rank_calls::proofs::Sends::is_there))]
     fn frame_of_send<'a>(&self, send: &'a Send, prepared: &'a Prepared) -> Option<Addressed<'a>>
         requires allowed { send_fault self.now.state.place send.now ≡ None }
@@ -236,7 +338,13 @@ impl Core {
     {
         let elements = elements_of(send, prepared);
         let destination = destination_of(send.target, send.tag, send.context);
-        frame_to(self.place, &self.transfers, destination, elements)
+        frame_to(
+            self.place,
+            &self.transfers,
+            send.mode,
+            destination,
+            elements,
+        )
     }
 
     /// The frame that a call that breaks no rule gives to another rank, lent from the call, or from what was made ready for
@@ -251,6 +359,8 @@ impl Core {
         match call {
             Call::Isend(send) => self.frame_of_send(send, prepared),
             Call::Irecv(receive) => self.answer_of_receive(receive),
+            Call::Mrecv(message, into) => self.answer_of_message(*message, into),
+            Call::Improbe(_) => None,
             Call::Wait(_) | Call::Test(_) | Call::Waitany(_) | Call::Waitall(_) | Call::Cancel(_) =>
                 None,
         }

@@ -40,6 +40,11 @@ impl Core {
                 drop(collection);
                 self.requests.finish(receive.request, status, elements);
             }
+            Body::Own(own) => {
+                drop(collection);
+                self.requests.finish(receive.request, status, own.elements);
+                self.requests.finish_send(own.key);
+            }
             Body::Announced(announcement) => {
                 self.requests
                     .announce(receive.request, status, announcement.basic);
@@ -166,8 +171,8 @@ impl Core {
     ///
     /// With a lesson the requests that wait for the rank end as replaced, with their buffers as they were: receives that name
     /// it or collect from it, and sends that wait for its answer. Messages from its former incarnations that were not
-    /// received are dropped, and the session's transfers start anew. MPI 3.1 has no restarts of a rank: these rules are this
-    /// project's own.
+    /// received are dropped, and the receive of one that was taken out ends as replaced; the session's transfers start anew.
+    /// MPI 3.1 has no restarts of a rank: these rules are this project's own.
     pub fn take_news(&mut self, news: News<'_>, ready: Ready)
         requires allowed { news_fault self.old.state (news_text news) ≡ None }
         requires can { CanTake self.old (news_text news) ready }

@@ -7,15 +7,18 @@ ghost use Rattle.requests.specs.Table.{is_full};
 ghost use Rattle.rank_calls.specs.Calls.{NeedsMemory};
 ghost use Rattle.rank_core.specs.Calls.{CanAnswer, CanPost, collection_on_receive, call_fault};
 ghost use Rattle.rank_core.specs.CoreState.{CanStart};
+ghost use Rattle.rank_core.specs.Messages.{search_limit};
 ghost use Rattle.rank_calls.specs.declared.refused.Refused.TheVariants as refusals;
 ghost use Rattle.rank_calls.specs.declared.call.Call.TheVariants as calls;
 
+use crate::answering::probed_by;
 use crate::rank::Core;
 use rank_calls::{
-    Call, Prepared, Receive, Refused, Send, announced_to, collection_on_post, destination_of,
-    is_own, packed, posted_by, room_for_all,
+    Call, Prepared, Probe, Receive, Refused, Send, announced_to, collection_on_post,
+    destination_of, is_own, packed, posted_by, room_for_all,
 };
 use rendezvous::Collection;
+use requests::{Region, Request};
 use vocabulary::Source;
 
 impl Core {
@@ -141,6 +144,47 @@ impl Core {
         }
     }
 
+    fn prepare_search(&mut self, probe: &Probe) -> Result<Prepared, Refused>
+        requires { search_limit probe.now.source self.old.state probe.now ≡ None }
+        ensures room { IfOk result (λ prepared. CanAnswer self.new (calls.Improbe probe.now) prepared) }
+        ensures kept { self.new.state ≡ self.old.state }
+        ensures err { IfErr result (λ e. e ≡ refusals.OutOfMemory) }
+    {
+        if let Source::Null = probe.source {
+            return Ok(Prepared::Nothing);
+        }
+        let posted = probed_by(probe.source, probe.tag, probe.context);
+        if self.queues.message_for(&posted).is_some() {
+            self.make_room_to_start()?;
+        }
+        Ok(Prepared::Nothing)
+    }
+
+    fn prepare_message(
+        &mut self,
+        message: Option<Request>,
+        into: &Region,
+    ) -> Result<Prepared, Refused>
+        ensures room { IfOk result (λ prepared. CanAnswer self.new (calls.Mrecv message into.now) prepared) }
+        ensures kept { self.new.state ≡ self.old.state }
+        ensures err { IfErr result (λ e. e ≡ refusals.OutOfMemory) }
+    {
+        let place = match message {
+            Some(message) => collection_on_post(
+                self.alloc,
+                into,
+                message.key,
+                self.requests.message(message),
+            )?,
+            None => None,
+        };
+        self.make_room_to_collect(place.is_some())?;
+        match place {
+            Some(collection) => Ok(Prepared::Place(collection)),
+            None => Ok(Prepared::Nothing),
+        }
+    }
+
     /// Makes ready what the answer to a call that breaks no rule takes, or finds that there is no memory (14), which a wait
     /// for one or any, a test and a cancel do not need. What the core holds stays as it is.
     #[tactic(auto, using(crate::proofs::Allowed::send_types, crate::proofs::Allowed::send_room, crate::proofs::Allowed::receive_starts))]
@@ -155,6 +199,8 @@ impl Core {
             Call::Isend(send) => self.prepare_send(send),
             Call::Irecv(receive) => self.prepare_receive(receive),
             Call::Waitall(list) => room_for_all(self.alloc, list),
+            Call::Improbe(probe) => self.prepare_search(probe),
+            Call::Mrecv(message, into) => self.prepare_message(*message, into),
             Call::Wait(_) | Call::Test(_) | Call::Waitany(_) | Call::Cancel(_) => {
                 Ok(Prepared::Nothing)
             }

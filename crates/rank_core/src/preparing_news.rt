@@ -91,16 +91,25 @@ impl Core {
     }
 
     /// The keys of the requests that end since the rank was started anew.
-    fn keys_ending(&self, rank: u16) -> Result<Vec<usize>, Refused>
-        ensures ok { IfOk result (λ keys. keys.items ≡ keys_ending self.now.state rank) }
+    fn keys_ending(&self, source: Endpoint) -> Result<Vec<usize>, Refused>
+        ensures ok { IfOk result (λ keys. keys.items ≡ keys_ending self.now.state source) }
         ensures err { IfErr result (λ e. e ≡ refusals.OutOfMemory) }
     {
-        let Ok(mut keys) = self.queues.keys_naming(self.alloc, rank) else {
+        let Ok(mut keys) = self.queues.keys_naming(self.alloc, source.rank) else {
             return Err(Refused::OutOfMemory);
         };
-        let Ok(others) = self.transfers.keys_with(self.alloc, rank) else {
+        let Ok(mut others) = self.transfers.keys_with(self.alloc, source.rank) else {
             return Err(Refused::OutOfMemory);
         };
+        let Ok(messages) = self
+            .requests
+            .keys_of_messages(self.alloc, source.rank, source.incarnation)
+        else {
+            return Err(Refused::OutOfMemory);
+        };
+        if others.extend_from_slice(&messages).is_err() {
+            return Err(Refused::OutOfMemory);
+        }
         match keys.extend_from_slice(&others) {
             Ok(()) => Ok(keys),
             Err(_) => Err(Refused::OutOfMemory),
@@ -116,7 +125,7 @@ impl Core {
         if !lesson {
             return Ok(None);
         }
-        match self.keys_ending(source.rank) {
+        match self.keys_ending(source) {
             Ok(keys) => Ok(Some(keys)),
             Err(refused) => Err(refused),
         }

@@ -1,14 +1,14 @@
-use Rattle.std.proofs.Common.{◌≤◌, ◌<◌, ◌*◌, length, arith}
-use Rattle.std.proofs.lemmas.Bool.{ltb-true}
+use Rattle.std.proofs.Common.{◌≡◌, ◌≤◌, ◌*◌, true, length, arith}
+use Rattle.vocabulary.specs.Modes.{may_be_announced}
 use Rattle.vocabulary.specs.BasicTypes.{size_of}
 use Rattle.datatypes.specs.ContentLaws.{length-bytes_of}
-use Rattle.rank_calls.proofs.Sends.{few_elements}
+use Rattle.rank_calls.proofs.Sends.{announced_is, few_elements}
 use Rattle.rank_calls.proofs.sending.request_frame.Goals as goal
 
 pub returns-clause-fits : goal.returns-clause-fits
 returns-clause-fits c =
     let size = length-bytes_of (size_of c.args.elements.now.basic) c.args.elements.now.values in
-    let large : 1024 < length c.args.elements.now.values * size_of c.args.elements.now.basic = ltb-true 1024 (length c.args.elements.now.values * size_of c.args.elements.now.basic) c.requires.large in
+    let large : may_be_announced c.args.mode (length c.args.elements.now.values * size_of c.args.elements.now.basic) ≡ true = announced_is c.args.mode c.args.elements.now c.requires.large in
     let limit : length c.args.elements.now.values * size_of c.args.elements.now.basic ≤ 1048576 = omega (arith, size, c.requires.sendable.count) in
     rw (c.basic.ensures, c.len.ensures) (record { tag = c.requires.sendable.tag_is; large = large; limit = limit; plane = tt })
 
