@@ -9,7 +9,7 @@ use Rattle.vocabulary.specs.declared.endpoint.Endpoint.{Endpoint}
 use Rattle.proof_engine_view.specs.Transfers.{Transfer}
 use Rattle.perfect_queues.specs.Receives.{Receive}
 use Rattle.proof_pure_network.specs.Held.{fits}
-use Rattle.proof_pure_network.specs.Jobs.{Closed, Collecting, Job, Offering, Over, Waiting, oldest_posted, or_later, takes}
+use Rattle.proof_pure_network.specs.Jobs.{Closed, Collecting, Job, Offering, Over, Probed, Unmatched, Waiting, oldest_posted, or_later, takes}
 use Rattle.proof_engine_view.specs.Rows.{Row, held_of, jobs_of, posted_job, posted_rows}
 use Rattle.proof_engine_matching.specs.Matches.{ArrivalsMatch, IsKept, IsMatchedTo}
 use Rattle.proof_engine_matching.proofs.Accepting.{posted_record, same_test}
@@ -114,6 +114,8 @@ step from m key (Collecting p h got) rs t = skip from m key (Collecting p h got)
 step from m key (Offering d basic values) rs t = skip from m key (Offering d basic values) rs refl refl t
 step from m key (Over o) rs t = skip from m key (Over o) rs refl refl t
 step from m key Closed rs t = skip from m key Closed rs refl refl t
+step from m key (Unmatched d) rs t = skip from m key (Unmatched d) rs refl refl t
+step from m key (Probed g h) rs t = skip from m key (Probed g h) rs refl refl t
 
 -- all rows
 tried : (from : Endpoint → List Transfer) (m : Message) (rows : List Row) → Tried from m rows

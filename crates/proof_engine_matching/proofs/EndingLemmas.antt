@@ -6,8 +6,9 @@ use Rattle.perfect_queues.specs.Outcomes as machine
 use Rattle.perfect_queues.specs.Receives.{Receive}
 use Rattle.datatypes.specs.Contents.{Contents}
 use Rattle.match_queues.specs.declared.envelope.Message.{Message}
+use Rattle.match_queues.specs.declared.envelope.OwnSend.{OwnSend}
 use Rattle.match_queues.specs.declared.envelope.Body.{Body}
-use Rattle.match_queues.specs.declared.envelope.Body.TheVariants.{Whole}
+use Rattle.match_queues.specs.declared.envelope.Body.TheVariants.{Own, Whole}
 use Rattle.proof_pure_network.specs.Held.{full}
 use Rattle.requests.specs.Outcomes.{outcome_of}
 use Rattle.shared_groups.specs.Statuses.{status_in}
@@ -19,7 +20,7 @@ use Rattle.requests.specs.declared.outcome.Failure.TheVariants.{WrongType, Trunc
 use Rattle.requests.specs.declared.outcome.Outcome.TheVariants as outcomes
 use Rattle.rank_calls.specs.Receiving.{status_of}
 use Rattle.proof_engine_view.specs.Seen.{outcome_seen}
-use Rattle.proof_engine_matching.specs.Matches.{OutcomesAgree}
+use Rattle.proof_engine_matching.specs.Matches.{OutcomesAgree, OwnOutcomesAgree}
 
 -- by whether the types are one and whether the message has room
 ends : (same room : Bool) (status : Status) (told buffer : Contents) →
@@ -46,3 +47,17 @@ pub outcomes_agree : OutcomesAgree
 outcomes_agree from p m c is =
     subst (λ (b : Body). machine.outcome p (full (held_of from (with_body m b)) c.values) ≡ outcome_seen (outcome_of p.into (status_in p.group (status_of (with_body m b))) c)) (sym is)
     (whole_ends from p m c)
+
+-- how it ends with one of the rank's own
+own_ends : (from : Endpoint → List Transfer) (p : Receive) (m : Message) (o : OwnSend) →
+    machine.outcome p (full (held_of from (with_body m (Own o))) o.elements.values)
+    ≡ outcome_seen (outcome_of p.into (status_in p.group (status_of (with_body m (Own o)))) o.elements)
+own_ends from p m o =
+    ends (is_same_type p.into.buffer.basic o.elements.basic) (nat_le (length o.elements.values) (length (places_in p.into)))
+    (status_in p.group (status_of (with_body m (Own o)))) (filled p.into o.elements.values) p.into.buffer
+
+-- the law of their outcomes
+pub own_outcomes_agree : OwnOutcomesAgree
+own_outcomes_agree from p m o is =
+    subst (λ (b : Body). machine.outcome p (full (held_of from (with_body m b)) o.elements.values) ≡ outcome_seen (outcome_of p.into (status_in p.group (status_of (with_body m b))) o.elements)) (sym is)
+    (own_ends from p m o)

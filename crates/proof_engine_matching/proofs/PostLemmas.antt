@@ -2,17 +2,18 @@
 use Rattle.std.proofs.Common.{◌≡◌, ℕ, suc, Bool, true, false, List, [], ◌∷◌, ◌++◌, map, position, remove, slice_get, option_map, Option, Some, None, refl, ap, ◌∙◌, ◌⊎◌, inl, inr, ⊎_elim, if◌then◌else◌}
 use Rattle.match_queues.specs.Accepts.{accepts}
 use Rattle.match_queues.specs.declared.envelope.Message.{Message}
-use Rattle.match_queues.specs.State.{State, message_at, message_for, posted_at}
+use Rattle.match_queues.specs.State.{State, message_at, message_for, posted_at, taken_at}
 use Rattle.rank_calls.specs.declared.call.Receive as engine_receive
 use Rattle.rank_calls.specs.Receiving.{posted_by}
-use Rattle.perfect_queues.specs.Receives.{Receive}
+use Rattle.rank_core.specs.Messages.{probed_by}
+use Rattle.perfect_queues.specs.Receives.{Probe, Receive, such_receive}
 use Rattle.proof_pure_network.specs.Held.{Held, fits}
 use Rattle.proof_pure_network.specs.Matching.{found}
 use Rattle.proof_engine_view.specs.Rows.{held_of}
 use Rattle.vocabulary.specs.declared.endpoint.Endpoint.{Endpoint}
 use Rattle.proof_engine_view.specs.Transfers.{Transfer}
 use Rattle.proof_engine_view.specs.Seen.{receive_seen}
-use Rattle.proof_engine_matching.specs.Matches.{Finds, FindsNone, PostsMatch}
+use Rattle.proof_engine_matching.specs.Matches.{Finds, FindsNone, PostsMatch, Takes, TakesMatch, TakesNone}
 use Rattle.proof_engine_matching.proofs.Accepting.{posted_record, same_test}
 use Rattle.proof_engine_matching.proofs.Positions.{position_here, position_later, remove_first}
 
@@ -118,3 +119,32 @@ posts_match from old v key = ⊎_elim
     (λ (n : Passed from key (receive_seen v) old.unexpected). inl (finds_none from old v key n))
     (λ (s : (i : ℕ) × (m : Message) × (earlier : List Held) × (later : List Held) × Taken from key (receive_seen v) old.unexpected i m earlier later). inr (s.1, s.2, s.3, finds from old v key s.0 s.1 s.2 s.3 s.4))
     (tried from key (receive_seen v) old.unexpected)
+
+-- nothing is taken out, as none is accepted
+takes_none : (from : Endpoint → List Transfer) (old : State) (q : Probe) → Passed from 0 (such_receive q) old.unexpected → TakesNone from old q
+takes_none from old q n =
+    let none : message_for (probed_by q.source q.tag q.context) old.unexpected ≡ None = n.place in
+    record {
+      core = n.core;
+      message = ap (λ (o : Option ℕ). message_at old.unexpected o) none;
+      queues = ap (λ (o : Option ℕ). taken_at o old) none;
+    }
+
+-- the oldest that is accepted is taken out
+takes : (from : Endpoint → List Transfer) (old : State) (q : Probe) (i : ℕ) (m : Message) (earlier later : List Held) → Taken from 0 (such_receive q) old.unexpected i m earlier later → Takes from old q m earlier later
+takes from old q i m earlier later s =
+    let place : message_for (probed_by q.source q.tag q.context) old.unexpected ≡ Some i = s.place in
+    record {
+      core = s.core;
+      accepts = s.accepts;
+      message = ap (λ (o : Option ℕ). message_at old.unexpected o) place ∙ s.there;
+      posted = ap (λ (o : Option ℕ). (taken_at o old).posted) place;
+      unexpected = ap (λ (o : Option ℕ). map (held_of from) (taken_at o old).unexpected) place ∙ s.rest;
+    }
+
+-- the law of probes
+pub takes_match : TakesMatch
+takes_match from old q = ⊎_elim
+    (λ (n : Passed from 0 (such_receive q) old.unexpected). inl (takes_none from old q n))
+    (λ (s : (i : ℕ) × (m : Message) × (earlier : List Held) × (later : List Held) × Taken from 0 (such_receive q) old.unexpected i m earlier later). inr (s.1, s.2, s.3, takes from old q s.0 s.1 s.2 s.3 s.4))
+    (tried from 0 (such_receive q) old.unexpected)

@@ -3,17 +3,19 @@ use Rattle.std.specs.Prelude.{◌≡◌, ℕ, true, ◌⊎◌, List, [], ◌∷�
 use Rattle.vocabulary.specs.declared.endpoint.Endpoint.{Endpoint}
 use Rattle.datatypes.specs.Contents.{Contents}
 use Rattle.match_queues.specs.declared.envelope.Message.{Message}
-use Rattle.match_queues.specs.declared.envelope.Body.TheVariants.{Announced, Whole}
+use Rattle.match_queues.specs.declared.envelope.Body.TheVariants.{Announced, Own, Whole}
 use Rattle.match_queues.specs.declared.envelope.Announcement.{Announcement}
+use Rattle.match_queues.specs.declared.envelope.OwnSend.{OwnSend}
 use Rattle.match_queues.specs.declared.queues.Arrival.TheVariants.{Kept, Matched}
 use Rattle.match_queues.specs.Arrivals.{arrival_of}
-use Rattle.match_queues.specs.State.{State, after_arrival, after_post, message_at, message_for}
+use Rattle.match_queues.specs.State.{State, after_arrival, after_post, after_take, message_at, message_for}
 use Rattle.requests.specs.Outcomes.{outcome_of}
 use Rattle.requests.specs.Table.{has_room, matched_progress}
 use Rattle.shared_groups.specs.Statuses.{status_in}
 use Rattle.requests.specs.declared.table.Posted.{Posted}
 use Rattle.rank_calls.specs.declared.call.Receive as engine_receive
 use Rattle.rank_calls.specs.Receiving.{posted_by, status_of}
+use Rattle.rank_core.specs.Messages.{probed_by}
 use Rattle.perfect_queues.specs.Outcomes.{outcome}
 use Rattle.perfect_queues.specs.Receives.{Receive}
 use Rattle.perfect_queues.specs.Receives as machine
@@ -69,11 +71,37 @@ PostsMatch =
     (from : Endpoint → List Transfer) (old : State) (v : engine_receive.Receive) (key : ℕ) →
     FindsNone from old v key ⊎ ((m : Message) × (earlier : List Held) × (later : List Held) × Finds from old v key m earlier later)
 
+-- such a receive would find no message that waits, and nothing is taken out
+pub record TakesNone (from : Endpoint → List Transfer) (old : State) (q : machine.Probe) : Type 0 where
+  pub core : found (machine.such_receive q) (map (held_of from) old.unexpected) ≡ None
+  pub message : message_at old.unexpected (message_for (probed_by q.source q.tag q.context) old.unexpected) ≡ None
+  pub queues : after_take old (probed_by q.source q.tag q.context) ≡ old
+
+-- the same message is taken out of both, and those before and after it stay
+pub record Takes (from : Endpoint → List Transfer) (old : State) (q : machine.Probe) (m : Message) (earlier later : List Held) : Type 0 where
+  pub core : found (machine.such_receive q) (map (held_of from) old.unexpected) ≡ Some (earlier, held_of from m, later)
+  pub message : message_at old.unexpected (message_for (probed_by q.source q.tag q.context) old.unexpected) ≡ Some m
+  pub accepts : fits (machine.such_receive q) (held_of from m) ≡ true
+  pub posted : (after_take old (probed_by q.source q.tag q.context)).posted ≡ old.posted
+  pub unexpected : map (held_of from) (after_take old (probed_by q.source q.tag q.context)).unexpected ≡ earlier ++ later
+
+-- A probe finds the same message in the engine's queues and in the core, or in neither
+abbrev pub TakesMatch : Type 0
+TakesMatch =
+    (from : Endpoint → List Transfer) (old : State) (q : machine.Probe) →
+    TakesNone from old q ⊎ ((m : Message) × (earlier : List Held) × (later : List Held) × Takes from old q m earlier later)
+
 -- a receive ends alike with a message that is whole
 abbrev pub OutcomesAgree : Type 0
 OutcomesAgree =
     (from : Endpoint → List Transfer) (p : Receive) (m : Message) (c : Contents) → m.body ≡ Whole c →
     outcome p (full (held_of from m) c.values) ≡ outcome_seen (outcome_of p.into (status_in p.group (status_of m)) c)
+
+-- and with one of the rank's own whose send waits for its match
+abbrev pub OwnOutcomesAgree : Type 0
+OwnOutcomesAgree =
+    (from : Endpoint → List Transfer) (p : Receive) (m : Message) (o : OwnSend) → m.body ≡ Own o →
+    outcome p (full (held_of from m) o.elements.values) ≡ outcome_seen (outcome_of p.into (status_in p.group (status_of m)) o.elements)
 
 -- an announced message is wanted by a receive alike, and leaves it alike
 pub record AnnouncedAlike (from : Endpoint → List Transfer) (p : Receive) (w : Posted) (m : Message) (a : Announcement) : Type 0 where

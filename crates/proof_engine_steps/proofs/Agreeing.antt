@@ -3,7 +3,7 @@ use Rattle.std.proofs.Common.{◌≡◌, ℕ, suc, List, [], ◌∷◌, map, Opt
 use Rattle.std.specs.List.{AllByRecursion}
 use Rattle.perfect_queues.specs.Completions as machine
 use Rattle.perfect_queues.specs.Outcomes as ends
-use Rattle.proof_pure_network.specs.Jobs.{Job, Waiting, Collecting, Offering, Over, Closed, job_outcome, over_at}
+use Rattle.proof_pure_network.specs.Jobs.{Job, Waiting, Collecting, Offering, Over, Closed, job_outcome, over_at, Probed, Unmatched}
 use Rattle.requests.specs.Completions as rank
 use Rattle.requests.specs.Lists.{named}
 use Rattle.requests.specs.Table.{progress_at, slot_at}
@@ -17,14 +17,15 @@ use Rattle.requests.specs.declared.table.Posted.{Posted}
 use Rattle.requests.specs.declared.table.Entry.{Entry}
 use Rattle.requests.specs.declared.table.Progress.{Progress}
 use Rattle.requests.specs.declared.table.Matched.{Matched}
+use Rattle.requests.specs.declared.table.TakenOut as taken
 use Rattle.requests.specs.declared.table.Progress.TheVariants.{Receiving, Finished}
 use Rattle.requests.specs.declared.table.Progress.TheVariants as progresses
 use Rattle.requests.specs.declared.table.Request.{Request}
-use Rattle.proof_engine_view.specs.Rows.{IsMatched, IsTable, Row, Stands, jobs_of}
+use Rattle.proof_engine_view.specs.Rows.{IsMatched, IsTable, IsTaken, Row, Stands, jobs_of}
 use Rattle.proof_engine_view.specs.Seen.{answer_seen, awaited_seen, outcome_seen, own_serial, requests_by}
 use Rattle.proof_engine_view.specs.Shown.{IsNamed}
 use Rattle.proof_engine_steps.proofs.RowLemmas.{job_at, over_row}
-use Rattle.proof_engine_steps.proofs.Settling.{progress_collecting, progress_offering, progress_over, progress_waiting}
+use Rattle.proof_engine_steps.proofs.Settling.{progress_collecting, progress_offering, progress_over, progress_probed, progress_unmatched, progress_waiting}
 
 -- ---- what the machine sees
 
@@ -151,3 +152,11 @@ named_same_outcome table rows t q h = subst (λ (key : ℕ). SayTheSame (rank.ou
         ap (λ (o : Option Progress). option_map outcome_seen (rank.finished_with o))
         (sym (progress_offering table rows q.serial h.row.key d basic values t (here (Offering d basic values) e)))
     by_job Closed e s = absurd (h.unanswered e)
+    by_job (Unmatched d) e s =
+        ap job_outcome (job_at rows q.serial h.row.key (Unmatched d) (here (Unmatched d) e)) ∙
+        ap (λ (o : Option Progress). option_map outcome_seen (rank.finished_with o))
+        (sym (progress_unmatched table rows q.serial h.row.key d t (here (Unmatched d) e)))
+    by_job (Probed g m) e s =
+        let x : (w : taken.TakenOut) × (progress_at table h.row.key q.serial ≡ Some (progresses.TakenOut w)) × IsTaken w g m = progress_probed table rows q.serial h.row.key g m t (here (Probed g m) e) in
+        ap job_outcome (job_at rows q.serial h.row.key (Probed g m) (here (Probed g m) e)) ∙
+        ap (λ (o : Option Progress). option_map outcome_seen (rank.finished_with o)) (sym x.1)

@@ -41,7 +41,7 @@ use Rattle.proof_engine_steps.proofs.Named.{NamedStay, blocked_stays, named_same
 use Rattle.proof_engine_steps.proofs.RowLemmas.{set_jobs}
 use Rattle.proof_engine_steps.proofs.Staying.{AreQuiet, same_rows, under_way_with}
 use Rattle.proof_engine_steps.proofs.Taking.{AnnouncementsAreTaken, HoldBoth, Meets}
-use Rattle.proof_engine_steps.proofs.UnderWay.{row_of}
+use Rattle.proof_engine_steps.proofs.UnderWay.{keeps_set, messages_keep, row_of}
 use Rattle.proof_engine_steps.proofs.Waking.{Holding}
 use Rattle.proof_engine_steps.proofs.Wholes.{announced_as, pushed}
 
@@ -83,15 +83,17 @@ counted_holds links e known core rows rank h =
         collections = h.under_way.collections;
         collected = h.under_way.collected;
         collections_apart = h.under_way.collections_apart;
+        unmatched = h.under_way.unmatched;
         messages = h.under_way.messages;
       };
+      taken = h.taken;
       knowing = h.knowing;
     }
 
 -- ---- THE MESSAGE
 
 -- the rank, once this became of a message, and the queues are these
-abbrev arrived_so : CoreState → Arrival → State → CoreState
+abbrev pub arrived_so : CoreState → Arrival → State → CoreState
 arrived_so e became queues =
     record e { queues = queues; slots = slots_on_arrival e.slots became; transfers = transfers_on_arrival e.transfers e.slots became }
 
@@ -120,7 +122,8 @@ answered_kept links e known core rows m x h part =
         held = ap (λ (hs : List Held). hs ++ held_of links.from (announced_as m x) ∷ []) h.held
             ∙ sym (map-append (held_of links.from) e.queues.unexpected (announced_as m x ∷ []));
         under_way = under_way_with links known e.place rows rows e.transfers e.transfers e.queues.unexpected (e.queues.unexpected ++ announced_as m x ∷ []) h.under_way (same_rows rows) refl
-            (pushed (λ (n : Message). IsFromLink links.from known e.place n n.body) e.queues.unexpected (announced_as m x) h.under_way.messages (part_as links.from known e.place m x part));
+            (pushed (λ (n : Message). IsFromLink links.from known e.place rows n n.body) e.queues.unexpected (announced_as m x) h.under_way.messages (part_as links.from known e.place m x part));
+        taken = h.taken;
         knowing = h.knowing;
       };
       blocked = refl;
@@ -148,7 +151,9 @@ answered_matched agree links e known core rows m x k key p h part t =
             (matched_under_way links known e.place rows left e.transfers e.queues.unexpected (after_arrival e.queues (announced_as m x)).unexpected m x k key p (has_room p x.basic x.count) h.under_way part
             (written_set rows k key (Waiting p) job t.row (λ i. i))
             (waiting_apart links.from known rows e.slots k key p e.transfers.collections h.table t.row h.under_way.collections)
-            (subst (λ (ms : List Message). AllByRecursion (λ (n : Message). IsFromLink links.from known e.place n n.body) ms) (sym t.unexpected) h.under_way.messages));
+            (subst (λ (ms : List Message). AllByRecursion (λ (n : Message). IsFromLink links.from known e.place left n n.body) ms) (sym t.unexpected)
+            (messages_keep links.from known e.place rows left e.queues.unexpected (keeps_set rows k key (Waiting p) job t.row (λ i. i)) h.under_way.messages)));
+        taken = alike.taken known e.place h.taken;
         knowing = h.knowing;
       };
       blocked = refl;

@@ -24,14 +24,14 @@ use Rattle.proof_pure_network.proofs.LinksGrow.{in_begun, in_end}
 use Rattle.proof_pure_network.specs.Announced.{Begins, IsIn}
 use Rattle.proof_pure_network.specs.Frames.{Frame, Rts}
 use Rattle.proof_pure_network.specs.Held.{Held}
-use Rattle.proof_pure_network.specs.Jobs.{Collecting, Job, Offering}
+use Rattle.proof_pure_network.specs.Jobs.{Collecting, Job, Offering, Unmatched}
 use Rattle.proof_engine_view.specs.Frames.{endpoint_of}
 use Rattle.proof_engine_view.specs.Rows.{Holds, IsTable, Row, Stands}
 use Rattle.proof_engine_view.specs.Transfers.{Announcements, Transfer, after_out, announced_in, frames_to}
 use Rattle.proof_engine_view.specs.UnderWay.{AreApart, AreUnderWay, IsCollectionOf, IsNumbered, IsOfferOf, collection_keys, offer_keys}
 use Rattle.proof_engine_view.proofs.Growing.{begun_at}
 use Rattle.proof_engine_steps.proofs.Announcing.{announced_elsewhere, announced_there, transfer_of}
-use Rattle.proof_engine_steps.proofs.UnderWay.{row_of}
+use Rattle.proof_engine_steps.proofs.UnderWay.{keeps_pushed, messages_keep, row_of}
 
 -- ---- NUMBERS
 
@@ -248,7 +248,8 @@ begun_under_way a known p slots rows t ms to key context tag serial c u table em
       collections = collections_more a.from known rows rows' t.collections (offering_row key d c ∷ [], refl) u.collections;
       collected = λ k key' r h got e. collected k key' r h got (row_before rows (offering_row key d c) k (row_of key' (Collecting r h got)) e);
       collections_apart = u.collections_apart;
-      messages = u.messages;
+      unmatched = λ k key' d' h. unmatched k key' d' (row_before rows (offering_row key d c) k (row_of key' (Unmatched d')) h);
+      messages = messages_keep a.from known p rows rows' ms (keeps_pushed rows (offering_row key d c)) u.messages;
     }
   where
     d : Endpoint
@@ -270,3 +271,7 @@ begun_under_way a known p slots rows t ms to key context tag serial c u table em
         IsIn key' (collection_keys t.collections)
     collected k key' r h got (inl e) = u.collected k key' r h got e
     collected k key' r h got (inr e) = absurd (not_collecting key key' d c r h got e)
+
+    unmatched : (k key' : ℕ) (d' : Endpoint) → (slice_get rows k ≡ Some (row_of key' (Unmatched d'))) ⊎ (offering_row key d c ≡ row_of key' (Unmatched d')) → d' ≡ p.endpoint
+    unmatched k key' d' (inl e) = u.unmatched k key' d' e
+    unmatched k key' d' (inr e) = let jobs : Offering d c.basic c.values ≡ Unmatched d' = ap (λ (x : Row). x.job) e in absurd cc

@@ -3,6 +3,7 @@ use Rattle.std.proofs.Common.{◌≡◌, ℕ, ◌==◌, ◌&&◌, Bool, true, fa
 use Rattle.std.proofs.lemmas.Bool.{ne_eqb}
 use Rattle.vocabulary.specs.Endpoints.{is_same}
 use Rattle.vocabulary.specs.declared.endpoint.Endpoint.{Endpoint}
+use Rattle.vocabulary.specs.declared.mode.Mode.{Mode}
 use Rattle.perfect_queues.proofs.EndpointLemmas.{same_refl}
 use Rattle.proof_pure_network.specs.Frames.{Frame, Rts}
 use Rattle.proof_pure_network.proofs.JobLemmas.{push_at}
@@ -34,9 +35,9 @@ announced_elsewhere a d x frame apart = go (x.rank == d.rank) (ne_eqb x.rank d.r
     go true is = absurd cc
 
 -- its frame stands for the network's, if its number is how many were announced before
-pub request_stands : (a : Announcements) (d : Endpoint) (number context tag serial : ℕ) (c : Contents) (back : List Transfer) → number ≡ length (a.to d) →
-    StandsFor ((after_out a ((d, Rts context tag c.basic serial (length c.values)) ∷ [])).to d) back (request_frame number context tag c) (Rts context tag c.basic serial (length c.values))
-request_stands a d number context tag serial c back is =
+pub request_stands : (mode : Mode) (a : Announcements) (d : Endpoint) (number context tag serial : ℕ) (c : Contents) (back : List Transfer) → number ≡ length (a.to d) →
+    StandsFor ((after_out a ((d, Rts context tag c.basic serial (length c.values)) ∷ [])).to d) back (request_frame mode number context tag c) (Rts context tag c.basic serial (length c.values))
+request_stands mode a d number context tag serial c back is =
     record {
       serial = serial;
       plane = refl;

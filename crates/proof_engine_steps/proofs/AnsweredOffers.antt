@@ -19,14 +19,14 @@ use Rattle.perfect_queues.specs.Outcomes as machine
 use Rattle.requests.specs.declared.table.Entry.{Entry}
 use Rattle.rank_calls.specs.Hearing.{bad_unless, heard_fault}
 use Rattle.proof_pure_network.specs.Announced.{IsIn}
-use Rattle.proof_pure_network.specs.Jobs.{Job, Collecting, Offering, Over}
+use Rattle.proof_pure_network.specs.Jobs.{Job, Collecting, Offering, Over, Unmatched}
 use Rattle.proof_pure_network.proofs.JobLemmas.{get_set_same}
 use Rattle.proof_engine_view.specs.Frames.{endpoint_of}
 use Rattle.proof_engine_view.specs.Rows.{IsTable, Row}
 use Rattle.proof_engine_view.specs.Transfers.{Announcements, Transfer}
 use Rattle.proof_engine_view.specs.UnderWay.{AreApart, AreUnderWay, IsCollectionOf, IsOfferOf, offer_keys}
 use Rattle.proof_engine_steps.proofs.Tables.{one_request}
-use Rattle.proof_engine_steps.proofs.UnderWay.{row_of}
+use Rattle.proof_engine_steps.proofs.UnderWay.{keeps_set, messages_keep, row_of}
 
 -- ---- A LIST WITH ONE IN THE MIDDLE
 
@@ -193,7 +193,8 @@ answered_under_way a known p slots rows t ms rank transfer k found d basic value
       collected = λ n key r h got x. u.collected n key r h got
           (row_before rows k n o.request (Offering d basic values) (Over machine.Sent) (row_of key (Collecting r h got)) here x (λ z. cc)).1;
       collections_apart = u.collections_apart;
-      messages = u.messages;
+      unmatched = λ n key e h. u.unmatched n key e (row_before rows k n o.request (Offering d basic values) (Over machine.Sent) (row_of key (Unmatched e)) here h (λ z. cc)).1;
+      messages = messages_keep a.from known p rows left ms (keeps_set rows k o.request (Offering d basic values) (Over machine.Sent) here (λ i. i)) u.messages;
     }
   where
     o : Offer

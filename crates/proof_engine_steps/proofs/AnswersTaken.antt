@@ -1,8 +1,8 @@
 -- An answer comes: the send is over at the rank and at its core, and its data go out if they are wanted.
-use Rattle.std.proofs.Common.{◌≡◌, ℕ, zero, suc, ◌*◌, ◌^◌, ◌<◌, ◌≤◌, Bool, true, false, List, [], ◌∷◌, ◌++◌, length, Option, Some, if◌then◌else◌, slice_get, slice_set, refl, sym, ap, ◌∙◌, subst}
+use Rattle.std.proofs.Common.{◌≡◌, ℕ, ◌*◌, ◌^◌, ◌<◌, ◌≤◌, Bool, true, false, List, [], ◌∷◌, length, Option, Some, if◌then◌else◌, slice_get, slice_set, refl, sym, ap, ◌∙◌, subst}
 use Rattle.std.specs.List.{AllByRecursion}
 use Rattle.std.proofs.lemmas.List.{length-set}
-use Rattle.std.proofs.lemmas.Option.{none-some, same_Some}
+use Rattle.std.proofs.lemmas.Option.{same_Some}
 use Rattle.vocabulary.specs.BasicTypes.{size_of}
 use Rattle.vocabulary.specs.Endpoints.{is_same}
 use Rattle.vocabulary.specs.Limits.{send_limit}
@@ -13,7 +13,6 @@ use Rattle.datagram.specs.Spelling.{ClearText}
 use Rattle.datagram.specs.declared.kinds.Clearance.{Clearance}
 use Rattle.datagram.specs.declared.kinds.Clearance.TheVariants.{Drop, Send}
 use Rattle.incarnation.specs.declared.place.Place.{Place}
-use Rattle.match_queues.specs.declared.envelope.Receive as posted
 use Rattle.rendezvous.specs.declared.offer.Offer.{Offer}
 use Rattle.perfect_queues.proofs.EndpointLemmas.{same_refl}
 use Rattle.perfect_queues.specs.Outcomes as machine
@@ -30,10 +29,10 @@ use Rattle.proof_pure_network.specs.Frames.{Cts, Frame}
 use Rattle.proof_pure_network.specs.Jobs.{Job, Offering, Over}
 use Rattle.proof_pure_network.specs.Transfers.{answered, cut, data_frames, wanted_data}
 use Rattle.proof_engine_view.specs.Frames.{endpoint_of}
-use Rattle.proof_engine_view.specs.Rows.{Fits, Holds, IsTable, Row, posted_job, posted_rows}
+use Rattle.proof_engine_view.specs.Rows.{Fits, Holds, IsTable, Row}
 use Rattle.proof_engine_view.specs.Standing.{AreSent, CanLeave, IsClear, all_gone, is_wanted}
 use Rattle.proof_engine_view.specs.Transfers.{Announcements, Transfer}
-use Rattle.proof_engine_view.specs.UnderWay.{IsOfferOf}
+use Rattle.proof_engine_view.specs.UnderWay.{AreTaken, IsOfferOf}
 use Rattle.proof_engine_steps.proofs.AnsweredOffers.{IsAnswered, all_parts, answer_there, answered_under_way}
 use Rattle.proof_engine_steps.proofs.DataSent.{data_leave, data_sent}
 use Rattle.proof_engine_steps.proofs.Named.{blocked_stays, named_set}
@@ -42,7 +41,8 @@ use Rattle.proof_engine_steps.proofs.Settling.{fits_offering}
 use Rattle.proof_engine_steps.proofs.Staying.{AreQuiet}
 use Rattle.proof_engine_steps.proofs.Tables.{Says, changed_table, held_at, says_some, set_is_set}
 use Rattle.proof_engine_steps.proofs.Taking.{AnswersAreTaken, HoldBoth}
-use Rattle.proof_engine_steps.proofs.UnderWay.{row_of}
+use Rattle.proof_engine_steps.proofs.TakenRows.{posted_still}
+use Rattle.proof_engine_steps.proofs.UnderWay.{row_of, taken_changed}
 use Rattle.proof_engine_steps.proofs.Waking.{Holding}
 
 -- ---- THE OFFER THAT IS ANSWERED
@@ -126,12 +126,22 @@ over_table slots rows k d o table here =
     written : sent_by slots (Some o) ≡ slice_set slots o.request (Some after)
     written = ap (λ (x : Option Entry). slot_answered x slots o.request) mine.there
 
--- a send isn't posted, neither before nor after
-over_posted : (rows : List Row) (k key : ℕ) (d : Endpoint) (basic : BasicType) (values : List ℕ) (x : machine.Outcome) → slice_get rows k ≡ Some (row_of key (Offering d basic values)) →
-    posted_rows rows ≡ posted_rows (slice_set rows k (row_of key (Over x)))
-over_posted [] k key d basic values x h = absurd (none-some (row_of key (Offering d basic values)) h)
-over_posted (r ∷ rs) zero key d basic values x h = ap (λ (y : Row). posted_job y.key y.job ++ posted_rows rs) (same_Some r (row_of key (Offering d basic values)) h)
-over_posted (r ∷ rs) (suc k) key d basic values x h = ap (λ (ys : List posted.Receive). posted_job r.key r.job ++ ys) (over_posted rs k key d basic values x h)
+-- it is no message that was taken out, neither before nor after
+over_taken : (from : Endpoint → List Transfer) (known : List ℕ) (place : Place) (slots : List (Option Entry)) (rows : List Row) (k : ℕ) (d : Endpoint) (o : Offer) → IsTable slots rows → slice_get rows k ≡ Some (row_of o.request (offering d o)) →
+    AreTaken from known place rows slots → AreTaken from known place (slice_set rows k (row_of o.request (Over machine.Sent))) (sent_by slots (Some o))
+over_taken from known place slots rows k d o table here taken =
+    subst (λ (x : List (Option Entry)). AreTaken from known place (slice_set rows k (row_of o.request (Over machine.Sent))) x) (sym written)
+    (taken_changed from known place rows slots (slice_set slots o.request (Some after)) k o.request (offering d o) (Over machine.Sent) after taken here (λ i. i)
+    (set_is_set slots o.request mine.entry (Some after) mine.there) (over_fits mine.entry.progress d o.elements.basic o.elements.values mine.fits) tt)
+  where
+    mine : Holds (slot_at slots o.request) k (offering d o)
+    mine = held_at slots rows k o.request (offering d o) table here (λ e. cc)
+
+    after : Entry
+    after = record mine.entry { progress = progress_on_answer mine.entry.progress }
+
+    written : sent_by slots (Some o) ≡ slice_set slots o.request (Some after)
+    written = ap (λ (x : Option Entry). slot_answered x slots o.request) mine.there
 
 -- ---- WHAT GOES OUT
 
@@ -167,9 +177,11 @@ over_held links e known core rows rank transfer serial d found h row =
       jobs = ap (λ (js : List Job). slice_set js serial (Over machine.Sent)) h.jobs ∙ sym (set_jobs rows serial o.request (Over machine.Sent));
       count = length-set rows serial (row_of o.request (Over machine.Sent)) ∙ h.count;
       table = subst (λ (x : Option Offer). IsTable (sent_by e.slots x) (slice_set rows serial (row_of o.request (Over machine.Sent)))) (sym found.found) (over_table e.slots rows serial d o h.table row);
-      posted = h.posted ∙ over_posted rows serial o.request d o.elements.basic o.elements.values machine.Sent row;
+      posted = h.posted ∙ posted_still rows serial o.request (offering d o) (Over machine.Sent) row refl refl;
       held = h.held;
       under_way = answered_under_way links known e.place e.slots rows e.transfers e.queues.unexpected rank transfer serial found d o.elements.basic o.elements.values h.under_way h.table row;
+      taken = subst (λ (x : Option Offer). AreTaken links.from known e.place (slice_set rows serial (row_of o.request (Over machine.Sent))) (sent_by e.slots x)) (sym found.found)
+          (over_taken links.from known e.place e.slots rows serial d o h.table row h.taken);
       knowing = h.knowing;
     }
   where

@@ -2,6 +2,7 @@
 use Rattle.std.proofs.Common.{ap₂, ◌≡◌, ℕ, List, [], ◌∷◌, ◌++◌, map, length, Option, Some, None, slice_get, slice_set, refl, sym, ap, ◌∙◌, subst, ◌⊎◌, inl, inr}
 use Rattle.std.proofs.lemmas.List.{length-set, map-append}
 use Rattle.datatypes.specs.Contents.{Contents}
+use Rattle.incarnation.specs.declared.place.Place.{Place}
 use Rattle.perfect_queues.specs.Buffers.{Handed}
 use Rattle.perfect_queues.specs.Outcomes as machine
 use Rattle.perfect_queues.specs.Receives.{Receive}
@@ -28,18 +29,18 @@ use Rattle.proof_pure_network.specs.Matching.{arrived, arrived_at}
 use Rattle.proof_engine_view.specs.Rows.{Fits, Holds, IsTable, Row, held_of, jobs_of, posted_rows}
 use Rattle.proof_engine_view.specs.Seen.{outcome_seen}
 use Rattle.proof_engine_view.specs.Transfers.{Announcements}
-use Rattle.proof_engine_view.specs.UnderWay.{IsFromLink}
+use Rattle.proof_engine_view.specs.UnderWay.{AreTaken, IsFromLink}
 use Rattle.proof_engine_matching.specs.Matches.{ArrivalsMatch, IsKept, IsMatchedTo, OutcomesAgree}
 use Rattle.proof_engine_steps.proofs.Named.{NamedStay, named_same, named_set}
 use Rattle.proof_engine_steps.proofs.RowLemmas.{set_jobs}
 use Rattle.proof_engine_steps.proofs.Tables.{Says, changed_table, held_at, says_some, set_is_set}
 use Rattle.proof_engine_steps.proofs.Waking.{Holding, known_still}
 use Rattle.proof_engine_steps.proofs.Staying.{same_rows, under_way_with}
-use Rattle.proof_engine_steps.proofs.UnderWay.{SameTransfers, same_set}
+use Rattle.proof_engine_steps.proofs.UnderWay.{SameTransfers, keeps_same, messages_keep, same_set, taken_changed}
 use Rattle.proof_engine_steps.proofs.Wholes.{arrival_keeps, arrival_leaves, whole, whole_of}
 
 -- what a message leaves of the rows
-pub record Arrives (links : Announcements) (rows : List Row) (slots : List (Option Entry)) (queues : State) (core : Core) (after : Effect) : Type 0 where
+pub record Arrives (links : Announcements) (rows : List Row) (before slots : List (Option Entry)) (queues : State) (core : Core) (after : Effect) : Type 0 where
   pub left : List Row
   pub jobs : after.core.jobs ≡ jobs_of left
   pub count : length left ≡ length rows
@@ -51,11 +52,12 @@ pub record Arrives (links : Announcements) (rows : List Row) (slots : List (Opti
   pub sends : after.out ≡ []
   pub waits : NamedStay rows left
   pub same : SameTransfers rows left
+  pub taken : (known : List ℕ) (p : Place) → AreTaken links.from known p rows before → AreTaken links.from known p left slots
 
 -- it waits behind the others
 arrives_kept : (links : Announcements) (rows : List Row) (slots : List (Option Entry)) (queues : State) (core : Core) (m : Message) →
     core.jobs ≡ jobs_of rows → IsTable slots rows → queues.posted ≡ posted_rows rows → core.held ≡ map (held_of links.from) queues.unexpected →
-    Arrives links rows slots (record queues { unexpected = queues.unexpected ++ m ∷ [] }) core (arrived_at core (held_of links.from m) None)
+    Arrives links rows slots slots (record queues { unexpected = queues.unexpected ++ m ∷ [] }) core (arrived_at core (held_of links.from m) None)
 arrives_kept links rows slots queues core m js table po he =
     record {
       left = rows;
@@ -69,6 +71,7 @@ arrives_kept links rows slots queues core m js table po he =
       sends = refl;
       waits = named_same rows;
       same = same_rows rows;
+      taken = λ known p taken. taken;
     }
 
 -- what the message makes of the entry is what it makes of the job
@@ -77,6 +80,7 @@ finished_fits : (g : Progress) (p : Receive) (status : Status) (c : Contents) (x
 finished_fits (Receiving w) p status c x f h = h ∙ ap₂ (λ (y : Handed) (g : Option (List ℕ)). outcome_seen (outcome_of y (status_in g status) c)) f.into f.group
 finished_fits (progresses.Collecting w) p status c x f h = absurd f
 finished_fits progresses.Offering p status c x f h = absurd f
+finished_fits (progresses.TakenOut taken) p status c x f h = absurd f
 finished_fits (Finished o) p status c x f h = absurd f
 
 -- an entry with the serial, that fits the job, says the same
@@ -84,10 +88,10 @@ says_entry : (t : Entry) (k : ℕ) (j : Job) → t.serial ≡ k → Fits t.progr
 says_entry t k j e f = subst (λ (x : ℕ). Says (Some t) x j) e (says_some t.serial t.progress j f)
 
 -- the receive with serial k takes it
-arrives_matched : OutcomesAgree → (links : Announcements) (rows : List Row) (slots : List (Option Entry)) (queues : State) (core : Core) (m : Message) (c : Contents) (k key : ℕ) (p : Receive) →
+pub arrives_matched : OutcomesAgree → (links : Announcements) (rows : List Row) (slots : List (Option Entry)) (queues : State) (core : Core) (m : Message) (c : Contents) (k key : ℕ) (p : Receive) →
     core.jobs ≡ jobs_of rows → IsTable slots rows → core.held ≡ map (held_of links.from) queues.unexpected → slice_get rows k ≡ Some (record { key = key; job = Waiting p }) →
     ((o : machine.Outcome) → queues.posted ≡ posted_rows (slice_set rows k (record { key = key; job = Over o }))) →
-    Arrives links rows (after_finish slots key (status_of (whole m c)) c) queues core (arrived_at core (held_of links.from (whole m c)) (Some (k, p)))
+    Arrives links rows slots (after_finish slots key (status_of (whole m c)) c) queues core (arrived_at core (held_of links.from (whole m c)) (Some (k, p)))
 arrives_matched agree links rows slots queues core m c k key p js table he row po =
     record {
       left = slice_set rows k over;
@@ -104,6 +108,10 @@ arrives_matched agree links rows slots queues core m c k key p js table he row p
       sends = refl;
       waits = named_set rows k key (Waiting p) (Over x) row (λ e. cc);
       same = same_set rows k key (Waiting p) (Over x) row (λ i. i) (λ i. i);
+      taken = λ known place taken. subst (λ (t : List (Option Entry)). AreTaken links.from known place (slice_set rows k over) t) (sym finish)
+          (taken_changed links.from known place rows slots (slice_set slots key (Some after)) k key (Waiting p) (Over x) after taken row (λ i. i)
+          (set_is_set slots key mine.entry (Some after) mine.there)
+          (finished_fits mine.entry.progress p (status_of (whole m c)) c x mine.fits (agree links.from p (whole m c) c refl)) tt);
     }
   where
     x : machine.Outcome
@@ -124,22 +132,22 @@ arrives_matched agree links rows slots queues core m c k key p js table he row p
 -- a whole message comes, from a link or from the rank itself
 pub message_arrives : ArrivalsMatch → OutcomesAgree → (links : Announcements) (rows : List Row) (slots : List (Option Entry)) (queues : State) (core : Core) (m : Message) (c : Contents) →
     core.jobs ≡ jobs_of rows → IsTable slots rows → queues.posted ≡ posted_rows rows → core.held ≡ map (held_of links.from) queues.unexpected →
-    Arrives links rows (slots_on_arrival slots (arrival_of queues (whole m c))) (after_arrival queues (whole m c)) core (arrived core (held_of links.from (whole m c)))
+    Arrives links rows slots (slots_on_arrival slots (arrival_of queues (whole m c))) (after_arrival queues (whole m c)) core (arrived core (held_of links.from (whole m c)))
 message_arrives match agree links rows slots queues core m c js table po he = go (match links.from rows queues (whole m c) po)
   where
     oldest : (o : Option (ℕ × Receive)) → oldest_posted (held_of links.from (whole m c)) (jobs_of rows) ≡ o → arrived core (held_of links.from (whole m c)) ≡ arrived_at core (held_of links.from (whole m c)) o
     oldest o e = ap (arrived_at core (held_of links.from (whole m c))) (ap (oldest_posted (held_of links.from (whole m c))) js ∙ e)
 
     go : IsKept links.from rows queues (whole m c) ⊎ ((k : ℕ) × (key : ℕ) × (p : Receive) × IsMatchedTo links.from rows queues (whole m c) k key p) →
-        Arrives links rows (slots_on_arrival slots (arrival_of queues (whole m c))) (after_arrival queues (whole m c)) core (arrived core (held_of links.from (whole m c)))
+        Arrives links rows slots (slots_on_arrival slots (arrival_of queues (whole m c))) (after_arrival queues (whole m c)) core (arrived core (held_of links.from (whole m c)))
     go (inl kept) =
-        subst (λ (f : Effect). Arrives links rows (slots_on_arrival slots (arrival_of queues (whole m c))) (after_arrival queues (whole m c)) core f) (sym (oldest None kept.core))
-        (subst (λ (a : Arrival). Arrives links rows (slots_on_arrival slots a) (after_arrival queues (whole m c)) core (arrived_at core (held_of links.from (whole m c)) None)) (sym kept.arrival)
-        (subst (λ (s : State). Arrives links rows slots s core (arrived_at core (held_of links.from (whole m c)) None)) (sym kept.queues) (arrives_kept links rows slots queues core (whole m c) js table po he)))
+        subst (λ (f : Effect). Arrives links rows slots (slots_on_arrival slots (arrival_of queues (whole m c))) (after_arrival queues (whole m c)) core f) (sym (oldest None kept.core))
+        (subst (λ (a : Arrival). Arrives links rows slots (slots_on_arrival slots a) (after_arrival queues (whole m c)) core (arrived_at core (held_of links.from (whole m c)) None)) (sym kept.arrival)
+        (subst (λ (s : State). Arrives links rows slots slots s core (arrived_at core (held_of links.from (whole m c)) None)) (sym kept.queues) (arrives_kept links rows slots queues core (whole m c) js table po he)))
     go (inr t) =
         let h : IsMatchedTo links.from rows queues (whole m c) t.0 t.1 t.2 = t.3 in
-        subst (λ (f : Effect). Arrives links rows (slots_on_arrival slots (arrival_of queues (whole m c))) (after_arrival queues (whole m c)) core f) (sym (oldest (Some (t.0, t.2)) h.core))
-        (subst (λ (a : Arrival). Arrives links rows (slots_on_arrival slots a) (after_arrival queues (whole m c)) core (arrived_at core (held_of links.from (whole m c)) (Some (t.0, t.2)))) (sym h.arrival)
+        subst (λ (f : Effect). Arrives links rows slots (slots_on_arrival slots (arrival_of queues (whole m c))) (after_arrival queues (whole m c)) core f) (sym (oldest (Some (t.0, t.2)) h.core))
+        (subst (λ (a : Arrival). Arrives links rows slots (slots_on_arrival slots a) (after_arrival queues (whole m c)) core (arrived_at core (held_of links.from (whole m c)) (Some (t.0, t.2)))) (sym h.arrival)
         (arrives_matched agree links rows slots (after_arrival queues (whole m c)) core m c t.0 t.1 t.2 js table (he ∙ ap (λ (ms : List Message). map (held_of links.from) ms) (sym h.unexpected)) h.row (λ o. h.posted (Over o) refl)))
 
 -- what a message leaves of a rank and of its core, before a blocked call is answered
@@ -155,7 +163,7 @@ elements_hold : ArrivalsMatch → OutcomesAgree → (links : Announcements) (old
     IsHeldAfter links rows (rank.arrived old (whole m c)) known core (arrived core (held_of links.from (whole m c)))
 unfolding rank.arrived
 elements_hold match agree links old known core rows m c h =
-    let a : Arrives links rows (slots_on_arrival old.slots (arrival_of old.queues (whole m c))) (after_arrival old.queues (whole m c)) core (arrived core (held_of links.from (whole m c))) =
+    let a : Arrives links rows old.slots (slots_on_arrival old.slots (arrival_of old.queues (whole m c))) (after_arrival old.queues (whole m c)) core (arrived core (held_of links.from (whole m c))) =
     message_arrives match agree links rows old.slots old.queues core m c h.jobs h.table h.posted h.held in
     record {
       left = a.left;
@@ -167,7 +175,9 @@ elements_hold match agree links old known core rows m c h =
         held = a.held;
         under_way = under_way_with links known old.place rows a.left old.transfers (transfers_on_arrival old.transfers old.slots (arrival_of old.queues (whole m c))) old.queues.unexpected
             (after_arrival old.queues (whole m c)).unexpected h.under_way a.same (arrival_leaves old.transfers old.slots m c (receive_at old.queues.posted (receive_for (whole m c) old.queues.posted)))
-            (arrival_keeps (λ (x : Message). IsFromLink links.from known old.place x x.body) old.queues (whole m c) h.under_way.messages tt);
+            (arrival_keeps (λ (x : Message). IsFromLink links.from known old.place a.left x x.body) old.queues (whole m c)
+            (messages_keep links.from known old.place rows a.left old.queues.unexpected (keeps_same rows a.left a.same) h.under_way.messages) tt);
+        taken = a.taken known old.place h.taken;
         knowing = known_still old.place old.place known core.known (arrived core (held_of links.from (whole m c))).core.known h.knowing refl a.known;
       };
       blocked = a.blocked;

@@ -1,5 +1,5 @@
 -- A cancel of a rank is that of its core in the network.
-use Rattle.std.proofs.Common.{◌≡◌, ◌≢◌, ℕ, zero, suc, Bool, true, false, List, [], ◌∷◌, ◌++◌, map, remove, Option, Some, None, ◌==◌, slice_get, slice_set, option_map, arith, refl, sym, ap, ◌∙◌, subst}
+use Rattle.std.proofs.Common.{◌≡◌, ◌≢◌, ℕ, zero, suc, Bool, true, false, List, [], ◌∷◌, ◌++◌, map, remove, Option, Some, None, ◌==◌, slice_get, slice_set, option_map, arith, refl, sym, ap, ◌∙◌, subst, ◌⊎◌, inl, inr}
 use Rattle.std.proofs.lemmas.Bool.{eq-eqb, eqb-true}
 use Rattle.std.proofs.lemmas.List.{length-set}
 use Rattle.std.proofs.lemmas.Option.{none-some, same_Some}
@@ -14,13 +14,14 @@ use Rattle.match_queues.specs.declared.envelope.Message.{Message}
 use Rattle.match_queues.specs.declared.envelope.Receive as posted
 use Rattle.proof_pure_network.specs.Core.{Core, with_jobs}
 use Rattle.proof_pure_network.specs.Engine.{core_cancels}
-use Rattle.proof_pure_network.specs.Jobs.{Job, Waiting, Collecting, Offering, Over, Closed, dropped}
+use Rattle.proof_pure_network.specs.Jobs.{Job, Waiting, Collecting, Offering, Over, Closed, dropped, Probed, Unmatched}
 use Rattle.requests.specs.Regions.{handed_of}
 use Rattle.requests.specs.Table.{cancelled_by, progress_at, slot_at}
 use Rattle.requests.specs.declared.outcome.Outcome.TheVariants as outcomes
 use Rattle.requests.specs.declared.table.Posted.{Posted}
 use Rattle.requests.specs.declared.table.Entry.{Entry}
 use Rattle.requests.specs.declared.table.Matched.{Matched}
+use Rattle.requests.specs.declared.table.TakenOut as slots
 use Rattle.requests.specs.declared.table.Progress.{Progress}
 use Rattle.requests.specs.declared.table.Progress.TheVariants.{Receiving, Finished}
 use Rattle.requests.specs.declared.table.Progress.TheVariants as progresses
@@ -33,7 +34,7 @@ use Rattle.proof_engine_view.specs.Rows.{Fits, Holds, Row, held_of, posted_job, 
 use Rattle.proof_engine_view.specs.Seen.{outcome_seen, own_serial, request_by}
 use Rattle.proof_engine_view.specs.Shown.{IsShown}
 use Rattle.proof_engine_view.specs.Transfers.{Announcements}
-use Rattle.proof_engine_steps.proofs.Found.{CollectsFor, HasRow, OffersValues, collecting_of, finished_row, offering_of, row_of, waiting_of}
+use Rattle.proof_engine_steps.proofs.Found.{CollectsFor, HasRow, HoldsMessage, OffersValues, WaitsForMatch, collecting_of, finished_row, offering_of, probed_of, row_of, waiting_of}
 use Rattle.proof_engine_steps.proofs.Meant.{IsMeant}
 use Rattle.proof_engine_matching.proofs.Positions.{position_here, position_later, remove_first}
 use Rattle.proof_engine_steps.proofs.RefusedWaits.{cancel_faultless, cancel_present}
@@ -42,7 +43,7 @@ use Rattle.proof_engine_steps.proofs.RowLemmas.{job_at, set_jobs}
 use Rattle.proof_engine_steps.proofs.Settling.{settled_free}
 use Rattle.proof_engine_steps.proofs.Standings.{IsPresent}
 use Rattle.proof_engine_steps.proofs.Staying.{under_way_still}
-use Rattle.proof_engine_steps.proofs.UnderWay.{same_set}
+use Rattle.proof_engine_steps.proofs.UnderWay.{keeps_set, same_set, taken_same, taken_set}
 use Rattle.proof_engine_steps.proofs.Starting.{core_free, shown_free}
 use Rattle.proof_engine_steps.proofs.Tables.{changed_table, held_at, says_some, set_change, set_is_set}
 use Rattle.proof_engine_steps.proofs.Waking.{Holding, holding_of}
@@ -69,7 +70,15 @@ collecting_stays w j f = let c : CollectsFor w j = collecting_of w j f in ap dro
 
 -- and a send that offers
 offering_stays : (j : Job) → Fits progresses.Offering j → dropped j ≡ j
-offering_stays j f = let o : OffersValues j = offering_of j f in ap dropped o.is ∙ sym o.is
+offering_stays j f = go (offering_of j f)
+  where
+    go : OffersValues j ⊎ WaitsForMatch j → dropped j ≡ j
+    go (inl o) = ap dropped o.is ∙ sym o.is
+    go (inr o) = ap dropped o.is ∙ sym o.is
+
+-- and a message that was taken out
+taken_stays : (t : slots.TakenOut) (j : Job) → Fits (progresses.TakenOut t) j → dropped j ≡ j
+taken_stays t j f = let m : HoldsMessage t j = probed_of t j f in ap dropped m.is ∙ sym m.is
 
 -- ---- the queue
 
@@ -150,6 +159,8 @@ cancelled_rows (r ∷ rs) (suc k) key p x h alone = front r.job refl (cancelled_
     by_job (Offering d basic values) e rest = rest
     by_job (Over y) e rest = rest
     by_job Closed e rest = rest
+    by_job (Unmatched d) e rest = rest
+    by_job (Probed g h) e rest = rest
 
     front : (j : Job) → r.job ≡ j → posted_without (posted_rows rs) key ≡ left → posted_without (posted_job r.key r.job ++ posted_rows rs) key ≡ posted_job r.key r.job ++ left
     front j e rest = subst (λ (y : Job). posted_without (posted_job r.key y ++ posted_rows rs) key ≡ posted_job r.key y ++ left) (sym e) (by_job j e rest)
@@ -213,6 +224,8 @@ cancel_holds links old known core q b shown w =
       held = shown.held ∙ ap (λ (ms : List Message). map (held_of links.from) ms) (sym (cancel_unexpected old.queues q.key));
       under_way = under_way_still links known old.place old.place shown.rows (slice_set shown.rows q.serial over) old.transfers old.transfers old.queues.unexpected (queues.after_cancel old.queues q.key).unexpected shown.under_way
           (same_set shown.rows q.serial q.key (Waiting w.receive) (Over x) w.there (λ i. i) (λ i. i)) refl refl (cancel_unexpected old.queues q.key);
+      taken = taken_set links.from known old.place (slice_set shown.rows q.serial over) old.slots (slice_set old.slots q.key (Some after)) q.key (Some after) (set_is_set old.slots q.key mine.entry (Some after) mine.there)
+          (taken_same links.from known old.place shown.rows (slice_set shown.rows q.serial over) old.slots (keeps_set shown.rows q.serial q.key (Waiting w.receive) (Over x) w.there (λ i. i)) shown.taken) tt;
       knowing = (holding_of links old known core shown).knowing;
     }
   where
@@ -266,6 +279,9 @@ cancel_some links old known core q shown free fine (Some (progresses.Collecting 
 cancel_some links old known core q shown free fine (Some progresses.Offering) g =
     let r : HasRow shown.rows q.serial q.key progresses.Offering = row_of old.slots shown.rows q.serial q.key progresses.Offering shown.table g in
     cancel_still links old known core q r.job shown free fine r.there (offering_stays r.job r.fits)
+cancel_some links old known core q shown free fine (Some (progresses.TakenOut t)) g =
+    let r : HasRow shown.rows q.serial q.key (progresses.TakenOut t) = row_of old.slots shown.rows q.serial q.key (progresses.TakenOut t) shown.table g in
+    cancel_still links old known core q r.job shown free fine r.there (taken_stays t r.job r.fits)
 cancel_some links old known core q shown free fine (Some (Finished o)) g =
     cancel_still links old known core q (Over (outcome_seen o)) shown free fine (finished_row old.slots shown.rows q o shown.table g) refl
 

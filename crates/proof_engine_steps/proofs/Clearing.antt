@@ -11,7 +11,7 @@ use Rattle.rank_calls.specs.Frames.{as_list}
 use Rattle.rank_calls.specs.Receiving.{answer_by, clearance_of}
 use Rattle.perfect_queues.specs.Receives.{Receive, has_room}
 use Rattle.proof_pure_network.specs.Frames.{Cts, Frame}
-use Rattle.proof_pure_network.specs.Held.{Body, Held, Part, Whole}
+use Rattle.proof_pure_network.specs.Held.{Body, Held, Own, Part, Whole}
 use Rattle.proof_pure_network.specs.Matching.{answer}
 use Rattle.proof_engine_view.specs.Rows.{held_of}
 use Rattle.proof_engine_view.specs.Standing.{AreSent, CanLeave, StandsFor, all_gone}
@@ -24,6 +24,7 @@ use Rattle.proof_engine_steps.proofs.Wholes.{announced_as}
 pub answer_quiet : (p : Receive) (h : Held) (b : Body) → AreQuiet (answer p h b)
 answer_quiet p h (Whole values) = tt
 answer_quiet p h (Part k count) = (tt, tt)
+answer_quiet p h (Own k values) = tt
 
 -- the answer to the transfer of this number stands for that to its serial
 pub clear_stands : (out back : List Transfer) (number : ℕ) (t : Transfer) (wanted : Bool) → slice_get back number ≡ Some t →

@@ -1,5 +1,5 @@
 -- A large message that is matched with a receive: it is collected from then on, or it is used up without its data.
-use Rattle.std.proofs.Common.{◌≡◌, ◌≢◌, ℕ, Bool, true, false, List, [], ◌∷◌, ◌++◌, length, Option, Some, slice_get, slice_set, refl, sym, ap, ◌∙◌, subst, arith, ◌⊎◌, inl, inr}
+use Rattle.std.proofs.Common.{◌≡◌, ◌≢◌, ℕ, Bool, true, false, List, [], ◌∷◌, ◌++◌, length, Option, Some, None, if◌then◌else◌, ◌==◌, slice_get, slice_set, refl, sym, ap, ◌∙◌, subst, arith, ◌⊎◌, inl, inr}
 use Rattle.std.specs.List.{AllByRecursion}
 use Rattle.std.proofs.Math.Nat.{one-le-pow}
 use Rattle.std.proofs.lemmas.Bool.{cases_eq}
@@ -19,11 +19,13 @@ use Rattle.rendezvous.specs.State.{after_collect}
 use Rattle.match_queues.specs.declared.envelope.Body.TheVariants.{Announced}
 use Rattle.rank_calls.specs.Receiving.{collection_on_match, transfers_with, collecting}
 use Rattle.perfect_queues.proofs.ListLemmas.{get_set_other}
+use Rattle.perfect_queues.specs.Outcomes.{outcome}
 use Rattle.perfect_queues.specs.Receives.{Receive}
 use Rattle.proof_pure_network.proofs.JobLemmas.{All_append, get_set_same, push_at, push_below}
 use Rattle.proof_pure_network.specs.Announced.{IsIn}
-use Rattle.proof_pure_network.specs.Held.{Held, Part}
-use Rattle.proof_pure_network.specs.Jobs.{Job, Collecting, Offering, matched_part}
+use Rattle.proof_pure_network.specs.Held.{Held, Part, full}
+use Rattle.proof_pure_network.specs.Jobs.{Job, Collecting, Offering, Over, matched_part, Unmatched}
+use Rattle.proof_engine_matching.proofs.AnnouncedLemmas.{none_alike}
 use Rattle.proof_engine_view.specs.Frames.{endpoint_of}
 use Rattle.proof_engine_view.specs.Rows.{Row, held_of}
 use Rattle.proof_engine_view.specs.Transfers.{Announcements, Transfer, serial_of}
@@ -142,7 +144,7 @@ key_there keys key y (inr e) = subst (λ (n : ℕ). IsIn n (keys ++ key ∷ []))
 -- the row collects the message of the collection, of which nothing has come
 pub collected_with : (a : Announcements) (known : List ℕ) (p : Place) (rows rows' : List Row) (t : transfers.State) (ms ms' : List Message) (c : rendezvous.Collecting) (k : ℕ) (r : Receive) (h : Held) →
     AreUnderWay a known p rows t ms → IsWritten rows rows' k c.request (Collecting r h []) → IsCollectionOf a.from known rows' c →
-    AllByRecursion (λ y. y ≡ c.request → ⊥) (collection_keys t.collections) → AllByRecursion (λ (m : Message). IsFromLink a.from known p m m.body) ms' →
+    AllByRecursion (λ y. y ≡ c.request → ⊥) (collection_keys t.collections) → AllByRecursion (λ (m : Message). IsFromLink a.from known p rows' m m.body) ms' →
     AreUnderWay a known p rows' (after_collect t c) ms'
 collected_with a known p rows rows' t ms ms' c k r h u w i apart from =
     record {
@@ -154,6 +156,7 @@ collected_with a known p rows rows' t ms ms' c k r h u w i apart from =
           (all_follow (IsCollectionOf a.from known rows) (IsCollectionOf a.from known rows') (collection_stays a.from known rows rows' k c.request (Collecting r h []) w) t.collections u.collections) (i, tt);
       collected = λ n y q g got x. subst (λ (ks : List ℕ). IsIn y ks) (sym keys) (key_there (collection_keys t.collections) c.request y (among n y q g got (w.back n y (Collecting q g got) tt x)));
       collections_apart = subst AreApart (sym keys) (apart_pushed (collection_keys t.collections) c.request u.collections_apart apart);
+      unmatched = λ n y d x. unmatched n y d (w.back n y (Unmatched d) tt x);
       messages = from;
     }
   where
@@ -165,6 +168,10 @@ collected_with a known p rows rows' t ms ms' c k r h u w i apart from =
         IsIn y (collection_keys t.collections) ⊎ (c.request ≡ y)
     among n y q g got (inl x) = inl (u.collected n y q g got x)
     among n y q g got (inr e) = inr (ap (λ (z : Row). z.key) e)
+
+    unmatched : (n y : ℕ) (d : Endpoint) → (slice_get rows n ≡ Some (row_of y (Unmatched d))) ⊎ (row_of c.request (Collecting r h []) ≡ row_of y (Unmatched d)) → d ≡ p.endpoint
+    unmatched n y d (inl x) = u.unmatched n y d x
+    unmatched n y d (inr e) = let j : Collecting r h [] ≡ Unmatched d = ap (λ (z : Row). z.job) e in absurd cc
 
 -- ---- A MATCH
 
@@ -202,10 +209,21 @@ collection_is from known p rows m x k key r part row =
 pub matched_under_way : (a : Announcements) (known : List ℕ) (p : Place) (rows rows' : List Row) (t : transfers.State) (ms ms' : List Message) (m : Message) (x : Announcement) (k key : ℕ) (r : Receive)
     (wanted : Bool) → AreUnderWay a known p rows t ms → IsPartOf a.from known p m x →
     IsWritten rows rows' k key (matched_part r (held_of a.from (announced_as m x)) x.count wanted) →
-    AllByRecursion (λ y. y ≡ key → ⊥) (collection_keys t.collections) → AllByRecursion (λ (n : Message). IsFromLink a.from known p n n.body) ms' →
+    AllByRecursion (λ y. y ≡ key → ⊥) (collection_keys t.collections) → AllByRecursion (λ (n : Message). IsFromLink a.from known p rows' n n.body) ms' →
     AreUnderWay a known p rows' (transfers_with t (collection_on_match wanted (announced_as m x) (Announced x) key)) ms'
 matched_under_way a known p rows rows' t ms ms' m x k key r true u part w apart from =
-    collected_with a known p rows rows' t ms ms' (collecting (announced_as m x) x key) k r (held_of a.from (announced_as m x)) u w
-    (collection_is a.from known p rows' m x k key r part w.here) apart from
+    by_test (x.count == 0) (0 == x.count) (none_alike x.count) w
+  where
+    h : Held
+    h = held_of a.from (announced_as m x)
+
+    -- a message of no values is over with its match
+    by_test : (b c : Bool) → b ≡ c → IsWritten rows rows' k key (if c then Over (outcome r (full h [])) else Collecting r h []) →
+        AreUnderWay a known p rows' (transfers_with t (if b then None else Some (collecting (announced_as m x) x key))) ms'
+    by_test true true e v = under_way_with a known p rows rows' t t ms ms' u (written_same rows rows' k key (Over (outcome r (full h []))) v (λ i. i)) refl from
+    by_test true false e v = absurd cc
+    by_test false true e v = absurd cc
+    by_test false false e v =
+        collected_with a known p rows rows' t ms ms' (collecting (announced_as m x) x key) k r h u v (collection_is a.from known p rows' m x k key r part v.here) apart from
 matched_under_way a known p rows rows' t ms ms' m x k key r false u part w apart from =
     under_way_with a known p rows rows' t t ms ms' u (written_same rows rows' k key (matched_part r (held_of a.from (announced_as m x)) x.count false) w (λ i. i)) refl from

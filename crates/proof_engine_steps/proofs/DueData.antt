@@ -13,7 +13,7 @@ use Rattle.perfect_queues.specs.Receives.{names}
 use Rattle.proof_pure_network.specs.Core.{Core}
 use Rattle.proof_pure_network.specs.Engine as network
 use Rattle.proof_pure_network.specs.Jobs as jobs
-use Rattle.proof_pure_network.specs.Jobs.{Job, Closed, Offering, Over, Waiting, collecting, ended, is_collecting}
+use Rattle.proof_pure_network.specs.Jobs.{Job, Closed, Offering, Over, Waiting, collecting, ended, is_collecting, Probed, Unmatched}
 use Rattle.proof_engine_steps.specs.Steps.{CollectsOnce}
 use Rattle.proof_engine_steps.proofs.ListsApart.{HasIt, Passes, of_map, position_passes}
 
@@ -102,6 +102,12 @@ ended_collecting r i s k (Offering d basic values) h = go (d.rank == r) h
     go false e = e
 ended_collecting r i s k (Over x) h = h
 ended_collecting r i s k Closed h = h
+ended_collecting r i s k (Unmatched d) h = go (d.rank == r) h
+  where
+    go : (b : Bool) → is_collecting s k (if b then Over (machine.Replaced None) else Unmatched d) ≡ true → is_collecting s k (Unmatched d) ≡ true
+    go true e = absurd (grind arith)
+    go false e = e
+ended_collecting r i s k (Probed g x) h = h
 
 -- so no two collect one transfer after it either
 pub once_met : (core : Core) (w : Endpoint) → CollectsOnce core → CollectsOnce (network.met core w)

@@ -12,7 +12,7 @@ use Rattle.match_queues.specs.declared.envelope.Receive as queued
 use Rattle.match_queues.specs.State.{keys_naming}
 use Rattle.proof_pure_network.specs.Announced.{IsIn}
 use Rattle.proof_pure_network.specs.Held.{Held}
-use Rattle.proof_pure_network.specs.Jobs.{Job, Waiting, Collecting, Offering, Over, Closed, ended}
+use Rattle.proof_pure_network.specs.Jobs.{Job, Waiting, Collecting, Offering, Over, Closed, ended, Probed, Unmatched}
 use Rattle.proof_engine_view.specs.Rows.{Row, held_of, jobs_of, posted_job, posted_rows}
 use Rattle.proof_engine_view.specs.Transfers.{Transfer}
 
@@ -56,6 +56,13 @@ posted_ended r i key (Offering d basic values) = go (d.rank == r)
     go false = refl
 posted_ended r i key (Over x) = refl
 posted_ended r i key Closed = refl
+posted_ended r i key (Unmatched d) = go (d.rank == r)
+  where
+    go : (b : Bool) →
+        ◌≡◌ {A = List queued.Receive} [] (posted_job key (if b then Over (machine.Replaced None) else Unmatched d))
+    go true = refl
+    go false = refl
+posted_ended r i key (Probed g h) = refl
 
 -- of all rows
 pub posted_left : (r i : ℕ) (rows : List Row) →
@@ -169,6 +176,8 @@ more_among r key own (Collecting p m got) ps h = h
 more_among r key own (Offering d basic values) ps h = h
 more_among r key own (Over x) ps h = h
 more_among r key own Closed ps h = h
+more_among r key own (Unmatched d) ps h = h
+more_among r key own (Probed g x) ps h = h
 
 -- the key of a receive that waits and names the rank
 first_among : (r key : ℕ) (p : Receive) (ps : List queued.Receive) → names p.source r ≡ true →
@@ -216,6 +225,8 @@ first_or_later r key x xs (Collecting p m got) is rest h = later_row x xs r key 
 first_or_later r key x xs (Offering d basic values) is rest h = later_row x xs r key (rest h)
 first_or_later r key x xs (Over o) is rest h = later_row x xs r key (rest h)
 first_or_later r key x xs Closed is rest h = later_row x xs r key (rest h)
+first_or_later r key x xs (Unmatched d) is rest h = later_row x xs r key (rest h)
+first_or_later r key x xs (Probed g m) is rest h = later_row x xs r key (rest h)
 
 -- the row of a key that is there
 pub named_at : (r : ℕ) (rows : List Row) (key : ℕ) → IsAmong key (keys_naming r (posted_rows rows)) → IsNaming rows r key

@@ -1,17 +1,18 @@
 -- The rows of requests that the table holds.
-use Rattle.std.proofs.Common.{◌≡◌, ℕ, true, List, Option, Some, None, ◌==◌, slice_get, refl, sym, ap, ◌∙◌, subst}
+use Rattle.std.proofs.Common.{◌≡◌, ℕ, true, List, Option, Some, None, is_some, ◌==◌, slice_get, refl, sym, ap, ◌∙◌, subst, ◌⊎◌, inl, inr}
 use Rattle.std.proofs.lemmas.Bool.{eqb-true}
 use Rattle.std.proofs.lemmas.Option.{cond_some, none-some}
 use Rattle.vocabulary.specs.declared.basic_type.BasicType.{BasicType}
 use Rattle.vocabulary.specs.declared.endpoint.Endpoint.{Endpoint}
 use Rattle.perfect_queues.specs.Receives as receives
 use Rattle.proof_pure_network.specs.Held.{Held}
-use Rattle.proof_pure_network.specs.Jobs.{Job, Waiting, Collecting, Offering, Over, Closed}
+use Rattle.proof_pure_network.specs.Jobs.{Job, Waiting, Collecting, Offering, Over, Closed, Probed, Unmatched}
 use Rattle.requests.specs.Table.{progress_at, progress_of, slot_at}
 use Rattle.requests.specs.declared.outcome.Outcome.{Outcome}
 use Rattle.requests.specs.declared.table.Posted.{Posted}
 use Rattle.requests.specs.declared.table.Entry.{Entry}
 use Rattle.requests.specs.declared.table.Matched.{Matched}
+use Rattle.requests.specs.declared.table.TakenOut as table
 use Rattle.requests.specs.declared.table.Progress.{Progress}
 use Rattle.requests.specs.declared.table.Progress.TheVariants.{Receiving, Finished}
 use Rattle.requests.specs.declared.table.Progress.TheVariants as progresses
@@ -52,6 +53,8 @@ waiting_of b (Collecting p h got) f = absurd f
 waiting_of b (Offering d basic values) f = absurd f
 waiting_of b (Over x) f = absurd f
 waiting_of b Closed f = absurd f
+waiting_of b (Unmatched d) f = absurd f
+waiting_of b (Probed g h) f = absurd f
 
 -- a request that is finished is over
 pub over_of : (o : Outcome) (j : Job) → Fits (Finished o) j → j ≡ Over (outcome_seen o)
@@ -60,6 +63,8 @@ over_of o (Collecting p h got) f = absurd f
 over_of o (Offering d basic values) f = absurd f
 over_of o (Over x) f = ap Over f
 over_of o Closed f = absurd f
+over_of o (Unmatched d) f = absurd f
+over_of o (Probed g h) f = absurd f
 
 -- the request is a receive that collects, for this match
 pub record CollectsFor (w : Matched) (j : Job) : Type 0 where
@@ -76,6 +81,8 @@ collecting_of w (Collecting p h got) f = record { receive = p; message = h; got 
 collecting_of w (Offering d basic values) f = absurd f
 collecting_of w (Over x) f = absurd f
 collecting_of w Closed f = absurd f
+collecting_of w (Unmatched d) f = absurd f
+collecting_of w (Probed g h) f = absurd f
 
 -- the request is a send that offers its values
 pub record OffersValues (j : Job) : Type 0 where
@@ -84,19 +91,43 @@ pub record OffersValues (j : Job) : Type 0 where
   pub values : List ℕ
   pub is : j ≡ Offering target basic values
 
--- a request that is offered is one
-pub offering_of : (j : Job) → Fits progresses.Offering j → OffersValues j
+-- or one to the rank itself that waits for its match
+pub record WaitsForMatch (j : Job) : Type 0 where
+  pub target : Endpoint
+  pub is : j ≡ Unmatched target
+
+-- a request that is offered is one of both
+pub offering_of : (j : Job) → Fits progresses.Offering j → OffersValues j ⊎ WaitsForMatch j
 offering_of (Waiting p) f = absurd f
 offering_of (Collecting p h got) f = absurd f
-offering_of (Offering d basic values) f = record { target = d; basic = basic; values = values; is = refl }
+offering_of (Offering d basic values) f = inl (record { target = d; basic = basic; values = values; is = refl })
 offering_of (Over x) f = absurd f
 offering_of Closed f = absurd f
+offering_of (Unmatched d) f = inr (record { target = d; is = refl })
+offering_of (Probed g h) f = absurd f
+
+-- the request is a message that was taken out
+pub record HoldsMessage (t : table.TakenOut) (j : Job) : Type 0 where
+  pub message : Option Held
+  pub is : j ≡ Probed t.group message
+  pub there : is_some message ≡ is_some t.message
+
+-- a message in the table is one
+pub probed_of : (t : table.TakenOut) (j : Job) → Fits (progresses.TakenOut t) j → HoldsMessage t j
+probed_of t (Waiting p) f = absurd f
+probed_of t (Collecting p h got) f = absurd f
+probed_of t (Offering d basic values) f = absurd f
+probed_of t (Over x) f = absurd f
+probed_of t Closed f = absurd f
+probed_of t (Unmatched d) f = absurd f
+probed_of t (Probed g h) f = record { message = h; is = ap (λ (x : Option (List ℕ)). Probed x h) f.group_is; there = f.there }
 
 -- one that stands in the table isn't closed
 pub open_of : (g : Progress) → Fits g Closed → ⊥
 open_of (Receiving b) f = f
 open_of (progresses.Collecting w) f = f
 open_of progresses.Offering f = f
+open_of (progresses.TakenOut t) f = f
 open_of (Finished o) f = f
 
 -- a request whose progress the table tells is named by an unanswered row

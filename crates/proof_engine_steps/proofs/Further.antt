@@ -13,7 +13,7 @@ use Rattle.proof_pure_network.specs.Core.{Core}
 use Rattle.proof_pure_network.specs.Engine as network
 use Rattle.proof_pure_network.specs.Engine.{core_ready, core_settled, core_settled_by}
 use Rattle.proof_pure_network.specs.Frames.{Frame}
-use Rattle.proof_pure_network.specs.Jobs.{Closed, Collecting, Job, Offering, Over, Waiting, closed, is_collecting}
+use Rattle.proof_pure_network.specs.Jobs.{Closed, Collecting, Job, Offering, Over, Waiting, closed, is_collecting, Probed, Unmatched}
 use Rattle.proof_engine_view.specs.Frames.{known_after}
 use Rattle.proof_engine_view.specs.Shown.{IsShown}
 use Rattle.proof_engine_view.specs.Transfers.{Announcements}
@@ -53,6 +53,8 @@ closed_collecting s k (Collecting p m got) h = refl
 closed_collecting s k (Offering d basic values) h = refl
 closed_collecting s k (Over o) h = absurd cc
 closed_collecting s k Closed h = refl
+closed_collecting s k (Unmatched d) h = refl
+closed_collecting s k (Probed g x) h = refl
 
 changed_stays : (s : Endpoint) (k : ℕ) (js : List Job) (place i : ℕ) (x : Job) → is_collecting s k x ≡ true → slice_get js i ≡ Some x → slice_get (changed closed js place) i ≡ Some x
 changed_stays s k (y ∷ js) zero zero x c at =

@@ -26,7 +26,7 @@ use Rattle.proof_pure_network.specs.Announced.{IsIn}
 use Rattle.proof_pure_network.specs.Frames.{Data, Frame}
 use Rattle.proof_pure_network.specs.Held as held
 use Rattle.proof_pure_network.specs.Held.{Held, count_of}
-use Rattle.proof_pure_network.specs.Jobs.{Job, Collecting, Offering, Over}
+use Rattle.proof_pure_network.specs.Jobs.{Job, Collecting, Offering, Over, Unmatched}
 use Rattle.proof_engine_view.specs.Frames.{endpoint_of}
 use Rattle.proof_engine_view.specs.Rows.{IsTable, Row}
 use Rattle.proof_engine_view.specs.Standing.{IsData}
@@ -35,7 +35,7 @@ use Rattle.proof_engine_view.specs.UnderWay.{AreApart, AreUnderWay, IsCollection
 use Rattle.proof_engine_steps.proofs.DueData.{IsDueFor, collection_there, same_count, whole_same, within_append}
 use Rattle.proof_engine_steps.proofs.ListsApart.{all_at, all_from, apart_place, apart_removed, at_set, in_map, left_in, map_removed, removed_all, set_all, set_still}
 use Rattle.proof_engine_steps.proofs.Tables.{one_request}
-use Rattle.proof_engine_steps.proofs.UnderWay.{row_of}
+use Rattle.proof_engine_steps.proofs.UnderWay.{keeps_set, messages_keep, row_of}
 
 -- ---- THE COLLECTION
 
@@ -183,7 +183,8 @@ more_under_way a known p rows t ms s d frame x u =
           collection_stays a.from known rows k new c z (other_serial a.from known rows cs x.place j x.collection c u.collections_apart x.there y n at z));
       collected = λ n other r h got at. subst (λ (ks : List ℕ). IsIn other ks) (sym keys_same) (collected n other r h got (at_set rows k n new old (row_of other (Collecting r h got)) y.row at));
       collections_apart = subst AreApart (sym keys_same) u.collections_apart;
-      messages = u.messages;
+      unmatched = λ n other e at. unmatched n other e (at_set rows k n new old (row_of other (Unmatched e)) y.row at);
+      messages = messages_keep a.from known p rows left ms (keeps_set rows k key (Collecting y.receive y.message y.got) job y.row (λ i. i)) u.messages;
     }
   where
     cs : List rendezvous.Collecting
@@ -242,6 +243,10 @@ more_under_way a known p rows t ms s d frame x u =
     collected n other r h got (inl q) = (x.place, in_map (λ (c : rendezvous.Collecting). c.request) cs x.place x.collection x.there ∙ ap (λ (z : ℕ). Some z) (ap (λ (v : Row). v.key) q.1))
     collected n other r h got (inr q) = u.collected n other r h got q.1
 
+    unmatched : (n other : ℕ) (e : Endpoint) → ((n ≡ k) × (new ≡ row_of other (Unmatched e))) ⊎ ((n ≢ k) × (slice_get rows n ≡ Some (row_of other (Unmatched e)))) → e ≡ p.endpoint
+    unmatched n other e (inl q) = let j : job ≡ Unmatched e = ap (λ (v : Row). v.job) q.1 in absurd cc
+    unmatched n other e (inr q) = u.unmatched n other e q.1
+
 -- the last piece
 pub last_under_way : (a : Announcements) (known : List ℕ) (p : Place) (slots : List (Option Entry)) (rows : List Row) (t : transfers.State) (ms : List Message) (s : Endpoint) (d : DataText) (frame : Frame)
     (x : IsPieceOf a.from known rows t.collections s d frame) (o : machine.Outcome) → IsTable slots rows → AreUnderWay a known p rows t ms →
@@ -258,7 +263,8 @@ last_under_way a known p slots rows t ms s d frame x o table u =
           collection_stays a.from known rows k (row_of key (Over o)) c z (other_serial a.from known rows cs x.place j x.collection c u.collections_apart x.there y n at z));
       collected = λ n other r h got at. subst (λ (ks : List ℕ). IsIn other ks) (sym keys_left) (collected n other r h got (at_set rows k n (row_of key (Over o)) old (row_of other (Collecting r h got)) y.row at));
       collections_apart = subst AreApart (sym keys_left) (apart_removed (collection_keys cs) x.place u.collections_apart);
-      messages = u.messages;
+      unmatched = λ n other e at. unmatched n other e (at_set rows k n (row_of key (Over o)) old (row_of other (Unmatched e)) y.row at);
+      messages = messages_keep a.from known p rows left ms (keeps_set rows k key (Collecting y.receive y.message y.got) (Over o) y.row (λ i. i)) u.messages;
     }
   where
     cs : List rendezvous.Collecting
@@ -305,3 +311,7 @@ last_under_way a known p slots rows t ms s d frame x o table u =
         IsIn other (remove (collection_keys t.collections) x.place)
     collected n other r h got (inl q) = let j : Over o ≡ Collecting r h got = ap (λ (v : Row). v.job) q.1 in absurd cc
     collected n other r h got (inr q) = apart n other r h got q.0 q.1 (u.collected n other r h got q.1)
+
+    unmatched : (n other : ℕ) (e : Endpoint) → ((n ≡ k) × (row_of key (Over o) ≡ row_of other (Unmatched e))) ⊎ ((n ≢ k) × (slice_get rows n ≡ Some (row_of other (Unmatched e)))) → e ≡ p.endpoint
+    unmatched n other e (inl q) = let j : Over o ≡ Unmatched e = ap (λ (v : Row). v.job) q.1 in absurd cc
+    unmatched n other e (inr q) = u.unmatched n other e q.1

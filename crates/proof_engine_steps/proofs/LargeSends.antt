@@ -1,11 +1,14 @@
 -- A large send of a rank to another one: what its core in the network does with it, what it leaves of the rank, and its frame.
 use Rattle.std.proofs.Common.{◌^◌, ◌≡◌, ℕ, ◌+◌, ◌*◌, ◌<◌, ◌≤◌, ◌==◌, ◌||◌, Bool, true, false, List, [], ◌∷◌, ◌++◌, length, Option, Some, None, if◌then◌else◌, nat_le, refl, sym, ap, ap₂, ◌∙◌, subst, arith}
-use Rattle.std.proofs.lemmas.Bool.{and_left, lt-leb}
+use Rattle.std.proofs.lemmas.Bool.{and_left, lt-leb, ltb-true}
 use Rattle.vocabulary.specs.BasicTypes.{size_of}
 use Rattle.vocabulary.specs.Limits.{eager_limit, highest_tag, send_limit}
 use Rattle.vocabulary.specs.Endpoints.{is_same}
 use Rattle.vocabulary.specs.declared.basic_type.BasicType.{BasicType}
+use Rattle.vocabulary.specs.Modes.{may_be_announced}
 use Rattle.vocabulary.specs.declared.endpoint.Endpoint.{Endpoint}
+use Rattle.vocabulary.specs.declared.mode.Mode.{Mode}
+use Rattle.vocabulary.specs.declared.mode.Mode.TheVariants.{Standard, Synchronous}
 use Rattle.vocabulary.specs.declared.envelope.Source.{Source}
 use Rattle.vocabulary.specs.declared.envelope.Source.TheVariants.{Rank}
 use Rattle.datatypes.specs.Contents.{Contents}
@@ -22,9 +25,9 @@ use Rattle.rank_calls.specs.declared.refused.Refused.TheVariants as refusals
 use Rattle.rank_calls.specs.declared.call.Send.{Send}
 use Rattle.rank_calls.specs.Frames.{FrameFor}
 use Rattle.datagram.specs.Spelling.{FrameText}
-use Rattle.rank_calls.specs.Sending.{announced_to, destination, eager_frame, frame_to, frame_unless, is_large, offered_by, or_worn_out, progress_of_send, rank_to, rank_unless, request_frame}
+use Rattle.rank_calls.specs.Sending.{announced_to, destination, eager_frame, frame_to, frame_unless, is_announced, is_own, is_to_itself, offered_by, or_worn_out, progress_of_send, rank_to, rank_unless, request_frame}
 use Rattle.rank_core.specs.CoreState.{CoreState}
-use Rattle.rank_core.specs.Sending.{IsOffering, IsSending, arrived_at_itself, arrived_if, frame_of}
+use Rattle.rank_core.specs.Sending.{IsOffering, IsSending, arrived_at_itself, arrived_if, begun, frame_of, waiting_of}
 use Rattle.rendezvous.specs.State as transfers
 use Rattle.rendezvous.specs.State.{after_begin, is_full_to, most_transfers, next_to}
 use Rattle.proof_pure_network.specs.Core.{Core, effect, with_jobs}
@@ -46,27 +49,32 @@ core_offering core d basic values = with_jobs core (core.jobs ++ jobs.Offering d
 abbrev pub announcement_of : Core → Endpoint → (context tag : ℕ) → BasicType → List ℕ → Endpoint × Frame
 announcement_of core d c tag basic values = (d, Rts c tag basic (length core.jobs) (length values))
 
--- a large send to another rank
-pub core_announces : (core : Core) (own : Endpoint) (to i c tag : ℕ) (basic : BasicType) (values : List ℕ) → (to == own.rank) ≡ false → eager_limit < length values * size_of basic → core.known to ≡ i →
-    sends_to own core c (Rank to) (Some tag) basic values
-    ≡ effect (core_offering core (record { rank = to; incarnation = i }) basic values) (announcement_of core (record { rank = to; incarnation = i }) c tag basic values ∷ [])
-core_announces core own to i c tag basic values other large known =
-    go (is_same d own) (and_left (to == own.rank) (core.known to == own.incarnation) other) (nat_le (length values * size_of basic) eager_limit)
-    (lt-leb (length values * size_of basic) eager_limit large)
-    ∙ ap (λ (n : ℕ). effect (core_offering core (record { rank = to; incarnation = n }) basic values) (announcement_of core (record { rank = to; incarnation = n }) c tag basic values ∷ [])) known
+-- elements that are announced aren't finished in their own call, where they go to another rank
+waits_for_match : (mode : Mode) (own d : Endpoint) (x : Contents) → is_same d own ≡ false → is_announced mode x ≡ true → machine.is_eager mode own d x.basic x.values ≡ false
+waits_for_match Standard own d x other large =
+    let few : nat_le (length x.values * size_of x.basic) eager_limit ≡ false = lt-leb (length x.values * size_of x.basic) eager_limit (ltb-true eager_limit (length x.values * size_of x.basic) large) in
+    ap₂ (λ (a b : Bool). a || b) few other
+waits_for_match Synchronous own d x other large = refl
+
+-- a send to another rank whose message is announced
+pub core_announces : (mode : Mode) (core : Core) (own : Endpoint) (to i c tag : ℕ) (x : Contents) → (to == own.rank) ≡ false → is_announced mode x ≡ true → core.known to ≡ i →
+    sends_to mode own core c (Rank to) (Some tag) x.basic x.values
+    ≡ effect (core_offering core (record { rank = to; incarnation = i }) x.basic x.values) (announcement_of core (record { rank = to; incarnation = i }) c tag x.basic x.values ∷ [])
+core_announces mode core own to i c tag x other large known =
+    ap (λ (b : Bool). sends own core d (is_same d own) c tag x.basic x.values b) (waits_for_match mode own d x elsewhere large)
+    ∙ (ap (λ (b : Bool). sends own core d b c tag x.basic x.values false) elsewhere
+    ∙ ap (λ (n : ℕ). effect (core_offering core (record { rank = to; incarnation = n }) x.basic x.values) (announcement_of core (record { rank = to; incarnation = n }) c tag x.basic x.values ∷ [])) known)
   where
     d : Endpoint
     d = machine.receiver core.known to
 
-    go : (b : Bool) → b ≡ false → (few : Bool) → few ≡ false → sends own core d b c tag basic values (few || b) ≡ effect (core_offering core d basic values) (announcement_of core d c tag basic values ∷ [])
-    go true is few no_few = absurd cc
-    go false is true no_few = absurd cc
-    go false is false no_few = refl
+    elsewhere : is_same d own ≡ false
+    elsewhere = and_left (to == own.rank) (core.known to == own.incarnation) other
 
 -- ---- THE RANK'S SEND
 
 -- it is announced to that rank
-pub is_announced_to : (p : Place) (s : Send) (to tag : ℕ) → s.target ≡ Rank to → s.tag ≡ Some tag → (to == p.endpoint.rank) ≡ false → is_large (sent_from s.from) ≡ true → announced_to p s ≡ Some to
+pub is_announced_to : (p : Place) (s : Send) (to tag : ℕ) → s.target ≡ Rank to → s.tag ≡ Some tag → (to == p.endpoint.rank) ≡ false → is_announced s.mode (sent_from s.from) ≡ true → announced_to p s ≡ Some to
 is_announced_to p s to tag target_is tag_is other large =
     ap (λ (b : Bool). if b then rank_to p (destination s.target s.tag s.context) else None) large
     ∙ (ap₂ (λ (t : Source) (g : Option ℕ). rank_to p (destination t g s.context)) target_is tag_is
@@ -84,15 +92,27 @@ free_after None to t fine = go (is_full_to t.numbers to) fine
 pub number_left : (fault : Option Refused) (rank : Option ℕ) (to : ℕ) (t : transfers.State) → rank ≡ Some to → or_worn_out fault rank t ≡ None → is_full_to t.numbers to ≡ false
 number_left fault rank to t is fine = free_after fault to t (subst (λ (o : Option ℕ). or_worn_out fault o t ≡ None) is fine)
 
+-- one that goes to another rank isn't one to itself
+pub not_to_itself : (p : Place) (s : Send) (to tag : ℕ) → s.target ≡ Rank to → s.tag ≡ Some tag → (to == p.endpoint.rank) ≡ false → is_to_itself p s ≡ false
+not_to_itself p s to tag target_is tag_is other = ap₂ (λ (t : Source) (g : Option ℕ). is_own p (destination t g s.context)) target_is tag_is ∙ other
+
+-- so none of the rank's own sends waits for a match then
+pub none_waits : (mode : Mode) (own : Bool) (q : Request) → own ≡ false → waiting_of mode own q ≡ None
+none_waits Standard own q is = refl
+none_waits Synchronous true q is = absurd cc
+none_waits Synchronous false q is = refl
+
 -- its request waits for the answer
 pub large_sending : (old new : CoreState) (s : Send) (q : Request) (to tag : ℕ) → s.target ≡ Rank to → s.tag ≡ Some tag → (to == old.place.endpoint.rank) ≡ false →
-    is_large (sent_from s.from) ≡ true → IsSending old s q new → IsOffering old to (sent_from s.from) q new
+    is_announced s.mode (sent_from s.from) ≡ true → IsSending old s q new → IsOffering old to (sent_from s.from) q new
 large_sending old new s q to tag target_is tag_is other large sent =
     record {
       fresh = sent.fresh;
       serial = sent.serial;
       entry = subst (λ (slots : List (Option Entry)). IsSet old.slots slots q.key (Some (record { serial = old.serial; progress = Offering }))) (sym slots_are)
-          (subst (λ (to : Option ℕ). IsSet old.slots sent.started q.key (Some (record { serial = old.serial; progress = progress_of_send to }))) announced sent.entry);
+          (subst (λ (to : Option ℕ). IsSet old.slots sent.started q.key (Some (record { serial = old.serial; progress = progress_of_send to }))) announced
+          (subst (λ (w : Option Request). IsSet old.slots sent.started q.key (Some (record { serial = old.serial; progress = begun w (announced_to old.place s) })))
+          (none_waits s.mode (is_to_itself old.place s) q (not_to_itself old.place s to tag target_is tag_is other)) sent.entry));
       rest = rest ∙ ap left (sym slots_are);
     }
   where
@@ -106,11 +126,15 @@ large_sending old new s q to tag target_is tag_is other large sent =
     left : List (Option Entry) → CoreState
     left slots = record old { slots = slots; serial = old.serial + 1; transfers = after_begin old.transfers to q.key c }
 
+    -- the own send that waits, if one does
+    w : Option Request
+    w = waiting_of s.mode (is_to_itself old.place s) q
+
     rest : new ≡ left sent.started
     rest = sent.rest
-        ∙ (ap (λ (x : Option ℕ). arrived_at_itself (record old { slots = sent.started; serial = old.serial + 1; transfers = offered_by old.transfers x q.key c }) (destination s.target s.tag s.context) c) announced
-        ∙ (ap₂ (λ (t : Source) (g : Option ℕ). arrived_at_itself (left sent.started) (destination t g s.context) c) target_is tag_is
-        ∙ ap (λ (b : Bool). arrived_if b (left sent.started) (record { rank = to; tag = tag; context = s.context }) c) other))
+        ∙ (ap (λ (x : Option ℕ). arrived_at_itself (record old { slots = sent.started; serial = old.serial + 1; transfers = offered_by old.transfers x q.key c }) (destination s.target s.tag s.context) w c) announced
+        ∙ (ap₂ (λ (t : Source) (g : Option ℕ). arrived_at_itself (left sent.started) (destination t g s.context) w c) target_is tag_is
+        ∙ ap (λ (b : Bool). arrived_if b (left sent.started) (record { rank = to; tag = tag; context = s.context }) w c) other))
 
     slots_are : new.slots ≡ sent.started
     slots_are = ap (λ (x : CoreState). x.slots) rest
@@ -118,39 +142,44 @@ large_sending old new s q to tag target_is tag_is other large sent =
 -- ---- ITS FRAME
 
 -- the frame that announces it
-abbrev pub announcing_frame : CoreState → (to context tag : ℕ) → Contents → FrameFor
-announcing_frame old to context tag c = record { rank = to; frame = request_frame (next_to old.transfers.numbers to) context tag c }
+abbrev pub announcing_frame : Mode → CoreState → (to context tag : ℕ) → Contents → FrameFor
+announcing_frame mode old to context tag c = record { rank = to; frame = request_frame mode (next_to old.transfers.numbers to) context tag c }
 
-pub large_frame : (old : CoreState) (s : Send) (to tag : ℕ) → s.target ≡ Rank to → s.tag ≡ Some tag → (to == old.place.endpoint.rank) ≡ false → is_large (sent_from s.from) ≡ true →
-    frame_of old s ≡ Some (announcing_frame old to s.context tag (sent_from s.from))
+pub large_frame : (old : CoreState) (s : Send) (to tag : ℕ) → s.target ≡ Rank to → s.tag ≡ Some tag → (to == old.place.endpoint.rank) ≡ false → is_announced s.mode (sent_from s.from) ≡ true →
+    frame_of old s ≡ Some (announcing_frame s.mode old to s.context tag (sent_from s.from))
 large_frame old s to tag target_is tag_is other large =
-    ap₂ (λ (t : Source) (g : Option ℕ). frame_to old.place old.transfers (destination t g s.context) c) target_is tag_is
-    ∙ (ap (λ (b : Bool). frame_unless b old.transfers (record { rank = to; tag = tag; context = s.context }) c) other
+    ap₂ (λ (t : Source) (g : Option ℕ). frame_to old.place old.transfers s.mode (destination t g s.context) c) target_is tag_is
+    ∙ (ap (λ (b : Bool). frame_unless b old.transfers s.mode (record { rank = to; tag = tag; context = s.context }) c) other
     ∙ ap (λ (b : Bool). Some (record { rank = to; frame = with_frame b })) large)
   where
     c : Contents
     c = sent_from s.from
 
     with_frame : Bool → FrameText
-    with_frame b = if b then request_frame (next_to old.transfers.numbers to) s.context tag c else eager_frame s.context tag c
+    with_frame b = if b then request_frame s.mode (next_to old.transfers.numbers to) s.context tag c else eager_frame s.context tag c
+
+-- it may be announced by its size
+may_announce : (mode : Mode) (c : Contents) → is_announced mode c ≡ true → may_be_announced mode (length c.values * size_of c.basic) ≡ true
+may_announce Standard c large = large
+may_announce Synchronous c large = refl
 
 -- it can leave the rank
-pub announcing_leaves : (p : Place) (to number context tag : ℕ) (c : Contents) → context < 2 ^ 64 → to < p.size → (to ≡ p.endpoint.rank → ⊥) → tag ≤ highest_tag → eager_limit < length c.values * size_of c.basic →
-    length c.values * size_of c.basic ≤ send_limit → number ≤ most_transfers → CanLeave p (record { rank = to; frame = request_frame number context tag c })
-announcing_leaves p to number context tag c wide there apart low large limit most =
+pub announcing_leaves : (mode : Mode) (p : Place) (to number context tag : ℕ) (c : Contents) → context < 2 ^ 64 → to < p.size → (to ≡ p.endpoint.rank → ⊥) → tag ≤ highest_tag → is_announced mode c ≡ true →
+    length c.values * size_of c.basic ≤ send_limit → number ≤ most_transfers → CanLeave p (record { rank = to; frame = request_frame mode number context tag c })
+announcing_leaves mode p to number context tag c wide there apart low large limit most =
     let size : 0 < size_of c.basic = (sizes c.basic).positive in
     let least : length c.values ≤ length c.values * size_of c.basic = grind arith in
     record {
       there = there;
       apart = apart;
-      fits = record { tag = low; large = large; limit = limit; plane = tt };
+      fits = record { tag = low; large = may_announce mode c large; limit = limit; plane = tt };
       width = record { context = wide; count = omega (arith, least, limit); transfer = omega (arith, most) };
     }
 
 -- it stands for what the core announces
-pub announcing_sent : (a : Announcements) (known : List ℕ) (to number context tag serial : ℕ) (c : Contents) → number ≡ length (a.to (endpoint_of known to)) →
+pub announcing_sent : (mode : Mode) (a : Announcements) (known : List ℕ) (to number context tag serial : ℕ) (c : Contents) → number ≡ length (a.to (endpoint_of known to)) →
     AreSent (after_out a ((endpoint_of known to, Rts context tag c.basic serial (length c.values)) ∷ []))
-    (all_gone known (record { rank = to; frame = request_frame number context tag c } ∷ []))
+    (all_gone known (record { rank = to; frame = request_frame mode number context tag c } ∷ []))
     ((endpoint_of known to, Rts context tag c.basic serial (length c.values)) ∷ [])
-announcing_sent a known to number context tag serial c is =
-    (refl, request_stands a (endpoint_of known to) number context tag serial c (a.from (endpoint_of known to)) is, tt)
+announcing_sent mode a known to number context tag serial c is =
+    (refl, request_stands mode a (endpoint_of known to) number context tag serial c (a.from (endpoint_of known to)) is, tt)

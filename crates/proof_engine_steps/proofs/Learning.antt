@@ -19,23 +19,24 @@ use Rattle.rendezvous.specs.State as transfers
 use Rattle.rendezvous.specs.State.{after_drop, fresh, keys_with, most_transfers, next_to}
 use Rattle.rendezvous.specs.declared.offer.Offer.{Offer}
 use Rattle.rendezvous.specs.declared.transfers.Numbers.{Numbers}
-use Rattle.requests.specs.Table.{slot_at}
+use Rattle.requests.specs.Table.{keys_of_messages, slot_at}
 use Rattle.requests.specs.declared.table.Entry.{Entry}
 use Rattle.requests.specs.declared.table.Progress.{Progress}
 use Rattle.requests.specs.declared.table.Progress.TheVariants.{Receiving, Finished}
 use Rattle.requests.specs.declared.table.Progress.TheVariants as progresses
 use Rattle.proof_pure_network.specs.Announced.{IsIn}
 use Rattle.proof_pure_network.specs.Held.{Held, fits}
-use Rattle.proof_pure_network.specs.Jobs.{Job, Waiting, Collecting, Offering, Over, Closed, ended}
+use Rattle.proof_pure_network.specs.Jobs.{Job, Waiting, Collecting, Offering, Over, Closed, ended, Probed, Unmatched}
 use Rattle.proof_engine_view.specs.Frames.{endpoint_of}
 use Rattle.proof_engine_view.specs.Rows.{Fits, Holds, IsTable, Row, posted_rows}
 use Rattle.proof_engine_view.specs.Transfers.{Announcements, Transfer}
-use Rattle.proof_engine_view.specs.UnderWay.{AreUnderWay, IsCollectionOf, IsFromLink, IsNumbered, IsOfferOf, collection_keys, offer_keys}
+use Rattle.proof_engine_view.specs.UnderWay.{AreTaken, AreUnderWay, IsCollectionOf, IsFromLink, IsNumbered, IsOfferOf, collection_keys, offer_keys}
 use Rattle.proof_engine_steps.specs.Steps.{NoneUntold}
 use Rattle.proof_engine_steps.proofs.Ending.{IsAmong, IsNaming, among_either, among_first, among_later, ended_at, ended_row, in_among, named_at, naming_among}
 use Rattle.proof_engine_steps.proofs.EndingKeys.{AreEnding, IsEnding, ends_by}
 use Rattle.proof_engine_steps.proofs.ListsApart.{HasIt, all_at, apart_kept, in_map, kept_all, kept_at, kept_in, of_map}
 use Rattle.proof_engine_steps.proofs.Tables.{held_at, one_request}
+use Rattle.proof_engine_steps.proofs.MessageKeys.{message_ends, taken_among}
 use Rattle.proof_engine_steps.proofs.UnderWay.{IsTransfer, row_of}
 
 -- ---- WHICH REQUESTS END
@@ -56,6 +57,7 @@ collected_fits : (g : Progress) (p : Receive) (h : Held) (got : List ℕ) → Fi
 collected_fits (Receiving b) p h got f = absurd f
 collected_fits (progresses.Collecting w) p h got f = f.accepts
 collected_fits progresses.Offering p h got f = absurd f
+collected_fits (progresses.TakenOut taken) p h got f = absurd f
 collected_fits (Finished o) p h got f = absurd f
 
 row_fits : (slots : List (Option Entry)) (rows : List Row) (k key : ℕ) (p : Receive) (h : Held) (got : List ℕ) → IsTable slots rows → slice_get rows k ≡ Some (row_of key (Collecting p h got)) → fits p h ≡ true
@@ -169,8 +171,8 @@ collection_ends from known rows r i key c y is source later =
 
 -- the keys of the requests that end are those of the receives that name the rank, and of what is under way with it
 pub keys_end : (a : Announcements) (known : List ℕ) (p : Place) (rows : List Row) (slots : List (Option Entry)) (t : transfers.State) (ms : List Message) (r i : ℕ) → IsTable slots rows → AreUnderWay a known p rows t ms →
-    slice_index known r < i → AreEnding rows r i (keys_naming r (posted_rows rows) ++ keys_with t r)
-keys_end a known p rows slots t ms r i table u later = record { each = each; only = only }
+    AreTaken a.from known p rows slots → (r ≡ p.endpoint.rank → ⊥) → slice_index known r < i → AreEnding rows r i (keys_naming r (posted_rows rows) ++ (keys_with t r ++ keys_of_messages r i slots))
+keys_end a known p rows slots t ms r i table u taken apart later = record { each = each; only = only }
   where
     to_keys : List ℕ
     to_keys = map (λ (o : Offer). o.request) (filter (λ (o : Offer). o.target == r) t.offers)
@@ -181,20 +183,31 @@ keys_end a known p rows slots t ms r i table u later = record { each = each; onl
     names_keys : List ℕ
     names_keys = keys_naming r (posted_rows rows)
 
-    each : (k key : ℕ) (job : Job) → slice_get rows k ≡ Some (row_of key job) → ends_by r i job ≡ true → IsAmong key (names_keys ++ (to_keys ++ from_keys))
-    each k key (Waiting q) at e = among_first key names_keys (to_keys ++ from_keys) (naming_among r rows k key q at e)
+    message_keys : List ℕ
+    message_keys = keys_of_messages r i slots
+
+    under_way : (key : ℕ) → IsAmong key (to_keys ++ from_keys) → IsAmong key (names_keys ++ ((to_keys ++ from_keys) ++ message_keys))
+    under_way key h = among_later key names_keys ((to_keys ++ from_keys) ++ message_keys) (among_first key (to_keys ++ from_keys) message_keys h)
+
+    each : (k key : ℕ) (job : Job) → slice_get rows k ≡ Some (row_of key job) → ends_by r i job ≡ true → IsAmong key (names_keys ++ ((to_keys ++ from_keys) ++ message_keys))
+    each k key (Waiting q) at e = among_first key names_keys ((to_keys ++ from_keys) ++ message_keys) (naming_among r rows k key q at e)
     each k key (Collecting q h got) at e =
         let c : IsCollected known t.collections key h = collection_of a known p rows slots t ms k key q h got table u at in
         let s : c.collection.source ≡ r = sym (ap (λ (x : Endpoint). x.rank) c.sender_is) ∙ sender_of_ended r i q h got (row_fits slots rows k key q h got table at) e in
-        among_later key names_keys (to_keys ++ from_keys) (among_later key to_keys from_keys
+        under_way key (among_later key to_keys from_keys
         (kept_among (λ (x : rendezvous.Collecting). x.request) (λ (x : rendezvous.Collecting). x.source == r) t.collections c.place key c.collection c.there c.key_is (eq-eqb c.collection.source r s)))
     each k key (Offering d basic values) at e =
         let o : IsOffered a.to known rows t.offers key d = offer_of a known p rows slots t ms k key d basic values table u at in
         let s : o.offer.target ≡ r = sym (ap (λ (x : Endpoint). x.rank) o.target_is) ∙ eqb-true d.rank r e in
-        among_later key names_keys (to_keys ++ from_keys) (among_first key to_keys from_keys
+        under_way key (among_first key to_keys from_keys
         (kept_among (λ (x : Offer). x.request) (λ (x : Offer). x.target == r) t.offers o.place key o.offer o.there o.key_is (eq-eqb o.offer.target r s)))
     each k key (Over x) at e = absurd (grind arith)
     each k key Closed at e = absurd (grind arith)
+    each k key (Unmatched d) at e = absurd (apart (sym (eqb-true d.rank r e) ∙ ap (λ (x : Endpoint). x.rank) (u.unmatched k key d at)))
+    each k key (Probed g None) at e = absurd (grind arith)
+    each k key (Probed g (Some h)) at e =
+        among_later key names_keys ((to_keys ++ from_keys) ++ message_keys)
+        (among_later key (to_keys ++ from_keys) message_keys (taken_among a.from known p rows slots r i k key g h table taken at e))
 
     of_names : (key : ℕ) → IsAmong key names_keys → IsEnding rows r i key
     of_names key n =
@@ -214,16 +227,20 @@ keys_end a known p rows slots t ms r i table u later = record { each = each; onl
         let w = kept_at (λ (x : rendezvous.Collecting). x.source == r) t.collections n.0 h.element h.there in
         collection_ends a.from known rows r i key h.element (all_at (IsCollectionOf a.from known rows) t.collections w.0 h.element u.collections w.1) h.has (eqb-true h.element.source r w.2) later
 
-    only : (key : ℕ) → IsAmong key (names_keys ++ (to_keys ++ from_keys)) → IsEnding rows r i key
-    only key n = go (among_either key names_keys (to_keys ++ from_keys) n)
+    only : (key : ℕ) → IsAmong key (names_keys ++ ((to_keys ++ from_keys) ++ message_keys)) → IsEnding rows r i key
+    only key n = go (among_either key names_keys ((to_keys ++ from_keys) ++ message_keys) n)
       where
         pair : IsAmong key to_keys ⊎ IsAmong key from_keys → IsEnding rows r i key
         pair (inl x) = of_offers key (among_in key to_keys x)
         pair (inr x) = of_collections key (among_in key from_keys x)
 
-        go : IsAmong key names_keys ⊎ IsAmong key (to_keys ++ from_keys) → IsEnding rows r i key
+        later_ones : IsAmong key (to_keys ++ from_keys) ⊎ IsAmong key message_keys → IsEnding rows r i key
+        later_ones (inl x) = pair (among_either key to_keys from_keys x)
+        later_ones (inr x) = message_ends a.from known p rows slots r i key table taken x
+
+        go : IsAmong key names_keys ⊎ IsAmong key ((to_keys ++ from_keys) ++ message_keys) → IsEnding rows r i key
         go (inl x) = of_names key x
-        go (inr x) = pair (among_either key to_keys from_keys x)
+        go (inr x) = later_ones (among_either key (to_keys ++ from_keys) message_keys x)
 
 -- ---- WHAT GOES ON
 
@@ -238,9 +255,12 @@ job_stays r i (Collecting p h got) e = ap (λ (b : Bool). if b then Over (machin
 job_stays r i (Offering d basic values) e = ap (λ (b : Bool). if b then Over (machine.Replaced None) else Offering d basic values) e
 job_stays r i (Over x) e = refl
 job_stays r i Closed e = refl
+job_stays r i (Unmatched d) e = ap (λ (x : Bool). if x then Over (machine.Replaced None) else Unmatched d) e
+job_stays r i (Probed g None) e = refl
+job_stays r i (Probed g (Some h)) e = ap (λ (x : Bool). Probed g (if x then None else Some h)) e
 
 -- its row too
-row_stays : (rows : List Row) (r i k key : ℕ) (job : Job) → slice_get rows k ≡ Some (row_of key job) → ends_by r i job ≡ false → slice_get (map (ended_row r i) rows) k ≡ Some (row_of key job)
+pub row_stays : (rows : List Row) (r i k key : ℕ) (job : Job) → slice_get rows k ≡ Some (row_of key job) → ends_by r i job ≡ false → slice_get (map (ended_row r i) rows) k ≡ Some (row_of key job)
 row_stays rows r i k key job at e = ended_at r i rows k (row_of key job) at ∙ ap (λ (j : Job). Some (row_of key j)) (job_stays r i job e)
 
 -- what is under way afterwards was so before, and doesn't end
@@ -268,6 +288,17 @@ job_before r i (Offering d basic values) job t e = go (d.rank == r) refl e
     go false n g = (g, n)
 job_before r i (Over x) job t e = absurd (subst IsTransfer (sym e) t)
 job_before r i Closed job t e = absurd (subst IsTransfer (sym e) t)
+job_before r i (Unmatched d) job t e = go (d.rank == r) refl e
+  where
+    go : (b : Bool) → (d.rank == r) ≡ b → (if b then Over (machine.Replaced None) else Unmatched d) ≡ job → (Unmatched d ≡ job) × ((d.rank == r) ≡ false)
+    go true n g = absurd (subst IsTransfer (sym g) t)
+    go false n g = (g, n)
+job_before r i (Probed g None) job t e = absurd (subst IsTransfer (sym e) t)
+job_before r i (Probed g (Some h)) job t e = go (is_former r i h.sender) refl e
+  where
+    go : (b : Bool) → is_former r i h.sender ≡ b → Probed g (if b then None else Some h) ≡ job → (Probed g (Some h) ≡ job) × (is_former r i h.sender ≡ false)
+    go true n x = absurd (subst IsTransfer (sym x) t)
+    go false n x = (x, n)
 
 row_before : (rows : List Row) (r i k key : ℕ) (job : Job) → IsTransfer job → slice_get (map (ended_row r i) rows) k ≡ Some (row_of key job) → WasUnderWay rows r i k key job
 row_before rows r i k key job t at = go (of_map (ended_row r i) rows k (row_of key job) at)
@@ -370,9 +401,12 @@ learned_collection from known slots rows r i v c table n y =
     apart e = n (sym (ap (λ (x : Endpoint). x.rank) y.sender) ∙ sender_of_ended r i y.receive y.message y.got (row_fits slots rows y.serial c.request y.receive y.message y.got table y.row) e)
 
 -- and an announced message that waits, if it isn't of a former incarnation
-learned_message : (from : Endpoint → List Transfer) (known : List ℕ) (p : Place) (r i v : ℕ) (m : Message) (b : Body) → slice_index known r < i → not (is_former r i m.sender) ≡ true → IsFromLink from known p m b → IsFromLink from (slice_set known r v) p m b
-learned_message from known p r i v m (bodies.Whole c) later kept f = tt
-learned_message from known p r i v m (bodies.Announced x) later kept f =
+pub learned_message : (from : Endpoint → List Transfer) (known : List ℕ) (p : Place) (rows : List Row) (r i v : ℕ) (m : Message) (b : Body) → (r ≡ p.endpoint.rank → ⊥) → slice_index known r < i → not (is_former r i m.sender) ≡ true → IsFromLink from known p rows m b →
+    IsFromLink from (slice_set known r v) p (map (ended_row r i) rows) m b
+learned_message from known p rows r i v m (bodies.Whole c) apart later kept f = tt
+learned_message from known p rows r i v m (bodies.Own o) apart later kept f =
+    record { sender = f.sender; row = row_stays rows r i o.serial o.key (Unmatched p.endpoint) f.row (ne_eqb p.endpoint.rank r (λ e. apart (sym e))) }
+learned_message from known p rows r i v m (bodies.Announced x) apart later kept f =
     record { sender = f.sender ∙ sym (known_other known r v m.sender.rank n); there = f.there; apart = f.apart; announced = f.announced; width = f.width }
   where
     n : m.sender.rank ≢ r
@@ -383,9 +417,9 @@ learned_message from known p r i v m (bodies.Announced x) later kept f =
 
 -- once rank r is learnt at incarnation i
 pub learned_under_way : (a : Announcements) (known : List ℕ) (p : Place) (rows : List Row) (slots : List (Option Entry)) (t : transfers.State) (ms : List Message) (r i : ℕ) → IsTable slots rows → AreUnderWay a known p rows t ms →
-    NoneUntold a known → length known ≡ p.size → r < p.size → slice_index known r < i →
+    NoneUntold a known → length known ≡ p.size → r < p.size → (r ≡ p.endpoint.rank → ⊥) → slice_index known r < i →
     AreUnderWay a (slice_set known r (max (slice_index known r) i)) p (map (ended_row r i) rows) (after_drop t r) (filter (λ (m : Message). not (is_former r i m.sender)) ms)
-learned_under_way a known p rows slots t ms r i table u untold width inside later =
+learned_under_way a known p rows slots t ms r i table u untold width inside apart later =
     record {
       numbered = learned_numbers a.to known p t.numbers r i u.numbered (untold (record { rank = r; incarnation = i }) later) width inside later;
       offers = kept_all (IsOfferOf a.to after left) goes_to t.offers
@@ -396,8 +430,9 @@ learned_under_way a known p rows slots t ms r i table u untold width inside late
           (λ k c at kept. learned_collection a.from known slots rows r i v c table (apart_ranks c.source r kept) (all_at (IsCollectionOf a.from known rows) t.collections k c u.collections at));
       collected = λ k key q h got at. collected k key q h got (row_before rows r i k key (Collecting q h got) tt at);
       collections_apart = apart_kept (λ (c : rendezvous.Collecting). c.request) comes_from t.collections u.collections_apart;
-      messages = kept_all (λ (m : Message). IsFromLink a.from after p m m.body) (λ (m : Message). not (is_former r i m.sender)) ms
-          (λ k m at kept. learned_message a.from known p r i v m m.body later kept (all_at (λ (x : Message). IsFromLink a.from known p x x.body) ms k m u.messages at));
+      unmatched = λ k key d at. u.unmatched k key d (row_before rows r i k key (Unmatched d) tt at).there;
+      messages = kept_all (λ (m : Message). IsFromLink a.from after p left m m.body) (λ (m : Message). not (is_former r i m.sender)) ms
+          (λ k m at kept. learned_message a.from known p rows r i v m m.body apart later kept (all_at (λ (x : Message). IsFromLink a.from known p rows x x.body) ms k m u.messages at));
     }
   where
     v : ℕ

@@ -8,9 +8,11 @@ pub mod Regions
 pub mod Agreeing
 pub mod Found
 pub mod Using
+pub mod TakenRows
 pub mod UnderWay
 pub mod Ending
 pub mod EndingKeys
+pub mod MessageKeys
 pub mod Replacing
 pub mod Staying
 pub mod Waking
@@ -19,6 +21,7 @@ pub mod Meant
 pub mod Taking
 pub mod ListsApart
 pub mod Learning
+pub mod LearnedMessages
 pub mod Meeting
 pub mod Arriving
 pub mod DueData
@@ -27,6 +30,10 @@ pub mod News
 pub mod Foreign
 pub mod Standings
 pub mod RefusedWaits
+pub mod Probes
+pub mod OwnEnded
+pub mod ReceivedRows
+pub mod Messages
 pub mod Cancels
 pub mod Announcing
 pub mod Announces
@@ -35,6 +42,7 @@ pub mod Sends
 pub mod AnnouncedSends
 pub mod Reasons
 pub mod RefusedSends
+pub mod OwnSynchronous
 pub mod OwnSends
 pub mod Clearing
 pub mod Collects
@@ -43,6 +51,7 @@ pub mod Posts
 pub mod Waits
 pub mod CallsShown
 pub mod RefusedReceives
+pub mod RefusedProbes
 pub mod RefusedCalls
 pub mod OpeningShown
 pub mod AnnouncementsTaken

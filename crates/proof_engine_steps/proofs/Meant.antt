@@ -2,6 +2,7 @@
 use Rattle.std.proofs.Common.{◌≡◌, ℕ, List, [], ◌∷◌, Option, Some, None, refl, sym, subst, ◌∙◌}
 use Rattle.std.specs.List.{AllByRecursion}
 use Rattle.perfect_queues.specs.Calls as machine
+use Rattle.perfect_queues.specs.Completions as completions
 use Rattle.perfect_queues.specs.Events.{Called, Entry, call_and_reply, told}
 use Rattle.vocabulary.specs.declared.endpoint.Endpoint.{Endpoint}
 use Rattle.proof_pure_network.specs.Core.{Core, view}
@@ -15,7 +16,7 @@ use Rattle.rank_core.specs.Calls.{call_frame}
 use Rattle.rank_core.specs.CoreState.{CoreState}
 use Rattle.rank_calls.specs.Frames.{FrameFor, as_list}
 use Rattle.proof_engine_view.specs.Faults.{queue_fault}
-use Rattle.proof_engine_view.specs.Seen.{answer_seen, call_seen, told_call}
+use Rattle.proof_engine_view.specs.Seen.{answer_seen, call_seen, match_seen, told_call}
 use Rattle.proof_engine_view.specs.Shown.{IsShown}
 use Rattle.proof_engine_view.specs.Standing.{AreSent, CanLeave, all_gone}
 use Rattle.proof_engine_view.specs.Transfers.{Announcements, after_out}
@@ -29,6 +30,7 @@ told_by e c (replies.Started q) = Called e c (machine.Started q.serial) ∷ []
 told_by e c (replies.Done a) = Called e c (machine.Done (answer_seen a)) ∷ []
 told_by e c replies.Pending = Called e c machine.Pending ∷ []
 told_by e c replies.Accepted = Called e c machine.Accepted ∷ []
+told_by e c (replies.Matched found) = Called e c (machine.Done (completions.ForMatch (match_seen found))) ∷ []
 told_by e c replies.Blocked = Called e c machine.Blocked ∷ []
 told_by e c (replies.Refused why back) = []
 
@@ -38,6 +40,7 @@ told_same e call (replies.Started q) = refl
 told_same e call (replies.Done a) = refl
 told_same e call replies.Pending = refl
 told_same e call replies.Accepted = refl
+told_same e call (replies.Matched found) = refl
 told_same e call replies.Blocked = refl
 told_same e call (replies.Refused why back) = refl
 

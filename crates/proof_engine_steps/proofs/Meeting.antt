@@ -1,5 +1,5 @@
 -- A word of an endpoint teaches a rank what it teaches its core in the network.
-use Rattle.std.proofs.Common.{◌≡◌, ℕ, ◌<◌, Bool, true, false, List, ◌++◌, map, filter, not, Some, None, if◌then◌else◌, nat_lt, slice_index, refl, sym, ap, ◌∙◌, subst, ◌||◌, ◌==◌}
+use Rattle.std.proofs.Common.{◌≡◌, ℕ, ◌<◌, Bool, true, false, List, ◌++◌, map, filter, not, Some, None, if◌then◌else◌, nat_lt, max, slice_index, refl, sym, ap, ◌∙◌, subst, ◌||◌, ◌==◌}
 use Rattle.std.proofs.lemmas.Bool.{ltb-true}
 use Rattle.std.proofs.lemmas.List.{length-map}
 use Rattle.vocabulary.specs.Endpoints.{is_former}
@@ -9,21 +9,24 @@ use Rattle.vocabulary.specs.declared.endpoint.Endpoint.{Endpoint}
 use Rattle.match_queues.specs.declared.envelope.Receive as queued
 use Rattle.match_queues.specs.State.{keys_naming}
 use Rattle.rendezvous.specs.State.{keys_with}
-use Rattle.requests.specs.Table.{after_replaces}
+use Rattle.requests.specs.Table.{after_replaces, keys_of_messages}
 use Rattle.rank_core.specs.CoreState.{CoreState}
 use Rattle.rank_calls.specs.Hearing.{NewsText}
 use Rattle.rank_core.specs.Hearing.{replaced, taught}
 use Rattle.proof_pure_network.specs.Core.{Core}
 use Rattle.proof_pure_network.specs.Engine as network
 use Rattle.proof_pure_network.specs.Held.{Held}
-use Rattle.proof_pure_network.specs.Jobs.{Job, Closed, Collecting, Offering, Over, Waiting, ended}
+use Rattle.proof_pure_network.specs.Jobs.{Job, Closed, Collecting, Offering, Over, Waiting, ended, Probed, Unmatched}
 use Rattle.proof_engine_view.specs.Frames.{known_after}
 use Rattle.proof_engine_view.specs.Rows.{IsTable, Row, posted_rows}
 use Rattle.proof_engine_view.specs.Shown.{IsShown}
 use Rattle.proof_engine_view.specs.Transfers.{Announcements}
+use Rattle.proof_engine_view.specs.UnderWay.{AreTaken}
 use Rattle.proof_engine_steps.specs.Steps.{IsFromOther, NoneUntold}
 use Rattle.proof_engine_steps.proofs.Ending.{ended_jobs, ended_row, held_left, posted_left}
 use Rattle.proof_engine_steps.proofs.Knowing.{learnt_known}
+use Rattle.proof_engine_steps.proofs.EndingKeys.{AreEnding}
+use Rattle.proof_engine_steps.proofs.LearnedMessages.{learned_taken}
 use Rattle.proof_engine_steps.proofs.Learning.{keys_end, learned_under_way}
 use Rattle.proof_engine_steps.proofs.Named.{NamedStay, blocked_stays, named_map}
 use Rattle.proof_engine_steps.proofs.Replacing.{replaced_table}
@@ -49,6 +52,12 @@ ended_closed r i (Offering d basic values) h = go (d.rank == r) h
     go false e = e
 ended_closed r i (Over x) h = h
 ended_closed r i Closed h = h
+ended_closed r i (Unmatched d) h = go (d.rank == r) h
+  where
+    go : (b : Bool) → (if b then Over (machine.Replaced None) else Unmatched d) ≡ Closed → Unmatched d ≡ Closed
+    go true e = absurd cc
+    go false e = e
+ended_closed r i (Probed g x) h = absurd cc
 
 -- what is named stays named
 ended_named : (r i : ℕ) (rows : List Row) → NamedStay rows (map (ended_row r i) rows)
@@ -63,12 +72,12 @@ learned_holds links e known core rows s h inside apart later untold =
       jobs = ap (λ (js : List Job). map (ended r i) js) h.jobs ∙ ended_jobs r i rows;
       count = length-map rows (ended_row r i) ∙ h.count;
       table = subst (λ (ks : List ℕ). IsTable (after_replaces e.slots ks) (map (ended_row r i) rows))
-          (sym (ap (λ (ps : List queued.Receive). keys_naming r ps ++ keys_with e.transfers r) h.posted))
-          (replaced_table e.slots rows r i (keys_naming r (posted_rows rows) ++ keys_with e.transfers r) h.table
-          (keys_end links known e.place rows e.slots e.transfers e.queues.unexpected r i h.table h.under_way later));
+          (sym keys_are) (replaced_table e.slots rows r i keys h.table ending);
       posted = ap (λ (ps : List queued.Receive). filter (λ (x : queued.Receive). not (names x.source r)) ps) h.posted ∙ posted_left r i rows;
       held = ap (λ (hs : List Held). filter (λ (x : Held). not (is_former r i x.sender)) hs) h.held ∙ held_left links.from r i e.queues.unexpected;
-      under_way = learned_under_way links known e.place rows e.slots e.transfers e.queues.unexpected r i h.table h.under_way untold h.knowing.width inside later;
+      under_way = learned_under_way links known e.place rows e.slots e.transfers e.queues.unexpected r i h.table h.under_way untold h.knowing.width inside apart later;
+      taken = subst (λ (ks : List ℕ). AreTaken links.from (known_after true known s) e.place (map (ended_row r i) rows) (after_replaces e.slots ks))
+          (sym keys_are) (learned_taken links.from known e.place rows e.slots r i (max (slice_index known r) i) keys h.table ending apart later h.taken);
       knowing = learnt_known e.place known core.known r i h.knowing inside apart later;
     }
   where
@@ -77,6 +86,15 @@ learned_holds links e known core rows s h inside apart later untold =
 
     i : ℕ
     i = s.incarnation
+
+    keys : List ℕ
+    keys = keys_naming r (posted_rows rows) ++ (keys_with e.transfers r ++ keys_of_messages r i e.slots)
+
+    keys_are : keys_naming r e.queues.posted ++ (keys_with e.transfers r ++ keys_of_messages r i e.slots) ≡ keys
+    keys_are = ap (λ (ps : List queued.Receive). keys_naming r ps ++ (keys_with e.transfers r ++ keys_of_messages r i e.slots)) h.posted
+
+    ending : AreEnding rows r i keys
+    ending = keys_end links known e.place rows e.slots e.transfers e.queues.unexpected r i h.table h.under_way h.taken apart later
 
 -- what a word of another rank of the job leaves both holding, by whether it is a lesson
 pub met_holds : (links : Announcements) (e : CoreState) (known : List ℕ) (core : Core) (news : NewsText) → IsShown links e known core → IsFromOther e known news → NoneUntold links known →

@@ -66,7 +66,7 @@ named_map f keys live rows q h =
     }
 
 -- what the blocked call waits for is still named
-pub blocked_stays : (rows left : List Row) (b : Option Awaited) (x y : Option machine.Awaited) → IsBlocked rows b x → y ≡ x → NamedStay rows left → IsBlocked left b y
+pub blocked_stays : (rows left : List Row) (b : Option Awaited) (x y : Option machine.Unanswered) → IsBlocked rows b x → y ≡ x → NamedStay rows left → IsBlocked left b y
 blocked_stays rows left None x y h e stay = e ∙ h
 blocked_stays rows left (Some a) x y h e stay = (
   e ∙ h.0,

@@ -44,8 +44,10 @@ opening_is_shown p a inside none =
         collections = tt;
         collected = λ k key r h got is. absurd cc;
         collections_apart = tt;
+        unmatched = λ k key d is. absurd cc;
         messages = tt;
       };
+      taken = λ key. tt;
       blocked = refl;
       width = k.width;
       known_alike = k.same;

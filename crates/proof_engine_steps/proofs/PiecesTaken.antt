@@ -1,19 +1,19 @@
 -- A piece of data comes: at the rank and at its core the receive that collects has it, and is over with the last one.
-use Rattle.std.proofs.Common.{◌≡◌, ℕ, zero, suc, ◌==◌, Bool, true, false, List, [], ◌∷◌, ◌++◌, length, remove, Option, Some, None, if◌then◌else◌, slice_get, slice_index_or, slice_set, refl, sym, ap, ap₂, ◌∙◌, subst}
+use Rattle.std.proofs.Common.{◌≡◌, ℕ, ◌==◌, Bool, true, false, List, [], ◌++◌, length, remove, Option, Some, None, if◌then◌else◌, slice_get, slice_index_or, slice_set, refl, sym, ap, ap₂, ◌∙◌, subst}
 use Rattle.std.proofs.lemmas.Bool.{and_from, eq-eqb, eqb-true}
 use Rattle.std.proofs.lemmas.List.{length-set}
-use Rattle.std.proofs.lemmas.Option.{get_or_from_slice_get, none-some, same_Some}
+use Rattle.std.proofs.lemmas.Option.{get_or_from_slice_get}
 use Rattle.vocabulary.specs.BasicTypes.{size_of}
 use Rattle.vocabulary.specs.Endpoints.{is_same}
 use Rattle.vocabulary.specs.declared.basic_type.BasicType.{BasicType}
 use Rattle.vocabulary.specs.declared.endpoint.Endpoint.{Endpoint}
+use Rattle.incarnation.specs.declared.place.Place.{Place}
 use Rattle.vocabulary.specs.declared.envelope.Status.{Status}
 use Rattle.datatypes.specs.ContentLaws.{sizes, values_of-bytes_of}
 use Rattle.datatypes.specs.Contents.{Contents, values_of}
 use Rattle.datagram.specs.Spelling.{DataText}
 use Rattle.match_queues.specs.declared.envelope.Body.TheVariants as bodies
 use Rattle.match_queues.specs.declared.envelope.Message.{Message}
-use Rattle.match_queues.specs.declared.envelope.Receive as posted
 use Rattle.perfect_queues.proofs.EndpointLemmas.{same_refl}
 use Rattle.perfect_queues.specs.Buffers.{Handed}
 use Rattle.perfect_queues.specs.Outcomes as machine
@@ -40,11 +40,11 @@ use Rattle.proof_pure_network.specs.Held.{Held, count_of, full, is_part}
 use Rattle.proof_pure_network.specs.Jobs.{Job, Collecting, Over, collecting, is_collecting, with_more}
 use Rattle.proof_pure_network.specs.Transfers.{collected}
 use Rattle.proof_engine_matching.specs.Matches.{OutcomesAgree}
-use Rattle.proof_engine_view.specs.Rows.{Fits, Holds, IsTable, Row, jobs_of, posted_job, posted_rows}
+use Rattle.proof_engine_view.specs.Rows.{Fits, Holds, IsTable, Row, jobs_of, posted_job}
 use Rattle.proof_engine_view.specs.Seen.{outcome_seen}
 use Rattle.proof_engine_view.specs.Standing.{AreSent}
 use Rattle.proof_engine_view.specs.Transfers.{Announcements, Transfer}
-use Rattle.proof_engine_view.specs.UnderWay.{AreUnderWay, IsCollectionOf}
+use Rattle.proof_engine_view.specs.UnderWay.{AreTaken, AreUnderWay, IsCollectionOf}
 use Rattle.proof_engine_steps.specs.Steps.{CollectsOnce}
 use Rattle.proof_engine_steps.proofs.DueData.{collecting_there}
 use Rattle.proof_engine_steps.proofs.GatheredPieces.{IsPieceOf, last_under_way, more_under_way, piece_there, whole_alike, with_it}
@@ -53,7 +53,8 @@ use Rattle.proof_engine_steps.proofs.RowLemmas.{job_at, set_jobs}
 use Rattle.proof_engine_steps.proofs.Staying.{AreQuiet}
 use Rattle.proof_engine_steps.proofs.Tables.{Says, changed_table, held_at, says_some, set_is_set}
 use Rattle.proof_engine_steps.proofs.Taking.{HoldBoth, PiecesAreTaken}
-use Rattle.proof_engine_steps.proofs.UnderWay.{row_of}
+use Rattle.proof_engine_steps.proofs.TakenRows.{posted_still}
+use Rattle.proof_engine_steps.proofs.UnderWay.{keeps_set, row_of, taken_changed, taken_same}
 use Rattle.proof_engine_steps.proofs.Waking.{Holding}
 
 -- ---- THE CORE
@@ -134,14 +135,6 @@ rank_gathers e from known rows s t frame x b whole =
 
 -- ---- A REQUEST THAT CHANGES AND ISN'T POSTED
 
--- what is posted stays
-posted_still : (rows : List Row) (k key : ℕ) (job job' : Job) → slice_get rows k ≡ Some (row_of key job) → posted_job key job ≡ [] → posted_job key job' ≡ [] →
-    posted_rows rows ≡ posted_rows (slice_set rows k (row_of key job'))
-posted_still [] k key job job' h a b = absurd (none-some (row_of key job) h)
-posted_still (r ∷ rs) zero key job job' h a b =
-    ap (λ (y : Row). posted_job y.key y.job ++ posted_rows rs) (same_Some r (row_of key job) h) ∙ ap (λ (ys : List posted.Receive). ys ++ posted_rows rs) (a ∙ sym b)
-posted_still (r ∷ rs) (suc k) key job job' h a b = ap (λ (ys : List posted.Receive). posted_job r.key r.job ++ ys) (posted_still rs k key job job' h a b)
-
 -- what its entry says, once that fits its job
 entry_says : (t : Entry) (k : ℕ) (j : Job) → t.serial ≡ k → Fits t.progress j → Says (Some t) k j
 entry_says t k j e f = subst (λ (n : ℕ). Says (Some t) n j) e (says_some t.serial t.progress j f)
@@ -149,8 +142,9 @@ entry_says t k j e f = subst (λ (n : ℕ). Says (Some t) n j) e (says_some t.se
 -- both hold it
 changed_both : (links : Announcements) (e : CoreState) (known : List ℕ) (core : Core) (rows : List Row) (slots : List (Option Entry)) (t : transfers.State) (k key : ℕ) (job job' : Job) → Holding links e known core rows →
     slice_get rows k ≡ Some (row_of key job) → posted_job key job ≡ [] → posted_job key job' ≡ [] → IsTable slots (slice_set rows k (row_of key job')) →
-    AreUnderWay links known e.place (slice_set rows k (row_of key job')) t e.queues.unexpected → Holding links (record e { slots = slots; transfers = t }) known (core_with core k job') (slice_set rows k (row_of key job'))
-changed_both links e known core rows slots t k key job job' h at a b table under_way =
+    AreUnderWay links known e.place (slice_set rows k (row_of key job')) t e.queues.unexpected → AreTaken links.from known e.place (slice_set rows k (row_of key job')) slots →
+    Holding links (record e { slots = slots; transfers = t }) known (core_with core k job') (slice_set rows k (row_of key job'))
+changed_both links e known core rows slots t k key job job' h at a b table under_way taken =
     record {
       jobs = ap (λ (js : List Job). slice_set js k job') h.jobs ∙ sym (set_jobs rows k key job');
       count = length-set rows k (row_of key job') ∙ h.count;
@@ -158,6 +152,7 @@ changed_both links e known core rows slots t k key job job' h at a b table under
       posted = h.posted ∙ posted_still rows k key job job' at a b;
       held = h.held;
       under_way = under_way;
+      taken = taken;
       knowing = h.knowing;
     }
 
@@ -168,6 +163,7 @@ fits_more : (g : Progress) (p : Receive) (h : Held) (got more : List ℕ) → Fi
 fits_more (Receiving r) p h got more f = absurd f
 fits_more (progresses.Collecting w) p h got more f = f
 fits_more progresses.Offering p h got more f = absurd f
+fits_more (progresses.TakenOut taken) p h got more f = absurd f
 fits_more (Finished o) p h got more f = absurd f
 
 -- so its slot stays
@@ -194,6 +190,7 @@ delivered_fits agree (progresses.Collecting w) p h got c f basic count =
     m : Message
     m = record { sender = h.sender; context = h.context; tag = h.tag; body = bodies.Whole c }
 delivered_fits agree progresses.Offering p h got c f basic count = absurd f
+delivered_fits agree (progresses.TakenOut taken) p h got c f basic count = absurd f
 delivered_fits agree (Finished o) p h got c f basic count = absurd f
 
 -- in its slot too
@@ -203,6 +200,27 @@ last_table agree slots rows k key p h got c table at basic count =
     subst (λ (t : List (Option Entry)). IsTable t (slice_set rows k (row_of key over))) (sym written)
     (changed_table slots (slice_set slots key (Some after)) rows k key (Collecting p h got) over (Some after) table at (λ z. cc) (set_is_set slots key mine.entry (Some after) mine.there)
     (entry_says after k over mine.serial_is (delivered_fits agree mine.entry.progress p h got c mine.fits basic count)))
+  where
+    over : Job
+    over = Over (machine.outcome p (full h c.values))
+
+    mine : Holds (slot_at slots key) k (Collecting p h got)
+    mine = held_at slots rows k key (Collecting p h got) table at (λ z. cc)
+
+    after : Entry
+    after = record mine.entry { progress = progress_on_delivery mine.entry.progress c }
+
+    written : after_delivery slots key c ≡ slice_set slots key (Some after)
+    written = ap (λ (o : Option Entry). slot_delivered o slots key c) mine.there
+
+-- and it is no message that was taken out, neither before nor after
+last_taken : OutcomesAgree → (from : Endpoint → List Transfer) (known : List ℕ) (place : Place) (slots : List (Option Entry)) (rows : List Row) (k key : ℕ) (p : Receive) (h : Held) (got : List ℕ) (c : Contents) → IsTable slots rows →
+    slice_get rows k ≡ Some (row_of key (Collecting p h got)) → c.basic ≡ h.basic → length c.values ≡ count_of h.body → AreTaken from known place rows slots →
+    AreTaken from known place (slice_set rows k (row_of key (Over (machine.outcome p (full h c.values))))) (after_delivery slots key c)
+last_taken agree from known place slots rows k key p h got c table at basic count taken =
+    subst (λ (t : List (Option Entry)). AreTaken from known place (slice_set rows k (row_of key over)) t) (sym written)
+    (taken_changed from known place rows slots (slice_set slots key (Some after)) k key (Collecting p h got) over after taken at (λ i. i) (set_is_set slots key mine.entry (Some after) mine.there)
+    (delivered_fits agree mine.entry.progress p h got c mine.fits basic count) tt)
   where
     over : Job
     over = Over (machine.outcome p (full h c.values))
@@ -247,7 +265,9 @@ gathered agree links e known core s t frame h x false whole =
       rows = slice_set h.rows y.serial (row_of key (Collecting y.receive y.message (y.got ++ x.values)));
       holding = changed_both links e known core h.rows e.slots (left_by false e.transfers x.place (with_it x.collection t)) y.serial key (Collecting y.receive y.message y.got) (Collecting y.receive y.message (y.got ++ x.values)) h.holding
           y.row refl refl (more_table e.slots h.rows y.serial key y.receive y.message y.got (y.got ++ x.values) h.holding.table y.row)
-          (more_under_way links known e.place h.rows e.transfers e.queues.unexpected s t frame x h.holding.under_way);
+          (more_under_way links known e.place h.rows e.transfers e.queues.unexpected s t frame x h.holding.under_way)
+          (taken_same links.from known e.place h.rows (slice_set h.rows y.serial (row_of key (Collecting y.receive y.message (y.got ++ x.values)))) e.slots
+          (keeps_set h.rows y.serial key (Collecting y.receive y.message y.got) (Collecting y.receive y.message (y.got ++ x.values)) y.row (λ i. i)) h.holding.taken);
       awaited = blocked_stays h.rows (slice_set h.rows y.serial (row_of key (Collecting y.receive y.message (y.got ++ x.values)))) e.blocked core.blocked core.blocked h.awaited refl
           (named_set h.rows y.serial key (Collecting y.receive y.message y.got) (Collecting y.receive y.message (y.got ++ x.values)) y.row (λ z. cc));
     }
@@ -262,7 +282,7 @@ gathered agree links e known core s t frame h x true whole =
       rows = slice_set h.rows y.serial (row_of key over);
       holding = changed_both links e known core h.rows (after_delivery e.slots key (collected_of (with_it x.collection t)).elements) (left_by true e.transfers x.place (with_it x.collection t)) y.serial key
           (Collecting y.receive y.message y.got) over h.holding y.row refl refl table
-          (last_under_way links known e.place e.slots h.rows e.transfers e.queues.unexpected s t frame x (machine.outcome y.receive (full y.message (y.got ++ x.values))) h.holding.table h.holding.under_way);
+          (last_under_way links known e.place e.slots h.rows e.transfers e.queues.unexpected s t frame x (machine.outcome y.receive (full y.message (y.got ++ x.values))) h.holding.table h.holding.under_way) taken;
       awaited = blocked_stays h.rows (slice_set h.rows y.serial (row_of key over)) e.blocked core.blocked core.blocked h.awaited refl (named_set h.rows y.serial key (Collecting y.receive y.message y.got) over y.row (λ z. cc));
     }
   where
@@ -281,6 +301,10 @@ gathered agree links e known core s t frame h x true whole =
     table : IsTable (after_delivery e.slots x.collection.request (collected_of (with_it x.collection t)).elements) (slice_set h.rows x.stands.serial (row_of x.collection.request over))
     table = subst (λ (c : Contents). IsTable (after_delivery e.slots key c) (slice_set h.rows y.serial (row_of key over))) (sym (handed_values links.from known h.rows e.transfers.collections s t frame x))
         (last_table agree e.slots h.rows y.serial key y.receive y.message y.got elements h.holding.table y.row (y.basic_is ∙ sym y.basic) (eqb-true (length (y.got ++ x.values)) (count_of y.message.body) whole))
+
+    taken : AreTaken links.from known e.place (slice_set h.rows x.stands.serial (row_of x.collection.request over)) (after_delivery e.slots x.collection.request (collected_of (with_it x.collection t)).elements)
+    taken = subst (λ (c : Contents). AreTaken links.from known e.place (slice_set h.rows y.serial (row_of key over)) (after_delivery e.slots key c)) (sym (handed_values links.from known h.rows e.transfers.collections s t frame x))
+        (last_taken agree links.from known e.place e.slots h.rows y.serial key y.receive y.message y.got elements h.holding.table y.row (y.basic_is ∙ sym y.basic) (eqb-true (length (y.got ++ x.values)) (count_of y.message.body) whole) h.holding.taken)
 
 -- a piece that is taken is due
 due_is : (b : Bool) → bad_unless b ≡ None → b ≡ true

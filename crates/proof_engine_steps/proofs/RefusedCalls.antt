@@ -1,7 +1,7 @@
 -- Each call that meets a rule or a limit of a rank's core has a reason, and each that meets none is without a fault.
 use Rattle.std.proofs.Common.{◌≡◌, ℕ, List, map, Option, Some, None, slice_get, refl, ap, ◌∙◌, subst}
 use Rattle.perfect_queues.specs.Calls as machine
-use Rattle.perfect_queues.specs.Completions.{Awaited}
+use Rattle.perfect_queues.specs.Completions.{Unanswered}
 use Rattle.perfect_queues.specs.Refusals as rules
 use Rattle.proof_pure_network.specs.Core.{Core, view}
 use Rattle.proof_pure_network.specs.Held.{blank}
@@ -20,6 +20,7 @@ use Rattle.proof_engine_view.specs.Shown.{IsBlocked, IsShown}
 use Rattle.proof_engine_view.specs.Transfers.{Announcements}
 use Rattle.proof_engine_steps.specs.Refused.{AllowedCallsAreFaultless, FaultsHaveReasons, HasReason, IsFaultless, MachinesFault, NoRoom, RoomIsAReason, fault_seen}
 use Rattle.proof_engine_steps.proofs.Reasons.{reason_is}
+use Rattle.proof_engine_steps.proofs.RefusedProbes.{message_reason, message_without_fault, search_reason, search_without_fault}
 use Rattle.proof_engine_steps.proofs.RefusedReceives.{receive_faultless, receive_reason}
 use Rattle.proof_engine_steps.proofs.RefusedSends.{no_send_fault, send_faultless, send_reason}
 use Rattle.proof_engine_steps.proofs.RefusedWaits.{cancel_reason, cancel_without_fault, test_reason, test_without_fault, wait_reason, wait_without_fault, waitall_without_fault, waitany_without_fault}
@@ -28,7 +29,7 @@ use Rattle.proof_engine_steps.proofs.RefusedWaits.{cancel_reason, cancel_without
 blocked_fault : (links : Announcements) (old : CoreState) (known : List ℕ) (core : Core) (call : Call) (a : rank.Awaited) → IsShown links old known core → old.blocked ≡ Some a → fault_seen old core call ≡ Some 6
 blocked_fault links old known core call a shown h =
     ap
-    (λ (b : Option Awaited).
+    (λ (b : Option Unanswered).
     queue_fault_by old.place.size (rules.is_held b) (λ k. rules.standing (slice_get (map (request_of blank) core.jobs) k)) (call_meant old call))
     (subst (λ (b : Option rank.Awaited). IsBlocked shown.rows b core.blocked) h shown.blocked).0
 
@@ -44,6 +45,8 @@ free_reason links old known core (calls.Test q) why shown free fault = test_reas
 free_reason links old known core (calls.Waitany qs) why shown free fault = wait_reason links old known core (awaiteds.AnyOf qs) why shown free fault
 free_reason links old known core (calls.Waitall qs) why shown free fault = wait_reason links old known core (awaiteds.AllOf qs) why shown free fault
 free_reason links old known core (calls.Cancel q) why shown free fault = cancel_reason links old known core q why shown free fault
+free_reason links old known core (calls.Improbe p) why shown free fault = search_reason links old known core p why shown free fault
+free_reason links old known core (calls.Mrecv q into) why shown free fault = message_reason links old known core q into why shown free fault
 
 pub faults_have_reasons : FaultsHaveReasons
 faults_have_reasons links old known core call why shown fault = go old.blocked refl fault
@@ -65,6 +68,8 @@ free_faultless links old known core (calls.Test q) shown free fine = test_withou
 free_faultless links old known core (calls.Waitany qs) shown free fine = waitany_without_fault links old known core qs shown free fine
 free_faultless links old known core (calls.Waitall qs) shown free fine = waitall_without_fault links old known core qs shown free fine
 free_faultless links old known core (calls.Cancel q) shown free fine = cancel_without_fault links old known core q shown free fine
+free_faultless links old known core (calls.Improbe p) shown free fine = search_without_fault links old known core p shown free fine
+free_faultless links old known core (calls.Mrecv q into) shown free fine = message_without_fault links old known core q into shown free fine
 
 pub allowed_calls_are_faultless : AllowedCallsAreFaultless
 allowed_calls_are_faultless links old known core call shown fine = go old.blocked refl fine

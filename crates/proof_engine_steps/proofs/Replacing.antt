@@ -1,5 +1,5 @@
 -- The slots once a rank is learnt at a later incarnation.
-use Rattle.std.proofs.Common.{◌≡◌, ◌≢◌, ℕ, Bool, true, false, List, [], ◌∷◌, map, Option, Some, None, if◌then◌else◌, slice_get, option_map, refl, sym, ap, ◌∙◌, subst, ◌⊎◌, inl, inr}
+use Rattle.std.proofs.Common.{◌≡◌, ◌≢◌, ℕ, Bool, true, false, List, [], ◌∷◌, map, Option, Some, None, if◌then◌else◌, slice_get, option_map, refl, sym, ap, ◌∙◌, subst, ◌⊎◌, inl, inr, arith}
 use Rattle.std.proofs.lemmas.Bool.{cases_eq}
 use Rattle.std.proofs.lemmas.Option.{none-some, same_Some, slice_get-map}
 use Rattle.datatypes.specs.Contents.{Contents}
@@ -10,7 +10,7 @@ use Rattle.requests.specs.declared.table.Entry.{Entry}
 use Rattle.requests.specs.declared.table.Progress.{Progress}
 use Rattle.requests.specs.declared.table.Progress.TheVariants.{Receiving, Finished}
 use Rattle.requests.specs.declared.table.Progress.TheVariants as progresses
-use Rattle.proof_pure_network.specs.Jobs.{Job, Waiting, Collecting, Offering, Over, Closed, ended}
+use Rattle.proof_pure_network.specs.Jobs.{Job, Waiting, Collecting, Offering, Over, Closed, ended, Probed, Unmatched}
 use Rattle.proof_engine_view.specs.Rows.{Fits, Holds, IsRow, IsTable, Row, Stands}
 use Rattle.proof_engine_steps.proofs.Ending.{IsAmong, cases_among, ended_at, ended_row}
 use Rattle.proof_engine_steps.proofs.EndingKeys.{AreEnding, IsEnding, ends_by}
@@ -48,6 +48,7 @@ twice (Some t) = go t.progress
     go (Receiving b) = refl
     go (progresses.Collecting w) = refl
     go progresses.Offering = refl
+    go (progresses.TakenOut taken) = refl
     go (Finished o) = refl
 
 -- ALL KEYS
@@ -90,6 +91,8 @@ fits_replaced (Receiving b) r i (Collecting p h got) f e = absurd f
 fits_replaced (Receiving b) r i (Offering d basic values) f e = absurd f
 fits_replaced (Receiving b) r i (Over x) f e = absurd f
 fits_replaced (Receiving b) r i Closed f e = absurd f
+fits_replaced (Receiving b) r i (Unmatched d) f e = absurd f
+fits_replaced (Receiving b) r i (Probed g h) f e = absurd f
 fits_replaced (progresses.Collecting w) r i (Waiting p) f e = absurd f
 fits_replaced (progresses.Collecting w) r i (Collecting p h got) f e =
     subst (λ (x : Bool). Fits (replaced_progress (progresses.Collecting w)) (if x then Over (machine.Replaced (Some p.into.buffer)) else Collecting p h got)) (sym e)
@@ -97,17 +100,33 @@ fits_replaced (progresses.Collecting w) r i (Collecting p h got) f e =
 fits_replaced (progresses.Collecting w) r i (Offering d basic values) f e = absurd f
 fits_replaced (progresses.Collecting w) r i (Over x) f e = absurd f
 fits_replaced (progresses.Collecting w) r i Closed f e = absurd f
+fits_replaced (progresses.Collecting w) r i (Unmatched d) f e = absurd f
+fits_replaced (progresses.Collecting w) r i (Probed g h) f e = absurd f
 fits_replaced progresses.Offering r i (Waiting p) f e = absurd f
 fits_replaced progresses.Offering r i (Collecting p h got) f e = absurd f
 fits_replaced progresses.Offering r i (Offering d basic values) f e =
     subst (λ (x : Bool). Fits (replaced_progress progresses.Offering) (if x then Over (machine.Replaced None) else Offering d basic values)) (sym e) refl
 fits_replaced progresses.Offering r i (Over x) f e = absurd f
 fits_replaced progresses.Offering r i Closed f e = absurd f
+fits_replaced progresses.Offering r i (Unmatched d) f e =
+    subst (λ (x : Bool). Fits (replaced_progress progresses.Offering) (if x then Over (machine.Replaced None) else Unmatched d)) (sym e) refl
+fits_replaced progresses.Offering r i (Probed g h) f e = absurd f
+fits_replaced (progresses.TakenOut t) r i (Waiting p) f e = absurd f
+fits_replaced (progresses.TakenOut t) r i (Collecting p h got) f e = absurd f
+fits_replaced (progresses.TakenOut t) r i (Offering d basic values) f e = absurd f
+fits_replaced (progresses.TakenOut t) r i (Over x) f e = absurd f
+fits_replaced (progresses.TakenOut t) r i Closed f e = absurd f
+fits_replaced (progresses.TakenOut t) r i (Unmatched d) f e = absurd f
+fits_replaced (progresses.TakenOut t) r i (Probed g None) f e = absurd (grind arith)
+fits_replaced (progresses.TakenOut t) r i (Probed g (Some h)) f e =
+    subst (λ (x : Bool). Fits (replaced_progress (progresses.TakenOut t)) (Probed g (if x then None else Some h))) (sym e) (record { group_is = f.group_is; there = refl })
 fits_replaced (Finished o) r i (Waiting p) f e = absurd f
 fits_replaced (Finished o) r i (Collecting p h got) f e = absurd f
 fits_replaced (Finished o) r i (Offering d basic values) f e = absurd f
 fits_replaced (Finished o) r i (Over x) f e = f
 fits_replaced (Finished o) r i Closed f e = absurd f
+fits_replaced (Finished o) r i (Unmatched d) f e = absurd f
+fits_replaced (Finished o) r i (Probed g h) f e = absurd f
 
 -- a request that doesn't end stays as it was
 ended_kept : (r i : ℕ) (job : Job) → ends_by r i job ≡ false → ended r i job ≡ job
@@ -117,6 +136,9 @@ ended_kept r i (Collecting p h got) e =
 ended_kept r i (Offering d basic values) e = ap (λ (x : Bool). if x then Over (machine.Replaced None) else Offering d basic values) e
 ended_kept r i (Over x) e = refl
 ended_kept r i Closed e = refl
+ended_kept r i (Unmatched d) e = ap (λ (x : Bool). if x then Over (machine.Replaced None) else Unmatched d) e
+ended_kept r i (Probed g None) e = refl
+ended_kept r i (Probed g (Some h)) e = ap (λ (x : Bool). Probed g (if x then None else Some h)) e
 
 -- so how far it is says the same
 fits_kept : (g : Progress) (r i : ℕ) (job : Job) → Fits g job → ends_by r i job ≡ false → Fits g (ended r i job)
@@ -142,7 +164,7 @@ ends_true slots rows r i k key job keys table are at live a =
     ap (ends_by r i) one.1 ∙ n.ends
 
 -- a request under none of them doesn't
-ends_false : (rows : List Row) (r i k key : ℕ) (job : Job) (keys : List ℕ) → AreEnding rows r i keys →
+pub ends_false : (rows : List Row) (r i k key : ℕ) (job : Job) (keys : List ℕ) → AreEnding rows r i keys →
     slice_get rows k ≡ Some (record { key = key; job = job }) → (IsAmong key keys → ⊥) → ends_by r i job ≡ false
 ends_false rows r i k key job keys are at n = only_true (ends_by r i job) (λ e. n (are.each k key job at e))
 

@@ -11,8 +11,9 @@ use Rattle.perfect_queues.specs.Calls as machine
 use Rattle.vocabulary.specs.Endpoints.{is_same}
 use Rattle.perfect_queues.specs.Outcomes as ends
 use Rattle.perfect_queues.specs.Refusals as rules
-use Rattle.vocabulary.specs.declared.basic_type.BasicType.{BasicType}
 use Rattle.vocabulary.specs.declared.endpoint.Endpoint.{Endpoint}
+use Rattle.vocabulary.specs.declared.mode.Mode.{Mode}
+use Rattle.vocabulary.specs.declared.mode.Mode.TheVariants.{Standard, Synchronous}
 use Rattle.proof_pure_network.specs.Core.{Core, Effect, effect, view}
 use Rattle.proof_pure_network.specs.Engine.{pushed_over, sends, sends_to}
 use Rattle.proof_pure_network.specs.Frames.{Eager, Frame}
@@ -33,8 +34,8 @@ use Rattle.datatypes.specs.Contents.{AreWithin, Contents, bytes_of, values_of}
 use Rattle.rank_calls.specs.Calls.{IsWithin}
 use Rattle.rank_core.specs.CoreState.{CoreState}
 use Rattle.rank_calls.specs.Frames.{FrameFor, as_list}
-use Rattle.rank_calls.specs.Sending.{announced_to, destination, eager_frame, frame_to, frame_unless, is_large, offered_by, progress_of_send, rank_to, request_frame, send_fault}
-use Rattle.rank_core.specs.Sending.{IsSending, arrived_at_itself, arrived_if, frame_of}
+use Rattle.rank_calls.specs.Sending.{announced_to, destination, eager_frame, frame_to, frame_unless, is_announced, is_own, is_to_itself, offered_by, progress_of_send, rank_to, request_frame, send_fault}
+use Rattle.rank_core.specs.Sending.{IsSending, arrived_at_itself, arrived_if, begun, frame_of, waiting_of}
 use Rattle.rendezvous.specs.State.{next_to}
 use Rattle.requests.specs.Table.{IsSet, slot_at}
 use Rattle.requests.specs.declared.table.Entry.{Entry}
@@ -46,10 +47,11 @@ use Rattle.proof_engine_view.specs.Shown.{IsShown}
 use Rattle.proof_engine_view.specs.Standing.{AreSent, CanLeave, all_gone}
 use Rattle.proof_engine_view.specs.Transfers.{Announcements, after_out}
 use Rattle.proof_engine_steps.specs.Steps.{IsCalled}
+use Rattle.proof_engine_steps.proofs.LargeSends.{none_waits, not_to_itself}
 use Rattle.proof_engine_steps.proofs.Regions.{handed_buffer}
 use Rattle.proof_engine_steps.proofs.Starting.{core_free, fault_free, holding_of, holding_started, no_fault, none_leave, none_sent, serial_told, shown_free, started_call, two_tests}
 use Rattle.proof_engine_steps.proofs.Staying.{AreQuiet, shown_quiet, under_way_still}
-use Rattle.proof_engine_steps.proofs.UnderWay.{same_pushed}
+use Rattle.proof_engine_steps.proofs.UnderWay.{after_grows_not, same_pushed}
 use Rattle.proof_engine_steps.proofs.Waking.{Holding}
 
 -- WHAT A SEND THAT WAS TAKEN MET
@@ -111,28 +113,36 @@ send_fit p core s free kept =
 -- THE CORE'S SEND
 
 -- these elements go to a target, in a context
-abbrev pub core_sent : Endpoint → Core → (context : ℕ) → Source → Option ℕ → Contents → Effect
-core_sent e core context target tag c = sends_to e core context target tag c.basic c.values
+abbrev pub core_sent : Mode → Endpoint → Core → (context : ℕ) → Source → Option ℕ → Contents → Effect
+core_sent mode e core context target tag c = sends_to mode e core context target tag c.basic c.values
+
+-- elements that aren't announced go in one frame
+few_of : (mode : Mode) (c : Contents) → is_announced mode c ≡ false → length c.values * size_of c.basic ≤ eager_limit
+few_of Standard c small = ltb-false eager_limit (length c.values * size_of c.basic) small
+few_of Synchronous c small = absurd cc
+
+-- and are finished in their own call
+needs_no_match : (mode : Mode) (own d : Endpoint) (c : Contents) → is_announced mode c ≡ false → machine.is_eager mode own d c.basic c.values ≡ true
+needs_no_match Standard own d c small =
+    or_left (nat_le (length c.values * size_of c.basic) eager_limit) (is_same d own) (le-leb (length c.values * size_of c.basic) eager_limit (few_of Standard c small))
+needs_no_match Synchronous own d c small = absurd cc
 
 -- a small send to another rank
-core_sends : (core : Core) (own : Endpoint) (to i c tag : ℕ) (basic : BasicType) (values : List ℕ) → (to == own.rank) ≡ false → nat_le (length values * size_of basic) eager_limit ≡ true → core.known to ≡ i →
-    sends_to own core c (Rank to) (Some tag) basic values ≡ effect (pushed_over core) ((record { rank = to; incarnation = i }, Eager c tag basic values) ∷ [])
-core_sends core own to i c tag basic values other small known =
-    ap (λ (b : Bool). sends own core d b c tag basic values eager) (and_left (to == own.rank) (core.known to == own.incarnation) other) ∙
-    (ap (λ (b : Bool). sends own core d false c tag basic values b) (or_left (nat_le (length values * size_of basic) eager_limit) (is_same d own) small) ∙
-    ap (λ (n : ℕ). effect (pushed_over core) ((record { rank = to; incarnation = n }, Eager c tag basic values) ∷ [])) known)
+core_sends : (mode : Mode) (core : Core) (own : Endpoint) (to i context tag : ℕ) (c : Contents) → (to == own.rank) ≡ false → is_announced mode c ≡ false → core.known to ≡ i →
+    sends_to mode own core context (Rank to) (Some tag) c.basic c.values ≡ effect (pushed_over core) ((record { rank = to; incarnation = i }, Eager context tag c.basic c.values) ∷ [])
+core_sends mode core own to i context tag c other small known =
+    ap (λ (b : Bool). sends own core d b context tag c.basic c.values (machine.is_eager mode own d c.basic c.values)) (and_left (to == own.rank) (core.known to == own.incarnation) other) ∙
+    (ap (λ (b : Bool). sends own core d false context tag c.basic c.values b) (needs_no_match mode own d c small) ∙
+    ap (λ (n : ℕ). effect (pushed_over core) ((record { rank = to; incarnation = n }, Eager context tag c.basic c.values) ∷ [])) known)
   where
     d : Endpoint
     d = machine.receiver core.known to
 
-    eager : Bool
-    eager = machine.is_eager own d basic values
-
 -- what is sent of a region
 pub called_send : (core : Core) (own : Endpoint) (s : Send) →
-    sends_to own core s.context s.target s.tag (handed_of s.from).buffer.basic (data_of (handed_of s.from)) ≡ core_sent own core s.context s.target s.tag (sent_from s.from)
+    sends_to s.mode own core s.context s.target s.tag (handed_of s.from).buffer.basic (data_of (handed_of s.from)) ≡ core_sent s.mode own core s.context s.target s.tag (sent_from s.from)
 called_send core own s =
-    ap (λ (b : Contents). sends_to own core s.context s.target s.tag b.basic (data_of (handed_of s.from))) (handed_buffer s.from)
+    ap (λ (b : Contents). sends_to s.mode own core s.context s.target s.tag b.basic (data_of (handed_of s.from))) (handed_buffer s.from)
 
 -- THE RANK'S SEND
 
@@ -142,27 +152,30 @@ pub record IsSmallSending (old : CoreState) (s : Send) (q : Request) (new : Core
   pub serial : q.serial ≡ old.serial
   pub started : List (Option Entry)
   pub entry : IsSet old.slots started q.key (Some (record { serial = old.serial; progress = Finished Sent }))
-  pub rest : new ≡ arrived_at_itself (record old { slots = started; serial = old.serial + 1 }) (destination s.target s.tag s.context) (sent_from s.from)
+  pub rest : new ≡ arrived_at_itself (record old { slots = started; serial = old.serial + 1 }) (destination s.target s.tag s.context) None (sent_from s.from)
 
--- each send whose message isn't announced is such a one
-pub small_sending : (old new : CoreState) (s : Send) (q : Request) → announced_to old.place s ≡ None → IsSending old s q new → IsSmallSending old s q new
-small_sending old new s q none sent =
+-- each send whose message isn't announced, and that waits for no match, is such a one
+pub small_sending : (old new : CoreState) (s : Send) (q : Request) → announced_to old.place s ≡ None → waiting_of s.mode (is_to_itself old.place s) q ≡ None → IsSending old s q new → IsSmallSending old s q new
+small_sending old new s q none no_wait sent =
     record {
       fresh = sent.fresh;
       serial = sent.serial;
       started = sent.started;
-      entry = subst (λ (a : Option ℕ). IsSet old.slots sent.started q.key (Some (record { serial = old.serial; progress = progress_of_send a }))) none sent.entry;
+      entry = subst (λ (a : Option ℕ). IsSet old.slots sent.started q.key (Some (record { serial = old.serial; progress = progress_of_send a }))) none
+          (subst (λ (w : Option Request). IsSet old.slots sent.started q.key (Some (record { serial = old.serial; progress = begun w (announced_to old.place s) }))) no_wait sent.entry);
       rest = subst (λ (a : Option ℕ). new ≡ arrived_at_itself (record old { slots = sent.started; serial = old.serial + 1; transfers = offered_by old.transfers a q.key (sent_from s.from) })
-          (destination s.target s.tag s.context) (sent_from s.from)) none sent.rest;
+          (destination s.target s.tag s.context) None (sent_from s.from)) none
+          (subst (λ (w : Option Request). new ≡ arrived_at_itself (record old { slots = sent.started; serial = old.serial + 1; transfers = offered_by old.transfers (announced_to old.place s) q.key (sent_from s.from) })
+          (destination s.target s.tag s.context) w (sent_from s.from)) no_wait sent.rest);
     }
 
 -- nothing is announced that goes in one frame
-pub announced_small : (p : Place) (s : Send) → is_large (sent_from s.from) ≡ false → announced_to p s ≡ None
+pub announced_small : (p : Place) (s : Send) → is_announced s.mode (sent_from s.from) ≡ false → announced_to p s ≡ None
 announced_small p s small = ap (λ (b : Bool). if b then rank_to p (destination s.target s.tag s.context) else None) small
 
 -- nor what goes to no other rank
 pub announced_nowhere : (p : Place) (s : Send) → rank_to p (destination s.target s.tag s.context) ≡ None → announced_to p s ≡ None
-announced_nowhere p s nowhere = go (is_large (sent_from s.from))
+announced_nowhere p s nowhere = go (is_announced s.mode (sent_from s.from))
   where
     go : (b : Bool) → (if b then rank_to p (destination s.target s.tag s.context) else None) ≡ None
     go true = nowhere
@@ -177,7 +190,7 @@ send_holds links old known core s q new shown sent =
     (shown.posted ∙ sym (append-nil (posted_rows shown.rows))) shown.held
     (under_way_still links known old.place old.place shown.rows (shown.rows ++ record { key = q.key; job = Over ends.Sent } ∷ []) old.transfers old.transfers old.queues.unexpected old.queues.unexpected shown.under_way
     (same_pushed shown.rows q.key (Over ends.Sent) (λ i. i)) refl refl refl)
-    refl refl
+    (after_grows_not links) tt refl refl
 
 -- what such a send leaves of the rank but for its requests and queues
 pub record Stays (old new : CoreState) : Type 0 where
@@ -187,7 +200,7 @@ pub record Stays (old new : CoreState) : Type 0 where
 
 -- A send that was started and announces nothing, by what the core makes of it
 pub send_started : (links : Announcements) (old new : CoreState) (known : List ℕ) (core : Core) (s : Send) (q : Request) (after : Effect) (rows : List Row) → IsShown links old known core → old.blocked ≡ None →
-    KeepsRules old.place s → q.serial ≡ old.serial → core_sent old.place.endpoint core s.context s.target s.tag (sent_from s.from) ≡ after → Holding links new known after.core rows →
+    KeepsRules old.place s → q.serial ≡ old.serial → core_sent s.mode old.place.endpoint core s.context s.target s.tag (sent_from s.from) ≡ after → Holding links new known after.core rows →
     after.core.blocked ≡ core.blocked → Stays old new → AreQuiet after.out → AreSent (after_out links after.out) (all_gone known (as_list (frame_of old s))) after.out →
     AllByRecursion (CanLeave old.place) (as_list (frame_of old s)) → IsCalled links old known core (calls.Isend s) (replies.Started q) new
 send_started links old new known core s q after rows shown free kept serial is holding same stays quiet out leave =
@@ -207,7 +220,7 @@ send_started links old new known core s q after rows shown free kept serial is h
 -- the same, where nothing comes to the own rank
 away_shown : (links : Announcements) (old new : CoreState) (known : List ℕ) (core : Core) (s : Send) (q : Request) (after : Effect) → (shown : IsShown links old known core) → old.blocked ≡ None →
     KeepsRules old.place s → (sent : IsSmallSending old s q new) → new ≡ record old { slots = sent.started; serial = old.serial + 1 } →
-    core_sent old.place.endpoint core s.context s.target s.tag (sent_from s.from) ≡ after → after.core ≡ pushed_over core →
+    core_sent s.mode old.place.endpoint core s.context s.target s.tag (sent_from s.from) ≡ after → after.core ≡ pushed_over core →
     AreQuiet after.out → AreSent (after_out links after.out) (all_gone known (as_list (frame_of old s))) after.out → AllByRecursion (CanLeave old.place) (as_list (frame_of old s)) →
     IsCalled links old known core (calls.Isend s) (replies.Started q) new
 away_shown links old new known core s q after shown free kept sent rest is left quiet out leave =
@@ -224,15 +237,16 @@ pub null_send_shown : (links : Announcements) (old new : CoreState) (known : Lis
     s.target ≡ Null → KeepsRules old.place s → IsSending old s q new → IsCalled links old known core (calls.Isend s) (replies.Started q) new
 null_send_shown links old new known core s q shown free is kept is_sent =
     away_shown links old new known core s q (effect (pushed_over core) []) shown free kept sent
-    (sent.rest ∙ ap (λ (t : Source). arrived_at_itself (record old { slots = sent.started; serial = old.serial + 1 }) (destination t s.tag s.context) (sent_from s.from)) is)
-    (ap (λ (t : Source). core_sent old.place.endpoint core s.context t s.tag (sent_from s.from)) is) refl tt
+    (sent.rest ∙ ap (λ (t : Source). arrived_at_itself (record old { slots = sent.started; serial = old.serial + 1 }) (destination t s.tag s.context) None (sent_from s.from)) is)
+    (ap (λ (t : Source). core_sent s.mode old.place.endpoint core s.context t s.tag (sent_from s.from)) is) refl tt
     (none_sent (after_out links []) known (frame_of old s) none) (none_leave old.place (frame_of old s) none)
   where
     sent : IsSmallSending old s q new
-    sent = small_sending old new s q (announced_nowhere old.place s (ap (λ (t : Source). rank_to old.place (destination t s.tag s.context)) is)) is_sent
+    sent = small_sending old new s q (announced_nowhere old.place s (ap (λ (t : Source). rank_to old.place (destination t s.tag s.context)) is))
+        (none_waits s.mode (is_to_itself old.place s) q (ap (λ (t : Source). is_own old.place (destination t s.tag s.context)) is)) is_sent
 
     none : frame_of old s ≡ None
-    none = ap (λ (t : Source). frame_to old.place old.transfers (destination t s.tag s.context) (sent_from s.from)) is
+    none = ap (λ (t : Source). frame_to old.place old.transfers s.mode (destination t s.tag s.context) (sent_from s.from)) is
 
 -- THE FRAME OF A SMALL SEND
 
@@ -241,12 +255,12 @@ abbrev eager_for : (to context tag : ℕ) → Contents → FrameFor
 eager_for to context tag c = record { rank = to; frame = eager_frame context tag c }
 
 -- elements that go in one frame go in an eager one
-small_frame : (old : CoreState) (s : Send) (to tag : ℕ) → s.target ≡ Rank to → s.tag ≡ Some tag → (to == old.place.endpoint.rank) ≡ false → is_large (sent_from s.from) ≡ false →
+small_frame : (old : CoreState) (s : Send) (to tag : ℕ) → s.target ≡ Rank to → s.tag ≡ Some tag → (to == old.place.endpoint.rank) ≡ false → is_announced s.mode (sent_from s.from) ≡ false →
     frame_of old s ≡ Some (eager_for to s.context tag (sent_from s.from))
 small_frame old s to tag target_is tag_is other small =
-    ap₂ (λ (t : Source) (g : Option ℕ). frame_to old.place old.transfers (destination t g s.context) (sent_from s.from)) target_is tag_is
-    ∙ (ap (λ (b : Bool). frame_unless b old.transfers (record { rank = to; tag = tag; context = s.context }) (sent_from s.from)) other
-    ∙ ap (λ (b : Bool). Some (record { rank = to; frame = if b then request_frame (next_to old.transfers.numbers to) s.context tag (sent_from s.from) else eager_frame s.context tag (sent_from s.from) })) small)
+    ap₂ (λ (t : Source) (g : Option ℕ). frame_to old.place old.transfers s.mode (destination t g s.context) (sent_from s.from)) target_is tag_is
+    ∙ (ap (λ (b : Bool). frame_unless b old.transfers s.mode (record { rank = to; tag = tag; context = s.context }) (sent_from s.from)) other
+    ∙ ap (λ (b : Bool). Some (record { rank = to; frame = if b then request_frame s.mode (next_to old.transfers.numbers to) s.context tag (sent_from s.from) else eager_frame s.context tag (sent_from s.from) })) small)
 
 -- it can leave the rank
 eager_leaves : (p : Place) (to context tag : ℕ) (c : Contents) → context < 2 ^ 64 → to < p.size → (to ≡ p.endpoint.rank → ⊥) → tag ≤ highest_tag → length c.values * size_of c.basic ≤ eager_limit → CanLeave p (eager_for to context tag c)
@@ -268,14 +282,14 @@ eager_stands context tag c within = ap (λ (values : List ℕ). Some (Eager cont
 
 -- a small send to another rank
 pub other_send_shown : (links : Announcements) (old new : CoreState) (known : List ℕ) (core : Core) (s : Send) (q : Request) (to tag : ℕ) → IsShown links old known core → old.blocked ≡ None →
-    s.target ≡ Rank to → s.tag ≡ Some tag → (to == old.place.endpoint.rank) ≡ false → KeepsRules old.place s → IsWithin (calls.Isend s) → is_large (sent_from s.from) ≡ false → IsSending old s q new →
+    s.target ≡ Rank to → s.tag ≡ Some tag → (to == old.place.endpoint.rank) ≡ false → KeepsRules old.place s → IsWithin (calls.Isend s) → is_announced s.mode (sent_from s.from) ≡ false → IsSending old s q new →
     IsCalled links old known core (calls.Isend s) (replies.Started q) new
 other_send_shown links old new known core s q to tag shown free target_is tag_is other kept within small is_sent =
     away_shown links old new known core s q (effect (pushed_over core) ((endpoint_of known to, Eager s.context tag c.basic c.values) ∷ [])) shown free kept sent
-    (sent.rest ∙ ap₂ (λ (t : Source) (g : Option ℕ). arrived_at_itself started (destination t g s.context) c) target_is tag_is ∙
-    ap (λ (b : Bool). arrived_if b started (record { rank = to; tag = tag; context = s.context }) c) other)
-    (ap₂ (λ (t : Source) (g : Option ℕ). core_sent old.place.endpoint core s.context t g c) target_is tag_is ∙
-    core_sends core old.place.endpoint to (slice_index known to) s.context tag c.basic c.values other (le-leb (length c.values * size_of c.basic) eager_limit few) (shown.known_alike to))
+    (sent.rest ∙ ap₂ (λ (t : Source) (g : Option ℕ). arrived_at_itself started (destination t g s.context) None c) target_is tag_is ∙
+    ap (λ (b : Bool). arrived_if b started (record { rank = to; tag = tag; context = s.context }) None c) other)
+    (ap₂ (λ (t : Source) (g : Option ℕ). core_sent s.mode old.place.endpoint core s.context t g c) target_is tag_is ∙
+    core_sends s.mode core old.place.endpoint to (slice_index known to) s.context tag c other small (shown.known_alike to))
     refl (tt, tt)
     (subst (λ (f : Option FrameFor). AreSent (after_out links ((endpoint_of known to, Eager s.context tag c.basic c.values) ∷ [])) (all_gone known (as_list f)) ((endpoint_of known to, Eager s.context tag c.basic c.values) ∷ []))
     (sym frame) (refl, eager_stands s.context tag c within.0, tt))
@@ -286,10 +300,10 @@ other_send_shown links old new known core s q to tag shown free target_is tag_is
     c = sent_from s.from
 
     sent : IsSmallSending old s q new
-    sent = small_sending old new s q (announced_small old.place s small) is_sent
+    sent = small_sending old new s q (announced_small old.place s small) (none_waits s.mode (is_to_itself old.place s) q (not_to_itself old.place s to tag target_is tag_is other)) is_sent
 
     few : length c.values * size_of c.basic ≤ eager_limit
-    few = ltb-false eager_limit (length c.values * size_of c.basic) small
+    few = few_of s.mode c small
 
     frame : frame_of old s ≡ Some (eager_for to s.context tag c)
     frame = small_frame old s to tag target_is tag_is other small

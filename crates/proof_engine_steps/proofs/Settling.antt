@@ -3,22 +3,23 @@ use Rattle.std.proofs.Common.{◌≡◌, ℕ, Bool, List, Option, Some, None, if
 use Rattle.std.proofs.lemmas.Bool.{eq-eqb}
 use Rattle.vocabulary.specs.declared.basic_type.BasicType.{BasicType}
 use Rattle.vocabulary.specs.declared.endpoint.Endpoint.{Endpoint}
-use Rattle.perfect_queues.specs.Completions.{Answer, Awaited, completion}
+use Rattle.perfect_queues.specs.Completions.{Answer, Unanswered, answer_to}
 use Rattle.perfect_queues.specs.Outcomes as machine
 use Rattle.perfect_queues.specs.Receives.{Receive}
 use Rattle.proof_pure_network.specs.Core.{Core}
 use Rattle.proof_pure_network.specs.Engine.{core_ready, core_settled, core_settled_by}
 use Rattle.proof_pure_network.specs.Held.{Held}
-use Rattle.proof_pure_network.specs.Jobs.{Job, Waiting, Collecting, Offering, Over, over_at}
+use Rattle.proof_pure_network.specs.Jobs.{Job, Waiting, Collecting, Offering, Over, over_at, Probed, Unmatched}
 use Rattle.requests.specs.declared.outcome.Outcome.{Outcome}
 use Rattle.requests.specs.declared.table.Posted.{Posted}
 use Rattle.requests.specs.declared.table.Entry as slots
 use Rattle.requests.specs.declared.table.Matched.{Matched}
+use Rattle.requests.specs.declared.table.TakenOut as slots_of
 use Rattle.requests.specs.declared.table.Progress.{Progress}
 use Rattle.requests.specs.declared.table.Progress.TheVariants.{Receiving, Finished}
 use Rattle.requests.specs.declared.table.Progress.TheVariants as progresses
 use Rattle.requests.specs.Table.{progress_at, progress_of, slot_at}
-use Rattle.proof_engine_view.specs.Rows.{Fits, Holds, IsMatched, IsTable, Row}
+use Rattle.proof_engine_view.specs.Rows.{Fits, Holds, IsMatched, IsTable, IsTaken, Row}
 use Rattle.proof_engine_view.specs.Seen.{outcome_seen}
 use Rattle.proof_engine_view.specs.Shown.{IsSettled}
 use Rattle.proof_engine_steps.proofs.Tables.{held_at}
@@ -27,7 +28,7 @@ use Rattle.proof_engine_steps.proofs.Tables.{held_at}
 
 -- where no call is blocked, nothing is answered
 pub ready_free : (core : Core) → core.blocked ≡ None → core_ready core ≡ None
-ready_free core h = ap (λ (b : Option Awaited). option_and_then (completion (over_at core.jobs)) b) h
+ready_free core h = ap (λ (b : Option Unanswered). option_and_then (answer_to (over_at core.jobs)) b) h
 
 -- where no call is blocked, settling changes nothing
 pub settled_free : (core : Core) → core.blocked ≡ None → core_settled core ≡ core
@@ -58,6 +59,7 @@ pub fits_waiting : (g : Progress) (p : Receive) → Fits g (Waiting p) → IsRec
 fits_waiting (Receiving b) p f = record { posted = b; is = refl }
 fits_waiting (progresses.Collecting w) p f = absurd f
 fits_waiting progresses.Offering p f = absurd f
+fits_waiting (progresses.TakenOut t) p f = absurd f
 fits_waiting (Finished o) p f = absurd f
 
 -- it has ended so
@@ -71,6 +73,7 @@ pub fits_over : (g : Progress) (x : machine.Outcome) → Fits g (Over x) → IsF
 fits_over (Receiving b) x f = absurd f
 fits_over (progresses.Collecting w) x f = absurd f
 fits_over progresses.Offering x f = absurd f
+fits_over (progresses.TakenOut t) x f = absurd f
 fits_over (Finished o) x f = record { outcome = o; is = refl; seen = f }
 
 -- a receive that collects is one that is collected, for the same match
@@ -84,6 +87,7 @@ pub fits_collecting : (g : Progress) (p : Receive) (h : Held) (got : List ℕ) �
 fits_collecting (Receiving b) p h got f = absurd f
 fits_collecting (progresses.Collecting w) p h got f = record { matched = w; is = refl; alike = f }
 fits_collecting progresses.Offering p h got f = absurd f
+fits_collecting (progresses.TakenOut t) p h got f = absurd f
 fits_collecting (Finished o) p h got f = absurd f
 
 -- the progress of a send that offers is that it is offered
@@ -91,7 +95,30 @@ pub fits_offering : (g : Progress) (d : Endpoint) (basic : BasicType) (values : 
 fits_offering (Receiving b) d basic values f = absurd f
 fits_offering (progresses.Collecting w) d basic values f = absurd f
 fits_offering progresses.Offering d basic values f = refl
+fits_offering (progresses.TakenOut t) d basic values f = absurd f
 fits_offering (Finished o) d basic values f = absurd f
+
+-- so is that of a send to the rank itself that waits for its match
+pub fits_unmatched : (g : Progress) (d : Endpoint) → Fits g (Unmatched d) → g ≡ progresses.Offering
+fits_unmatched (Receiving b) d f = absurd f
+fits_unmatched (progresses.Collecting w) d f = absurd f
+fits_unmatched progresses.Offering d f = refl
+fits_unmatched (progresses.TakenOut t) d f = absurd f
+fits_unmatched (Finished o) d f = absurd f
+
+-- it is a message that was taken out
+pub record IsMessage (g : Progress) (group : Option (List ℕ)) (h : Option Held) : Type 0 where
+  pub taken : slots_of.TakenOut
+  pub is : g ≡ progresses.TakenOut taken
+  pub alike : IsTaken taken group h
+
+-- the progress of a message that was taken out
+pub fits_probed : (g : Progress) (group : Option (List ℕ)) (h : Option Held) → Fits g (Probed group h) → IsMessage g group h
+fits_probed (Receiving b) group h f = absurd f
+fits_probed (progresses.Collecting w) group h f = absurd f
+fits_probed progresses.Offering group h f = absurd f
+fits_probed (progresses.TakenOut t) group h f = record { taken = t; is = refl; alike = f }
+fits_probed (Finished o) group h f = absurd f
 
 -- what the table says of a receive that waits
 pub progress_waiting : (table : List (Option slots.Entry)) (rows : List Row) (k key : ℕ) (p : Receive) → IsTable table rows → slice_get rows k ≡ Some (record { key = key; job = Waiting p }) →
@@ -123,3 +150,18 @@ pub progress_offering : (table : List (Option slots.Entry)) (rows : List Row) (k
 progress_offering table rows k key d basic values t at =
     let m : Holds (slot_at table key) k (Offering d basic values) = held_at table rows k key (Offering d basic values) t at (λ e. cc) in
     progress_row table key k (Offering d basic values) m ∙ ap Some (fits_offering m.entry.progress d basic values m.fits)
+
+-- what the table says of a send to the rank itself that waits for its match
+pub progress_unmatched : (table : List (Option slots.Entry)) (rows : List Row) (k key : ℕ) (d : Endpoint) → IsTable table rows →
+    slice_get rows k ≡ Some (record { key = key; job = Unmatched d }) → progress_at table key k ≡ Some progresses.Offering
+progress_unmatched table rows k key d t at =
+    let m : Holds (slot_at table key) k (Unmatched d) = held_at table rows k key (Unmatched d) t at (λ e. cc) in
+    progress_row table key k (Unmatched d) m ∙ ap Some (fits_unmatched m.entry.progress d m.fits)
+
+-- what the table says of a message that was taken out
+pub progress_probed : (table : List (Option slots.Entry)) (rows : List Row) (k key : ℕ) (group : Option (List ℕ)) (h : Option Held) → IsTable table rows →
+    slice_get rows k ≡ Some (record { key = key; job = Probed group h }) → (t : slots_of.TakenOut) × (progress_at table key k ≡ Some (progresses.TakenOut t)) × IsTaken t group h
+progress_probed table rows k key group h t at =
+    let m : Holds (slot_at table key) k (Probed group h) = held_at table rows k key (Probed group h) t at (λ e. cc) in
+    let r : IsMessage m.entry.progress group h = fits_probed m.entry.progress group h m.fits in
+    (r.taken, progress_row table key k (Probed group h) m ∙ ap Some r.is, r.alike)

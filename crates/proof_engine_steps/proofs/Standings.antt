@@ -9,7 +9,7 @@ use Rattle.perfect_queues.specs.Receives as receives
 use Rattle.perfect_queues.specs.Refusals as rules
 use Rattle.proof_pure_network.specs.Core.{Core}
 use Rattle.proof_pure_network.specs.Held.{blank}
-use Rattle.proof_pure_network.specs.Jobs.{Job, Waiting, Collecting, Offering, Over, Closed, request_of}
+use Rattle.proof_pure_network.specs.Jobs.{Job, Waiting, Collecting, Offering, Over, Closed, request_of, Probed, Unmatched}
 use Rattle.requests.specs.Completions.{awaited_requests}
 use Rattle.requests.specs.Lists as lists
 use Rattle.requests.specs.Table as table
@@ -28,7 +28,7 @@ use Rattle.proof_engine_view.specs.Seen.{awaited_by, is_foreign, outcome_seen, o
 use Rattle.proof_engine_view.specs.Shown.{IsShown}
 use Rattle.proof_engine_view.specs.Transfers.{Announcements}
 use Rattle.proof_engine_steps.proofs.Foreign.{foreign_of, held_own, meant_foreign, meant_own}
-use Rattle.proof_engine_steps.proofs.Found.{CollectsFor, HasRow, OffersValues, collecting_of, finished_row, offering_of, row_of, waiting_of}
+use Rattle.proof_engine_steps.proofs.Found.{CollectsFor, HasRow, HoldsMessage, OffersValues, WaitsForMatch, collecting_of, probed_of, finished_row, offering_of, row_of, waiting_of}
 
 -- ---- one request
 
@@ -38,6 +38,7 @@ standing_of None = rules.Missing
 standing_of (Some (Receiving b)) = rules.Receiving
 standing_of (Some (progresses.Collecting w)) = rules.Receiving
 standing_of (Some progresses.Offering) = rules.Sends
+standing_of (Some (progresses.TakenOut t)) = rules.OfMessage
 standing_of (Some (Finished o)) = rules.standing_of_outcome (outcome_seen o)
 
 -- a request that is finished is no missing one
@@ -50,12 +51,22 @@ outcome_stands (ends.Replaced (Some b)) = refl
 outcome_stands (ends.Cancelled b) = refl
 outcome_stands ends.Empty = refl
 
+outcome_no_message : (x : ends.Outcome) → rules.is_message (rules.standing_of_outcome x) ≡ false
+outcome_no_message ends.Sent = refl
+outcome_no_message (ends.Received status b) = refl
+outcome_no_message (ends.Ended n status b) = refl
+outcome_no_message (ends.Replaced None) = refl
+outcome_no_message (ends.Replaced (Some b)) = refl
+outcome_no_message (ends.Cancelled b) = refl
+outcome_no_message ends.Empty = refl
+
 -- whether it is missing
-missing_of : (g : Option Progress) → rules.is_missing (standing_of g) ≡ not (is_some g)
+missing_of : (g : Option Progress) → rules.is_missing (standing_of g) ≡ not (is_some (table.as_request g))
 missing_of None = refl
 missing_of (Some (Receiving b)) = refl
 missing_of (Some (progresses.Collecting w)) = refl
 missing_of (Some progresses.Offering) = refl
+missing_of (Some (progresses.TakenOut t)) = refl
 missing_of (Some (Finished o)) = outcome_stands (outcome_seen o)
 
 -- whether an outcome is a receive's
@@ -74,6 +85,7 @@ receive_of None = refl
 receive_of (Some (Receiving b)) = refl
 receive_of (Some (progresses.Collecting w)) = refl
 receive_of (Some progresses.Offering) = refl
+receive_of (Some (progresses.TakenOut t)) = refl
 receive_of (Some (Finished o)) = receives_of o
 
 -- what the machine may do with the request under a serial
@@ -105,6 +117,8 @@ standing_seen links old known core q shown = go (progress_at old.slots q.key q.s
     by_job f e key Closed h s = at q.serial (Some (record { key = key; job = Closed })) (meant_own old q f) h
     by_job f e key (Collecting p m got) h s = absurd (foreign_of old.slots q key (Collecting p m got) e f s)
     by_job f e key (Offering d basic values) h s = absurd (foreign_of old.slots q key (Offering d basic values) e f s)
+    by_job f e key (Unmatched d) h s = absurd (foreign_of old.slots q key (Unmatched d) e f s)
+    by_job f e key (Probed g m) h s = absurd (foreign_of old.slots q key (Probed g m) e f s)
 
     own : is_foreign old.slots q ≡ false → progress_at old.slots q.key q.serial ≡ None → (o : Option Row) → slice_get shown.rows q.serial ≡ o → standing_at core (serial_meant old q) ≡ rules.Missing
     own f e None h = at q.serial None (meant_own old q f) h
@@ -127,9 +141,20 @@ standing_seen links old known core q shown = go (progress_at old.slots q.key q.s
         (r.there ∙ ap (λ (j : Job). Some (record { key = q.key; job = j })) c.is)
     go (Some progresses.Offering) e =
         let r : HasRow shown.rows q.serial q.key progresses.Offering = row_of old.slots shown.rows q.serial q.key progresses.Offering shown.table e in
-        let o : OffersValues r.job = offering_of r.job r.fits in
-        at q.serial (Some (record { key = q.key; job = Offering o.target o.basic o.values })) (held_own old q progresses.Offering e)
-        (r.there ∙ ap (λ (j : Job). Some (record { key = q.key; job = j })) o.is)
+        offers r (offering_of r.job r.fits)
+      where
+        offers : (r : HasRow shown.rows q.serial q.key progresses.Offering) → OffersValues r.job ⊎ WaitsForMatch r.job → standing_at core (serial_meant old q) ≡ rules.Sends
+        offers r (inl o) =
+            at q.serial (Some (record { key = q.key; job = Offering o.target o.basic o.values })) (held_own old q progresses.Offering e)
+            (r.there ∙ ap (λ (j : Job). Some (record { key = q.key; job = j })) o.is)
+        offers r (inr o) =
+            at q.serial (Some (record { key = q.key; job = Unmatched o.target })) (held_own old q progresses.Offering e)
+            (r.there ∙ ap (λ (j : Job). Some (record { key = q.key; job = j })) o.is)
+    go (Some (progresses.TakenOut t)) e =
+        let r : HasRow shown.rows q.serial q.key (progresses.TakenOut t) = row_of old.slots shown.rows q.serial q.key (progresses.TakenOut t) shown.table e in
+        let m : HoldsMessage t r.job = probed_of t r.job r.fits in
+        at q.serial (Some (record { key = q.key; job = Probed t.group m.message })) (held_own old q (progresses.TakenOut t) e)
+        (r.there ∙ ap (λ (j : Job). Some (record { key = q.key; job = j })) m.is)
     go (Some (Finished o)) e =
         at q.serial (Some (record { key = q.key; job = Over (outcome_seen o) })) (held_own old q (Finished o) e) (finished_row old.slots shown.rows q o shown.table e)
 
@@ -141,6 +166,19 @@ missing_seen links old known core q shown = ap rules.is_missing (standing_seen l
 pub receive_seen : (links : Announcements) (old : CoreState) (known : List ℕ) (core : Core) (q : Request) → IsShown links old known core →
     rules.is_receive (standing_at core (serial_meant old q)) ≡ table.is_receive (progress_at old.slots q.key q.serial)
 receive_seen links old known core q shown = ap rules.is_receive (standing_seen links old known core q shown) ∙ receive_of (progress_at old.slots q.key q.serial)
+
+-- whether it is a message that was taken out
+message_of : (g : Option Progress) → rules.is_message (standing_of g) ≡ table.is_message g
+message_of None = refl
+message_of (Some (Receiving b)) = refl
+message_of (Some (progresses.Collecting w)) = refl
+message_of (Some progresses.Offering) = refl
+message_of (Some (progresses.TakenOut t)) = refl
+message_of (Some (Finished o)) = outcome_no_message (outcome_seen o)
+
+pub message_seen : (links : Announcements) (old : CoreState) (known : List ℕ) (core : Core) (q : Request) → IsShown links old known core →
+    rules.is_message (standing_at core (serial_meant old q)) ≡ table.is_message (progress_at old.slots q.key q.serial)
+message_seen links old known core q shown = ap rules.is_message (standing_seen links old known core q shown) ∙ message_of (progress_at old.slots q.key q.serial)
 
 -- ---- requests that are there
 
@@ -160,7 +198,7 @@ all_present c (q ∷ qs) h =
     let n : (lists.is_absent c.slots q ≡ false) × (lists.is_one_absent c.slots qs ≡ false) = neither (lists.is_absent c.slots q) (lists.is_one_absent c.slots qs) h in
     (there (progress_at c.slots q.key q.serial) refl n.0, all_present c qs n.1)
   where
-    there : (o : Option Progress) → progress_at c.slots q.key q.serial ≡ o → not (is_some o) ≡ false → IsPresent c q
+    there : (o : Option Progress) → progress_at c.slots q.key q.serial ≡ o → not (is_some (table.as_request o)) ≡ false → IsPresent c q
     there None e f = absurd cc
     there (Some g) e f = (g, e)
 

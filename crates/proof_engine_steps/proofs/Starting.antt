@@ -3,7 +3,7 @@ use Rattle.std.proofs.Common.{◌≡◌, ℕ, ◌+◌, Bool, true, false, List, 
 use Rattle.std.specs.List.{AllByRecursion}
 use Rattle.std.proofs.lemmas.List.{length-map}
 use Rattle.perfect_queues.specs.Calls as machine
-use Rattle.perfect_queues.specs.Completions.{Awaited}
+use Rattle.perfect_queues.specs.Completions.{Unanswered}
 use Rattle.perfect_queues.specs.Events.{call_and_reply, told}
 use Rattle.perfect_queues.specs.Refusals.{first_fault, is_held, standing}
 use Rattle.proof_pure_network.specs.Core.{Core, Effect, view}
@@ -26,12 +26,13 @@ use Rattle.proof_engine_view.specs.Rows.{Fits, Row, held_of, posted_job, posted_
 use Rattle.proof_engine_view.specs.Seen.{call_seen}
 use Rattle.proof_engine_view.specs.Shown.{IsBlocked, IsShown}
 use Rattle.proof_engine_view.specs.Standing.{AreSent, CanLeave, all_gone}
-use Rattle.proof_engine_view.specs.Transfers.{Announcements, after_out}
-use Rattle.proof_engine_view.specs.UnderWay.{AreUnderWay}
+use Rattle.proof_engine_view.specs.Transfers.{Announcements, AnnouncementsGrow, after_out}
+use Rattle.proof_engine_view.specs.UnderWay.{AreTaken, AreUnderWay, IsTakenAt}
 use Rattle.proof_engine_steps.specs.Steps.{IsCalled}
 use Rattle.proof_engine_steps.proofs.RowLemmas.{posted_push, push_jobs}
 use Rattle.proof_engine_steps.proofs.Settling.{settled_free, settled_is}
 use Rattle.proof_engine_steps.proofs.Tables.{Says, says_some, started_table}
+use Rattle.proof_engine_steps.proofs.UnderWay.{keeps_pushed, taken_more, taken_same, taken_set}
 use Rattle.proof_engine_steps.proofs.Waking.{Holding, known_still, shown_with}
 pub use Rattle.proof_engine_steps.proofs.Waking.{holding_of}
 
@@ -45,7 +46,7 @@ shown_free links e known core rows h a b = shown_with links e known core rows h 
 
 -- the fault of a call while no other is blocked
 pub fault_free : (n : ℕ) (core : Core) (c : machine.Call) → core.blocked ≡ None → queue_fault n (view blank core) c ≡ queue_fault_by n false (λ k. standing (slice_get (map (request_of blank) core.jobs) k)) c
-fault_free n core c h = ap (λ (b : Option Awaited). queue_fault_by n (is_held b) (λ k. standing (slice_get (map (request_of blank) core.jobs) k)) c) h
+fault_free n core c h = ap (λ (b : Option Unanswered). queue_fault_by n (is_held b) (λ k. standing (slice_get (map (request_of blank) core.jobs) k)) c) h
 
 -- no rule is broken
 pub no_fault : (a b c d e f : Bool) → a ≡ false → b ≡ false → c ≡ false → d ≡ false → e ≡ false → f ≡ false →
@@ -62,9 +63,10 @@ two_tests false false x y o h = (refl, refl, h)
 pub holding_started : (links links' : Announcements) (e e' : CoreState) (known : List ℕ) (core core' : Core) (rows : List Row) (key : ℕ) (g : Progress) (job : Job) → Holding links e known core rows → slot_at e.slots key ≡ None →
     IsSet e.slots e'.slots key (Some (record { serial = e.serial; progress = g })) → Fits g job → core'.jobs ≡ core.jobs ++ job ∷ [] → e'.serial ≡ e.serial + 1 →
     e'.queues.posted ≡ posted_rows rows ++ posted_job key job → core'.held ≡ map (held_of links'.from) e'.queues.unexpected →
-    AreUnderWay links' known e'.place (rows ++ record { key = key; job = job } ∷ []) e'.transfers e'.queues.unexpected → core'.known ≡ core.known → e'.place ≡ e.place →
+    AreUnderWay links' known e'.place (rows ++ record { key = key; job = job } ∷ []) e'.transfers e'.queues.unexpected → AnnouncementsGrow links links' →
+    IsTakenAt links'.from known e.place (rows ++ record { key = key; job = job } ∷ []) (Some (record { serial = e.serial; progress = g })) → core'.known ≡ core.known → e'.place ≡ e.place →
     Holding links' e' known core' (rows ++ record { key = key; job = job } ∷ [])
-holding_started links links' e e' known core core' rows key g job h fresh set fits js se po he under kn pl =
+holding_started links links' e e' known core core' rows key g job h fresh set fits js se po he under grow here kn pl =
     record {
       jobs = js ∙ (ap (λ (ys : List Job). ys ++ job ∷ []) h.jobs ∙ sym (push_jobs rows key job));
       count = length-append rows (record { key = key; job = job } ∷ []) ∙ (ap (λ (n : ℕ). n + 1) h.count ∙ sym se);
@@ -73,6 +75,9 @@ holding_started links links' e e' known core core' rows key g job h fresh set fi
       posted = po ∙ sym (posted_push rows key job);
       held = he;
       under_way = under;
+      taken = subst (λ (x : Place). AreTaken links'.from known x (rows ++ record { key = key; job = job } ∷ []) e'.slots) (sym pl)
+          (taken_set links'.from known e.place (rows ++ record { key = key; job = job } ∷ []) e.slots e'.slots key (Some (record { serial = e.serial; progress = g })) set
+          (taken_same links'.from known e.place rows (rows ++ record { key = key; job = job } ∷ []) e.slots (keeps_pushed rows (record { key = key; job = job })) (taken_more links links' known e.place rows e.slots grow h.taken)) here);
       knowing = known_still e.place e'.place known core.known core'.known h.knowing pl kn;
     }
 

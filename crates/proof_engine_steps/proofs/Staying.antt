@@ -14,7 +14,7 @@ use Rattle.vocabulary.specs.Endpoints.{is_same}
 use Rattle.vocabulary.specs.declared.endpoint.Endpoint.{Endpoint}
 use Rattle.proof_pure_network.specs.Core.{Core}
 use Rattle.proof_pure_network.specs.Frames.{Cts, Data, Eager, Frame, Rts}
-use Rattle.proof_pure_network.specs.Jobs.{Job, Waiting, Collecting, Offering, Over, Closed, closed}
+use Rattle.proof_pure_network.specs.Jobs.{Job, Waiting, Collecting, Offering, Over, Closed, closed, Probed, Unmatched}
 use Rattle.proof_engine_view.specs.Rows.{Row}
 use Rattle.proof_engine_view.proofs.Growing.{sent_more}
 use Rattle.proof_engine_view.specs.Shown.{IsShown}
@@ -36,7 +36,7 @@ under_way_still links known p p' rows rows' t t' ms ms' u same ep et em =
 
 -- with other messages, of which each is whole or from its link
 pub under_way_with : (links : Announcements) (known : List ℕ) (p : Place) (rows rows' : List Row) (t t' : transfers.State) (ms ms' : List Message) → AreUnderWay links known p rows t ms → SameTransfers rows rows'
-    → t' ≡ t → AllByRecursion (λ (m : Message). IsFromLink links.from known p m m.body) ms' → AreUnderWay links known p rows' t' ms'
+    → t' ≡ t → AllByRecursion (λ (m : Message). IsFromLink links.from known p rows' m m.body) ms' → AreUnderWay links known p rows' t' ms'
 under_way_with links known p rows rows' t t' ms ms' u same et all =
     let kept : AreUnderWay links known p rows' t ms = under_way_same links known p rows rows' t ms same u in
     subst (λ (x : transfers.State). AreUnderWay links known p rows' x ms') (sym et)
@@ -48,6 +48,7 @@ under_way_with links known p rows rows' t t' ms ms' u same et all =
       collections = kept.collections;
       collected = kept.collected;
       collections_apart = kept.collections_apart;
+      unmatched = kept.unmatched;
       messages = all;
     })
 
@@ -72,6 +73,8 @@ closed_transfer (Collecting p h got) i = refl
 closed_transfer (Offering d basic values) i = refl
 closed_transfer (Over x) i = absurd i
 closed_transfer Closed i = refl
+closed_transfer (Unmatched d) i = refl
+closed_transfer (Probed g h) i = refl
 
 -- what is one afterwards was it before
 transfer_before : (j job : Job) → IsTransfer job → closed j ≡ job → j ≡ job
@@ -80,6 +83,8 @@ transfer_before (Collecting p m got) job i h = h
 transfer_before (Offering d basic values) job i h = h
 transfer_before (Over x) job i h = absurd (subst IsTransfer (sym h) i)
 transfer_before Closed job i h = h
+transfer_before (Unmatched d) job i h = h
+transfer_before (Probed g x) job i h = h
 
 closed_forth : (rows : List Row) (c k key : ℕ) (job : Job) → IsTransfer job → slice_get rows k ≡ Some (row_of key job) → slice_get (changed closed_row rows c) k ≡ Some (row_of key job)
 closed_forth [] c k key job i h = absurd (none-some (row_of key job) h)

@@ -4,7 +4,7 @@ use Rattle.std.proofs.lemmas.Bool.{cases_eq}
 use Rattle.std.proofs.lemmas.Option.{same_Some, none-some, slice_get_within}
 use Rattle.perfect_queues.proofs.ListLemmas.{get_set_other}
 use Rattle.proof_pure_network.proofs.JobLemmas.{get_set_same, push_at}
-use Rattle.proof_pure_network.specs.Jobs.{Job, Waiting, Collecting, Offering, Over, Closed}
+use Rattle.proof_pure_network.specs.Jobs.{Job, Waiting, Collecting, Offering, Over, Closed, Probed, Unmatched}
 use Rattle.requests.specs.declared.table.Entry.{Entry}
 use Rattle.requests.specs.declared.table.Progress.{Progress}
 use Rattle.requests.specs.Table.{IsSet, slot_at}
@@ -35,6 +35,8 @@ ended_or_held slot k (Collecting p m got) h = inr h
 ended_or_held slot k (Offering d basic values) h = inr h
 ended_or_held slot k (Over x) h = inr h
 ended_or_held slot k Closed h = inl refl
+ended_or_held slot k (Unmatched d) h = inr h
+ended_or_held slot k (Probed g m) h = inr h
 
 -- what its slot holds stands there
 pub held_stands : (slot : Option Entry) (k : ℕ) (j : Job) → Holds slot k j → Stands slot k j
@@ -43,6 +45,8 @@ held_stands slot k (Collecting p m got) h = h
 held_stands slot k (Offering d basic values) h = h
 held_stands slot k (Over x) h = h
 held_stands slot k Closed h = tt
+held_stands slot k (Unmatched d) h = h
+held_stands slot k (Probed g m) h = h
 
 -- what stands where nothing is has ended
 pub none_stands : (k : ℕ) (j : Job) → Stands None k j → j ≡ Closed

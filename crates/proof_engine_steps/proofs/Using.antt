@@ -6,7 +6,7 @@ use Rattle.std.proofs.lemmas.Option.{none-some, same_Some}
 use Rattle.perfect_queues.specs.Outcomes as ends
 use Rattle.perfect_queues.specs.Requests.{all_changed, changed}
 use Rattle.match_queues.specs.declared.envelope.Receive as posted
-use Rattle.proof_pure_network.specs.Jobs.{Job, Waiting, Collecting, Offering, Over, Closed, closed}
+use Rattle.proof_pure_network.specs.Jobs.{Job, Waiting, Collecting, Offering, Over, Closed, closed, Probed, Unmatched}
 use Rattle.requests.specs.Completions as rank
 use Rattle.requests.specs.Lists.{named}
 use Rattle.requests.specs.Table.{progress_at, slot_at}
@@ -67,6 +67,8 @@ closed_posts key (Collecting p h got) = refl
 closed_posts key (Offering d basic values) = refl
 closed_posts key (Over x) = refl
 closed_posts key Closed = refl
+closed_posts key (Unmatched d) = refl
+closed_posts key (Probed g h) = refl
 
 closed_posted : (rows : List Row) (k : ℕ) → posted_rows (changed closed_row rows k) ≡ posted_rows rows
 closed_posted [] k = refl
@@ -262,6 +264,7 @@ finished_spent table rows t q h = go (progress_at table q.key q.serial) refl h.1
     go (Some (Receiving r)) e f = absurd (none-some h.0 f)
     go (Some (progresses.Collecting w)) e f = absurd (none-some h.0 f)
     go (Some progresses.Offering) e f = absurd (none-some h.0 f)
+    go (Some (progresses.TakenOut taken)) e f = absurd (none-some h.0 f)
     go (Some (Finished o)) e f = inl (outcome_seen o, finished_row table rows q o t e)
 
 -- what an answer uses up is over

@@ -50,7 +50,7 @@ answers_same links old known core a shown fine = core_completion links old known
 
 -- the core, once the wait was called
 abbrev pub core_waits : Core → Awaited → Core
-core_waits core a = record core { blocked = Some (awaited_seen a) }
+core_waits core a = record core { blocked = Some (completions.Waits (awaited_seen a)) }
 
 -- its answer isn't ready: the call is blocked
 wait_blocked : (links : Announcements) (old : CoreState) (known : List ℕ) (core : Core) (a : Awaited) → IsShown links old known core → old.blocked ≡ None → wait_fault old a ≡ None → completion old.slots a ≡ None →
@@ -75,7 +75,7 @@ wait_blocked links old known core a shown free fine g =
     holding : Holding links new known (core_waits core a) shown.rows
     holding =
         let h : Holding links old known core shown.rows = holding_of links old known core shown in
-        record { jobs = h.jobs; count = h.count; table = h.table; posted = h.posted; held = h.held; under_way = h.under_way; knowing = h.knowing }
+        record { jobs = h.jobs; count = h.count; table = h.table; posted = h.posted; held = h.held; under_way = h.under_way; taken = h.taken; knowing = h.knowing }
 
 -- it is ready: the call is answered
 wait_done : (links : Announcements) (old : CoreState) (known : List ℕ) (core : Core) (a : Awaited) (answer : Answer) (used : List Request) → IsShown links old known core → old.blocked ≡ None → wait_fault old a ≡ None →

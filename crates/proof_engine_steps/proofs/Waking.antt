@@ -22,13 +22,14 @@ use Rattle.proof_engine_view.specs.Rows.{IsTable, Row, held_of, jobs_of, posted_
 use Rattle.proof_engine_view.specs.Seen.{answer_seen, awaited_seen, told_completion}
 use Rattle.proof_engine_view.specs.Shown.{IsBlocked, IsNamed, IsSettled, IsShown}
 use Rattle.proof_engine_view.specs.Transfers.{Announcements}
-use Rattle.proof_engine_view.specs.UnderWay.{AreUnderWay}
+use Rattle.proof_engine_view.specs.UnderWay.{AreTaken, AreUnderWay}
 use Rattle.proof_engine_steps.specs.Steps.{IsWoken, WakesAreShown}
 use Rattle.proof_engine_steps.proofs.Agreeing.{SayTheSame, completion_seen, completions_same, named_same_outcome, serials_of}
 use Rattle.proof_engine_steps.proofs.Knowing.{IsKnown}
 use Rattle.proof_engine_steps.proofs.Named.{all_follow}
 use Rattle.proof_engine_steps.proofs.Settling.{ready_free, settled_is}
 use Rattle.proof_engine_steps.proofs.Staying.{same_without, under_way_still}
+use Rattle.proof_engine_steps.proofs.UnderWay.{keeps_same, taken_same, taken_without}
 use Rattle.proof_engine_steps.proofs.Using.{jobs_without, length_without, posted_without, rows_without, table_without, used_spent}
 
 -- the rank holds what the network's core holds, whatever its call waits for
@@ -39,6 +40,7 @@ pub record Holding (links : Announcements) (e : CoreState) (known : List ℕ) (c
   pub posted : e.queues.posted ≡ posted_rows rows
   pub held : core.held ≡ map (held_of links.from) e.queues.unexpected
   pub under_way : AreUnderWay links known e.place rows e.transfers e.queues.unexpected
+  pub taken : AreTaken links.from known e.place rows e.slots
   pub knowing : IsKnown e.place known core.known
 
 -- what is held is shown, with what the call waits for
@@ -53,6 +55,7 @@ shown_with links e known core rows h b =
       posted = h.posted;
       held = h.held;
       under_way = h.under_way;
+      taken = h.taken;
       blocked = b;
       width = h.knowing.width;
       known_alike = h.knowing.same;
@@ -114,10 +117,10 @@ core_completion links e known core rows a h named =
     (recursion_from_All (IsNamed rows) (awaited_requests a) named))
 
 -- so it is with the blocked call
-core_ready_is : (links : Announcements) (e : CoreState) (known : List ℕ) (core : Core) (rows : List Row) (a : Awaited) → Holding links e known core rows → core.blocked ≡ Some (awaited_seen a) →
+core_ready_is : (links : Announcements) (e : CoreState) (known : List ℕ) (core : Core) (rows : List Row) (a : Awaited) → Holding links e known core rows → core.blocked ≡ Some (machine.Waits (awaited_seen a)) →
     All (IsNamed rows) (awaited_requests a) → core_ready core ≡ completion_seen (completion e.slots a)
 core_ready_is links e known core rows a h b named =
-    ap (λ (x : Option machine.Awaited). option_and_then (machine.completion (over_at core.jobs)) x) b ∙ core_completion links e known core rows a h named
+    ap (λ (x : Option machine.Unanswered). option_and_then (machine.answer_to (over_at core.jobs)) x) b ∙ core_completion links e known core rows a h named
 
 -- what the answer uses up is taken out of both
 pub holding_used : (links : Announcements) (e e' : CoreState) (known : List ℕ) (core core' : Core) (rows : List Row) (a : Awaited) (answer : Answer) (used : List Request) → Holding links e known core rows →
@@ -132,6 +135,9 @@ holding_used links e e' known core core' rows a answer used h g js hs kn sl se q
       held = hs ∙ (h.held ∙ ap (λ (q : State). map (held_of links.from) q.unexpected) (sym qu));
       under_way = under_way_still links known e.place e'.place rows (rows_without rows used) e.transfers e'.transfers e.queues.unexpected e'.queues.unexpected h.under_way
           (same_without used rows) pl tr (ap (λ (q : State). q.unexpected) qu);
+      taken = subst (λ (x : Place). AreTaken links.from known x (rows_without rows used) e'.slots) (sym pl)
+          (subst (λ (t : List (Option slots.Entry)). AreTaken links.from known e.place (rows_without rows used) t) (sym sl)
+          (taken_without links.from known e.place (rows_without rows used) e.slots used (taken_same links.from known e.place rows (rows_without rows used) e.slots (keeps_same rows (rows_without rows used) (same_without used rows)) h.taken)));
       knowing = known_still e.place e'.place known core.known core'.known h.knowing pl kn;
     }
 
@@ -191,6 +197,7 @@ holding_of links e known core s =
       posted = s.posted;
       held = s.held;
       under_way = s.under_way;
+      taken = s.taken;
       knowing = record { width = s.width; same = s.known_alike; itself = s.itself };
     }
 

@@ -5,8 +5,9 @@ use Rattle.std.specs.List.{AllByRecursion}
 use Rattle.datatypes.specs.Contents.{Contents}
 use Rattle.match_queues.specs.declared.envelope.Announcement.{Announcement}
 use Rattle.match_queues.specs.declared.envelope.Body.{Body}
-use Rattle.match_queues.specs.declared.envelope.Body.TheVariants.{Announced, Whole}
+use Rattle.match_queues.specs.declared.envelope.Body.TheVariants.{Announced, Own, Whole}
 use Rattle.match_queues.specs.declared.envelope.Message.{Message}
+use Rattle.match_queues.specs.declared.envelope.OwnSend.{OwnSend}
 use Rattle.match_queues.specs.declared.envelope.Receive as queued
 use Rattle.match_queues.specs.State.{State, after_arrival, after_post, arrived_at, message_at, message_for, posted_at, receive_for}
 use Rattle.match_queues.specs.Arrivals.{arrival_at}
@@ -28,13 +29,18 @@ announced_as m a = record m { body = Announced a }
 pub whole_of : (m : Message) (c : Contents) → m.body ≡ Whole c → m ≡ whole m c
 whole_of m c e = ap (λ (b : Body). record m { body = b }) e
 
--- each is whole or was announced
-pub whole_or_announced : (m : Message) → ((c : Contents) × (m ≡ whole m c)) ⊎ ((a : Announcement) × (m ≡ announced_as m a))
-whole_or_announced m = go m.body
+-- the message as that of the rank's own send
+abbrev pub own_as : Message → OwnSend → Message
+own_as m o = record m { body = Own o }
+
+-- each is whole, or was announced, or is one of the rank's own whose send waits for its match
+pub by_body : (m : Message) → ((c : Contents) × (m ≡ whole m c)) ⊎ (((a : Announcement) × (m ≡ announced_as m a)) ⊎ ((o : OwnSend) × (m ≡ own_as m o)))
+by_body m = go m.body
   where
-    go : (b : Body) → ((c : Contents) × (record m { body = b } ≡ whole m c)) ⊎ ((a : Announcement) × (record m { body = b } ≡ announced_as m a))
+    go : (b : Body) → ((c : Contents) × (record m { body = b } ≡ whole m c)) ⊎ (((a : Announcement) × (record m { body = b } ≡ announced_as m a)) ⊎ ((o : OwnSend) × (record m { body = b } ≡ own_as m o)))
     go (Whole c) = inl (c, refl)
-    go (Announced a) = inr (a, refl)
+    go (Announced a) = inr (inl (a, refl))
+    go (Own o) = inr (inr (o, refl))
 
 -- ---- the elements of a list
 

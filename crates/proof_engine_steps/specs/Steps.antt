@@ -15,6 +15,7 @@ use Rattle.rank_core.specs.Hearing.{after_news, news_fault, news_frames}
 use Rattle.rank_core.specs.Waiting.{woken}
 use Rattle.vocabulary.specs.declared.endpoint.Endpoint.{Endpoint}
 use Rattle.perfect_queues.specs.Events.{call_and_reply, told}
+use Rattle.proof_pure_network.specs.Claims.{ClaimsOnce}
 use Rattle.proof_pure_network.specs.Core.{Core, Effect, effect, new_core, view}
 use Rattle.proof_pure_network.specs.Engine.{called, came, core_ready, core_settled, met}
 use Rattle.proof_pure_network.specs.Frames.{Frame}
@@ -61,11 +62,11 @@ pub record IsCalled (a : Announcements) (old : CoreState) (known : List ℕ) (co
       ≡ told_call old.place.endpoint call (Some reply)
 
 -- Every call that meets no rule and no limit of a rank's core, and whose elements have the width of their type, is the same
--- call of its core in the network
+-- call of its core in the network; of which the network's laws say that no two messages name one of its own sends
 abbrev pub CallsAreShown : Type 0
 CallsAreShown =
     (a : Announcements) (old new : CoreState) (known : List ℕ) (core : Core) (call : Call) (reply : Reply) →
-    IsShown a old known core → IsWithin call → call_fault old call ≡ None → Answers old call reply new →
+    IsShown a old known core → ClaimsOnce core → IsWithin call → call_fault old call ≡ None → Answers old call reply new →
     IsCalled a old known core call reply new
 
 -- ---- what is heard

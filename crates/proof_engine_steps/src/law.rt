@@ -1,6 +1,7 @@
 //! The law that joins a rank's core to its core in the pure network.
 
 ghost use Rattle.proof_engine_steps.specs.Steps.{OpeningIsShown, OpeningIsSettled, CallsAreShown, NewsAreShown, WakesAreShown, OthersMayAnnounce};
+ghost use Rattle.proof_engine_steps.specs.Probes.{LooksAreShown, LooksAreJudged, SearchesFindAll};
 ghost use Rattle.proof_engine_steps.specs.Refused.{FaultsHaveReasons, AllowedCallsAreFaultless, RoomIsAReason};
 
 /// States that a rank's core holds what a core of the pure network holds, at whatever incarnation it starts, and that each call
@@ -11,6 +12,8 @@ ghost use Rattle.proof_engine_steps.specs.Refused.{FaultsHaveReasons, AllowedCal
 /// of the network and the rank's core refuses it by no rule. Several may come in one event, whether or not they make the answer
 /// of a blocked call ready: once it is over the rank is woken as the network's core is settled, and the machine is told the same
 /// completion.
+/// A look at the messages that came is a probe, which has its answer at once and changes nothing; its fault is the machine's. A
+/// look, and a matching probe, answers none only where the rank holds no message that such a receive would take.
 /// Each call that meets a rule or a limit has the machine's first fault, or the machine finds none and a limit met it; each call
 /// that meets none names no request of another engine, and the machine finds no fault with it, so that a limit of its frame or
 /// want of memory is a reason. It does nothing when it is called.
@@ -18,6 +21,9 @@ pub fn engines_are_cores()
     ensures opening { OpeningIsShown }
     ensures opening_settled { OpeningIsSettled }
     ensures calls { CallsAreShown }
+    ensures looks { LooksAreShown }
+    ensures judged { LooksAreJudged }
+    ensures finds { SearchesFindAll }
     ensures news { NewsAreShown }
     ensures wakes { WakesAreShown }
     ensures announced { OthersMayAnnounce }

@@ -1,7 +1,8 @@
 -- What the machine of perfect queues sees of a rank's calls, replies and outcomes.
-use Rattle.std.specs.Prelude.{ℕ, Bool, false, not, ◌&&◌, List, [], ◌∷◌, Option, Some, None, if◌then◌else◌, ◌==◌, map}
+use Rattle.std.specs.Prelude.{ℕ, Bool, false, not, ◌&&◌, List, [], ◌∷◌, Option, Some, None, if◌then◌else◌, ◌==◌, map, option_map}
 use Rattle.std.specs.List.{list_any}
 use Rattle.vocabulary.specs.declared.endpoint.Endpoint.{Endpoint}
+use Rattle.vocabulary.specs.declared.envelope.Status.{Status}
 use Rattle.requests.specs.declared.answer.Answer.{Answer}
 use Rattle.requests.specs.declared.answer.Answer.TheVariants as answers
 use Rattle.requests.specs.declared.awaited.Awaited.{Awaited}
@@ -15,6 +16,7 @@ use Rattle.requests.specs.declared.table.Entry as table
 use Rattle.requests.specs.declared.table.Request.{Request}
 use Rattle.rank_calls.specs.declared.call.Send.{Send}
 use Rattle.rank_calls.specs.declared.call.Receive.{Receive}
+use Rattle.rank_calls.specs.declared.call.Probe.{Probe}
 use Rattle.rank_calls.specs.declared.call.Call.{Call}
 use Rattle.rank_calls.specs.declared.call.Call.TheVariants as calls
 use Rattle.rank_calls.specs.declared.call.Reply.{Reply}
@@ -47,9 +49,13 @@ abbrev pub receive_seen : Receive → machine_receives.Receive
 receive_seen v =
     record { source = v.source; tag = v.tag; context = v.context; group = v.group; into = handed_of v.into }
 
+-- a probe, in the context of its communicator and with its group
+abbrev pub probe_seen : Probe → machine_receives.Probe
+probe_seen p = record { source = p.source; tag = p.tag; context = p.context; group = p.group }
+
 -- a send, in the context of its communicator
 abbrev pub send_seen : Send → machine.Call
-send_seen s = machine.Isend s.context s.target s.tag (handed_of s.from)
+send_seen s = machine.Isend s.mode s.context s.target s.tag (handed_of s.from)
 
 -- a request is named by its serial; what that is may depend on the rank
 abbrev pub request_by : (Request → ℕ) → Option Request → Option ℕ
@@ -76,6 +82,8 @@ call_by f (calls.Test q) = machine.Test (request_by f q)
 call_by f (calls.Waitany qs) = machine.Wait (awaited_by f (awaiteds.AnyOf qs))
 call_by f (calls.Waitall qs) = machine.Wait (awaited_by f (awaiteds.AllOf qs))
 call_by f (calls.Cancel q) = machine.Cancel (request_by f q)
+call_by f (calls.Improbe p) = machine.Improbe (probe_seen p)
+call_by f (calls.Mrecv q into) = machine.Mrecv (request_by f q) (handed_of into)
 
 -- the serial of a request
 abbrev pub own_serial : Request → ℕ
@@ -106,6 +114,10 @@ serial_meant c q = if is_foreign c.slots q then c.serial else q.serial
 abbrev pub call_meant : CoreState → Call → machine.Call
 call_meant c call = call_by (serial_meant c) call
 
+-- what a matching probe found: a message is named by its serial
+abbrev pub match_seen : Option (Option Request × Status) → Option (Option ℕ × Status)
+match_seen found = option_map (λ t. (request_by own_serial t.0, t.1)) found
+
 -- what is seen of a call at an endpoint that was answered so; of a refused one nothing is
 abbrev pub told_call : Endpoint → Call → Option Reply → List Entry
 told_call e call None = []
@@ -113,6 +125,7 @@ told_call e call (Some (replies.Started q)) = Called e (call_seen call) (machine
 told_call e call (Some (replies.Done a)) = Called e (call_seen call) (machine.Done (answer_seen a)) ∷ []
 told_call e call (Some replies.Pending) = Called e (call_seen call) machine.Pending ∷ []
 told_call e call (Some replies.Accepted) = Called e (call_seen call) machine.Accepted ∷ []
+told_call e call (Some (replies.Matched found)) = Called e (call_seen call) (machine.Done (completions.ForMatch (match_seen found))) ∷ []
 told_call e call (Some replies.Blocked) = Called e (call_seen call) machine.Blocked ∷ []
 told_call e call (Some (replies.Refused why back)) = []
 

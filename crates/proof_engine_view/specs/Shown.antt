@@ -4,14 +4,14 @@ use Rattle.requests.specs.declared.awaited.Awaited as engine
 use Rattle.requests.specs.declared.table.Request.{Request}
 use Rattle.requests.specs.Completions.{awaited_requests}
 use Rattle.rank_core.specs.CoreState.{CoreState}
-use Rattle.perfect_queues.specs.Completions.{Awaited}
+use Rattle.perfect_queues.specs.Completions.{Unanswered, Waits}
 use Rattle.proof_pure_network.specs.Core.{Core}
 use Rattle.proof_pure_network.specs.Engine.{core_ready}
 use Rattle.proof_pure_network.specs.Jobs.{Closed}
 use Rattle.proof_engine_view.specs.Rows.{Row, IsTable, held_of, jobs_of, posted_rows}
 use Rattle.proof_engine_view.specs.Seen.{awaited_seen}
 use Rattle.proof_engine_view.specs.Transfers.{Announcements}
-use Rattle.proof_engine_view.specs.UnderWay.{AreUnderWay}
+use Rattle.proof_engine_view.specs.UnderWay.{AreTaken, AreUnderWay}
 
 -- a request that wasn't answered: its row stands under its key
 pub record IsNamed (rows : List Row) (q : Request) : Type 0 where
@@ -21,9 +21,9 @@ pub record IsNamed (rows : List Row) (q : Request) : Type 0 where
   pub unanswered : row.job ≡ Closed → ⊥
 
 -- the blocked call waits for requests that weren't answered, and both wait for the same
-abbrev pub IsBlocked : List Row → Option engine.Awaited → Option Awaited → Type 0
+abbrev pub IsBlocked : List Row → Option engine.Awaited → Option Unanswered → Type 0
 IsBlocked rows None b = b ≡ None
-IsBlocked rows (Some a) b = (b ≡ Some (awaited_seen a)) × All (IsNamed rows) (awaited_requests a)
+IsBlocked rows (Some a) b = (b ≡ Some (Waits (awaited_seen a))) × All (IsNamed rows) (awaited_requests a)
 
 -- The rank holds the requests and messages of the network's core and is blocked on the same, whether or not the blocked call's
 -- answer is ready; and both know the ranks alike:
@@ -37,6 +37,8 @@ pub record IsShown (a : Announcements) (c : CoreState) (known : List ℕ) (core 
   pub posted : c.queues.posted ≡ posted_rows rows
   pub held : core.held ≡ map (held_of a.from) c.queues.unexpected
   pub under_way : AreUnderWay a known c.place rows c.transfers c.queues.unexpected
+  -- the messages that were taken out
+  pub taken : AreTaken a.from known c.place rows c.slots
   pub blocked : IsBlocked rows c.blocked core.blocked
   -- both know each rank at the same incarnation, and the rank itself at its own
   pub width : length known ≡ c.place.size

@@ -1,5 +1,5 @@
 -- The large messages that are under way at a rank: they are those of its rows, under the numbers of its links.
-use Rattle.std.specs.Prelude.{◌≡◌, ℕ, ◌*◌, ◌<◌, ◌≤◌, List, [], ◌∷◌, length, map, Some, slice_get}
+use Rattle.std.specs.Prelude.{◌≡◌, ℕ, ◌*◌, ◌<◌, ◌≤◌, List, [], ◌∷◌, length, map, Option, Some, None, slice_get}
 use Rattle.std.specs.List.{AllByRecursion}
 use Rattle.vocabulary.specs.BasicTypes.{size_of}
 use Rattle.vocabulary.specs.Limits.{send_limit}
@@ -11,6 +11,12 @@ use Rattle.match_queues.specs.declared.envelope.Message.{Message}
 use Rattle.match_queues.specs.declared.envelope.Body.{Body}
 use Rattle.match_queues.specs.declared.envelope.Body.TheVariants as bodies
 use Rattle.match_queues.specs.declared.envelope.Announcement.{Announcement}
+use Rattle.match_queues.specs.declared.envelope.OwnSend.{OwnSend}
+use Rattle.requests.specs.declared.table.Entry.{Entry}
+use Rattle.requests.specs.declared.table.Progress.{Progress}
+use Rattle.requests.specs.declared.table.Progress.TheVariants.{Receiving, Finished}
+use Rattle.requests.specs.declared.table.Progress.TheVariants as progresses
+use Rattle.requests.specs.Table.{slot_at}
 use Rattle.rendezvous.specs.declared.offer.Offer.{Offer}
 use Rattle.rendezvous.specs.declared.transfers.Numbers.{Numbers}
 use Rattle.rendezvous.specs.Collecting as rendezvous
@@ -19,9 +25,9 @@ use Rattle.rendezvous.specs.State.{most_transfers, next_to}
 use Rattle.perfect_queues.specs.Receives.{Receive}
 use Rattle.proof_pure_network.specs.Announced.{IsIn}
 use Rattle.proof_pure_network.specs.Held.{Held, Part}
-use Rattle.proof_pure_network.specs.Jobs.{Collecting, Offering}
+use Rattle.proof_pure_network.specs.Jobs.{Collecting, Offering, Probed, Unmatched}
 use Rattle.proof_engine_view.specs.Frames.{endpoint_of}
-use Rattle.proof_engine_view.specs.Rows.{Row}
+use Rattle.proof_engine_view.specs.Rows.{Row, held_of}
 use Rattle.proof_engine_view.specs.Transfers.{Announcements, IsNumber, Transfer}
 
 -- NUMBERS
@@ -79,10 +85,47 @@ pub record IsPartOf (from : Endpoint → List Transfer) (known : List ℕ) (p : 
   pub announced : IsNumber (from m.sender) a.transfer a.basic a.count
   pub width : a.transfer ≤ most_transfers
 
+-- a message of the rank's own whose send waits for its match names the request of that send by its key and its serial
+pub record IsOwnOf (p : Place) (rows : List Row) (m : Message) (o : OwnSend) : Type 0 where
+  pub sender : m.sender ≡ p.endpoint
+  pub row : slice_get rows o.serial ≡ Some (record { key = o.key; job = Unmatched p.endpoint })
+
 -- a whole one may be from any
-abbrev pub IsFromLink : (from : Endpoint → List Transfer) → (known : List ℕ) → Place → Message → Body → Type 0
-IsFromLink from known p m (bodies.Whole elements) = Unit {0}
-IsFromLink from known p m (bodies.Announced a) = IsPartOf from known p m a
+abbrev pub IsFromLink : (from : Endpoint → List Transfer) → (known : List ℕ) → Place → List Row → Message → Body → Type 0
+IsFromLink from known p rows m (bodies.Whole elements) = Unit {0}
+IsFromLink from known p rows m (bodies.Own o) = IsOwnOf p rows m o
+IsFromLink from known p rows m (bodies.Announced a) = IsPartOf from known p m a
+
+-- MESSAGES THAT WERE TAKEN OUT
+
+-- the request that holds one has its job, with the message as the network sees it; and the message is as one that waits for its
+-- receive
+pub record IsTakenOut (from : Endpoint → List Transfer) (known : List ℕ) (p : Place) (rows : List Row) (serial : ℕ) (group : Option (List ℕ)) (m : Message) : Type 0 where
+  pub key : ℕ
+  pub row : slice_get rows serial ≡ Some (record { key = key; job = Probed group (Some (held_of from m)) })
+  pub from_link : IsFromLink from known p rows m m.body
+
+-- of one whose sender was replaced nothing is left
+abbrev pub IsTakenIf : (from : Endpoint → List Transfer) → (known : List ℕ) → Place → List Row → (serial : ℕ) → (group : Option (List ℕ)) → Option Message → Type 0
+IsTakenIf from known p rows serial group None = Unit {0}
+IsTakenIf from known p rows serial group (Some m) = IsTakenOut from known p rows serial group m
+
+-- by how far a request is
+abbrev pub IsTakenBy : (from : Endpoint → List Transfer) → (known : List ℕ) → Place → List Row → (serial : ℕ) → Progress → Type 0
+IsTakenBy from known p rows serial (Receiving w) = Unit {0}
+IsTakenBy from known p rows serial (progresses.Collecting w) = Unit {0}
+IsTakenBy from known p rows serial progresses.Offering = Unit {0}
+IsTakenBy from known p rows serial (progresses.TakenOut t) = IsTakenIf from known p rows serial t.group t.message
+IsTakenBy from known p rows serial (Finished o) = Unit {0}
+
+-- by what stands under a key of the table
+abbrev pub IsTakenAt : (from : Endpoint → List Transfer) → (known : List ℕ) → Place → List Row → Option Entry → Type 0
+IsTakenAt from known p rows None = Unit {0}
+IsTakenAt from known p rows (Some e) = IsTakenBy from known p rows e.serial e.progress
+
+-- all of the table
+abbrev pub AreTaken : (from : Endpoint → List Transfer) → (known : List ℕ) → Place → List Row → List (Option Entry) → Type 0
+AreTaken from known p rows slots = (key : ℕ) → IsTakenAt from known p rows (slot_at slots key)
 
 -- ALL OF THEM
 
@@ -99,7 +142,8 @@ offer_keys offers = map (λ (o : Offer). o.request) offers
 abbrev pub collection_keys : List rendezvous.Collecting → List ℕ
 collection_keys collections = map (λ (c : rendezvous.Collecting). c.request) collections
 
--- What the rank's transfers hold are the large messages of its rows, each once, and each row's is there
+-- What the rank's transfers hold are the large messages of its rows, each once, and each row's is there; and the messages that wait
+-- for a receive are those of its links and of its own sends
 pub record AreUnderWay (a : Announcements) (known : List ℕ) (p : Place) (rows : List Row) (t : transfers.State) (unexpected : List Message) : Type 0 where
   pub numbered : IsNumbered a.to known p t.numbers
   pub offers : AllByRecursion (IsOfferOf a.to known rows) t.offers
@@ -112,4 +156,7 @@ pub record AreUnderWay (a : Announcements) (known : List ℕ) (p : Place) (rows 
       (k key : ℕ) (r : Receive) (h : Held) (got : List ℕ) →
       slice_get rows k ≡ Some (record { key = key; job = Collecting r h got }) → IsIn key (collection_keys t.collections)
   pub collections_apart : AreApart (collection_keys t.collections)
-  pub messages : AllByRecursion (λ (m : Message). IsFromLink a.from known p m m.body) unexpected
+  -- a send that waits for its match is one to the rank itself
+  pub unmatched :
+      (k key : ℕ) (d : Endpoint) → slice_get rows k ≡ Some (record { key = key; job = Unmatched d }) → d ≡ p.endpoint
+  pub messages : AllByRecursion (λ (m : Message). IsFromLink a.from known p rows m m.body) unexpected

@@ -5,11 +5,12 @@ use Rattle.std.proofs.lemmas.Grind.{common_steps}
 use Rattle.vocabulary.specs.declared.endpoint.Endpoint.{Endpoint}
 use Rattle.vocabulary.specs.declared.envelope.Source.{Source}
 use Rattle.vocabulary.specs.declared.envelope.Source.TheVariants.{Any, Null, Rank}
+use Rattle.vocabulary.specs.declared.mode.Mode.{Mode}
 use Rattle.perfect_queues.specs.Buffers.{Handed}
 use Rattle.perfect_queues.specs.Calls as queues
 use Rattle.perfect_queues.specs.Refusals as rules
 use Rattle.perfect_queues.specs.Refusals.{first_fault, is_count_wrong, is_rank_wrong, is_request_wrong, is_tag_wrong, is_type_wrong, standing}
-use Rattle.perfect_groups.specs.Calls.{Cancel, Enter, Inquire, Irecv, Isend, Test, Wait, held_at, in_world, rank_or_null, receive_on}
+use Rattle.perfect_groups.specs.Calls.{Cancel, Enter, Improbe, Inquire, Iprobe, Irecv, Isend, Mrecv, Test, Wait, held_at, in_world, probe_on, rank_or_null, receive_on}
 use Rattle.perfect_groups.specs.Communicators.{Communicator, group_of}
 use Rattle.perfect_groups.specs.Faults.{is_blocked, is_no_target, is_source_beyond, wrong_communicator, wrong_incarnation, wrong_operation, wrong_rank, wrong_root}
 use Rattle.perfect_groups.specs.Membership.{Membership}
@@ -47,11 +48,11 @@ source_beyond n c (Rank r) below wrong = absurd (no_source_beyond n (slice_get (
 
 -- ---- EACH CALL
 
-send_alike : (e : Endpoint) (m : Membership) (comm : Option ℕ) (to : Source) (tag : Option ℕ) (from : Handed) (o : Option Communicator) (q : queues.Call) → held_at m comm ≡ o →
-    option_map (λ c. queues.Isend c.context (in_world c to) tag from) o ≡ Some q → IsJudgedAlike e m (Isend comm to tag from) q
-send_alike e m comm to tag from None q held is = absurd cc
-send_alike e m comm to tag from (Some c) q held is =
-    subst (λ (x : queues.Call). IsJudgedAlike e m (Isend comm to tag from) x) (same_call (queues.Isend c.context (in_world c to) tag from) q is) (record {
+send_alike : (e : Endpoint) (m : Membership) (mode : Mode) (comm : Option ℕ) (to : Source) (tag : Option ℕ) (from : Handed) (o : Option Communicator) (q : queues.Call) →
+    held_at m comm ≡ o → option_map (λ c. queues.Isend mode c.context (in_world c to) tag from) o ≡ Some q → IsJudgedAlike e m (Isend mode comm to tag from) q
+send_alike e m mode comm to tag from None q held is = absurd cc
+send_alike e m mode comm to tag from (Some c) q held is =
+    subst (λ (x : queues.Call). IsJudgedAlike e m (Isend mode comm to tag from) x) (same_call (queues.Isend mode c.context (in_world c to) tag from) q is) (record {
       requests = λ f. refl;
       communicator = rw held refl;
       types = refl;
@@ -77,9 +78,39 @@ receive_alike e m comm source tag into (Some c) q held is =
       operation = refl;
     })
 
+look_alike : (e : Endpoint) (m : Membership) (comm : Option ℕ) (source : Source) (tag : Option ℕ) (o : Option Communicator) (q : queues.Call) → held_at m comm ≡ o →
+    option_map (λ c. queues.Iprobe (probe_on c source tag)) o ≡ Some q → IsJudgedAlike e m (Iprobe comm source tag) q
+look_alike e m comm source tag None q held is = absurd cc
+look_alike e m comm source tag (Some c) q held is =
+    subst (λ (x : queues.Call). IsJudgedAlike e m (Iprobe comm source tag) x) (same_call (queues.Iprobe (probe_on c source tag)) q is) (record {
+      requests = λ f. refl;
+      communicator = rw held refl;
+      types = refl;
+      counts = refl;
+      tags = refl;
+      ranks = λ n inside wrong. rw held (source_beyond n c source (λ r x at. inside comm c r x held at) wrong);
+      root = refl;
+      operation = refl;
+    })
+
+search_alike : (e : Endpoint) (m : Membership) (comm : Option ℕ) (source : Source) (tag : Option ℕ) (o : Option Communicator) (q : queues.Call) → held_at m comm ≡ o →
+    option_map (λ c. queues.Improbe (probe_on c source tag)) o ≡ Some q → IsJudgedAlike e m (Improbe comm source tag) q
+search_alike e m comm source tag None q held is = absurd cc
+search_alike e m comm source tag (Some c) q held is =
+    subst (λ (x : queues.Call). IsJudgedAlike e m (Improbe comm source tag) x) (same_call (queues.Improbe (probe_on c source tag)) q is) (record {
+      requests = λ f. refl;
+      communicator = rw held refl;
+      types = refl;
+      counts = refl;
+      tags = refl;
+      ranks = λ n inside wrong. rw held (source_beyond n c source (λ r x at. inside comm c r x held at) wrong);
+      root = refl;
+      operation = refl;
+    })
+
 -- a call of requests
 pub judged_alike : CallsAreJudgedAlike
-judged_alike e m (Isend comm to tag from) q is = send_alike e m comm to tag from (held_at m comm) q refl is
+judged_alike e m (Isend mode comm to tag from) q is = send_alike e m mode comm to tag from (held_at m comm) q refl is
 judged_alike e m (Irecv comm source tag into) q is = receive_alike e m comm source tag into (held_at m comm) q refl is
 judged_alike e m (Wait a) q is =
     subst (λ (x : queues.Call). IsJudgedAlike e m (Wait a) x) (same_call (queues.Wait a) q is)
@@ -89,6 +120,11 @@ judged_alike e m (Test r) q is =
     (record { requests = λ f. refl; communicator = refl; types = refl; counts = refl; tags = refl; ranks = λ n inside wrong. absurd cc; root = refl; operation = refl })
 judged_alike e m (Cancel r) q is =
     subst (λ (x : queues.Call). IsJudgedAlike e m (Cancel r) x) (same_call (queues.Cancel r) q is)
+    (record { requests = λ f. refl; communicator = refl; types = refl; counts = refl; tags = refl; ranks = λ n inside wrong. absurd cc; root = refl; operation = refl })
+judged_alike e m (Iprobe comm source tag) q is = look_alike e m comm source tag (held_at m comm) q refl is
+judged_alike e m (Improbe comm source tag) q is = search_alike e m comm source tag (held_at m comm) q refl is
+judged_alike e m (Mrecv message into) q is =
+    subst (λ (x : queues.Call). IsJudgedAlike e m (Mrecv message into) x) (same_call (queues.Mrecv message into) q is)
     (record { requests = λ f. refl; communicator = refl; types = refl; counts = refl; tags = refl; ranks = λ n inside wrong. absurd cc; root = refl; operation = refl })
 judged_alike e m (Enter comm p) q is = absurd cc
 judged_alike e m (Inquire comm question) q is = absurd cc
