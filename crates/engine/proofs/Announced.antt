@@ -15,6 +15,9 @@ use Rattle.rendezvous.specs.declared.piece.Piece.{Piece}
 use Rattle.sessions.specs.Events.{AreFor, CanSend, Sending, sendings}
 use Rattle.sessions.specs.Heard.{HeardText}
 use Rattle.sessions.specs.declared.heard.Outgoing.{Outgoing}
+use Rattle.vocabulary.specs.Modes.{is_standard}
+use Rattle.vocabulary.specs.declared.mode.Mode.{Mode}
+use Rattle.vocabulary.specs.declared.mode.Mode.TheVariants.{Standard, Synchronous}
 use Rattle.engine.proofs.Replies.{can_send, data_are_for}
 use Rattle.engine.specs.Datagrams.{answer_to, data_sent}
 use Rattle.engine_parts.specs.Frames.{outgoing_of, sending_of}
@@ -30,10 +33,16 @@ answer_is_for h t = record { each = (refl, tt); many = refl }
 pub answer_goes : (p : Place) (h : HeardText) (t : RequestText) → h.source.rank < p.size → All (CanSend p) (answer_to h t ∷ [])
 answer_goes p h t there = All-cons (CanSend p) (answer_to h t) [] (record { there = there; fits = tt }) (All-nil (CanSend p))
 
--- the rule comes first
-pub next_fault : (b : Bool) (limit : Option Refused) → b ≡ true → limit ≡ first_fault (bad_unless b) limit
+-- the rules come first
+next_fault : (b : Bool) (limit : Option Refused) → b ≡ true → limit ≡ first_fault (bad_unless b) limit
 next_fault true limit is = refl
 next_fault false limit is = absurd cc
+
+-- no payload is of a synchronous send
+pub mode_fault : (mode : Mode) (b : Bool) (limit : Option Refused) → ((mode ≡ Synchronous) → ⊥) → b ≡ true →
+    limit ≡ first_fault (bad_unless (is_standard mode)) (first_fault (bad_unless b) limit)
+mode_fault Standard b limit other is = next_fault b limit is
+mode_fault Synchronous b limit other is = absurd (other refl)
 
 -- ---- data
 

@@ -36,6 +36,7 @@ use Rattle.engine.specs.Datagrams.{
   HeardGivesBy,
   HearingGives,
   IsTakenIn,
+  IsTakenInUnless,
   NoticeText,
   OfAnnouncement,
   OfAnswer,
@@ -52,6 +53,7 @@ use Rattle.engine.specs.Datagrams.{
   notice_in,
   numbers_met,
   replies,
+  says_nothing,
   whole_in,
 }
 use Rattle.engine_parts.specs.Frames.{step_sendings}
@@ -267,7 +269,12 @@ refusal_leaves old new bytes result gives = hearing_leaves (heard_of old.session
 
 -- ---- what is taken in, with what follows
 
-pub hearing_is : (h : HeardText) (old new : EngineState) (r : Result (Unit {0}) Refused) → OnOk r (IsTakenIn old h new) →
+-- what says something is taken in
+pub taken_unless : (nothing : Bool) (old : EngineState) (h : HeardText) (new : EngineState) → nothing ≡ false → IsTakenIn old h new → IsTakenInUnless nothing old h new
+taken_unless true old h new something taken = absurd cc
+taken_unless false old h new something taken = taken
+
+pub hearing_is : (h : HeardText) (old new : EngineState) (r : Result (Unit {0}) Refused) → OnOk r (IsTakenInUnless (says_nothing h.lesson h.word) old h new) →
     IfErr r (λ e. HeardGives old h (Err e) new) → HearingGives (Ok h) old r new
 hearing_is h old new (Ok x) taken refused = taken
 hearing_is h old new (Err e) taken refused = refused

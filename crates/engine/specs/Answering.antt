@@ -13,3 +13,6 @@ IsOther (calls.Waitall list) = Unit {0}
 IsOther (calls.Cancel request) = Unit {0}
 IsOther (calls.Enter comm entry) = Unit {0}
 IsOther (calls.Ask comm question) = Unit {0}
+IsOther (calls.Iprobe probe) = Unit {0}
+IsOther (calls.Improbe probe) = Unit {0}
+IsOther (calls.Mrecv message into) = Unit {0}

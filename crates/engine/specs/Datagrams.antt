@@ -36,6 +36,7 @@ use Rattle.sessions.specs.Heard.{Acknowledges, Follows, Hands, HeardText, Holds,
 use Rattle.sessions.specs.SessionsState.{SessionsState}
 use Rattle.sessions.specs.declared.heard.Unheard.{Unheard}
 use Rattle.sessions.specs.declared.refused.Refused as lower
+use Rattle.vocabulary.specs.Modes.{is_standard}
 use Rattle.vocabulary.specs.declared.endpoint.Endpoint.{Endpoint}
 use Rattle.engine.specs.declared.notices.Received.{Received}
 use Rattle.engine.specs.declared.noticing.Notice.{Notice}
@@ -220,11 +221,13 @@ answer_to h t = record { rank = h.source.rank; frame = ClearFrame (record { clea
 abbrev pub coming_by : HeardText → RequestText → Coming
 coming_by h t = record { source = h.source.rank; transfer = t.transfer; context = t.context; number = t.tag; total = t.count; bytes = [] }
 
--- the first rule or limit that it meets: 30 where its number isn't the next one of its session, and 13
+-- the first rule or limit that it meets: 30 where it is of a synchronous send, which no payload is, or its number isn't the next one
+-- of its session, and 13
 abbrev pub announcement_fault : CoreState → SessionsState → HeardText → RequestText → Option Refused
 announcement_fault c s h t =
-    first_fault (bad_unless (is_next (numbers_met c h) h.source.rank t.transfer))
-    (fault_of_sessions (event_limit s (Some h) (answer_to h t ∷ [])))
+    first_fault (bad_unless (is_standard t.mode))
+    (first_fault (bad_unless (is_next (numbers_met c h) h.source.rank t.transfer))
+    (fault_of_sessions (event_limit s (Some h) (answer_to h t ∷ []))))
 
 -- it is counted and answered, and its payload begins to come
 abbrev pub after_announcement : EngineState → HeardText → RequestText → EngineState
@@ -445,6 +448,11 @@ pub record IsTakenIn (old : EngineState) (h : HeardText) (new : EngineState) : T
   pub follows : FollowedBy h.word (length old.sessions.out) h.source first last
   pub new_is : new ≡ woken_engine last
 
+-- what says nothing new changes nothing
+abbrev pub IsTakenInUnless : (nothing : Bool) → EngineState → HeardText → EngineState → Type 0
+IsTakenInUnless true old h new = new ≡ old
+IsTakenInUnless false old h new = IsTakenIn old h new
+
 -- WHAT ISN'T HEARD
 
 -- it is refused as the sessions turn it away, with a reset or without, and leaves the core as it was
@@ -456,7 +464,7 @@ TurnedAwayGives old u result new =
 
 -- by what was heard, or why nothing was
 abbrev pub HearingGives : Result HeardText Unheard → EngineState → Result (Unit {0}) Refused → EngineState → Type 0
-HearingGives (Ok h) old (Ok x) new = IsTakenIn old h new
+HearingGives (Ok h) old (Ok x) new = IsTakenInUnless (says_nothing h.lesson h.word) old h new
 HearingGives (Ok h) old (Err e) new = HeardGives old h (Err e) new
 HearingGives (Err u) old result new = TurnedAwayGives old u result new
 

@@ -29,6 +29,7 @@ use rank_core::{Core, News, Refused};
 use rendezvous::{Piece, announce, count_of, pieces_of};
 use sessions::{Heard, Outgoing, Sessions};
 use std::alloc::Global;
+use vocabulary::Mode;
 
 /// The limit that what is heard meets, which so many frames answer: see `Sessions::limit_of_replies`.
 pub(crate) fn limit_of(sessions: &Sessions, heard: Heard<'_>, count: usize) -> Option<Refused>
@@ -63,8 +64,8 @@ pub(crate) fn carry_out(
     }
 }
 
-/// The first rule or limit that the announcement of a payload meets: its number isn't the next one of its session (30), or the
-/// sessions meet their limit (13). It takes no memory.
+/// The first rule or limit that the announcement of a payload meets: it is of a synchronous send, which no payload is (30), its
+/// number isn't the next one of its session (30), or the sessions meet their limit (13). It takes no memory.
 fn fault_of_announcement(
     core: &Core,
     sessions: &Sessions,
@@ -74,6 +75,9 @@ fn fault_of_announcement(
     requires { CanHear sessions.now (Some (heard_text heard)) }
     ensures { result ≡ announcement_fault core.now.state sessions.now (heard_text heard.entry) (request_text request) }
 {
+    if let Mode::Synchronous = request.mode {
+        return Some(Refused::BadFrame);
+    }
     if !core.is_next(heard.source.rank, heard.lesson, request.transfer) {
         return Some(Refused::BadFrame);
     }

@@ -11,10 +11,11 @@ ghost use Rattle.vocabulary.specs.declared.envelope.Source.TheVariants.{Null};
 
 use crate::engine::Engine;
 use engine_parts::{
-    Asked, Call, Judged, Receive, Reply, Send, answer_unless_refused, ask_on_requests,
-    ask_to_receive, ask_to_send, judgement,
+    Asked, Call, Judged, Probe, Receive, Reply, Send, answer_unless_refused, ask_for_message,
+    ask_on_requests, ask_to_probe, ask_to_receive, ask_to_send, judgement,
 };
 use rank_core::Handed;
+use requests::{Region, Request};
 
 impl Engine {
     /// What the core is to be asked by a send, unless it is refused by now.
@@ -29,6 +30,30 @@ impl Engine {
         ensures { AskGives self.now (calls.Irecv receive) result }
     {
         ask_to_receive(&self.core, &self.communicators, &self.sessions, receive)
+    }
+
+    /// What the core is to be asked by a matching probe, unless it is refused by now.
+    fn asked_by_probe(&self, probe: Probe) -> Result<Asked, Handed<Call>>
+        ensures { AskGives self.now (calls.Improbe probe) result }
+    {
+        ask_to_probe(&self.core, &self.communicators, &self.sessions, probe)
+    }
+
+    /// What the core is to be asked by the receive of a message, unless it is refused by now.
+    fn asked_for_message(
+        &self,
+        message: Option<Request>,
+        into: Region,
+    ) -> Result<Asked, Handed<Call>>
+        ensures { AskGives self.now (calls.Mrecv message into) result }
+    {
+        ask_for_message(
+            &self.core,
+            &self.communicators,
+            &self.sessions,
+            message,
+            into,
+        )
     }
 
     /// What the core is to be asked by a call on requests, unless it is refused by now.
@@ -81,6 +106,30 @@ impl Engine {
         self.reply_to(asked)
     }
 
+    /// Answers a matching probe.
+    fn improbe(&mut self, probe: Probe) -> Reply
+        ensures exact { CoreGives self.old (calls.Improbe probe) result self.new }
+        ensures unchanged { RefusedLeaves result self.old self.new }
+        ensures few { length self.new.sessions.out ≤ length self.old.sessions.out + 1 }
+        ensures placed { self.new.sessions.place ≡ self.old.sessions.place }
+        ensures core_placed { self.new.core.place ≡ self.old.core.place }
+    {
+        let asked = self.asked_by_probe(probe);
+        self.reply_to(asked)
+    }
+
+    /// Answers the receive of a message.
+    fn mrecv(&mut self, message: Option<Request>, into: Region) -> Reply
+        ensures exact { CoreGives self.old (calls.Mrecv message into) result self.new }
+        ensures unchanged { RefusedLeaves result self.old self.new }
+        ensures few { length self.new.sessions.out ≤ length self.old.sessions.out + 1 }
+        ensures placed { self.new.sessions.place ≡ self.old.sessions.place }
+        ensures core_placed { self.new.core.place ≡ self.old.core.place }
+    {
+        let asked = self.asked_for_message(message, into);
+        self.reply_to(asked)
+    }
+
     /// Answers a call on requests.
     fn call_on_requests(&mut self, call: rank_core::Call) -> Reply
         requires { IsOnRequests call }
@@ -128,6 +177,12 @@ impl Engine {
                 fault: self.fault_of_question(comm, question),
                 call: Call::Ask(comm, question),
             },
+            Call::Iprobe(probe) => Judged {
+                fault: self.fault_of_probe(probe),
+                call: Call::Iprobe(probe),
+            },
+            Call::Improbe(probe) => judgement(self.asked_by_probe(probe)),
+            Call::Mrecv(message, into) => judgement(self.asked_for_message(message, into)),
         }
     }
 
@@ -152,6 +207,9 @@ impl Engine {
             Call::Cancel(request) => self.call_on_requests(rank_core::Call::Cancel(request)),
             Call::Enter(comm, entry) => self.enter(comm, entry),
             Call::Ask(comm, question) => self.ask(comm, question),
+            Call::Iprobe(probe) => self.iprobe(probe),
+            Call::Improbe(probe) => self.improbe(probe),
+            Call::Mrecv(message, into) => self.mrecv(message, into),
             _ => unreachable!(),
         }
     }
@@ -159,20 +217,28 @@ impl Engine {
     /// Answers a call.
     ///
     /// Refused is the first that holds of: 6 (an earlier call is blocked, on requests or in a collective; there is no such
-    /// request, a list names one twice, or what is cancelled is no receive), 4 (MPI_COMM_NULL, or the rank holds no such
-    /// communicator, nor one to compare with), 2 (buffer and layout are of different basic types, a receive names a place twice,
-    /// or a scatter's root hands in elements of another type than its blocks), 1 (more than 1,048,576 bytes of data in a send,
-    /// the buffer is too short, a block of a collective has more than 1,048,560 bytes, or a scatter's root hands in another number
-    /// of elements than a block for each member), 3 (the tag is above the greatest, or the wildcard in a send), 5 (no such rank in
-    /// the communicator, or any rank in a send), 7 (no such root), 9 (the operation isn't defined on the type), 11 (the member that
-    /// is named is known at another incarnation, which counts off `world` alone; in a collective any member), 13 (65,536 requests
-    /// are there, no number is left for a large message to the rank or for a frame to it, a communicator can't be held or given,
-    /// no further collective may be entered on it, or a member would have to be told more than 1,008 bytes of elements), 14. A
-    /// refusal hands the call back, and changes nothing. A send to the own rank (MPI 3.1,
-    /// 3.2.4) or to the null process (3.11) emits no datagram; one of more than 1,024 bytes to another rank is announced, and
-    /// finished once that rank answers. A receive that takes a message which was announced answers it: its data are to come
-    /// where the receive has their type and places for them, and else it has ended without them. A collective is entered, and
-    /// the other members are told; where it has not ended by that, the rank is blocked in it (5.1).
+    /// request, a list names one twice, what is cancelled is no receive, or what is to be received is no message that was
+    /// taken out and isn't received), 4 (MPI_COMM_NULL, or the rank holds no such communicator, nor one to compare with), 2
+    /// (buffer and layout are of different basic types, a receive names a place twice, or a scatter's root hands in elements
+    /// of another type than its blocks), 1 (more than 1,048,576 bytes of data in a send, the buffer is too short, a block of
+    /// a collective has more than 1,048,560 bytes, or a scatter's root hands in another number of elements than a block for
+    /// each member), 3 (the tag is above the greatest, or the wildcard in a send), 5 (no such rank in the communicator, or
+    /// any rank in a send), 7 (no such root), 9 (the operation isn't defined on the type), 11 (the member that is named is
+    /// known at another incarnation, which counts off `world` alone; in a collective any member), 13 (65,536 requests are
+    /// there, messages that were taken out among them, and one more is wanted, which a matching probe wants only for a
+    /// message that it found; no number is left for a message that is announced to the rank or for a frame to it, a
+    /// communicator can't be held or given, no further collective may be entered on it, or a member would have to be told
+    /// more than 1,008 bytes of elements), 14. A refusal hands the call back, and changes nothing. A send to the own rank
+    /// (MPI 3.1, 3.2.4) or to the null process (3.11) emits no datagram; one of more than 1,024 bytes to another rank is
+    /// announced, and finished once that rank answers. A receive that takes a message which was announced answers it: its
+    /// data are to come where the receive has their type and places for them, and else it has ended without them. A
+    /// collective is entered, and the other members are told; where it has not ended by that, the rank is blocked in it
+    /// (5.1).
+    ///
+    /// A synchronous send is announced however few bytes it has, and finished once a receive has its message (3.4); one to the own
+    /// rank emits nothing. A probe tells what such a receive would take now and changes nothing (3.8.1); a matching probe takes
+    /// that message out, so that no receive finds it (3.8.2), and tells its sender nothing. The receive of that message answers
+    /// its sender, and is over where its data are there, or is waited for (3.8.3).
     #[tactic(auto, using(engine_parts::proofs::Answering::few_by_one))]
     pub fn call(&mut self, call: Call) -> Reply
         ensures exact { CallGives self.old call result self.new }

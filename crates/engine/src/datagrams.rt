@@ -44,7 +44,7 @@ fn frame_in<'a>(word: Word<'a>) -> Option<Frame<'a>>
 }
 
 /// Whether it says nothing new: no lesson and no word.
-fn says_nothing(heard: Heard<'_>) -> bool
+pub(crate) fn says_nothing(heard: Heard<'_>) -> bool
     ensures { result ≡ says_nothing heard.entry.lesson (word_text heard.entry.word) }
 {
     if heard.lesson {
@@ -300,14 +300,14 @@ impl Engine {
 
     /// Takes a datagram in.
     ///
-    /// Refused is the first that holds of: 21 to 25 and 30 (the bytes spell no datagram), 26 (another job), 27 (for
-    /// another rank or a later incarnation of this one, or from no other rank of the job), 28 (from a former incarnation
-    /// of its source), 29 (for a former incarnation of this rank: where the datagram is no reset itself, one reset goes
-    /// out to its source), 31 (a number outside the window), 30 (a message of a collective that can't be read,
-    /// or carries what doesn't fit its record; an announcement under another number than the next of its session; an answer
-    /// to a transfer that is not offered, or 'drop' to a payload of a collective, which no engine answers; data that are not
-    /// due), 13 and 14. With the last data of a payload its message is judged, as if it stood in a frame. A refusal changes
-    /// nothing, but for that reset; without memory for the reset it is 14.
+    /// Refused is the first that holds of: 21 to 25 and 30 (the bytes spell no datagram), 26 (another job), 27 (for another
+    /// rank or a later incarnation of this one, or from no other rank of the job), 28 (from a former incarnation of its
+    /// source), 29 (for a former incarnation of this rank: where the datagram is no reset itself, one reset goes out to its
+    /// source), 31 (a number outside the window), 30 (a message of a collective that can't be read, or carries what doesn't
+    /// fit its record; an announcement under another number than the next of its session, or one of a payload of a collective
+    /// as of a synchronous send; an answer to a transfer that is not offered, or 'drop' to a payload of a collective, which
+    /// no engine answers; data that are not due), 13 and 14. With the last data of a payload its message is judged, as if it
+    /// stood in a frame. A refusal changes nothing, but for that reset; without memory for the reset it is 14.
     ///
     /// A frame that comes before its turn is held, up to 63 behind the next one. Of such a frame only the form of a collective's
     /// message is judged at once (30); all else is judged when its turn comes. Once the next frame is taken in, those that are

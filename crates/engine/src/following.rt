@@ -14,8 +14,9 @@ ghost use Rattle.sessions.specs.Peers.{peer_at};
 ghost use Rattle.sessions.specs.Spellings.{ack_of};
 ghost use Rattle.sessions.specs.Windows.{room};
 ghost use Rattle.engine.specs.Following.{FollowEnds, StaysFor};
-ghost use Rattle.engine.specs.Datagrams.{HasFollowed, HeardGives, IsTakenIn, without_next, woken_engine};
+ghost use Rattle.engine.specs.Datagrams.{HasFollowed, HeardGives, IsTakenInUnless, says_nothing, without_next, woken_engine};
 
+use crate::datagrams::says_nothing;
 use crate::engine::Engine;
 use datagram::Bytes;
 use rank_core::Refused;
@@ -160,12 +161,13 @@ impl Engine {
         self.core.wake();
     }
 
-    /// Takes in what is heard, and what follows it, or refuses it; at the end a blocked call is answered.
+    /// Takes in what is heard, and what follows it, or refuses it; at the end a blocked call is answered. What says nothing new
+    /// changes nothing.
     pub(crate) fn take_in(&mut self, heard: Heard<'_>) -> Result<(), Refused>
         requires can { CanHear self.old.sessions (Some (heard_text heard)) }
         requires fits { WordFits (word_text heard.word) }
         requires there { heard.source.rank < self.old.sessions.place.size }
-        ensures taken { OnOk result (IsTakenIn self.old (heard_text heard.entry) self.new) }
+        ensures taken { OnOk result (IsTakenInUnless (says_nothing heard.entry.lesson (word_text heard.entry.word)) self.old (heard_text heard.entry) self.new) }
         ensures known { OnOk result (self.new.sessions.known ≡ taught_known heard.entry.lesson self.old.sessions.known heard.entry.source) }
         ensures refused { IfErr result (λ e. HeardGives self.old (heard_text heard.entry) (Err e) self.new) }
         ensures few { length self.new.sessions.out ≤ length self.old.sessions.out + 65 * self.old.sessions.place.size }
@@ -174,6 +176,9 @@ impl Engine {
     {
         // The place shows that there is a session for each rank.
         let _place = self.sessions.place();
+        if says_nothing(heard) {
+            return Ok(());
+        }
         let at = self.sessions.emitted();
         self.take_heard(heard)?;
         if let Word::Hands(_) = heard.word {

@@ -25,15 +25,16 @@ mod entering;
 mod following;
 mod notices;
 mod noticing;
+mod probing;
 
 pub use collectives::Ending;
 pub use communicators::{Block, Comparison, Entry, Question};
 pub use datatypes::{Buffer, Layout};
 pub use engine::Engine;
-pub use engine_parts::{Call, Completion, Fact, Judged, Receive, Reply, Send};
+pub use engine_parts::{Call, Completion, Fact, Judged, Probe, Receive, Reply, Send};
 pub use incarnation::Place;
 pub use payload::{Choice, Elements, Operation, Rooted};
 pub use rank_core::{Handed, Refused};
 pub use requests::{Answer, Outcome, Outcomes, Places, Region, Request, RequestList};
 pub use sessions::{MOST_RANKS, Peer, Session};
-pub use vocabulary::{Source, Status};
+pub use vocabulary::{Mode, Source, Status};

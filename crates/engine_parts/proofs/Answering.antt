@@ -39,6 +39,8 @@ answer_given c mid d s t q core_replies.Pending kept taken answers sent =
     (subst (λ (x : CoreState). Answers x q core_replies.Pending d) kept answers, sent)
 answer_given c mid d s t q core_replies.Accepted kept taken answers sent =
     (subst (λ (x : CoreState). Answers x q core_replies.Accepted d) kept answers, sent)
+answer_given c mid d s t q (core_replies.Matched found) kept taken answers sent =
+    (subst (λ (x : CoreState). Answers x q (core_replies.Matched found) d) kept answers, sent)
 answer_given c mid d s t q core_replies.Blocked kept taken answers sent =
     (subst (λ (x : CoreState). Answers x q core_replies.Blocked d) kept answers, sent)
 
@@ -54,6 +56,9 @@ lacks_by e (calls.Waitall qs) why memory need = memory
 lacks_by e (calls.Cancel q) why memory need = absurd need
 lacks_by e (calls.Enter comm x) why memory need = absurd need
 lacks_by e (calls.Ask comm q) why memory need = absurd need
+lacks_by e (calls.Iprobe p) why memory need = absurd need
+lacks_by e (calls.Improbe p) why memory need = (memory, need)
+lacks_by e (calls.Mrecv message into) why memory need = (memory, need)
 
 -- what is asked, and needs memory, is refused for want of it
 reason_is : (e : EngineState) (call : Call) (q : core_asks.Call) (why : Refused) → fault_of e call ≡ None → core_call e.groups call ≡ Some q →
@@ -70,8 +75,10 @@ needs group (core_calls.Test q) need = absurd need
 needs group (core_calls.Waitany qs) need = absurd need
 needs group (core_calls.Waitall qs) need = absurd need
 needs group (core_calls.Cancel q) need = absurd need
+needs group (core_calls.Improbe p) need = tt
+needs group (core_calls.Mrecv message into) need = absurd need
 
--- so is a receive whose group can't be made
+-- so is a receive or a probe whose group can't be made
 pub group_refused : (e : EngineState) (call : Call) (a : Asked) → IsAsked e call a → NeedsGroup a.call →
     CoreGives e call (replies.Refused refusals.OutOfMemory (call_of a)) e
 group_refused e call a asked need =
@@ -100,6 +107,8 @@ named_same comm named group (core_calls.Test q) = refl
 named_same comm named group (core_calls.Waitany qs) = refl
 named_same comm named group (core_calls.Waitall qs) = refl
 named_same comm named group (core_calls.Cancel q) = refl
+named_same comm named group (core_calls.Improbe p) = refl
+named_same comm named group (core_calls.Mrecv message into) = refl
 
 is_answered : (c d : CoreState) (g : GroupsState) (rest : Rest) (s t : SessionsState) (call : Call) (a : Asked) (answer : core_answers.Reply)
     (reply : Reply) → IsAsked (engine_of c g rest s) call a → core_reply reply ≡ Some answer →
@@ -141,6 +150,8 @@ told_gives c d g rest s t call a core_replies.Pending asked gives =
     is_answered c d g rest s t call a core_replies.Pending replies.Pending asked refl gives.0 gives.1
 told_gives c d g rest s t call a core_replies.Accepted asked gives =
     is_answered c d g rest s t call a core_replies.Accepted replies.Accepted asked refl gives.0 gives.1
+told_gives c d g rest s t call a (core_replies.Matched found) asked gives =
+    is_answered c d g rest s t call a (core_replies.Matched found) (replies.Matched found) asked refl gives.0 gives.1
 told_gives c d g rest s t call a core_replies.Blocked asked gives =
     is_answered c d g rest s t call a core_replies.Blocked replies.Blocked asked refl gives.0 gives.1
 
@@ -173,6 +184,8 @@ core_leaves old new call replies.Accepted gives = tt
 core_leaves old new call replies.Blocked gives = tt
 core_leaves old new call (replies.Left o) gives = tt
 core_leaves old new call (replies.Fact f) gives = tt
+core_leaves old new call (replies.Probed found) gives = tt
+core_leaves old new call (replies.Matched found) gives = tt
 
 -- ---- how much goes out
 

@@ -12,18 +12,21 @@ use Rattle.rank_calls.specs.declared.refused.Refused.TheVariants as refusals
 use Rattle.rank_core.specs.Calls.{argument_fault, free_request_fault, limit_fault, request_fault, request_fault_at}
 use Rattle.rank_core.specs.CoreState.{CoreState}
 use Rattle.requests.specs.declared.awaited.Awaited.{Awaited}
+use Rattle.requests.specs.declared.region.Region.{Region}
+use Rattle.requests.specs.declared.table.Request.{Request}
 use Rattle.sessions.specs.SessionsState.{SessionsState}
 use Rattle.vocabulary.specs.declared.envelope.Source.TheVariants.{Null}
-use Rattle.engine_parts.proofs.Clear.{allowed_by, arguments_same, frames_same}
-use Rattle.engine_parts.specs.Asks.{AskGives, CanAskBy, IsAsked, IsOnRequests, JudgementGives, JudgingGives, asked_fault, call_named, engine_of, group_in, receive_asked, send_asked, source_rule, target_rule, with_group}
+use Rattle.engine_parts.proofs.Clear.{allowed_by, arguments_same, frames_same, limits_same}
+use Rattle.engine_parts.specs.Asks.{AskGives, CanAskBy, IsAsked, IsOnRequests, JudgementGives, JudgingGives, asked_fault, call_named, engine_of, group_in, probe_asked, receive_asked, send_asked, source_rule, target_rule, with_group}
 use Rattle.engine_parts.specs.EngineState.{EngineState, GroupsState, Rest, member_of}
-use Rattle.engine_parts.specs.Faults.{broken, fault_of, free_fault, group_limit, is_busy, on_route, receive_rules, routed_limit, send_rules}
+use Rattle.engine_parts.specs.Faults.{broken, fault_of, free_fault, group_limit, is_busy, on_route, probe_rules, receive_rules, routed_limit, send_rules}
 use Rattle.engine_parts.specs.Frames.{frame_limit}
 use Rattle.engine_parts.specs.Refusals.{first_fault}
-use Rattle.engine_parts.specs.Routing.{receive_by, route_at, send_by}
+use Rattle.engine_parts.specs.Routing.{probe_by, receive_by, route_at, send_by}
 use Rattle.engine_parts.specs.declared.asked.Asked.{Asked}
 use Rattle.engine_parts.specs.declared.call.Call.{Call}
 use Rattle.engine_parts.specs.declared.call.Call.TheVariants as calls
+use Rattle.engine_parts.specs.declared.call.Probe.{Probe}
 use Rattle.engine_parts.specs.declared.call.Receive.{Receive}
 use Rattle.engine_parts.specs.declared.call.Send.{Send}
 use Rattle.engine_parts.specs.declared.judging.Judged.{Judged}
@@ -164,6 +167,102 @@ receive_gives c g rest s v r (Ok a) free route gives =
       clear = gives.3;
     })
 
+-- ---- a matching probe
+
+probe_parts : (a a2 b p g l l2 f f2 : Option Refused) → a2 ≡ a → l2 ≡ l → f2 ≡ f →
+    first_fault (first_fault a2 (first_fault b (first_fault p g))) (first_fault l2 f2)
+    ≡ first_fault a (first_fault (first_fault b (first_fault p g)) (first_fault l f))
+probe_parts None a2 b p g l l2 f f2 arguments limit frame =
+    ap (λ (o : Option Refused). first_fault (first_fault o (first_fault b (first_fault p g))) (first_fault l2 f2)) arguments
+    ∙ ap (λ (o : Option Refused). first_fault (first_fault b (first_fault p g)) (first_fault o f2)) limit
+    ∙ ap (λ (o : Option Refused). first_fault (first_fault b (first_fault p g)) (first_fault l o)) frame
+probe_parts (Some e) a2 b p g l l2 f f2 arguments limit frame =
+    ap (λ (o : Option Refused). first_fault (first_fault o (first_fault b (first_fault p g))) (first_fault l2 f2)) arguments
+
+probe_fault_is : (c : CoreState) (g : GroupsState) (rest : Rest) (s : SessionsState) (v : Probe) (r : RouteText) →
+    is_busy (engine_of c g rest s) ≡ false → route_at g v.comm v.source ≡ Some r →
+    fault_of (engine_of c g rest s) (calls.Improbe v) ≡ asked_fault c s (source_rule g s.known v.comm v.source r) (probe_asked v r).call
+probe_fault_is c g rest s v r free route =
+    free_is (engine_of c g rest s) (calls.Improbe v) free
+    ∙ ap (λ (o : Option RouteText). on_route o (probe_rules (engine_of c g rest s) v)) route
+    ∙ probe_parts _ _ (broken (is_source_beyond (held_at (member_of g) v.comm) v.source) refusals.Rank)
+    (broken (names_replaced (known_by s.known) (held_at (member_of g) v.comm) v.source) refusals.Replaced) (group_limit r.group) _ _ _ _
+    (arguments_same c.place r.group (probe_asked v r).call) (limits_same c r.group (probe_asked v r).call)
+    (ap (frame_limit s) (frames_same c r.group (probe_asked v r).call))
+
+-- without a route it is refused with 4
+pub unrouted_probe : (c : CoreState) (g : GroupsState) (rest : Rest) (s : SessionsState) (v : Probe) →
+    is_busy (engine_of c g rest s) ≡ false → route_at g v.comm v.source ≡ None →
+    fault_of (engine_of c g rest s) (calls.Improbe v) ≡ Some refusals.Communicator
+unrouted_probe c g rest s v free route =
+    free_is (engine_of c g rest s) (calls.Improbe v) free ∙ ap (λ (o : Option RouteText). on_route o (probe_rules (engine_of c g rest s) v)) route
+
+-- with one it is judged so
+pub probe_gives : (c : CoreState) (g : GroupsState) (rest : Rest) (s : SessionsState) (v : Probe) (r : RouteText)
+    (result : Result Asked (Handed Call)) → is_busy (engine_of c g rest s) ≡ false → route_at g v.comm v.source ≡ Some r →
+    JudgingGives c s (source_rule g s.known v.comm v.source r) (probe_asked v r) result → AskGives (engine_of c g rest s) (calls.Improbe v) result
+probe_gives c g rest s v r (Err h) free route gives = (probe_fault_is c g rest s v r free route ∙ gives.0, gives.1)
+probe_gives c g rest s v r (Ok a) free route gives =
+    subst (λ (b : Asked). IsAsked (engine_of c g rest s) (calls.Improbe v) b) (sym gives.0)
+    (record {
+      allowed = probe_fault_is c g rest s v r free route ∙ gives.1;
+      back = refl;
+      routed =
+          ap (λ (o : Option RouteText). option_map (λ (t : RouteText). core_calls.Improbe (probe_by v t)) o) route
+          ∙ sym (ap (λ (o : Option RouteText). some (with_group (group_in o) (probe_asked v r).call)) route);
+      shareable =
+          ap (λ (o : Option RouteText). group_limit (group_in o)) route
+          ∙ third_none (broken (is_source_beyond (held_at (member_of g) v.comm) v.source) refusals.Rank)
+          (broken (names_replaced (known_by s.known) (held_at (member_of g) v.comm) v.source) refusals.Replaced) (group_limit r.group)
+          (second_none _ (source_rule g s.known v.comm v.source r) _ gives.1);
+      within = gives.2;
+      clear = gives.3;
+    })
+
+-- ---- the receive of a message
+
+-- what it asks
+abbrev pub message_asked : (message : Option Request) → Region → Asked
+message_asked message into = record { comm = None; named = Null; call = core_calls.Mrecv message into }
+
+-- a request that is none is refused with 6
+pub message_fault_is : (c : CoreState) (g : GroupsState) (rest : Rest) (s : SessionsState) (message : Option Request) (into : Region) →
+    is_busy (engine_of c g rest s) ≡ false →
+    fault_of (engine_of c g rest s) (calls.Mrecv message into)
+    ≡ first_fault (request_fault c (core_calls.Mrecv message into)) (asked_fault c s None (core_calls.Mrecv message into))
+message_fault_is c g rest s message into free =
+    free_is (engine_of c g rest s) (calls.Mrecv message into) free
+    ∙ ap (λ (o : Option Refused). first_fault o (asked_fault c s None (core_calls.Mrecv message into)))
+    (sym (requests_free c (is_within (member_of g).present) (core_calls.Mrecv message into) free))
+
+pub message_refused : (c : CoreState) (g : GroupsState) (rest : Rest) (s : SessionsState) (message : Option Request) (into : Region) (why : Refused) →
+    is_busy (engine_of c g rest s) ≡ false → request_fault c (core_calls.Mrecv message into) ≡ Some why →
+    fault_of (engine_of c g rest s) (calls.Mrecv message into) ≡ Some why
+message_refused c g rest s message into why free is =
+    message_fault_is c g rest s message into free ∙ ap (λ (o : Option Refused). first_fault o (asked_fault c s None (core_calls.Mrecv message into))) is
+
+-- and else it is judged so
+pub message_gives : (c : CoreState) (g : GroupsState) (rest : Rest) (s : SessionsState) (message : Option Request) (into : Region)
+    (result : Result Asked (Handed Call)) → is_busy (engine_of c g rest s) ≡ false → request_fault c (core_calls.Mrecv message into) ≡ None →
+    JudgingGives c s None (message_asked message into) result → AskGives (engine_of c g rest s) (calls.Mrecv message into) result
+message_gives c g rest s message into (Err h) free none gives = (
+  message_fault_is c g rest s message into free
+      ∙ ap (λ (o : Option Refused). first_fault o (asked_fault c s None (core_calls.Mrecv message into))) none ∙ gives.0,
+  gives.1,
+)
+message_gives c g rest s message into (Ok a) free none gives =
+    subst (λ (b : Asked). IsAsked (engine_of c g rest s) (calls.Mrecv message into) b) (sym gives.0)
+    (record {
+      allowed =
+          message_fault_is c g rest s message into free
+          ∙ ap (λ (o : Option Refused). first_fault o (asked_fault c s None (core_calls.Mrecv message into))) none ∙ gives.1;
+      back = refl;
+      routed = refl;
+      shareable = tt;
+      within = tt;
+      clear = gives.3;
+    })
+
 -- the same of what the program handed on
 pub send_asks : (c : CoreState) (g : GroupsState) (s : SessionsState) (v : Send) (r : RouteText) (rule : Option Refused) (a : Asked)
     (result : Result Asked (Handed Call)) → (is_some c.blocked || is_within (member_of g).present) ≡ false → route_at g v.comm v.target ≡ Some r →
@@ -183,6 +282,15 @@ receive_asks c g s v r rule a result free route ruled made gives rest =
     (subst (λ (o : Option Refused). JudgingGives c s o (receive_asked v r) result) ruled
     (subst (λ (b : Asked). JudgingGives c s rule b result) made gives))
 
+pub probe_asks : (c : CoreState) (g : GroupsState) (s : SessionsState) (v : Probe) (r : RouteText) (rule : Option Refused) (a : Asked)
+    (result : Result Asked (Handed Call)) → (is_some c.blocked || is_within (member_of g).present) ≡ false → route_at g v.comm v.source ≡ Some r →
+    rule ≡ source_rule g s.known v.comm v.source r → a ≡ probe_asked v r → JudgingGives c s rule a result →
+    (rest : Rest) → AskGives (engine_of c g rest s) (calls.Improbe v) result
+probe_asks c g s v r rule a result free route ruled made gives rest =
+    probe_gives c g rest s v r result free route
+    (subst (λ (o : Option Refused). JudgingGives c s o (probe_asked v r) result) ruled
+    (subst (λ (b : Asked). JudgingGives c s rule b result) made gives))
+
 -- ---- a call on requests
 
 free_requests : (e : EngineState) (q : core_asks.Call) → IsOnRequests q → free_fault e (call_named None Null q) ≡ free_request_fault e.core q
@@ -193,6 +301,8 @@ free_requests e (core_calls.Test q) on = refl
 free_requests e (core_calls.Waitany qs) on = refl
 free_requests e (core_calls.Waitall qs) on = refl
 free_requests e (core_calls.Cancel q) on = refl
+free_requests e (core_calls.Improbe p) on = absurd on
+free_requests e (core_calls.Mrecv message into) on = absurd on
 
 -- its fault is that of the core's rules on requests
 pub requests_fault_is : (c : CoreState) (g : GroupsState) (rest : Rest) (s : SessionsState) (q : core_asks.Call) → IsOnRequests q →
@@ -216,6 +326,8 @@ asked_by e (core_calls.Waitall qs) on allowed free =
     record { allowed = allowed; back = refl; routed = refl; shareable = tt; within = tt; clear = (allowed_by e.core (core_calls.Waitall qs) free refl refl, refl) }
 asked_by e (core_calls.Cancel q) on allowed free =
     record { allowed = allowed; back = refl; routed = refl; shareable = tt; within = tt; clear = (allowed_by e.core (core_calls.Cancel q) free refl refl, refl) }
+asked_by e (core_calls.Improbe p) on allowed free = absurd on
+asked_by e (core_calls.Mrecv message into) on allowed free = absurd on
 
 -- where the core finds none, it is asked
 pub requests_asked : (c : CoreState) (g : GroupsState) (rest : Rest) (s : SessionsState) (q : core_asks.Call) → IsOnRequests q →

@@ -4,9 +4,11 @@ use Rattle.vocabulary.specs.declared.envelope.Source.{Source}
 use Rattle.vocabulary.specs.declared.envelope.Source.TheVariants as sources
 use Rattle.incarnation.specs.declared.place.Place.{Place}
 use Rattle.rank_calls.specs.Calls.{IsWithin}
+use Rattle.rank_calls.specs.Hearing.{first_of}
 use Rattle.rank_calls.specs.Sending.{announced_to, or_worn_out}
 use Rattle.rank_calls.specs.declared.call.Call.{Call}
 use Rattle.rank_calls.specs.declared.call.Call.TheVariants as calls
+use Rattle.rank_calls.specs.declared.call.Probe.{Probe}
 use Rattle.rank_calls.specs.declared.call.Receive.{Receive}
 use Rattle.rank_calls.specs.declared.refused.Refused.{Refused}
 use Rattle.rank_calls.specs.declared.refused.Refused.TheVariants.{WrongType, Count, Tag, Rank, Limit}
@@ -14,6 +16,7 @@ use Rattle.perfect_queues.specs.Buffers.{is_too_short}
 use Rattle.perfect_queues.specs.Refusals.{is_source_beyond, is_tag_above}
 use Rattle.rank_core.specs.Calls.{argument_fault, call_fault, call_frame, fault_at, limit_fault, request_fault, request_fault_at}
 use Rattle.rank_core.specs.CoreState.{CoreState}
+use Rattle.rank_core.specs.Messages.{message_fault, probe_rule, region_rule, search_limit}
 use Rattle.rank_core.specs.Receiving.{receive_fault, receive_frame, receive_rule}
 use Rattle.rank_core.specs.Sending.{or_full}
 use Rattle.requests.specs.Regions.{handed_of, is_unfit_to_receive}
@@ -41,6 +44,10 @@ receive_allowed c v rule limit =
     by_tests (is_unfit_to_receive (handed_of v.into)) (is_too_short (handed_of v.into)) (is_tag_above v.tag) (is_source_beyond c.place.size v.source)
     (is_full c.slots c.serial) rule limit
 
+both_none : (a b : Option Refused) → a ≡ None → b ≡ None → first_of a b ≡ None
+both_none None b first second = second
+both_none (Some e) b first second = absurd cc
+
 allowed_at : (a : Option Awaited) (c : CoreState) (q : Call) → request_fault_at a c q ≡ None → argument_fault c.place q ≡ None →
     limit_fault c q ≡ None → fault_at a c q ≡ None
 allowed_at (Some a) c q free arguments limit = absurd cc
@@ -52,6 +59,8 @@ allowed_at None c (calls.Test q) free arguments limit = free
 allowed_at None c (calls.Waitany qs) free arguments limit = free
 allowed_at None c (calls.Waitall qs) free arguments limit = free
 allowed_at None c (calls.Cancel q) free arguments limit = free
+allowed_at None c (calls.Improbe p) free arguments limit = both_none (probe_rule c.place.size p.source p.tag) (search_limit p.source c p) arguments limit
+allowed_at None c (calls.Mrecv message into) free arguments limit = both_none (message_fault c message) (region_rule into) free arguments
 
 -- a call that breaks no rule and meets no limit of the core's is allowed there
 pub allowed_by : (c : CoreState) (q : Call) → request_fault c q ≡ None → argument_fault c.place q ≡ None → limit_fault c q ≡ None →
@@ -91,10 +100,18 @@ arguments_same p group (calls.Test q) = refl
 arguments_same p group (calls.Waitany qs) = refl
 arguments_same p group (calls.Waitall qs) = refl
 arguments_same p group (calls.Cancel q) = refl
+arguments_same p group (calls.Improbe q) = refl
+arguments_same p group (calls.Mrecv message into) = refl
 
 fault_same : (c : CoreState) (v : Receive) (group : Option (List ℕ)) → receive_fault c (record v { group = group }) ≡ receive_fault c v
 unfolding receive_fault
 fault_same c v group = refl
+
+search_by : (source : Source) (c : CoreState) (p : Probe) (group : Option (List ℕ)) →
+    search_limit source c (record p { group = group }) ≡ search_limit source c p
+search_by sources.Any c p group = refl
+search_by (sources.Rank r) c p group = refl
+search_by sources.Null c p group = refl
 
 faults_at : (a : Option Awaited) (c : CoreState) (group : Option (List ℕ)) (q : Call) → fault_at a c (with_group group q) ≡ fault_at a c q
 faults_at (Some a) c group q = refl
@@ -105,6 +122,8 @@ faults_at None c group (calls.Test q) = refl
 faults_at None c group (calls.Waitany qs) = refl
 faults_at None c group (calls.Waitall qs) = refl
 faults_at None c group (calls.Cancel q) = refl
+faults_at None c group (calls.Improbe p) = ap (first_of (probe_rule c.place.size p.source p.tag)) (search_by p.source c p group)
+faults_at None c group (calls.Mrecv message into) = refl
 
 frame_by : (source : Source) (c : CoreState) (v : Receive) (group : Option (List ℕ)) →
     receive_frame source c (record v { group = group }) ≡ receive_frame source c v
@@ -120,6 +139,19 @@ frames_same c group (calls.Test q) = refl
 frames_same c group (calls.Waitany qs) = refl
 frames_same c group (calls.Waitall qs) = refl
 frames_same c group (calls.Cancel q) = refl
+frames_same c group (calls.Improbe p) = refl
+frames_same c group (calls.Mrecv message into) = refl
+
+pub limits_same : (c : CoreState) (group : Option (List ℕ)) (q : Call) → limit_fault c (with_group group q) ≡ limit_fault c q
+limits_same c group (calls.Isend s) = refl
+limits_same c group (calls.Irecv v) = refl
+limits_same c group (calls.Wait q) = refl
+limits_same c group (calls.Test q) = refl
+limits_same c group (calls.Waitany qs) = refl
+limits_same c group (calls.Waitall qs) = refl
+limits_same c group (calls.Cancel q) = refl
+limits_same c group (calls.Improbe p) = search_by p.source c p group
+limits_same c group (calls.Mrecv message into) = refl
 
 -- what is clear is so with any group
 pub clear_same : (c : CoreState) (s : SessionsState) (group : Option (List ℕ)) (q : Call) → IsClear c s q → IsClear c s (with_group group q)
@@ -134,3 +166,5 @@ within_same group (calls.Test q) within = tt
 within_same group (calls.Waitany qs) within = tt
 within_same group (calls.Waitall qs) within = tt
 within_same group (calls.Cancel q) within = tt
+within_same group (calls.Improbe p) within = tt
+within_same group (calls.Mrecv message into) within = tt

@@ -1,7 +1,7 @@
 -- The frames of a step: in the order of the ranks, and within the format's limits.
 use Rattle.std.proofs.Common.{◌≡◌, ℕ, zero, suc, ◌+◌, ◌*◌, ◌<◌, ◌≤◌, ◌==◌, ◌&&◌, ◌||◌, ◌⊎◌, inl, inr, not, set, append_assoc, Bool, true, false, cond, List, [], ◌∷◌, ◌++◌, length, map, filter, take, get_or, Option, Some, None, refl, sym, ap, subst, ◌∙◌, arith}
 use Rattle.std.specs.Prelude.{All, if◌then◌else◌, nat_le, nat_lt}
-use Rattle.std.proofs.lemmas.Bool.{leb-true, ltb-false, ltb-true}
+use Rattle.std.proofs.lemmas.Bool.{leb-true, lt-ltb, ltb-false, ltb-true}
 use Rattle.std.proofs.lemmas.List.{append-nil, length-set, map_more}
 use Rattle.std.proofs.lemmas.List.Elements.{All-append, All-cons, All-filter, All-nil, filter-append}
 use Rattle.collective_notes.specs.Messages.{says}
@@ -215,7 +215,7 @@ frame_fits : (b : Bool) (transfer context number : ℕ) (bytes : List ℕ) → n
 frame_fits true transfer context number bytes large tag few =
     let some : 1024 < length bytes * 1 = omega (arith, ltb-true 1024 (length bytes) large) in
     let most : length bytes * 1 ≤ 1048576 = omega (arith, few) in
-    record { tag = tag; large = some; limit = most; plane = refl }
+    record { tag = tag; large = lt-ltb 1024 (length bytes * 1) some; limit = most; plane = refl }
 frame_fits false transfer context number bytes small tag few =
     let size : length bytes ≡ length bytes * 1 = omega arith in
     record { tag = tag; size = size; limit = ltb-false 1024 (length bytes) small; plane = refl }

@@ -1,5 +1,5 @@
 -- What the core is asked by a call, and what becomes of its answer.
-use Rattle.std.specs.Prelude.{◌≡◌, ℕ, List, Option, Some, None, Result, Ok, Err}
+use Rattle.std.specs.Prelude.{◌≡◌, ℕ, List, Option, Some, None, Result, Ok, Err, option_map}
 use Rattle.communicators.specs.Members.{Held}
 use Rattle.communicators.specs.Routes.{RouteText}
 use Rattle.communicators.specs.Rules.{known_by}
@@ -15,8 +15,10 @@ use Rattle.rank_calls.specs.declared.refused.Refused.{Refused}
 use Rattle.rank_calls.specs.declared.refused.Refused.TheVariants as refusals
 use Rattle.rank_core.specs.Calls.{Answers, argument_fault, call_fault, call_frame, limit_fault}
 use Rattle.rank_core.specs.CoreState.{CoreState}
+use Rattle.rank_core.specs.Messages.{looked}
 use Rattle.sessions.specs.SessionsState.{SessionsState}
 use Rattle.vocabulary.specs.declared.envelope.Source.{Source}
+use Rattle.vocabulary.specs.declared.envelope.Status.{Status}
 use Rattle.engine_parts.specs.EngineState.{EngineState, GroupsState, Rest, member_of}
 use Rattle.engine_parts.specs.Faults.{broken, fault_of, group_limit}
 use Rattle.engine_parts.specs.Frames.{after_frame, frame_limit}
@@ -25,6 +27,7 @@ use Rattle.engine_parts.specs.Routing.{core_call, route_at}
 use Rattle.engine_parts.specs.declared.asked.Asked.{Asked}
 use Rattle.engine_parts.specs.declared.call.Call.{Call}
 use Rattle.engine_parts.specs.declared.call.Call.TheVariants as calls
+use Rattle.engine_parts.specs.declared.call.Probe.{Probe}
 use Rattle.engine_parts.specs.declared.call.Receive.{Receive}
 use Rattle.engine_parts.specs.declared.call.Send.{Send}
 use Rattle.engine_parts.specs.declared.judging.Judged.{Judged}
@@ -52,7 +55,7 @@ group_in (Some r) = r.group
 abbrev pub group_at : GroupsState → (comm : Option ℕ) → Source → Option (List ℕ)
 group_at g comm named = group_in (route_at g comm named)
 
--- the same call of the core, where a receive has this group
+-- the same call of the core, where a receive or a probe has this group
 abbrev pub with_group : Option (List ℕ) → core_asks.Call → core_asks.Call
 with_group group (core_calls.Isend s) = core_calls.Isend s
 with_group group (core_calls.Irecv v) = core_calls.Irecv (record v { group = group })
@@ -61,21 +64,27 @@ with_group group (core_calls.Test q) = core_calls.Test q
 with_group group (core_calls.Waitany qs) = core_calls.Waitany qs
 with_group group (core_calls.Waitall qs) = core_calls.Waitall qs
 with_group group (core_calls.Cancel q) = core_calls.Cancel q
+with_group group (core_calls.Improbe p) = core_calls.Improbe (record p { group = group })
+with_group group (core_calls.Mrecv message into) = core_calls.Mrecv message into
 
--- a receive's group can be shared
+-- the group of a receive or a probe can be shared
 abbrev pub IsShareable : Option (List ℕ) → core_asks.Call → Type 0
 IsShareable group (core_calls.Irecv v) = group_limit group ≡ None
+IsShareable group (core_calls.Improbe p) = group_limit group ≡ None
 IsShareable group q = Unit {0}
 
 -- the call has a group
 abbrev pub NeedsGroup : core_asks.Call → Type 0
 NeedsGroup (core_calls.Irecv v) = Unit {0}
+NeedsGroup (core_calls.Improbe p) = Unit {0}
 NeedsGroup q = ⊥
 
--- a call on requests alone
+-- a call on requests alone: it hands nothing in
 abbrev pub IsOnRequests : core_asks.Call → Type 0
 IsOnRequests (core_calls.Isend s) = ⊥
 IsOnRequests (core_calls.Irecv v) = ⊥
+IsOnRequests (core_calls.Improbe p) = ⊥
+IsOnRequests (core_calls.Mrecv message into) = ⊥
 IsOnRequests q = Unit {0}
 
 -- what a send asks on this route
@@ -83,7 +92,7 @@ abbrev pub send_asked : Send → RouteText → Asked
 send_asked s r = record {
   comm = s.comm;
   named = s.target;
-  call = core_calls.Isend (record { target = r.named; tag = s.tag; context = r.context; from = s.from });
+  call = core_calls.Isend (record { mode = s.mode; target = r.named; tag = s.tag; context = r.context; from = s.from });
 }
 
 -- what a receive asks on this route, before it has its group
@@ -94,15 +103,25 @@ receive_asked v r = record {
   call = core_calls.Irecv (record { source = r.named; tag = v.tag; context = r.context; group = None; into = v.into });
 }
 
+-- what a matching probe asks on this route, before it has its group
+abbrev pub probe_asked : Probe → RouteText → Asked
+probe_asked p r = record {
+  comm = p.comm;
+  named = p.source;
+  call = core_calls.Improbe (record { source = r.named; tag = p.tag; context = r.context; group = None });
+}
+
 -- the call by which it is asked, with what that named
 abbrev pub call_named : (comm : Option ℕ) → (named : Source) → core_asks.Call → Call
-call_named comm named (core_calls.Isend s) = calls.Isend (record { comm = comm; target = named; tag = s.tag; from = s.from })
+call_named comm named (core_calls.Isend s) = calls.Isend (record { mode = s.mode; comm = comm; target = named; tag = s.tag; from = s.from })
 call_named comm named (core_calls.Irecv v) = calls.Irecv (record { comm = comm; source = named; tag = v.tag; into = v.into })
 call_named comm named (core_calls.Wait q) = calls.Wait q
 call_named comm named (core_calls.Test q) = calls.Test q
 call_named comm named (core_calls.Waitany qs) = calls.Waitany qs
 call_named comm named (core_calls.Waitall qs) = calls.Waitall qs
 call_named comm named (core_calls.Cancel q) = calls.Cancel q
+call_named comm named (core_calls.Improbe p) = calls.Improbe (record { comm = comm; source = named; tag = p.tag })
+call_named comm named (core_calls.Mrecv message into) = calls.Mrecv message into
 
 -- the call that asks it
 abbrev pub call_of : Asked → Call
@@ -116,7 +135,7 @@ target_rule g known comm named =
     first_fault (broken (is_no_target (held_at (member_of g) comm) named) refusals.Rank)
     (broken (names_replaced (known_by known) (held_at (member_of g) comm) named) refusals.Replaced)
 
--- of the rank that a receive names, and of the group by which it has its status: 5, 11 and 13
+-- of the rank that a receive or a probe names, and of the group by which it has its status: 5, 11 and 13
 abbrev pub source_rule : GroupsState → (known : List ℕ) → (comm : Option ℕ) → Source → RouteText → Option Refused
 source_rule g known comm named r =
     first_fault (broken (is_source_beyond (held_at (member_of g) comm) named) refusals.Rank)
@@ -151,6 +170,14 @@ abbrev pub JudgementGives : Result Asked (Handed Call) → Judged → Type 0
 JudgementGives (Ok a) j = (j.fault ≡ None) × (j.call ≡ call_of a)
 JudgementGives (Err h) j = (j.fault ≡ Some h.refused) × (j.call ≡ h.value)
 
+-- A probe that takes nothing out is refused by its first rule, whatever memory there is; or this is what such a receive would take
+-- now, with the status by the group of its communicator
+abbrev pub LookGives : EngineState → Probe → Result (Option Status) Refused → Type 0
+LookGives e p (Err why) = fault_of e (calls.Iprobe p) ≡ Some why
+LookGives e p (Ok found) =
+    (fault_of e (calls.Iprobe p) ≡ None)
+    × (option_map (λ r. looked e.core r.named p.tag r.context r.group) (route_at e.groups p.comm p.source) ≡ Some found)
+
 -- the core can be asked so
 abbrev pub CanAsk : CoreState → GroupsState → SessionsState → Asked → Type 0
 CanAsk c g s a = IsShareable (group_at g a.comm a.named) a.call × IsClear c s a.call
@@ -175,6 +202,7 @@ AnswerGives c s q (core_replies.Started r) d t = Answers c q (core_replies.Start
 AnswerGives c s q (core_replies.Done a) d t = Answers c q (core_replies.Done a) d × (t ≡ after_frame s (call_frame c q))
 AnswerGives c s q core_replies.Pending d t = Answers c q core_replies.Pending d × (t ≡ after_frame s (call_frame c q))
 AnswerGives c s q core_replies.Accepted d t = Answers c q core_replies.Accepted d × (t ≡ after_frame s (call_frame c q))
+AnswerGives c s q (core_replies.Matched found) d t = Answers c q (core_replies.Matched found) d × (t ≡ after_frame s (call_frame c q))
 AnswerGives c s q core_replies.Blocked d t = Answers c q core_replies.Blocked d × (t ≡ after_frame s (call_frame c q))
 
 -- the core's answer as the engine's, to a call that named this
@@ -183,5 +211,6 @@ told comm named (core_replies.Started r) = replies.Started r
 told comm named (core_replies.Done a) = replies.Done a
 told comm named core_replies.Pending = replies.Pending
 told comm named core_replies.Accepted = replies.Accepted
+told comm named (core_replies.Matched found) = replies.Matched found
 told comm named core_replies.Blocked = replies.Blocked
 told comm named (core_replies.Refused why back) = replies.Refused why (call_named comm named back)

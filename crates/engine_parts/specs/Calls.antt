@@ -19,13 +19,16 @@ use Rattle.rank_calls.specs.declared.refused.Refused.{Refused}
 use Rattle.rank_calls.specs.declared.refused.Refused.TheVariants as refusals
 use Rattle.rank_core.specs.Calls.{Answers, call_frame}
 use Rattle.rank_core.specs.CoreState.{with_numbers}
+use Rattle.rank_core.specs.Messages.{looked}
 use Rattle.sessions.specs.Events.{after_event}
+use Rattle.vocabulary.specs.declared.envelope.Status.{Status}
 use Rattle.engine_parts.specs.EngineState.{EngineState, member_of}
 use Rattle.engine_parts.specs.Faults.{fault_of}
 use Rattle.engine_parts.specs.Frames.{AreWhole, after_frame, step_limit, step_numbers, step_payloads, step_sendings}
-use Rattle.engine_parts.specs.Routing.{core_call, core_reply}
+use Rattle.engine_parts.specs.Routing.{core_call, core_reply, route_at}
 use Rattle.engine_parts.specs.declared.call.Call.{Call}
 use Rattle.engine_parts.specs.declared.call.Call.TheVariants as calls
+use Rattle.engine_parts.specs.declared.call.Probe.{Probe}
 use Rattle.engine_parts.specs.declared.reply.Fact.{Fact}
 use Rattle.engine_parts.specs.declared.reply.Fact.TheVariants as facts
 use Rattle.engine_parts.specs.declared.reply.Reply.{Reply}
@@ -71,6 +74,9 @@ LacksRoom e (calls.Test q) why = ⊥
 LacksRoom e (calls.Waitany qs) why = ⊥
 LacksRoom e (calls.Waitall qs) why = why ≡ refusals.OutOfMemory
 LacksRoom e (calls.Cancel q) why = ⊥
+LacksRoom e (calls.Iprobe p) why = ⊥
+LacksRoom e (calls.Improbe p) why = (why ≡ refusals.OutOfMemory) × NeedsMemory (core_call e.groups (calls.Improbe p))
+LacksRoom e (calls.Mrecv message into) why = (why ≡ refusals.OutOfMemory) × NeedsMemory (core_call e.groups (calls.Mrecv message into))
 
 -- a call is refused by the rule or limit that it meets; where it meets none, for want of room
 abbrev pub WhyRefused : Option Refused → EngineState → Call → Refused → Type 0
@@ -137,6 +143,12 @@ pub record IsTold (old : EngineState) (comm : Option ℕ) (q : Question) (fact :
       option_map (λ c. fact_of old.groups.collective.own (member_of old.groups) c (question_of q)) (held_at (member_of old.groups) comm)
       ≡ Some (fact_said fact)
 
+-- what such a receive would take now is told, and nothing changes
+pub record IsLooked (old : EngineState) (p : Probe) (found : Option Status) (new : EngineState) : Type 0 where
+  pub allowed : fault_of old (calls.Iprobe p) ≡ None
+  pub unchanged : new ≡ old
+  pub found_is : option_map (λ r. looked old.core r.named p.tag r.context r.group) (route_at old.groups p.comm p.source) ≡ Some found
+
 -- a collective is entered, or the call is refused
 abbrev pub EnteringGives : EngineState → (comm : Option ℕ) → Entry → Reply → EngineState → Type 0
 EnteringGives old comm x (replies.Refused why back) new = IsRefused old (calls.Enter comm x) why back new
@@ -147,6 +159,12 @@ abbrev pub AskingGives : EngineState → (comm : Option ℕ) → Question → Re
 AskingGives old comm q (replies.Refused why back) new = IsRefused old (calls.Ask comm q) why back new
 AskingGives old comm q (replies.Fact fact) new = IsTold old comm q fact new
 AskingGives old comm q _ new = ⊥
+
+-- a probe that takes nothing out is answered, or refused
+abbrev pub LookingGives : EngineState → Probe → Reply → EngineState → Type 0
+LookingGives old p (replies.Refused why back) new = IsRefused old (calls.Iprobe p) why back new
+LookingGives old p (replies.Probed found) new = IsLooked old p found new
+LookingGives old p _ new = ⊥
 
 -- a call of point to point, or on requests, is answered or refused
 abbrev pub CoreGives : EngineState → Call → Reply → EngineState → Type 0
@@ -164,6 +182,9 @@ CallGives old (calls.Waitall qs) reply new = CoreGives old (calls.Waitall qs) re
 CallGives old (calls.Cancel q) reply new = CoreGives old (calls.Cancel q) reply new
 CallGives old (calls.Enter comm x) reply new = EnteringGives old comm x reply new
 CallGives old (calls.Ask comm q) reply new = AskingGives old comm q reply new
+CallGives old (calls.Iprobe p) reply new = LookingGives old p reply new
+CallGives old (calls.Improbe p) reply new = CoreGives old (calls.Improbe p) reply new
+CallGives old (calls.Mrecv message into) reply new = CoreGives old (calls.Mrecv message into) reply new
 
 -- the call was taken: its reply is no refusal
 abbrev pub IsTaken : Reply → Type 0
@@ -175,6 +196,8 @@ IsTaken replies.Accepted = Unit {0}
 IsTaken replies.Blocked = Unit {0}
 IsTaken (replies.Left o) = Unit {0}
 IsTaken (replies.Fact f) = Unit {0}
+IsTaken (replies.Probed found) = Unit {0}
+IsTaken (replies.Matched found) = Unit {0}
 
 -- a refused call leaves the engine as it was
 abbrev pub RefusedLeaves : Reply → EngineState → EngineState → Type 0
@@ -186,3 +209,5 @@ RefusedLeaves replies.Accepted old new = Unit {0}
 RefusedLeaves replies.Blocked old new = Unit {0}
 RefusedLeaves (replies.Left o) old new = Unit {0}
 RefusedLeaves (replies.Fact f) old new = Unit {0}
+RefusedLeaves (replies.Probed found) old new = Unit {0}
+RefusedLeaves (replies.Matched found) old new = Unit {0}

@@ -17,9 +17,10 @@ use Rattle.vocabulary.specs.declared.envelope.Source.{Source}
 use Rattle.engine_parts.specs.EngineState.{EngineState, member_of}
 use Rattle.engine_parts.specs.Frames.{frame_limit}
 use Rattle.engine_parts.specs.Refusals.{first_fault, of_entry_rule}
-use Rattle.engine_parts.specs.Routing.{receive_by, route_at, send_by}
+use Rattle.engine_parts.specs.Routing.{probe_by, receive_by, route_at, send_by}
 use Rattle.engine_parts.specs.declared.call.Call.{Call}
 use Rattle.engine_parts.specs.declared.call.Call.TheVariants as calls
+use Rattle.engine_parts.specs.declared.call.Probe.{Probe}
 use Rattle.engine_parts.specs.declared.call.Receive.{Receive}
 use Rattle.engine_parts.specs.declared.call.Send.{Send}
 
@@ -56,6 +57,21 @@ receive_rules e v r =
     (first_fault (broken (is_source_beyond (held_at (member_of e.groups) v.comm) v.source) refusals.Rank)
     (first_fault (broken (is_replaced e v.comm v.source) refusals.Replaced)
     (first_fault (group_limit r.group) (routed_limit e (core_calls.Irecv (receive_by v r))))))
+
+-- of a probe with a route, by what it names: 3, 5, 11. Its group has at most 65,535 members, as for a receive
+abbrev pub look_rules : EngineState → Probe → RouteText → Option Refused
+look_rules e p r =
+    first_fault (argument_fault e.core.place (core_calls.Improbe (probe_by p r)))
+    (first_fault (broken (is_source_beyond (held_at (member_of e.groups) p.comm) p.source) refusals.Rank)
+    (first_fault (broken (is_replaced e p.comm p.source) refusals.Replaced) (group_limit r.group)))
+
+-- of a matching probe with a route: the same, and then 13, where a message was found
+abbrev pub probe_rules : EngineState → Probe → RouteText → Option Refused
+probe_rules e p r = first_fault (look_rules e p r) (routed_limit e (core_calls.Improbe (probe_by p r)))
+
+-- of the receive of a message: 6, 2, 1, 13
+abbrev pub message_rules : EngineState → cores.Call → Option Refused
+message_rules e q = first_fault (free_request_fault e.core q) (first_fault (argument_fault e.core.place q) (routed_limit e q))
 
 -- where there is no route, the rank holds no such communicator (4)
 abbrev pub on_route : Option RouteText → (RouteText → Option Refused) → Option Refused
@@ -94,6 +110,9 @@ free_fault e (calls.Waitall qs) = free_request_fault e.core (core_calls.Waitall 
 free_fault e (calls.Cancel q) = free_request_fault e.core (core_calls.Cancel q)
 free_fault e (calls.Enter comm entry) = entry_rules e comm entry
 free_fault e (calls.Ask comm question) = question_rules e comm question
+free_fault e (calls.Iprobe p) = on_route (route_at e.groups p.comm p.source) (look_rules e p)
+free_fault e (calls.Improbe p) = on_route (route_at e.groups p.comm p.source) (probe_rules e p)
+free_fault e (calls.Mrecv message into) = message_rules e (core_calls.Mrecv message into)
 
 -- whether an earlier call is blocked, on requests or in a collective
 abbrev pub is_busy : EngineState → Bool

@@ -18,6 +18,7 @@ use Rattle.sessions.specs.Events.{Sending, after_event, event_limit}
 use Rattle.sessions.specs.Heard.{HeardText}
 use Rattle.sessions.specs.SessionsState.{SessionsState}
 use Rattle.sessions.specs.declared.heard.Outgoing.{Outgoing}
+use Rattle.vocabulary.specs.declared.mode.Mode.TheVariants.{Standard}
 use Rattle.vocabulary.specs.declared.basic_type.BasicType.TheVariants.{Byte}
 use Rattle.vocabulary.specs.Limits.{eager_limit, highest_tag, send_limit}
 use Rattle.engine_parts.specs.Refusals.{fault_of_sessions}
@@ -73,6 +74,7 @@ payload_frame None context number bytes = EagerFrame (record {
   elements = bytes;
 })
 payload_frame (Some transfer) context number bytes = RequestFrame (record {
+  mode = Standard;
   plane = Collective;
   basic = Byte;
   tag = number;

@@ -19,6 +19,7 @@ use Rattle.rank_core.specs.CoreState as cores
 use Rattle.rendezvous.specs.declared.transfers.Numbers.{Numbers}
 use Rattle.sessions.specs.Events.{Sending}
 use Rattle.sessions.specs.SessionsState.{SessionsState}
+use Rattle.vocabulary.specs.declared.mode.Mode.TheVariants.{Standard}
 use Rattle.vocabulary.specs.declared.basic_type.BasicType.TheVariants.{Byte}
 use Rattle.vocabulary.specs.declared.endpoint.Endpoint.{Endpoint}
 use Rattle.engine_parts.specs.Asks.{engine_of, groups_of}
@@ -43,6 +44,7 @@ part_frame context number count (parts.Whole bytes) = EagerFrame (record {
   elements = bytes.items;
 })
 part_frame context number count (parts.Announced transfer) = RequestFrame (record {
+  mode = Standard;
   plane = Collective;
   basic = Byte;
   tag = number;

@@ -2,10 +2,10 @@
 
 ghost use Rattle.std.specs.Prelude.{◌≡◌, IfOk, OnErr, OnOk};
 ghost use Rattle.communicators.specs.Routes.{route_text};
-ghost use Rattle.engine_parts.specs.Asks.{IsShareable, NeedsGroup, call_named, call_of, group_at, groups_of, receive_asked, send_asked, told, with_group};
+ghost use Rattle.engine_parts.specs.Asks.{IsShareable, NeedsGroup, call_named, call_of, group_at, groups_of, probe_asked, receive_asked, send_asked, told, with_group};
 ghost use Rattle.engine_parts.specs.Faults.{group_limit};
 
-use crate::call::{Call, Receive, Send};
+use crate::call::{Call, Probe, Receive, Send};
 use crate::reply::Reply;
 use communicators::{Communicators, Route};
 use shared_groups::Members;
@@ -32,6 +32,7 @@ pub fn send_asked(send: Send, route: Route<'_>) -> Asked
         comm: send.comm,
         named: send.target,
         call: rank_core::Call::Isend(rank_core::Send {
+            mode: send.mode,
             target: route.named,
             tag: send.tag,
             context: route.context,
@@ -57,12 +58,29 @@ pub fn receive_asked(receive: Receive, route: Route<'_>) -> Asked
     }
 }
 
+/// What a matching probe asks on this route, before it has its group.
+pub fn probe_asked(probe: Probe, route: Route<'_>) -> Asked
+    ensures { result ≡ probe_asked probe (route_text route.entry) }
+{
+    Asked {
+        comm: probe.comm,
+        named: probe.source,
+        call: rank_core::Call::Improbe(rank_core::Probe {
+            source: route.named,
+            tag: probe.tag,
+            context: route.context,
+            group: None,
+        }),
+    }
+}
+
 /// The call by which the core is asked this, with what it named.
 fn call_named(comm: Option<usize>, named: Source, call: rank_core::Call) -> Call
     ensures { result ≡ call_named comm named call }
 {
     match call {
         rank_core::Call::Isend(send) => Call::Isend(Send {
+            mode: send.mode,
             comm,
             target: named,
             tag: send.tag,
@@ -79,6 +97,12 @@ fn call_named(comm: Option<usize>, named: Source, call: rank_core::Call) -> Call
         rank_core::Call::Waitany(list) => Call::Waitany(list),
         rank_core::Call::Waitall(list) => Call::Waitall(list),
         rank_core::Call::Cancel(request) => Call::Cancel(request),
+        rank_core::Call::Improbe(probe) => Call::Improbe(Probe {
+            comm,
+            source: named,
+            tag: probe.tag,
+        }),
+        rank_core::Call::Mrecv(message, into) => Call::Mrecv(message, into),
     }
 }
 
@@ -91,6 +115,7 @@ pub fn told(comm: Option<usize>, named: Source, reply: rank_core::Reply) -> Repl
         rank_core::Reply::Done(answer) => Reply::Done(answer),
         rank_core::Reply::Pending => Reply::Pending,
         rank_core::Reply::Accepted => Reply::Accepted,
+        rank_core::Reply::Matched(found) => Reply::Matched(found),
         rank_core::Reply::Blocked => Reply::Blocked,
         rank_core::Reply::Refused(refused, call) => {
             Reply::Refused(refused, call_named(comm, named, call))
@@ -107,8 +132,8 @@ impl Asked {
     }
 }
 
-/// The group by which a receive on the communicator at a place has its status, to be shared among receives. It fails for want
-/// of memory alone.
+/// The group by which a receive or a probe on the communicator at a place has its status, to be shared among receives. It fails
+/// for want of memory alone.
 fn members_of(
     alloc: Global,
     communicators: &Communicators,
@@ -127,8 +152,8 @@ fn members_of(
     }
 }
 
-/// A receive has its group from now on, by which its status names the source. It fails for want of memory alone, and then leaves
-/// what is asked as it was.
+/// A receive or a probe has its group from now on, by which its status names the source. It fails for want of memory alone, and
+/// then leaves what is asked as it was.
 pub fn share_members(
     alloc: Global,
     communicators: &Communicators,
@@ -141,9 +166,15 @@ pub fn share_members(
     ensures unchanged { OnErr result (asked.new ≡ asked.old) }
     ensures need { OnErr result (NeedsGroup asked.old.call) }
 {
-    let rank_core::Call::Irecv(receive) = &mut asked.call else {
-        return Ok(());
-    };
-    receive.group = members_of(alloc, communicators, asked.comm, asked.named)?;
-    Ok(())
+    match &mut asked.call {
+        rank_core::Call::Irecv(receive) => {
+            receive.group = members_of(alloc, communicators, asked.comm, asked.named)?;
+            Ok(())
+        }
+        rank_core::Call::Improbe(probe) => {
+            probe.group = members_of(alloc, communicators, asked.comm, asked.named)?;
+            Ok(())
+        }
+        _ => Ok(()),
+    }
 }

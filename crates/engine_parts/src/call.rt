@@ -6,11 +6,13 @@ use collective_notes::Entry;
 use communicators::Question;
 use requests::{Region, Request, RequestList};
 use std::alloc::{AllocError, Global};
-use vocabulary::Source;
+use vocabulary::{Mode, Source};
 
-/// A standard send (MPI 3.1, 3.4 and 3.7.2).
+/// A send (MPI 3.1, 3.4 and 3.7.2).
 #[derive(Drop)]
 pub struct Send {
+    /// Standard or synchronous: how it ends (3.4).
+    pub mode: Mode,
     /// The communicator, by its place among those that the rank holds: `world` has place 0, `self` place 1. `None` is
     /// MPI_COMM_NULL, which is refused (6.4).
     pub comm: Option<usize>,
@@ -35,8 +37,19 @@ pub struct Receive {
     pub into: Region,
 }
 
+/// What a probe asks for (MPI 3.1, 3.8.1 and 3.8.2).
+#[derive(Clone, Copy)]
+pub struct Probe {
+    /// The communicator, by its place among those that the rank holds; `None` is MPI_COMM_NULL.
+    pub comm: Option<usize>,
+    /// Whom it names, as a rank in the communicator. Its status names the source so too (3.2.5).
+    pub source: Source,
+    /// The tag that it wants, at most 2,147,483,647; `None` is the wildcard.
+    pub tag: Option<u32>,
+}
+
 /// What a program may ask of its rank. Where a request is named, none is the null request; where a communicator is, none is
-/// MPI_COMM_NULL.
+/// MPI_COMM_NULL. A message that a matching probe took out is named by a request too, until it is received.
 #[derive(Drop)]
 pub enum Call {
     /// Starts a send.
@@ -58,6 +71,12 @@ pub enum Call {
     Enter(Option<usize>, Entry),
     /// Asks about the communicator (6.4.1).
     Ask(Option<usize>, Question),
+    /// Tells what message such a receive would take now, if there is one, and leaves it (3.8.1).
+    Iprobe(Probe),
+    /// Takes a message out of matching that such a receive would take now, if there is one (3.8.2).
+    Improbe(Probe),
+    /// Receives a message that was taken out, and waits until its data are there; `None` is that of the null process (3.8.3).
+    Mrecv(Option<Request>, Region),
 }
 
 impl Call {
@@ -67,6 +86,7 @@ impl Call {
     {
         match self {
             Call::Isend(send) => Ok(Call::Isend(Send {
+                mode: send.mode,
                 comm: send.comm,
                 target: send.target,
                 tag: send.tag,
@@ -85,6 +105,9 @@ impl Call {
             Call::Cancel(request) => Ok(Call::Cancel(*request)),
             Call::Enter(comm, entry) => Ok(Call::Enter(*comm, entry.try_clone(alloc)?)),
             Call::Ask(comm, question) => Ok(Call::Ask(*comm, *question)),
+            Call::Iprobe(probe) => Ok(Call::Iprobe(*probe)),
+            Call::Improbe(probe) => Ok(Call::Improbe(*probe)),
+            Call::Mrecv(message, into) => Ok(Call::Mrecv(*message, into.try_clone(alloc)?)),
         }
     }
 }

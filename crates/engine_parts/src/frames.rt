@@ -22,7 +22,7 @@ use rank_core::Refused;
 use rendezvous::{Numbers, begin, is_full_to};
 use sessions::{Heard, Outgoing, Sessions};
 use std::alloc::Global;
-use vocabulary::{BasicType, EAGER_LIMIT, HIGHEST_TAG, SEND_LIMIT};
+use vocabulary::{BasicType, EAGER_LIMIT, HIGHEST_TAG, Mode, SEND_LIMIT};
 
 /// What goes in the frame of a message.
 #[derive(Drop)]
@@ -218,6 +218,7 @@ fn frame_of(message: &Written) -> Outgoing<'_>
             elements: bytes,
         }),
         Part::Announced(transfer) => Frame::RequestToSend(RequestToSend {
+            mode: Mode::Standard,
             plane: Plane::Collective,
             basic: BasicType::Byte,
             tag: message.number,

@@ -14,11 +14,12 @@ ghost use Rattle.engine_parts.specs.Frames.{frame_limit};
 ghost use Rattle.engine_parts.specs.Refusals.{first_fault};
 ghost use Rattle.engine_parts.specs.declared.call.Call.TheVariants as calls;
 
-use crate::asked::{Asked, receive_asked, send_asked};
-use crate::call::{Call, Receive, Send};
+use crate::asked::{Asked, probe_asked, receive_asked, send_asked};
+use crate::call::{Call, Probe, Receive, Send};
 use crate::refusals::of_sessions;
 use communicators::{Communicators, Route};
 use rank_core::{Core, Handed, Refused};
+use requests::{Region, Request};
 use sessions::Sessions;
 use vocabulary::Source;
 
@@ -32,7 +33,7 @@ pub struct Judged {
 }
 
 /// Whether an earlier call is blocked, on requests or in a collective.
-fn is_busy(core: &Core, communicators: &Communicators) -> bool
+pub(crate) fn is_busy(core: &Core, communicators: &Communicators) -> bool
     ensures { result ≡ (is_some core.now.state.blocked || is_within (member_of (groups_of communicators.now)).present) }
 {
     core.is_blocked() || communicators.is_inside()
@@ -66,8 +67,8 @@ fn limit_of_group(route: Route<'_>) -> Option<Refused>
     }
 }
 
-/// The rule that a receive breaks by the rank that it names, or the limit that its group meets: 5, 11 or 13.
-fn rule_of_source(
+/// The rule that a receive or a probe breaks by the rank that it names, or the limit that its group meets: 5, 11 or 13.
+pub(crate) fn rule_of_source(
     communicators: &Communicators,
     sessions: &Sessions,
     comm: Option<usize>,
@@ -207,6 +208,63 @@ pub fn ask_to_receive(
     };
     let rule = rule_of_source(communicators, sessions, receive.comm, receive.source, route);
     asked_unless_refused(core, sessions, rule, receive_asked(receive, route))
+}
+
+/// What the core is to be asked by a matching probe, unless it is refused by now.
+pub fn ask_to_probe(
+    core: &Core,
+    communicators: &Communicators,
+    sessions: &Sessions,
+    probe: Probe,
+) -> Result<Asked, Handed<Call>>
+    requires place { core.now.state.place ≡ sessions.now.place }
+    ensures { (rest : Rest) → AskGives (engine_of core.now.state (groups_of communicators.now) rest sessions.now) (calls.Improbe probe) result }
+{
+    if is_busy(core, communicators) {
+        return Err(Handed {
+            refused: Refused::Request,
+            value: Call::Improbe(probe),
+        });
+    }
+    let Some(route) = communicators.route(probe.comm, probe.source) else {
+        return Err(Handed {
+            refused: Refused::Communicator,
+            value: Call::Improbe(probe),
+        });
+    };
+    let rule = rule_of_source(communicators, sessions, probe.comm, probe.source, route);
+    asked_unless_refused(core, sessions, rule, probe_asked(probe, route))
+}
+
+/// What the core is to be asked by the receive of a message that was taken out, unless it is refused by now.
+pub fn ask_for_message(
+    core: &Core,
+    communicators: &Communicators,
+    sessions: &Sessions,
+    message: Option<Request>,
+    into: Region,
+) -> Result<Asked, Handed<Call>>
+    requires place { core.now.state.place ≡ sessions.now.place }
+    ensures { (rest : Rest) → AskGives (engine_of core.now.state (groups_of communicators.now) rest sessions.now) (calls.Mrecv message into) result }
+{
+    let asked = Asked {
+        comm: None,
+        named: Source::Null,
+        call: rank_core::Call::Mrecv(message, into),
+    };
+    if is_busy(core, communicators) {
+        return Err(Handed {
+            refused: Refused::Request,
+            value: asked.into_call(),
+        });
+    }
+    match core.fault_of_requests(&asked.call) {
+        None => asked_unless_refused(core, sessions, None, asked),
+        Some(refused) => Err(Handed {
+            refused,
+            value: asked.into_call(),
+        }),
+    }
 }
 
 /// What the core is to be asked by a call on requests, unless it is refused by now.

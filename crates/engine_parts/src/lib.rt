@@ -11,13 +11,17 @@ mod asked;
 mod call;
 mod frames;
 mod judging;
+mod looking;
 mod refusals;
 mod reply;
 
 pub use answers::answer_unless_refused;
 pub use asked::Asked;
-pub use call::{Call, Receive, Send};
+pub use call::{Call, Probe, Receive, Send};
 pub use frames::send_step;
-pub use judging::{Judged, ask_on_requests, ask_to_receive, ask_to_send, judgement};
+pub use judging::{
+    Judged, ask_for_message, ask_on_requests, ask_to_probe, ask_to_receive, ask_to_send, judgement,
+};
+pub use looking::{fault_of_look, look};
 pub use refusals::{of_collectives, of_rule, of_sessions};
 pub use reply::{Completion, Fact, Reply};

@@ -5,6 +5,7 @@ use collectives::Ending;
 use communicators::Comparison;
 use rank_core::Refused;
 use requests::{Answer, Request};
+use vocabulary::Status;
 
 /// The answer to a question about a communicator (MPI 3.1, 6.4.1).
 #[derive(Drop)]
@@ -34,6 +35,10 @@ pub enum Reply {
     Left(Ending),
     /// What was asked about a communicator.
     Fact(Fact),
+    /// What a probe found: the status of the message (MPI 3.1, 3.8.1).
+    Probed(Option<Status>),
+    /// What a matching probe found: the message, or that of the null process, which is `None`, with its status (3.8.2).
+    Matched(Option<(Option<Request>, Status)>),
     /// The call broke this rule, or met a limit or want of memory. It is handed back, and nothing changed.
     Refused(Refused, Call),
 }

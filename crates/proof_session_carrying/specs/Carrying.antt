@@ -20,6 +20,7 @@ use Rattle.vocabulary.specs.Endpoints.{is_same}
 use Rattle.vocabulary.specs.Limits.{eager_limit}
 use Rattle.vocabulary.specs.declared.basic_type.BasicType.TheVariants.{Byte}
 use Rattle.vocabulary.specs.declared.endpoint.Endpoint.{Endpoint}
+use Rattle.vocabulary.specs.declared.mode.Mode.TheVariants.{Standard}
 
 -- ---- the messages that notices are
 
@@ -69,8 +70,10 @@ pub record IsEager (m : Message) (t : EagerText) : Type 0 where
   pub number : t.tag ≡ m.number
   pub elements : t.elements ≡ bytes_of_message m
 
--- an RTS announces a message: so many bytes, more than a frame takes, for its context, under the number of the collective
+-- an RTS announces a message: so many bytes, more than a frame takes, for its context, under the number of the collective. It is that
+-- of a standard send
 pub record IsRequest (m : Message) (t : RequestText) : Type 0 where
+  pub mode : t.mode ≡ Standard
   pub plane : t.plane ≡ Collective
   pub basic : t.basic ≡ Byte
   pub context : t.context ≡ m.context

@@ -5,8 +5,8 @@ use Rattle.sessions.specs.Heard.{HeardText, heard_text, word_text}
 use Rattle.sessions.specs.Windows.{room}
 use Rattle.sessions.proofs.Windows.{few_within}
 use Rattle.engine_parts.specs.EngineState.{EngineState}
-use Rattle.engine.specs.Datagrams.{FollowedBy, notice_in}
-use Rattle.engine.proofs.Hearing.{known_carried, unheard_leaves}
+use Rattle.engine.specs.Datagrams.{FollowedBy, notice_in, says_nothing}
+use Rattle.engine.proofs.Hearing.{known_carried, taken_unless, unheard_leaves}
 use Rattle.engine.proofs.Turning.{acknowledged_first, follows_handed, follows_none, heard_carried}
 use Rattle.engine.proofs.engine.Engine.take_in.Goals.{in-Hands, in_default}
 use Rattle.engine.proofs.engine.Engine.take_in.Goals as goal
@@ -44,13 +44,13 @@ returns-clause-taken c =
       | in_default w ↦ subst (λ (e : EngineState). FollowedBy h.word (length old.sessions.out) h.source first e) (sym w.self-is)
           (follows_none c.args.heard.word (length old.sessions.out) h.source first w.in_default.not-Hands)
     ] in
-    record {
+    taken_unless (says_nothing h.lesson h.word) old h c.wake.new.self (sym c.says_nothing.ensures ∙ c.if-says_nothing.false) (record {
       first = first;
       last = c.match-heard.self;
       takes = c.in_ok-take_heard.ensures.exact;
       follows = follows;
       new_is = c.wake.ensures.exact;
-    }
+    })
 
 pub returns-clause-known : goal.returns-clause-known
 returns-clause-known c =
