@@ -35,6 +35,7 @@ use Rattle.rendezvous.specs.declared.transfers.Numbers.{Numbers}
 use Rattle.sessions.specs.Events.{event_limit}
 use Rattle.sessions.specs.Heard.{HeardText}
 use Rattle.sessions.specs.SessionsState.{SessionsState, known_endpoint}
+use Rattle.vocabulary.specs.Modes.{is_standard}
 use Rattle.vocabulary.specs.declared.endpoint.Endpoint.{Endpoint}
 use Rattle.proof_network_bridge.specs.Payloads.{ArePayloads, IsComingPayload, IsLargeNotice}
 use Rattle.proof_network_bridge.proofs.Carried.{IsAlone, alone_step, numbers_there}
@@ -120,7 +121,8 @@ taken_step : (n r : ℕ) (engines : List EngineState) (u : GroupNetwork) (T : Se
     frame_in h.word ≡ Some (RequestFrame t) → t.plane ≡ planes.Collective → announcement_fault old.core old.sessions h t ≡ None → IsStepped n r engines u h.source T (after_announcement old h t)
 taken_step n r engines u T old h t x is plane fine =
     alone_step n r engines u T old (after_announcement old h t) h (RequestFrame t) (answer_to h t ∷ []) ((s, Answers a.number) ∷ []) x is (counts old h t) may
-    (neither_fault (bad_unless (is_next (numbers_met old.core h) s.rank t.transfer)) (fault_of_sessions (event_limit old.sessions (Some h) (answer_to h t ∷ []))) fine).1 (λ rest. refl, tt) carried kept
+    (neither_fault (bad_unless (is_next (numbers_met old.core h) s.rank t.transfer)) (fault_of_sessions (event_limit old.sessions (Some h) (answer_to h t ∷ [])))
+    (neither_fault (bad_unless (is_standard t.mode)) _ fine).1).1 (λ rest. refl, tt) carried kept
   where
     own : Endpoint
     own = here u.net r

@@ -3,18 +3,20 @@ use Rattle.std.proofs.Common.{◌≡◌, ℕ, List, ◌++◌, Option, Some, subs
 use Rattle.std.specs.Prelude.{slice_get}
 use Rattle.collective_notes.specs.declared.entry.Entry as collectives
 use Rattle.communicators.specs.declared.question.Question.{Question}
-use Rattle.engine_parts.specs.Calls.{AskingGives, CallGives, CoreGives, IsAnswered, IsEntered, IsTaken, IsTold}
+use Rattle.engine_parts.specs.Calls.{AskingGives, CallGives, CoreGives, IsAnswered, IsEntered, IsLooked, IsTaken, IsTold, LookingGives}
 use Rattle.engine_parts.specs.EngineState.{EngineState, completion_of}
 use Rattle.engine_parts.specs.declared.call.Call.{Call}
 use Rattle.engine_parts.specs.declared.call.Call.TheVariants as calls
+use Rattle.engine_parts.specs.declared.call.Probe.{Probe}
 use Rattle.engine_parts.specs.declared.reply.Fact.{Fact}
 use Rattle.engine_parts.specs.declared.reply.Reply.{Reply}
 use Rattle.engine_parts.specs.declared.reply.Reply.TheVariants as replies
 use Rattle.perfect_groups.specs.Events.{Entry}
-use Rattle.proof_network_bridge.proofs.Reasons.{IsAnsweredWith, answered, asked, entered}
+use Rattle.proof_network_bridge.proofs.Reasons.{IsAnsweredWith, IsLookedWith, answered, asked, entered, looked}
 use Rattle.proof_network_bridge.specs.Following.{CallsFollow, LeavesFollowed}
 use Rattle.proof_network_bridge.specs.Joined.{IsFollowed}
 use Rattle.proof_network_bridge.specs.Seen.{told_call, told_completion}
+use Rattle.vocabulary.specs.declared.envelope.Status.{Status}
 
 -- what a call leaves that was answered so
 abbrev pub LeavesCalled : (n : ℕ) → List EngineState → List (ℕ × List ℕ) → (r : ℕ) → List Entry → (old mid : EngineState) → Call → Reply → Type 0
@@ -43,6 +45,13 @@ QuestionsFollow =
     IsFollowed n engines datagrams history → slice_get engines r ≡ Some old → IsTold old comm q fact mid →
     LeavesCalled n engines datagrams r history old mid (calls.Ask comm q) (replies.Fact fact)
 
+-- a probe that takes nothing out
+abbrev pub LooksFollow : Type 0
+LooksFollow =
+    (n r : ℕ) (engines : List EngineState) (datagrams : List (ℕ × List ℕ)) (history : List Entry) (old mid : EngineState) (p : Probe) (found : Option Status) →
+    IsFollowed n engines datagrams history → slice_get engines r ≡ Some old → IsLooked old p found mid →
+    LeavesCalled n engines datagrams r history old mid (calls.Iprobe p) (replies.Probed found)
+
 -- a question that is taken is answered with a fact
 told : QuestionsFollow → (n r : ℕ) (engines : List EngineState) (datagrams : List (ℕ × List ℕ)) (history : List Entry) (old mid : EngineState) (comm : Option ℕ) (q : Question) (reply : Reply) →
     IsFollowed n engines datagrams history → slice_get engines r ≡ Some old → IsTaken reply → AskingGives old comm q reply mid → LeavesCalled n engines datagrams r history old mid (calls.Ask comm q) reply
@@ -50,10 +59,17 @@ told questions n r engines datagrams history old mid comm q reply f there taken 
     let a : IsAnsweredWith old comm q reply mid = asked old mid comm q reply taken gives in
     subst (λ (x : Reply). LeavesCalled n engines datagrams r history old mid (calls.Ask comm q) x) (sym a.reply_is) (questions n r engines datagrams history old mid comm q a.fact f there a.told)
 
+-- such a probe that is taken is answered with what it found
+probed : LooksFollow → (n r : ℕ) (engines : List EngineState) (datagrams : List (ℕ × List ℕ)) (history : List Entry) (old mid : EngineState) (p : Probe) (reply : Reply) →
+    IsFollowed n engines datagrams history → slice_get engines r ≡ Some old → IsTaken reply → LookingGives old p reply mid → LeavesCalled n engines datagrams r history old mid (calls.Iprobe p) reply
+probed looks n r engines datagrams history old mid p reply f there taken gives =
+    let a : IsLookedWith old p reply mid = looked old mid p reply taken gives in
+    subst (λ (x : Reply). LeavesCalled n engines datagrams r history old mid (calls.Iprobe p) x) (sym a.reply_is) (looks n r engines datagrams history old mid p a.found f there a.looked)
+
 -- ---- every call
 
-pub calls_follow : CoreCallsFollow → EntriesFollow → QuestionsFollow → CallsFollow
-calls_follow core entries questions n r engines datagrams history old mid call reply f there taken gives = go call gives
+pub calls_follow : CoreCallsFollow → EntriesFollow → QuestionsFollow → LooksFollow → CallsFollow
+calls_follow core entries questions looks n r engines datagrams history old mid call reply f there taken gives = go call gives
   where
     plain : (c : Call) → CallGives old c reply mid → CoreGives old c reply mid → LeavesCalled n engines datagrams r history old mid c reply
     plain c given g = core n r engines datagrams history old mid c reply f there taken given (answered old mid c reply taken g)
@@ -66,5 +82,8 @@ calls_follow core entries questions n r engines datagrams history old mid call r
     go (calls.Waitany qs) g = plain (calls.Waitany qs) g g
     go (calls.Waitall qs) g = plain (calls.Waitall qs) g g
     go (calls.Cancel q) g = plain (calls.Cancel q) g g
+    go (calls.Iprobe p) g = probed looks n r engines datagrams history old mid p reply f there taken g
+    go (calls.Improbe p) g = plain (calls.Improbe p) g g
+    go (calls.Mrecv q into) g = plain (calls.Mrecv q into) g g
     go (calls.Enter comm x) g = entries n r engines datagrams history old mid comm x reply f there (entered old mid comm x reply taken g)
     go (calls.Ask comm q) g = told questions n r engines datagrams history old mid comm q reply f there taken g

@@ -1,5 +1,5 @@
 -- A world of engines follows the pure network through its calls of point to point, and those on requests.
-use Rattle.std.proofs.Common.{◌≡◌, ℕ, ◌<◌, Bool, ◌||◌, List, [], ◌∷◌, ◌++◌, Option, Some, None, is_some, map, option_map, refl, sym, ap, subst, ◌∙◌, append-nil}
+use Rattle.std.proofs.Common.{◌≡◌, ℕ, ◌<◌, List, [], ◌∷◌, ◌++◌, Option, Some, None, map, option_map, refl, sym, ap, subst, ◌∙◌, append-nil, arith}
 use Rattle.std.specs.List.{AllByRecursion}
 use Rattle.std.proofs.lemmas.Option.{same_Some}
 use Rattle.collective_steps.specs.declared.step.Ending.{Ending}
@@ -7,12 +7,13 @@ use Rattle.collective_transfers.specs.State as payloads
 use Rattle.communicators.specs.Routes.{RouteText, route_on}
 use Rattle.datagram.specs.Spelling.{FrameText}
 use Rattle.engine_parts.specs.EngineState.{EngineState, GroupsState, completion_by, completion_of, member_of}
-use Rattle.engine_parts.specs.Faults.{broken, fault_of, free_fault, group_limit, is_busy, is_replaced, on_route, receive_rules, routed_limit, send_rules}
+use Rattle.engine_parts.specs.Faults.{broken, fault_of, free_fault, group_limit, is_busy, is_replaced, look_rules, message_rules, on_route, probe_rules, receive_rules, routed_limit, send_rules}
 use Rattle.engine_parts.specs.Frames.{after_frame, frame_limit, sending_of, sendings_of}
 use Rattle.engine_parts.specs.Refusals.{first_fault}
-use Rattle.engine_parts.specs.Routing.{core_call, core_reply, receive_by, route_at, send_by}
+use Rattle.engine_parts.specs.Routing.{core_call, core_reply, probe_by, receive_by, route_at, send_by}
 use Rattle.engine_parts.specs.declared.call.Call.{Call}
 use Rattle.engine_parts.specs.declared.call.Call.TheVariants as calls
+use Rattle.engine_parts.specs.declared.call.Probe.{Probe}
 use Rattle.engine_parts.specs.declared.call.Receive.{Receive}
 use Rattle.engine_parts.specs.declared.call.Send.{Send}
 use Rattle.engine_parts.specs.declared.reply.Completion.{Completion}
@@ -38,6 +39,7 @@ use Rattle.proof_engine_view.specs.Seen as in_queues
 use Rattle.proof_engine_view.specs.Shown.{IsShown}
 use Rattle.proof_engine_view.specs.Standing.{AreSent, CanLeave, all_gone}
 use Rattle.proof_engine_view.specs.Transfers.{Announcements, after_out}
+use Rattle.proof_group_network.proofs.LinksOfMessages.{group_meetings_stand}
 use Rattle.proof_group_network.specs.Carried.{Sessions, frames_carried}
 use Rattle.proof_group_network.specs.Happened.{IsAfter, QueueCallsHappen, reply_of}
 use Rattle.proof_group_network.specs.Network.{Ask, GroupNetwork, happens}
@@ -45,6 +47,7 @@ use Rattle.proof_link_truth.specs.Events.{EventsAreTrue, LeavesTrue, MaySendAll,
 use Rattle.proof_links.specs.Links.{LinksOf}
 use Rattle.proof_links.specs.Links as carriers
 use Rattle.proof_link_truth.specs.Wire.{place_of}
+use Rattle.proof_pure_network.specs.Claims.{ClaimsOnce}
 use Rattle.proof_pure_network.specs.Core.{Core, view}
 use Rattle.proof_pure_network.specs.Engine.{called, core_ready, core_settled}
 use Rattle.proof_pure_network.specs.Frames.{Frame}
@@ -65,7 +68,6 @@ use Rattle.rank_calls.specs.declared.refused.Refused.TheVariants as refusals
 use Rattle.rank_core.specs.Calls.{argument_fault, call_fault, call_frame, free_request_fault, limit_fault}
 use Rattle.rank_core.specs.CoreState.{CoreState}
 use Rattle.requests.specs.Regions.{handed_of}
-use Rattle.requests.specs.declared.awaited.Awaited.{Awaited}
 use Rattle.sessions.specs.Events.{Sending, after_event, sends_limit}
 use Rattle.sessions.specs.SessionsState.{SessionsState}
 use Rattle.vocabulary.specs.declared.endpoint.Endpoint.{Endpoint}
@@ -75,6 +77,7 @@ use Rattle.proof_network_bridge.specs.Payloads.{ArePayloads}
 use Rattle.proof_network_bridge.specs.Seen.{call_seen, told_call, told_completion}
 use Rattle.proof_network_bridge.proofs.Calls.{CoreCallsFollow}
 use Rattle.proof_network_bridge.proofs.Carrying.{all_same, may_send}
+use Rattle.proof_network_bridge.proofs.Finding.{idle_by}
 use Rattle.proof_network_bridge.proofs.Followed.{IsHeldUnder, followed_after}
 use Rattle.proof_network_bridge.proofs.Halves.{Keeps, neither_fault, no_limit}
 use Rattle.proof_network_bridge.proofs.Machine.{TakenIsFaultless}
@@ -138,6 +141,20 @@ receive_allowed e v r idle rules =
     let group = neither_fault (group_limit r.group) _ replaced.1 in
     allowed_by e (core_calls.Irecv (receive_by v r)) idle refl arguments.0 group.1
 
+-- a matching probe with a route
+probe_allowed : (e : EngineState) (p : Probe) (r : RouteText) → e.core.blocked ≡ None → probe_rules e p r ≡ None → IsAllowed e (core_calls.Improbe (probe_by p r))
+probe_allowed e p r idle rules =
+    let both = neither_fault (look_rules e p r) (routed_limit e (core_calls.Improbe (probe_by p r))) rules in
+    let arguments = neither_fault (argument_fault e.core.place (core_calls.Improbe (probe_by p r))) _ both.0 in
+    allowed_by e (core_calls.Improbe (probe_by p r)) idle refl arguments.0 both.1
+
+-- the receive of a message
+message_allowed : (e : EngineState) (q : core_asks.Call) → e.core.blocked ≡ None → message_rules e q ≡ None → IsAllowed e q
+message_allowed e q idle rules =
+    let requests = neither_fault (free_request_fault e.core q) _ rules in
+    let arguments = neither_fault (argument_fault e.core.place q) (routed_limit e q) requests.1 in
+    allowed_by e q idle requests.0 arguments.0 arguments.1
+
 -- a call on requests
 requests_allowed : (e : EngineState) (q : core_asks.Call) → e.core.blocked ≡ None → free_request_fault e.core q ≡ None → argument_fault e.core.place q ≡ None → limit_fault e.core q ≡ None → call_frame e.core q ≡ None → IsAllowed e q
 requests_allowed e q idle requests arguments limits frame =
@@ -161,13 +178,15 @@ free_allowed e (calls.Test q) asked idle free routed = subst (IsAllowed e) (same
 free_allowed e (calls.Waitany qs) asked idle free routed = subst (IsAllowed e) (same_Some (core_calls.Waitany qs) asked routed) (requests_allowed e (core_calls.Waitany qs) idle free refl refl refl)
 free_allowed e (calls.Waitall qs) asked idle free routed = subst (IsAllowed e) (same_Some (core_calls.Waitall qs) asked routed) (requests_allowed e (core_calls.Waitall qs) idle free refl refl refl)
 free_allowed e (calls.Cancel q) asked idle free routed = subst (IsAllowed e) (same_Some (core_calls.Cancel q) asked routed) (requests_allowed e (core_calls.Cancel q) idle free refl refl refl)
+free_allowed e (calls.Iprobe p) asked idle free routed = absurd cc
+free_allowed e (calls.Improbe p) asked idle free routed = go (route_at e.groups p.comm p.source) free routed
+  where
+    go : (o : Option RouteText) → on_route o (probe_rules e p) ≡ None → option_map (λ (r : RouteText). core_calls.Improbe (probe_by p r)) o ≡ Some asked → IsAllowed e asked
+    go None rules is = absurd cc
+    go (Some r) rules is = subst (IsAllowed e) (same_Some (core_calls.Improbe (probe_by p r)) asked is) (probe_allowed e p r idle rules)
+free_allowed e (calls.Mrecv q into) asked idle free routed = subst (IsAllowed e) (same_Some (core_calls.Mrecv q into) asked routed) (message_allowed e (core_calls.Mrecv q into) idle free)
 free_allowed e (calls.Enter comm x) asked idle free routed = absurd cc
 free_allowed e (calls.Ask comm q) asked idle free routed = absurd cc
-
--- nothing is blocked where it isn't busy
-idle_by : (o : Option Awaited) (within : Bool) → broken (is_some o || within) refusals.Request ≡ None → o ≡ None
-idle_by None within h = refl
-idle_by (Some a) within h = absurd cc
 
 allowed : (e : EngineState) (call : Call) (asked : core_asks.Call) → fault_of e call ≡ None → core_call e.groups call ≡ Some asked → IsAllowed e asked
 allowed e call asked fine routed =
@@ -185,7 +204,7 @@ queue_call_is g m (calls.Isend s) asked held routed = go (held_at (member_of g) 
         queue_call m (call_seen (calls.Isend s)) ≡ Some (in_queues.call_seen asked)
     go None named is = absurd cc
     go (Some c) named is =
-        ap (option_map (λ (c : Communicator). queues.Isend c.context (machine.in_world c s.target) s.tag (handed_of s.from))) named
+        ap (option_map (λ (c : Communicator). queues.Isend s.mode c.context (machine.in_world c s.target) s.tag (handed_of s.from))) named
         ∙ ap (λ (q : core_asks.Call). Some (in_queues.call_seen q)) (same_Some (core_calls.Isend (send_by s (route_on s.target c))) asked is)
 queue_call_is g m (calls.Irecv v) asked held routed = go (held_at (member_of g) v.comm) (named_same m (member_of g) v.comm held) routed
   where
@@ -200,16 +219,29 @@ queue_call_is g m (calls.Test q) asked held routed = ap (λ (c : core_asks.Call)
 queue_call_is g m (calls.Waitany qs) asked held routed = ap (λ (c : core_asks.Call). Some (in_queues.call_seen c)) (same_Some (core_calls.Waitany qs) asked routed)
 queue_call_is g m (calls.Waitall qs) asked held routed = ap (λ (c : core_asks.Call). Some (in_queues.call_seen c)) (same_Some (core_calls.Waitall qs) asked routed)
 queue_call_is g m (calls.Cancel q) asked held routed = ap (λ (c : core_asks.Call). Some (in_queues.call_seen c)) (same_Some (core_calls.Cancel q) asked routed)
+queue_call_is g m (calls.Iprobe p) asked held routed = absurd cc
+queue_call_is g m (calls.Improbe p) asked held routed = go (held_at (member_of g) p.comm) (named_same m (member_of g) p.comm held) routed
+  where
+    go : (o : Option Communicator) → held_at m p.comm ≡ o → option_map (λ (r : RouteText). core_calls.Improbe (probe_by p r)) (option_map (route_on p.source) o) ≡ Some asked →
+        queue_call m (call_seen (calls.Improbe p)) ≡ Some (in_queues.call_seen asked)
+    go None named is = absurd cc
+    go (Some c) named is =
+        ap (option_map (λ (c : Communicator). queues.Improbe (machine.probe_on c p.source p.tag))) named
+        ∙ ap (λ (q : core_asks.Call). Some (in_queues.call_seen q)) (same_Some (core_calls.Improbe (probe_by p (route_on p.source c))) asked is)
+queue_call_is g m (calls.Mrecv q into) asked held routed = ap (λ (c : core_asks.Call). Some (in_queues.call_seen c)) (same_Some (core_calls.Mrecv q into) asked routed)
 queue_call_is g m (calls.Enter comm x) asked held routed = absurd cc
 queue_call_is g m (calls.Ask comm q) asked held routed = absurd cc
 
 -- it is answered at once as the queues answer it
-answered_at_once : (e : Endpoint) (l : Local) (m : Membership) (c : machine.Call) (q : queues.Call) → queue_call m c ≡ Some q → reply_at_once e l m c ≡ option_map OfRequests (immediate_reply l q)
-answered_at_once e l m (machine.Isend comm to tag from) q is = ap (queue_reply l) is
+pub answered_at_once : (e : Endpoint) (l : Local) (m : Membership) (c : machine.Call) (q : queues.Call) → queue_call m c ≡ Some q → reply_at_once e l m c ≡ option_map OfRequests (immediate_reply l q)
+answered_at_once e l m (machine.Isend mode comm to tag from) q is = ap (queue_reply l) is
 answered_at_once e l m (machine.Irecv comm source tag into) q is = ap (queue_reply l) is
 answered_at_once e l m (machine.Wait a) q is = ap (queue_reply l) is
 answered_at_once e l m (machine.Test r) q is = ap (queue_reply l) is
 answered_at_once e l m (machine.Cancel r) q is = ap (queue_reply l) is
+answered_at_once e l m (machine.Iprobe comm source tag) q is = ap (queue_reply l) is
+answered_at_once e l m (machine.Improbe comm source tag) q is = ap (queue_reply l) is
+answered_at_once e l m (machine.Mrecv message into) q is = ap (queue_reply l) is
 answered_at_once e l m (machine.Enter comm x) q is = absurd cc
 answered_at_once e l m (machine.Inquire comm x) q is = absurd cc
 
@@ -235,8 +267,10 @@ replied e q call reply asked answer x is h = go reply is
     go replies.Pending k = seen queues.Pending (with core_replies.Pending k)
     go replies.Accepted k = seen queues.Accepted (with core_replies.Accepted k)
     go replies.Blocked k = seen queues.Blocked (with core_replies.Blocked k)
+    go (replies.Matched found) k = seen (queues.Done (completions.ForMatch (in_queues.match_seen found))) (with (core_replies.Matched found) k)
     go (replies.Left o) k = absurd cc
     go (replies.Fact f) k = absurd cc
+    go (replies.Probed found) k = absurd cc
     go (replies.Refused why back) k = absurd cc
 
 -- what is seen of a call that the queues tell so
@@ -306,8 +340,12 @@ core_calls_follow shows truth happen carried taken n r engines datagrams history
     free : IsAllowed old answer.asked
     free = allowed old call answer.asked answer.allowed answer.routed
 
+    -- no two messages there name one of its own sends
+    claimed : ClaimsOnce core
+    claimed = (group_meetings_stand n f.happenings (omega (arith, f.few))).claimed own
+
     shown : (serial : ℕ) → IsCalled (a serial) old.core known core answer.asked answer.answer mid.core
-    shown serial = shows (a serial) old.core mid.core known core answer.asked answer.answer (at_own.queues serial) answer.within free.core answer.core
+    shown serial = shows (a serial) old.core mid.core known core answer.asked answer.answer (at_own.queues serial) claimed answer.within free.core answer.core
 
     c : (serial : ℕ) → IsCalledAt (a serial) (place_of n own) old.core known core answer.asked answer.answer mid.core
     c serial = called_at (a serial) (place_of n own) old.core known core answer.asked answer.answer mid.core (at_own.placed ∙ place.1) (shown serial)

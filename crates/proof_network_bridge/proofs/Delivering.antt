@@ -1,11 +1,11 @@
 -- A delivery is followed: what a datagram says is heard, then come the frames that were held behind it, and at the end of all that the
 -- blocked call is answered. To the network it is one word.
-use Rattle.std.proofs.Common.{◌≡◌, inl, inr, ℕ, zero, suc, ◌+◌, ◌<◌, ◌≤◌, false, List, [], ◌∷◌, ◌++◌, length, Option, Some, None, Result, Ok, Err, refl, sym, ap, subst, ◌∙◌, arith, append-nil}
+use Rattle.std.proofs.Common.{◌≡◌, inl, inr, ℕ, zero, suc, ◌+◌, ◌<◌, ◌≤◌, Bool, true, false, List, [], ◌∷◌, ◌++◌, length, Option, Some, None, Result, Ok, Err, refl, sym, ap, subst, ◌∙◌, arith, append-nil}
 use Rattle.std.specs.Prelude.{option_map, slice_get, slice_set}
 use Rattle.collectives.specs.Calls as collective_calls
 use Rattle.collective_steps.specs.declared.step.Ending.{Ending}
 use Rattle.datagram.specs.Spelling.{FrameText}
-use Rattle.engine.specs.Datagrams.{FollowGives, FollowedBy, HasFollowed, HeardGives, HearingGives, IsTakenIn, TurnGives, acknowledged, lesson_in, turn_from, without_next, woken_engine}
+use Rattle.engine.specs.Datagrams.{FollowGives, FollowedBy, HasFollowed, HeardGives, HearingGives, IsTakenIn, IsTakenInUnless, TurnGives, acknowledged, lesson_in, says_nothing, turn_from, without_next, woken_engine}
 use Rattle.engine_parts.specs.EngineState.{EngineState, completion_of, emptied, without_out}
 use Rattle.incarnation.specs.declared.place.Place.{Place}
 use Rattle.perfect_groups.specs.Events.{Entry, ended_with, ready_by, told_of}
@@ -28,7 +28,7 @@ use Rattle.proof_group_network.specs.NoticesStand.{heard_member}
 use Rattle.proof_link_truth.specs.Deliveries as deliveries
 use Rattle.proof_link_truth.specs.Deliveries.{DeliveriesBegin, DiscardsAreTrue, OrderIsFree, TurnIsTrue, TurnsAreTrue, TurnsTellTheTruth}
 use Rattle.proof_link_truth.specs.Events as below
-use Rattle.proof_link_truth.specs.Events.{EventsAreTrue, HearingIsTrue, HearsTruth, IsFromDatagram, LeavesTrue}
+use Rattle.proof_link_truth.specs.Events.{EventsAreTrue, HearingIsTrue, HearsTruth, IsFromDatagram, LeavesTrue, RestIsTrue}
 use Rattle.proof_link_truth.specs.Truth.{AreTrue}
 use Rattle.proof_link_truth.specs.Wire.{at}
 use Rattle.proof_links.specs.Links.{LinksOf}
@@ -48,7 +48,7 @@ use Rattle.proof_network_bridge.specs.Joined.{IsClean, IsFollowed, IsHeldBy, IsJ
 use Rattle.proof_network_bridge.specs.Payloads.{ArePayloads}
 use Rattle.proof_network_bridge.specs.Seen.{told_completion}
 use Rattle.proof_network_bridge.proofs.Datagrams.{heard_step}
-use Rattle.proof_network_bridge.proofs.Followed.{IsHeldUnder, clean_emptied, held_by, held_emptied}
+use Rattle.proof_network_bridge.proofs.Followed.{IsHeldUnder, clean_emptied, followed_unanswered, held_by, held_emptied}
 use Rattle.proof_network_bridge.proofs.Halves.{leaves_engines, sessions_set}
 use Rattle.proof_network_bridge.proofs.Heard.{ended_alike, is_word, lesson_same, told_alike}
 use Rattle.proof_network_bridge.proofs.KnownMembers.{midway_known}
@@ -478,6 +478,7 @@ pub record LinkLaws : Type 0 where
   pub turns : TurnsAreTrue
   pub discards : DiscardsAreTrue
   pub order : OrderIsFree
+  pub rest : RestIsTrue
 
 -- what is heard in a datagram is followed, with all that follows it
 taken_in : NewsAreShown → WakesAreShown → LinkLaws → (n r : ℕ) (engines : List EngineState) (datagrams : List (ℕ × List ℕ)) (history : List Entry) (old mid : EngineState) (h : HeardText) →
@@ -533,10 +534,29 @@ taken_in shows wakes laws n r engines datagrams history old mid h f there comes 
     go (Follows frame) is g = alone g
     go Nothing is g = alone g
 
+-- what says nothing new changes nothing
+unchanged : LinkLaws → (n r : ℕ) (engines : List EngineState) (datagrams : List (ℕ × List ℕ)) (history : List Entry) (old mid : EngineState) →
+    IsFollowed n engines datagrams history → slice_get engines r ≡ Some old → mid ≡ old →
+    LeavesFollowed n engines datagrams r mid (history ++ told_completion old.sessions.place.endpoint (completion_of mid))
+unchanged laws n r engines datagrams history old mid f there same =
+    let w : GroupNetwork = network_after n f.happenings in
+    subst (λ (x : EngineState). LeavesFollowed n engines datagrams r x (history ++ told_completion old.sessions.place.endpoint (completion_of x))) (sym same)
+    (followed_unanswered n r engines datagrams history old old f there (record { core = refl; groups = refl; ended = refl; payloads = refl; known = refl; place = refl })
+    (laws.rest n r (sessions_in engines) datagrams f.joined.texts w.net.current old.sessions f.joined.links (is_at n r engines datagrams w old f.joined there)))
+
+-- all that is heard in a datagram is followed
+heard_follows : NewsAreShown → WakesAreShown → LinkLaws → (n r : ℕ) (engines : List EngineState) (datagrams : List (ℕ × List ℕ)) (history : List Entry) (old mid : EngineState) (h : HeardText) (nothing : Bool) →
+    IsFollowed n engines datagrams history → slice_get engines r ≡ Some old → IsFromDatagram datagrams r old.sessions h → IsTakenInUnless nothing old h mid →
+    LeavesFollowed n engines datagrams r mid (history ++ told_completion old.sessions.place.endpoint (completion_of mid))
+heard_follows shows wakes laws n r engines datagrams history old mid h true f there comes same = unchanged laws n r engines datagrams history old mid f there same
+heard_follows shows wakes laws n r engines datagrams history old mid h false f there comes taken = taken_in shows wakes laws n r engines datagrams history old mid h f there comes taken
+
 pub datagrams_follow : NewsAreShown → WakesAreShown → LinkLaws → DatagramsFollow
 datagrams_follow shows wakes laws n r number bytes engines datagrams history old mid f there emitted gives = go (heard_of old.sessions bytes) refl gives
   where
     go : (o : Result HeardText Unheard) → heard_of old.sessions bytes ≡ o → HearingGives o old (Ok tt) mid →
         LeavesFollowed n engines datagrams r mid (history ++ told_completion old.sessions.place.endpoint (completion_of mid))
-    go (Ok h) is g = taken_in shows wakes laws n r engines datagrams history old mid h f there (record { number = number; bytes = bytes; there = emitted; hears = is }) g
+    go (Ok h) is g =
+        heard_follows shows wakes laws n r engines datagrams history old mid h (says_nothing h.lesson h.word) f there
+        (record { number = number; bytes = bytes; there = emitted; hears = is }) g
     go (Err u) is g = absurd (let e = g.1 in cc)

@@ -67,6 +67,7 @@ held_emptied a own e core m h =
         posted = h.queues.posted;
         held = h.queues.held;
         under_way = h.queues.under_way;
+        taken = h.queues.taken;
         blocked = h.queues.blocked;
         width = h.queues.width;
         known_alike = h.queues.known_alike;

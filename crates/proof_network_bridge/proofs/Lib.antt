@@ -4,6 +4,7 @@ pub mod Payloads
 pub mod Followed
 pub mod Opening
 pub mod Unanswered
+pub mod Finding
 pub mod Machine
 pub mod Members
 pub mod Routed
@@ -13,6 +14,7 @@ pub mod Carrying
 pub mod Calls
 pub mod CoreCalls
 pub mod Questions
+pub mod Looks
 pub mod ByRank
 pub mod StepTargets
 pub mod Sending

@@ -20,6 +20,7 @@ use Rattle.perfect_groups.specs.Membership.{Groups, Membership}
 use Rattle.perfect_groups.specs.Runs.{IsRun, after_run}
 use Rattle.perfect_groups.specs.Soundness.{IsAmong, IsReal}
 use Rattle.proof_collective_steps.specs.Counterparts.{communicator_of}
+use Rattle.proof_engine_steps.specs.Probes.{LooksAreShown, SearchesFindAll}
 use Rattle.proof_engine_steps.specs.Refused.{IsReason}
 use Rattle.proof_engine_view.specs.Shown.{IsShown}
 use Rattle.proof_session_carrying.specs.Announced.{announcements_in}
@@ -30,15 +31,19 @@ use Rattle.proof_link_truth.specs.Quiet.{AreQuiet}
 use Rattle.proof_link_truth.specs.Wire.{at}
 use Rattle.proof_pure_network.specs.Core.{view}
 use Rattle.proof_pure_network.specs.Held.{blank}
+use Rattle.proof_pure_network.specs.Matching.{found}
 use Rattle.proof_pure_network.specs.Network.{IsQuiet, here}
 use Rattle.proof_session_carrying.specs.MessageLaws.{StillTextsAreQuiet}
 use Rattle.rank_calls.specs.declared.refused.Refused.{Refused}
 use Rattle.sessions.specs.SessionsState.{SessionsState}
 use Rattle.vocabulary.specs.declared.endpoint.Endpoint.{Endpoint}
-use Rattle.proof_network_bridge.specs.Following.{FollowingIsRun, IsFaultless, fault_in}
+use Rattle.perfect_queues.specs.Receives as receives
+use Rattle.perfect_queues.specs.Receives.{such_receive}
+use Rattle.proof_network_bridge.specs.Following.{AnswersNone, FollowingIsRun, IsFaultless, LooksInVain, SearchesInVain, fault_in}
 use Rattle.proof_network_bridge.specs.Joined.{IsFollowed, IsJoined, network_after, sessions_in}
 use Rattle.proof_network_bridge.specs.Seen.{call_meant, call_seen}
 use Rattle.proof_network_bridge.proofs.Halves.{IsOf, engine_there}
+use Rattle.proof_network_bridge.proofs.Finding.{looks_in_vain, searches_in_vain}
 use Rattle.proof_network_bridge.proofs.Worlds.{place_is}
 
 -- ---- what is said of calls
@@ -124,8 +129,8 @@ one_of law n events x y a b few run rx ry ha hb same =
 
 -- ---- the run
 
-pub following_is_run : IdleIsStill → StillTextsAreQuiet → OneGroupForEachContext → RefusedHasReason → TakenIsFaultless → FollowingIsRun
-following_is_run idle texts one refused taken n engines datagrams history f =
+pub following_is_run : IdleIsStill → StillTextsAreQuiet → OneGroupForEachContext → RefusedHasReason → TakenIsFaultless → LooksAreShown → SearchesFindAll → FollowingIsRun
+following_is_run idle texts one refused taken looks searches n engines datagrams history f =
     record {
       events = m.events;
       run = m.run;
@@ -143,6 +148,7 @@ following_is_run idle texts one refused taken n engines datagrams history f =
           one_of one n m.events e.sessions.place.endpoint d.sessions.place.endpoint a b f.few m.run (real_there n r engines datagrams w e f.few f.joined e_there) (real_there n x engines datagrams w d f.few f.joined d_there)
           (subst (IsAmong a) (sym (holds r e e_there)) (among_held (member_of e.groups) first a a_is)) (subst (IsAmong b) (sym (holds x d d_there)) (among_held (member_of d.groups) second b b_is)) same;
       quiet = λ quiet. m.quiet (still idle texts n engines datagrams w f.joined quiet).0;
+      finds = λ quiet e sender current q none. m.finds (still idle texts n engines datagrams w f.joined quiet).0 e sender current q (holds_none e q none);
       leaves = λ quiet. m.leaves (still idle texts n engines datagrams w f.joined quiet).1;
     }
   where
@@ -159,6 +165,19 @@ following_is_run idle texts one refused taken n engines datagrams history f =
     faults r e there c =
         m.faults e.sessions.place.endpoint c
         ∙ ap (λ (x : Endpoint). fault x (view blank (w.net.core x)) (w.member x).membership c) (endpoint_is n r engines datagrams w e f.joined there)
+
+    shown_at : (r : ℕ) (e : EngineState) (x : Endpoint) → slice_get engines r ≡ Some e → e.sessions.place.endpoint ≡ x →
+        IsShown (announcements_in 0 f.joined.sessions x) e.core e.sessions.known (w.net.core x)
+    shown_at r e x there is =
+        subst (λ (y : Endpoint). IsShown (announcements_in 0 f.joined.sessions y) e.core e.sessions.known (w.net.core y)) (sym (endpoint_is n r engines datagrams w e f.joined there) ∙ is)
+        ((f.joined.held r e there).queues 0)
+
+    -- who answers a probe with none holds no such message
+    holds_none : (x : Endpoint) (q : receives.Probe) → AnswersNone engines x q → found (such_receive q) (w.net.core x).held ≡ None
+    holds_none x q (LooksInVain r e mid p there is seen gives) =
+        looks_in_vain looks (announcements_in 0 f.joined.sessions x) e mid (w.net.core x) p q (shown_at r e x there is) seen gives
+    holds_none x q (SearchesInVain r e mid p there is seen gives) =
+        searches_in_vain searches (announcements_in 0 f.joined.sessions x) e mid (w.net.core x) p q (shown_at r e x there is) seen gives
 
     holds : (r : ℕ) (e : EngineState) → slice_get engines r ≡ Some e → (ends.groups.of e.sessions.place.endpoint).held ≡ (member_of e.groups).held
     holds r e there = held_there n r engines datagrams w e ends.groups.of f.joined there (λ x. ap (λ (g : Groups). (g.of x).held) m.groups)

@@ -10,7 +10,7 @@ use Rattle.perfect_groups.specs.Calls.{held_at}
 use Rattle.perfect_groups.specs.Communicators.{Communicator}
 use Rattle.perfect_groups.specs.Faults.{is_blocked, is_within}
 use Rattle.perfect_groups.specs.Membership.{Membership, Present}
-use Rattle.perfect_queues.specs.Completions.{Awaited}
+use Rattle.perfect_queues.specs.Completions.{Unanswered}
 use Rattle.perfect_queues.specs.Refusals.{is_held}
 use Rattle.proof_collective_steps.specs.Counterparts.{communicator_of}
 use Rattle.proof_collective_steps.specs.Shown as collectives
@@ -60,7 +60,7 @@ within_by own e h (Some i) p is = ap is_within is.is
 pub within_same : (own : Endpoint) (g : GroupsState) (m : Member) → collectives.IsShown own g.collective g.contexts m None → is_within m.membership.present ≡ is_within (member_of g).present
 within_same own g m s = within_by own g.collective.own g.contexts g.collective.present m.membership.present s.present
 
-blocked_by : (rows : List Row) (o : Option rank.Awaited) (b : Option Awaited) → IsBlocked rows o b → is_held b ≡ is_some o
+blocked_by : (rows : List Row) (o : Option rank.Awaited) (b : Option Unanswered) → IsBlocked rows o b → is_held b ≡ is_some o
 blocked_by rows None b is = ap is_held is
 blocked_by rows (Some a) b is = ap is_held is.0
 

@@ -3,12 +3,13 @@ use Rattle.std.proofs.Common.{◌≡◌, ℕ, Bool, true, false, ◌||◌, List,
 use Rattle.std.specs.Prelude.{slice_get}
 use Rattle.collective_notes.specs.declared.entry.Entry as collective
 use Rattle.communicators.specs.declared.question.Question.{Question}
-use Rattle.engine_parts.specs.Calls.{AskingGives, CallGives, CoreGives, EnteringGives, IsAnswered, IsEntered, IsRefused, IsTaken, IsTold, WhyRefused}
+use Rattle.engine_parts.specs.Calls.{AskingGives, CallGives, CoreGives, EnteringGives, IsAnswered, IsEntered, IsLooked, IsRefused, IsTaken, IsTold, LookingGives, WhyRefused}
 use Rattle.engine_parts.specs.EngineState.{EngineState, member_of}
 use Rattle.engine_parts.specs.Faults.{broken, fault_of, free_fault, is_busy}
 use Rattle.engine_parts.specs.Refusals.{first_fault}
 use Rattle.engine_parts.specs.declared.call.Call.{Call}
 use Rattle.engine_parts.specs.declared.call.Call.TheVariants as calls
+use Rattle.engine_parts.specs.declared.call.Probe.{Probe}
 use Rattle.engine_parts.specs.declared.reply.Fact.{Fact}
 use Rattle.engine_parts.specs.declared.reply.Reply.{Reply}
 use Rattle.engine_parts.specs.declared.reply.Reply.TheVariants as replies
@@ -39,6 +40,7 @@ use Rattle.rank_calls.specs.declared.refused.Refused.{Refused}
 use Rattle.rank_calls.specs.declared.refused.Refused.TheVariants as refusals
 use Rattle.requests.specs.declared.awaited.Awaited.{Awaited}
 use Rattle.vocabulary.specs.declared.endpoint.Endpoint.{Endpoint}
+use Rattle.vocabulary.specs.declared.envelope.Status.{Status}
 
 -- ---- WHAT A CALL GAVE
 
@@ -52,6 +54,8 @@ answered old new call replies.Accepted taken gives = gives
 answered old new call replies.Blocked taken gives = gives
 answered old new call (replies.Left o) taken gives = gives
 answered old new call (replies.Fact f) taken gives = gives
+answered old new call (replies.Probed found) taken gives = gives
+answered old new call (replies.Matched found) taken gives = gives
 
 -- a collective that was taken was entered
 pub entered : (old new : EngineState) (comm : Option ℕ) (x : collective.Entry) (reply : Reply) → IsTaken reply → EnteringGives old comm x reply new → IsEntered old comm x reply new
@@ -63,6 +67,8 @@ entered old new comm x replies.Accepted taken gives = gives
 entered old new comm x replies.Blocked taken gives = gives
 entered old new comm x (replies.Left o) taken gives = gives
 entered old new comm x (replies.Fact f) taken gives = gives
+entered old new comm x (replies.Probed found) taken gives = gives
+entered old new comm x (replies.Matched found) taken gives = gives
 
 -- a question that was taken was answered with a fact
 pub record IsAnsweredWith (old : EngineState) (comm : Option ℕ) (q : Question) (reply : Reply) (new : EngineState) : Type 0 where
@@ -78,7 +84,27 @@ asked old new comm q replies.Pending taken gives = absurd gives
 asked old new comm q replies.Accepted taken gives = absurd gives
 asked old new comm q replies.Blocked taken gives = absurd gives
 asked old new comm q (replies.Left o) taken gives = absurd gives
+asked old new comm q (replies.Probed found) taken gives = absurd gives
+asked old new comm q (replies.Matched found) taken gives = absurd gives
 asked old new comm q (replies.Fact f) taken gives = record { fact = f; reply_is = refl; told = gives }
+
+-- a probe that takes nothing out, and that was taken, was answered with what it found
+pub record IsLookedWith (old : EngineState) (p : Probe) (reply : Reply) (new : EngineState) : Type 0 where
+  pub found : Option Status
+  pub reply_is : reply ≡ replies.Probed found
+  pub looked : IsLooked old p found new
+
+pub looked : (old new : EngineState) (p : Probe) (reply : Reply) → IsTaken reply → LookingGives old p reply new → IsLookedWith old p reply new
+looked old new p (replies.Refused why back) taken gives = absurd taken
+looked old new p (replies.Started r) taken gives = absurd gives
+looked old new p (replies.Done o) taken gives = absurd gives
+looked old new p replies.Pending taken gives = absurd gives
+looked old new p replies.Accepted taken gives = absurd gives
+looked old new p replies.Blocked taken gives = absurd gives
+looked old new p (replies.Left o) taken gives = absurd gives
+looked old new p (replies.Fact f) taken gives = absurd gives
+looked old new p (replies.Matched found) taken gives = absurd gives
+looked old new p (replies.Probed found) taken gives = record { found = found; reply_is = refl; looked = gives }
 
 -- whatever was taken met no rule and no limit
 allowed : (old new : EngineState) (call : Call) (reply : Reply) → IsTaken reply → CallGives old call reply new → fault_of old call ≡ None
@@ -89,6 +115,9 @@ allowed old new (calls.Test q) reply taken gives = (answered old new (calls.Test
 allowed old new (calls.Waitany qs) reply taken gives = (answered old new (calls.Waitany qs) reply taken gives).allowed
 allowed old new (calls.Waitall qs) reply taken gives = (answered old new (calls.Waitall qs) reply taken gives).allowed
 allowed old new (calls.Cancel q) reply taken gives = (answered old new (calls.Cancel q) reply taken gives).allowed
+allowed old new (calls.Iprobe p) reply taken gives = (looked old new p reply taken gives).looked.allowed
+allowed old new (calls.Improbe p) reply taken gives = (answered old new (calls.Improbe p) reply taken gives).allowed
+allowed old new (calls.Mrecv q into) reply taken gives = (answered old new (calls.Mrecv q into) reply taken gives).allowed
 allowed old new (calls.Enter comm x) reply taken gives = (entered old new comm x reply taken gives).allowed
 allowed old new (calls.Ask comm q) reply taken gives = (asked old new comm q reply taken gives).told.allowed
 
@@ -101,6 +130,9 @@ refused old new (calls.Test q) why back gives = gives
 refused old new (calls.Waitany qs) why back gives = gives
 refused old new (calls.Waitall qs) why back gives = gives
 refused old new (calls.Cancel q) why back gives = gives
+refused old new (calls.Iprobe p) why back gives = gives
+refused old new (calls.Improbe p) why back gives = gives
+refused old new (calls.Mrecv q into) why back gives = gives
 refused old new (calls.Enter comm x) why back gives = gives
 refused old new (calls.Ask comm q) why back gives = gives
 

@@ -15,20 +15,22 @@ use Rattle.communicators.specs.declared.question.Question.{Question}
 use Rattle.communicators.specs.declared.question.Question.TheVariants as questions
 use Rattle.engine_parts.specs.Calls.{LacksRoom, WhyRefused}
 use Rattle.engine_parts.specs.EngineState.{EngineState, member_of}
-use Rattle.engine_parts.specs.Faults.{broken, free_fault, group_limit, is_replaced, on_route, receive_rules, routed_limit, send_rules}
+use Rattle.engine_parts.specs.Faults.{broken, free_fault, group_limit, is_replaced, on_route, probe_rules, receive_rules, routed_limit, send_rules}
 use Rattle.engine_parts.specs.Refusals.{first_fault, of_entry_rule}
-use Rattle.engine_parts.specs.Routing.{receive_by, send_by}
+use Rattle.engine_parts.specs.Routing.{probe_by, receive_by, send_by}
 use Rattle.engine_parts.specs.declared.call.Call as engine
 use Rattle.engine_parts.specs.declared.call.Call.TheVariants as calls
+use Rattle.engine_parts.specs.declared.call.Probe.{Probe}
 use Rattle.engine_parts.specs.declared.call.Receive.{Receive}
 use Rattle.engine_parts.specs.declared.call.Send.{Send}
-use Rattle.perfect_groups.specs.Calls.{Call, Cancel, Enter, Inquire, Irecv, Isend, Test, Wait, held_at, in_world, queue_call, receive_on}
+use Rattle.perfect_groups.specs.Calls.{Call, Cancel, Enter, Improbe, Inquire, Iprobe, Irecv, Isend, Mrecv, Test, Wait, held_at, in_world, probe_on, queue_call, receive_on}
 use Rattle.perfect_groups.specs.Collectives.{CollectiveCall, part_of}
 use Rattle.perfect_groups.specs.Communicators.{Communicator}
 use Rattle.perfect_groups.specs.Faults.{asks_of_none, fault, fault_by, has_replaced, is_beyond, is_blocked, is_no_target, is_rooted, is_source_beyond, is_within, names_replaced, wrong_block, wrong_communicator, wrong_count, wrong_data, wrong_incarnation, wrong_operation, wrong_rank, wrong_request, wrong_root, wrong_tag, wrong_type}
 use Rattle.perfect_groups.specs.Membership.{Membership}
 use Rattle.perfect_groups.specs.Operations.{is_undefined}
 use Rattle.perfect_queues.specs.Calls as queues
+use Rattle.perfect_queues.specs.Buffers.{Handed}
 use Rattle.perfect_queues.specs.Completions as completions
 use Rattle.perfect_queues.specs.Refusals as rules
 use Rattle.perfect_queues.specs.Refusals.{Standing, is_held, standing}
@@ -39,8 +41,9 @@ use Rattle.proof_engine_steps.specs.Refused.{HasReason, IsOutOfRoom, IsReason, M
 use Rattle.proof_engine_view.specs.Faults.{queue_fault}
 use Rattle.proof_engine_view.specs.Seen as in_queues
 use Rattle.proof_engine_view.specs.Transfers.{Announcements}
+use Rattle.proof_network_bridge.proofs.Halves.{neither_fault}
 use Rattle.proof_network_bridge.proofs.Members.{named_same}
-use Rattle.proof_network_bridge.proofs.Routed.{IsFree, fault_cut, group_routed_full, or_fault, routed_full, rule_broken, rule_kept}
+use Rattle.proof_network_bridge.proofs.Routed.{IsFree, fault_cut, group_full, group_routed_full, or_fault, routed_full, rule_broken, rule_kept}
 use Rattle.proof_network_bridge.specs.Following.{IsFaultless}
 use Rattle.proof_network_bridge.specs.Seen.{call_by, call_meant, call_seen}
 use Rattle.proof_pure_network.specs.Core.{Core, view}
@@ -50,8 +53,10 @@ use Rattle.rank_calls.specs.declared.call.Call as core_calls
 use Rattle.rank_calls.specs.declared.call.Call.TheVariants as cores_calls
 use Rattle.rank_calls.specs.declared.refused.Refused.{Refused}
 use Rattle.rank_calls.specs.declared.refused.Refused.TheVariants as refusals
+use Rattle.rank_calls.specs.Hearing.{first_of}
 use Rattle.rank_core.specs.Calls.{argument_fault, call_fault, fault_at, free_request_fault}
 use Rattle.requests.specs.Regions.{handed_of}
+use Rattle.requests.specs.declared.region.Region.{Region}
 use Rattle.requests.specs.declared.awaited.Awaited.{Awaited}
 use Rattle.requests.specs.declared.awaited.Awaited.TheVariants as awaiteds
 use Rattle.requests.specs.declared.table.Request.{Request}
@@ -93,11 +98,14 @@ requests_reason a e core m call q found why free is same lacks reason = subst (�
 
 -- a call of the queues, as the machine's
 abbrev as_call : queues.Call → Call
-as_call (queues.Isend context to tag from) = Isend None to tag from
+as_call (queues.Isend mode context to tag from) = Isend mode None to tag from
 as_call (queues.Irecv p) = Irecv None p.source p.tag p.into
 as_call (queues.Wait a) = Wait a
 as_call (queues.Test r) = Test r
 as_call (queues.Cancel r) = Cancel r
+as_call (queues.Iprobe q) = Iprobe None q.source q.tag
+as_call (queues.Improbe q) = Improbe None q.source q.tag
+as_call (queues.Mrecv message into) = Mrecv message into
 
 -- and a call that is taken has no fault
 requests_faultless : (a : Announcements) (e : EngineState) (core : Core) (m : Membership) (call : engine.Call) (q : core_calls.Call) (found : Option ℕ) → IsFree a e core m →
@@ -212,16 +220,16 @@ none_is o h = ap is_none h
 
 -- the call of the queues that a send with a route is
 send_routed : (a : Announcements) (e : EngineState) (core : Core) (m : Membership) (s : Send) (c : Communicator) → IsFree a e core m → held_at (member_of e.groups) s.comm ≡ Some c →
-    queue_call m (Isend s.comm s.target s.tag (handed_of s.from)) ≡ Some (queues.Isend c.context (in_world c s.target) s.tag (handed_of s.from))
+    queue_call m (Isend s.mode s.comm s.target s.tag (handed_of s.from)) ≡ Some (queues.Isend s.mode c.context (in_world c s.target) s.tag (handed_of s.from))
 send_routed a e core m s c free at =
-    ap (λ (o : Option Communicator). option_map (λ c. queues.Isend c.context (in_world c s.target) s.tag (handed_of s.from)) o) (at_same a e core m s.comm free ∙ at)
+    ap (λ (o : Option Communicator). option_map (λ c. queues.Isend s.mode c.context (in_world c s.target) s.tag (handed_of s.from)) o) (at_same a e core m s.comm free ∙ at)
 
 send_reason : (a : Announcements) (own : Endpoint) (e : EngineState) (core : Core) (m : Membership) (s : Send) (why : Refused) → IsFree a e core m →
-    WhyRefused (free_fault e (calls.Isend s)) e (calls.Isend s) why → IsReason (fault own (view blank core) m (Isend s.comm s.target s.tag (handed_of s.from))) why
+    WhyRefused (free_fault e (calls.Isend s)) e (calls.Isend s) why → IsReason (fault own (view blank core) m (Isend s.mode s.comm s.target s.tag (handed_of s.from))) why
 send_reason a own e core m s why free reason = go (held_at (member_of e.groups) s.comm) refl reason
   where
     c : Call
-    c = Isend s.comm s.target s.tag (handed_of s.from)
+    c = Isend s.mode s.comm s.target s.tag (handed_of s.from)
 
     go : (o : Option Communicator) → held_at (member_of e.groups) s.comm ≡ o → WhyRefused (on_route (option_map (route_on s.target) o) (send_rules e s)) e (calls.Isend s) why →
         IsReason (fault own (view blank core) m c) why
@@ -234,11 +242,11 @@ send_reason a own e core m s why free reason = go (held_at (member_of e.groups) 
         (λ x h. routed_full e (cores_calls.Isend (send_by s (route_on s.target k))) x h) (λ lacks. inr lacks.0) because
 
 send_faultless : (a : Announcements) (own : Endpoint) (e : EngineState) (core : Core) (m : Membership) (s : Send) → IsFree a e core m → free_fault e (calls.Isend s) ≡ None →
-    fault own (view blank core) m (Isend s.comm s.target s.tag (handed_of s.from)) ≡ None
+    fault own (view blank core) m (Isend s.mode s.comm s.target s.tag (handed_of s.from)) ≡ None
 send_faultless a own e core m s free allowed = go (held_at (member_of e.groups) s.comm) refl allowed
   where
     c : Call
-    c = Isend s.comm s.target s.tag (handed_of s.from)
+    c = Isend s.mode s.comm s.target s.tag (handed_of s.from)
 
     go : (o : Option Communicator) → held_at (member_of e.groups) s.comm ≡ o → on_route (option_map (route_on s.target) o) (send_rules e s) ≡ None → fault own (view blank core) m c ≡ None
     go None at h = absurd cc
@@ -287,6 +295,133 @@ receive_faultless a own e core m v free allowed = go (held_at (member_of e.group
         routed_faultless a own e core m (cores_calls.Irecv (receive_by v r)) c (is_source_beyond (held_at (member_of e.groups) v.comm) v.source) (is_replaced e v.comm v.source)
         (first_fault (group_limit r.group) (routed_limit e (cores_calls.Irecv (receive_by v r)))) free (receive_routed a e core m v k free at) refl refl
         (ap (λ (o : Option Communicator). is_source_beyond o v.source) (at_same a e core m v.comm free)) (named_alike a e core m v.comm v.source free) h
+
+-- ---- probes
+
+-- the call of the queues that a matching probe with a route is
+probe_routed : (a : Announcements) (e : EngineState) (core : Core) (m : Membership) (p : Probe) (c : Communicator) → IsFree a e core m → held_at (member_of e.groups) p.comm ≡ Some c →
+    queue_call m (Improbe p.comm p.source p.tag) ≡ Some (queues.Improbe (probe_on c p.source p.tag))
+probe_routed a e core m p c free at =
+    ap (λ (o : Option Communicator). option_map (λ c. queues.Improbe (probe_on c p.source p.tag)) o) (at_same a e core m p.comm free ∙ at)
+
+-- the rules of a probe, and then more
+rules_first : (a b c d e : Option Refused) → first_fault (first_fault a (first_fault b (first_fault c d))) e ≡ first_fault a (first_fault b (first_fault c (first_fault d e)))
+rules_first (Some x) b c d e = refl
+rules_first None (Some x) c d e = refl
+rules_first None None (Some x) d e = refl
+rules_first None None None d e = refl
+
+-- a probe is refused for the machine's reasons, whatever limits it meets behind its rules
+probing_reason : (a : Announcements) (own : Endpoint) (e : EngineState) (core : Core) (m : Membership) (p : Probe) (call : engine.Call) (why : Refused) (limit : RouteText → Option Refused) → IsFree a e core m →
+    ((r : RouteText) (x : Refused) → limit r ≡ Some x → x ≡ refusals.Limit) → (LacksRoom e call why → IsOutOfRoom why) →
+    WhyRefused (on_route (option_map (route_on p.source) (held_at (member_of e.groups) p.comm)) (λ r.
+    first_fault (argument_fault e.core.place (cores_calls.Improbe (probe_by p r))) (first_fault (broken (is_source_beyond (held_at (member_of e.groups) p.comm) p.source) refusals.Rank)
+    (first_fault (broken (is_replaced e p.comm p.source) refusals.Replaced) (limit r))))) e call why →
+    IsReason (fault own (view blank core) m (Improbe p.comm p.source p.tag)) why
+probing_reason a own e core m p call why limit free full lacks reason = go (held_at (member_of e.groups) p.comm) refl reason
+  where
+    c : Call
+    c = Improbe p.comm p.source p.tag
+
+    go : (o : Option Communicator) → held_at (member_of e.groups) p.comm ≡ o →
+        WhyRefused (on_route (option_map (route_on p.source) o) (λ r.
+        first_fault (argument_fault e.core.place (cores_calls.Improbe (probe_by p r))) (first_fault (broken (is_source_beyond (held_at (member_of e.groups) p.comm) p.source) refusals.Rank)
+        (first_fault (broken (is_replaced e p.comm p.source) refusals.Replaced) (limit r))))) e call why →
+        IsReason (fault own (view blank core) m c) why
+    go None at because =
+        lacks_reason a own e core m c why free refl (none_is (held_at m p.comm) (at_same a e core m p.comm free ∙ at)) because
+    go (Some k) at because =
+        let r : RouteText = route_on p.source k in
+        routed_reason a own e core m call (cores_calls.Improbe (probe_by p r)) c (is_source_beyond (held_at (member_of e.groups) p.comm) p.source) (is_replaced e p.comm p.source)
+        (limit r) why free (probe_routed a e core m p k free at) refl refl
+        (ap (λ (o : Option Communicator). is_source_beyond o p.source) (at_same a e core m p.comm free)) (named_alike a e core m p.comm p.source free)
+        (full r) lacks because
+
+-- and one that meets no rule has no fault
+probing_faultless : (a : Announcements) (own : Endpoint) (e : EngineState) (core : Core) (m : Membership) (p : Probe) (limit : RouteText → Option Refused) → IsFree a e core m →
+    on_route (option_map (route_on p.source) (held_at (member_of e.groups) p.comm)) (λ r.
+    first_fault (argument_fault e.core.place (cores_calls.Improbe (probe_by p r))) (first_fault (broken (is_source_beyond (held_at (member_of e.groups) p.comm) p.source) refusals.Rank)
+    (first_fault (broken (is_replaced e p.comm p.source) refusals.Replaced) (limit r)))) ≡ None →
+    fault own (view blank core) m (Improbe p.comm p.source p.tag) ≡ None
+probing_faultless a own e core m p limit free allowed = go (held_at (member_of e.groups) p.comm) refl allowed
+  where
+    c : Call
+    c = Improbe p.comm p.source p.tag
+
+    go : (o : Option Communicator) → held_at (member_of e.groups) p.comm ≡ o →
+        on_route (option_map (route_on p.source) o) (λ r.
+        first_fault (argument_fault e.core.place (cores_calls.Improbe (probe_by p r))) (first_fault (broken (is_source_beyond (held_at (member_of e.groups) p.comm) p.source) refusals.Rank)
+        (first_fault (broken (is_replaced e p.comm p.source) refusals.Replaced) (limit r)))) ≡ None →
+        fault own (view blank core) m c ≡ None
+    go None at h = absurd cc
+    go (Some k) at h =
+        let r : RouteText = route_on p.source k in
+        routed_faultless a own e core m (cores_calls.Improbe (probe_by p r)) c (is_source_beyond (held_at (member_of e.groups) p.comm) p.source) (is_replaced e p.comm p.source)
+        (limit r) free (probe_routed a e core m p k free at) refl refl
+        (ap (λ (o : Option Communicator). is_source_beyond o p.source) (at_same a e core m p.comm free)) (named_alike a e core m p.comm p.source free) h
+
+-- a matching probe's limits are that of its group and those of the core
+abbrev search_limit_of : EngineState → Probe → RouteText → Option Refused
+search_limit_of e p r = first_fault (group_limit r.group) (routed_limit e (cores_calls.Improbe (probe_by p r)))
+
+search_rules : (e : EngineState) (p : Probe) (o : Option RouteText) → on_route o (probe_rules e p) ≡
+    on_route o (λ r. first_fault (argument_fault e.core.place (cores_calls.Improbe (probe_by p r))) (first_fault (broken (is_source_beyond (held_at (member_of e.groups) p.comm) p.source) refusals.Rank)
+    (first_fault (broken (is_replaced e p.comm p.source) refusals.Replaced) (search_limit_of e p r))))
+search_rules e p None = refl
+search_rules e p (Some r) =
+    rules_first (argument_fault e.core.place (cores_calls.Improbe (probe_by p r))) (broken (is_source_beyond (held_at (member_of e.groups) p.comm) p.source) refusals.Rank)
+    (broken (is_replaced e p.comm p.source) refusals.Replaced) (group_limit r.group) (routed_limit e (cores_calls.Improbe (probe_by p r)))
+
+-- ---- the receive of a message
+
+-- the machine finds what its queues find
+message_found : (n : ℕ) (own : Endpoint) (l : Local) (m : Membership) (message : Option ℕ) (into : Handed) → is_within m.present ≡ false → fault own l m (Mrecv message into) ≡ queue_fault n l (queues.Mrecv message into)
+message_found n own l m message into apart = ap (λ (b : Bool). fault_by b (λ k. standing (slice_get l.requests k)) own l.known m (Mrecv message into)) (held_alone l m apart)
+
+-- its core's fault, by its requests and what it hands in
+message_cut : (a : Announcements) (e : EngineState) (core : Core) (m : Membership) (q : Option Request) (into : Region) (o : Option Refused) → IsFree a e core m →
+    free_request_fault e.core (cores_calls.Mrecv q into) ≡ o → call_fault e.core (cores_calls.Mrecv q into) ≡ first_of o (argument_fault e.core.place (cores_calls.Mrecv q into))
+message_cut a e core m q into o free is =
+    ap (λ (b : Option Awaited). fault_at b e.core (cores_calls.Mrecv q into)) free.idle
+    ∙ ap (λ (p : Option Refused). first_of p (argument_fault e.core.place (cores_calls.Mrecv q into))) is
+
+message_reason : (a : Announcements) (own : Endpoint) (e : EngineState) (core : Core) (m : Membership) (q : Option Request) (into : Region) (why : Refused) → IsFree a e core m →
+    WhyRefused (free_fault e (calls.Mrecv q into)) e (calls.Mrecv q into) why → IsReason (fault own (view blank core) m (call_meant e.core (calls.Mrecv q into))) why
+message_reason a own e core m q into why free reason =
+    subst (λ (o : Option ℕ). IsReason o why) (sym (message_found e.core.place.size own (view blank core) m (in_queues.request_by (in_queues.serial_meant e.core) q) (handed_of into) free.apart))
+    (by_requests (free_request_fault e.core asked) refl reason)
+  where
+    asked : core_calls.Call
+    asked = cores_calls.Mrecv q into
+
+    broken_by : (x : Refused) → call_fault e.core asked ≡ Some x → why ≡ x → HasReason e.core core asked why
+    broken_by x at because = faults_have_reasons a e.core e.sessions.known core asked why free.shown (at ∙ ap Some (sym because))
+
+    by_limit : (o : Option Refused) → routed_limit e asked ≡ o → call_fault e.core asked ≡ None → WhyRefused o e (calls.Mrecv q into) why → HasReason e.core core asked why
+    by_limit (Some x) is none because = room_is_a_reason allowed_calls_are_faultless a e.core e.sessions.known core asked why free.shown none (inl (because ∙ routed_full e asked x is))
+    by_limit None is none because = room_is_a_reason allowed_calls_are_faultless a e.core e.sessions.known core asked why free.shown none (inr because.0)
+
+    by_argument : (o : Option Refused) → argument_fault e.core.place asked ≡ o → free_request_fault e.core asked ≡ None →
+        WhyRefused (first_fault o (routed_limit e asked)) e (calls.Mrecv q into) why → HasReason e.core core asked why
+    by_argument (Some x) is requests because = broken_by x (message_cut a e core m q into None free requests ∙ is) because
+    by_argument None is requests because = by_limit (routed_limit e asked) refl (message_cut a e core m q into None free requests ∙ is) because
+
+    by_requests : (o : Option Refused) → free_request_fault e.core asked ≡ o →
+        WhyRefused (first_fault o (first_fault (argument_fault e.core.place asked) (routed_limit e asked))) e (calls.Mrecv q into) why → HasReason e.core core asked why
+    by_requests (Some x) is because = broken_by x (message_cut a e core m q into (Some x) free is) because
+    by_requests None is because = by_argument (argument_fault e.core.place asked) refl is because
+
+message_faultless : (a : Announcements) (own : Endpoint) (e : EngineState) (core : Core) (m : Membership) (q : Option Request) (into : Region) → IsFree a e core m →
+    free_fault e (calls.Mrecv q into) ≡ None → IsFaultless (fault own (view blank core) m (call_seen (calls.Mrecv q into))) e.core (calls.Mrecv q into)
+message_faultless a own e core m q into free allowed =
+    let asked : core_calls.Call = cores_calls.Mrecv q into in
+    let requests = neither_fault (free_request_fault e.core asked) _ allowed in
+    let arguments = neither_fault (argument_fault e.core.place asked) (routed_limit e asked) requests.1 in
+    let fine = allowed_calls_are_faultless a e.core e.sessions.known core asked free.shown (message_cut a e core m q into None free requests.0 ∙ arguments.0) in
+    record {
+      own = ap as_call fine.own;
+      none = message_found e.core.place.size own (view blank core) m (in_queues.request_by in_queues.own_serial q) (handed_of into) free.apart ∙ fine.none;
+    }
 
 -- ---- COLLECTIVES AND QUESTIONS
 
@@ -421,6 +556,12 @@ free_reason a own e core m (calls.Waitall qs) why free stands reason =
 free_reason a own e core m (calls.Cancel q) why free stands reason =
     requests_reason a e core m (calls.Cancel q) (cores_calls.Cancel q) _ why free (free_is a e core m (cores_calls.Cancel q) free)
     (cancel_found e.core.place.size own (view blank core) m (in_queues.request_by (in_queues.serial_meant e.core) q) free.apart) (λ lacks. absurd lacks) reason
+free_reason a own e core m (calls.Iprobe p) why free stands reason =
+    probing_reason a own e core m p (calls.Iprobe p) why (λ r. group_limit r.group) free (λ r x h. group_full r.group x h) (λ lacks. absurd lacks) reason
+free_reason a own e core m (calls.Improbe p) why free stands reason =
+    probing_reason a own e core m p (calls.Improbe p) why (search_limit_of e p) free (λ r x h. group_routed_full e r.group (cores_calls.Improbe (probe_by p r)) x h) (λ lacks. inr lacks.0)
+    (subst (λ (o : Option Refused). WhyRefused o e (calls.Improbe p) why) (search_rules e p (option_map (route_on p.source) (held_at (member_of e.groups) p.comm))) reason)
+free_reason a own e core m (calls.Mrecv q into) why free stands reason = message_reason a own e core m q into why free reason
 free_reason a own e core m (calls.Enter comm x) why free stands reason = entry_reason a own e core m comm x why free stands reason
 free_reason a own e core m (calls.Ask comm q) why free stands reason = question_reason a own e core m comm q why free reason
 
@@ -444,5 +585,13 @@ free_faultless a own e core m (calls.Waitall qs) free stands allowed =
 free_faultless a own e core m (calls.Cancel q) free stands allowed =
     requests_faultless a e core m (calls.Cancel q) (cores_calls.Cancel q) _ free (free_is a e core m (cores_calls.Cancel q) free)
     (cancel_found e.core.place.size own (view blank core) m (in_queues.request_by in_queues.own_serial q) free.apart) (λ f. refl) allowed
+free_faultless a own e core m (calls.Iprobe p) free stands allowed = record { own = refl; none = probing_faultless a own e core m p (λ r. group_limit r.group) free allowed }
+free_faultless a own e core m (calls.Improbe p) free stands allowed =
+    record {
+      own = refl;
+      none = probing_faultless a own e core m p (search_limit_of e p) free
+          (sym (search_rules e p (option_map (route_on p.source) (held_at (member_of e.groups) p.comm))) ∙ allowed);
+    }
+free_faultless a own e core m (calls.Mrecv q into) free stands allowed = message_faultless a own e core m q into free allowed
 free_faultless a own e core m (calls.Enter comm x) free stands allowed = record { own = refl; none = entry_faultless a own e core m comm x free stands allowed }
 free_faultless a own e core m (calls.Ask comm q) free stands allowed = record { own = refl; none = question_faultless a own e core m comm q free allowed }

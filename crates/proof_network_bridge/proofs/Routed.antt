@@ -1,5 +1,5 @@
 -- The fault of a call with a route: the first of the queues' rules, and then of the communicator's.
-use Rattle.std.proofs.Common.{◌≡◌, ℕ, Bool, true, false, ◌||◌, arith, if◌then◌else◌, List, [], ◌∷◌, Option, Some, None, refl, sym, ap, ◌∙◌, inl, inr}
+use Rattle.std.proofs.Common.{◌≡◌, ℕ, Bool, true, false, ◌||◌, arith, if◌then◌else◌, List, [], ◌∷◌, Option, Some, None, refl, sym, ap, subst, ◌∙◌, inl, inr}
 use Rattle.engine_parts.specs.EngineState.{EngineState, member_of}
 use Rattle.engine_parts.specs.Faults.{group_limit, routed_limit}
 use Rattle.engine_parts.specs.Frames.{frame_limit}
@@ -12,6 +12,8 @@ use Rattle.perfect_queues.specs.Calls as queues
 use Rattle.perfect_queues.specs.Buffers.{differs_in_type, is_too_short}
 use Rattle.perfect_queues.specs.Refusals as rules
 use Rattle.perfect_queues.specs.Refusals.{is_count_wrong, is_held, is_no_tag, is_no_target, is_rank_wrong, is_request_wrong, is_source_beyond, is_tag_above, is_tag_wrong, is_type_wrong, standing}
+use Rattle.vocabulary.specs.declared.envelope.Source.{Source}
+use Rattle.vocabulary.specs.declared.envelope.Source.TheVariants as sources
 use Rattle.perfect_queues.specs.State.{Local}
 use Rattle.incarnation.specs.declared.place.Place.{Place}
 use Rattle.proof_engine_steps.proofs.RefusedCalls.{allowed_calls_are_faultless, faults_have_reasons}
@@ -36,11 +38,15 @@ use Rattle.rank_calls.specs.declared.call.Call.TheVariants as calls
 use Rattle.rank_calls.specs.declared.refused.Refused.{Refused}
 use Rattle.rank_calls.specs.declared.refused.Refused.TheVariants as refusals
 use Rattle.rank_core.specs.Calls.{argument_fault, call_fault, call_frame, fault_at, free_fault, free_request_fault, limit_fault}
+use Rattle.match_queues.specs.declared.envelope.Message.{Message}
+use Rattle.rank_calls.specs.declared.call.Probe as core_probes
 use Rattle.rank_core.specs.CoreState.{CoreState}
+use Rattle.rank_core.specs.Messages.{found_for, full_if, probe_rule, region_rule, search_limit}
 use Rattle.rank_core.specs.Receiving.{receive_fault, receive_rule}
 use Rattle.rank_core.specs.Sending.{or_full}
 use Rattle.rendezvous.specs.State.{State, is_full_to}
 use Rattle.requests.specs.Regions.{byte_count, handed_of, is_unfit_to_receive}
+use Rattle.requests.specs.declared.region.Region.{Region}
 use Rattle.requests.specs.Table.{is_full}
 use Rattle.requests.specs.declared.awaited.Awaited.{Awaited}
 use Rattle.sessions.specs.SessionsState.{SessionsState}
@@ -128,6 +134,15 @@ worn_is true rank t x h = sym (same_refusal refusals.Limit x h)
 worn_is false None t x h = absurd cc
 worn_is false (Some rank) t x h = full_is (is_full_to t.numbers rank) x h
 
+held_full : (c : CoreState) (m : Option Message) (x : Refused) → full_if c m ≡ Some x → x ≡ refusals.Limit
+held_full c None x h = absurd cc
+held_full c (Some m) x h = full_is (is_full c.slots c.serial) x h
+
+search_full : (source : Source) (c : CoreState) (p : core_probes.Probe) (x : Refused) → search_limit source c p ≡ Some x → x ≡ refusals.Limit
+search_full sources.Null c p x h = absurd cc
+search_full sources.Any c p x h = held_full c (found_for c sources.Any p.tag p.context) x h
+search_full (sources.Rank r) c p x h = held_full c (found_for c (sources.Rank r) p.tag p.context) x h
+
 -- the only limit of a core is 13
 limit_is : (c : CoreState) (q : core_calls.Call) (x : Refused) → limit_fault c q ≡ Some x → x ≡ refusals.Limit
 limit_is c (calls.Isend s) x h = worn_is (is_full c.slots c.serial) (announced_to c.place s) c.transfers x h
@@ -137,6 +152,8 @@ limit_is c (calls.Test q) x h = absurd cc
 limit_is c (calls.Waitany qs) x h = absurd cc
 limit_is c (calls.Waitall qs) x h = absurd cc
 limit_is c (calls.Cancel q) x h = absurd cc
+limit_is c (calls.Improbe p) x h = search_full p.source c p x h
+limit_is c (calls.Mrecv q into) x h = absurd cc
 
 worn_out : (b : Bool) (x : Refused) → fault_of_sessions (if b then Some lowers.Limit else None) ≡ Some x → x ≡ refusals.Limit
 worn_out true x h = sym (same_refusal refusals.Limit x h)
@@ -156,7 +173,8 @@ either_is None p x one other h = other x h
 pub routed_full : (e : EngineState) (q : core_calls.Call) (x : Refused) → routed_limit e q ≡ Some x → x ≡ refusals.Limit
 routed_full e q x h = either_is (limit_fault e.core q) (frame_limit e.sessions (call_frame e.core q)) x (limit_is e.core q) (frame_full e.sessions (call_frame e.core q)) h
 
-group_full : (o : Option (List ℕ)) (x : Refused) → group_limit o ≡ Some x → x ≡ refusals.Limit
+-- that of a group is
+pub group_full : (o : Option (List ℕ)) (x : Refused) → group_limit o ≡ Some x → x ≡ refusals.Limit
 group_full None x h = absurd cc
 group_full (Some group) x h = full_is (nat_lt 65535 (length group)) x h
 
@@ -194,6 +212,27 @@ unfolding receive_rule
 receive_rule_room size v x h room =
     four_tests (is_unfit_to_receive (handed_of v.into)) (is_too_short (handed_of v.into)) (is_tag_above v.tag) (is_source_beyond size v.source) x h room
 
+two_tests : (a b : Bool) (one two x : Refused) → (IsOutOfRoom one → ⊥) → (IsOutOfRoom two → ⊥) → (if a then Some one else (if b then Some two else None)) ≡ Some x → IsOutOfRoom x → ⊥
+two_tests true b one two x none other h room = none (subst IsOutOfRoom (sym (same_refusal one x h)) room)
+two_tests false true one two x none other h room = other (subst IsOutOfRoom (sym (same_refusal two x h)) room)
+two_tests false false one two x none other h room = absurd cc
+
+no_room_is : (x : Refused) → (x ≡ refusals.Limit → ⊥) → (x ≡ refusals.OutOfMemory → ⊥) → IsOutOfRoom x → ⊥
+no_room_is x limit memory (inl i) = limit i
+no_room_is x limit memory (inr i) = memory i
+
+probe_rule_room : (size : ℕ) (source : Source) (tag : Option ℕ) (x : Refused) → probe_rule size source tag ≡ Some x → IsOutOfRoom x → ⊥
+unfolding probe_rule
+probe_rule_room size source tag x h room =
+    two_tests (is_tag_above tag) (is_source_beyond size source) refusals.Tag refusals.Rank x
+    (λ r. no_room_is refusals.Tag (λ i. absurd cc) (λ i. absurd cc) r) (λ r. no_room_is refusals.Rank (λ i. absurd cc) (λ i. absurd cc) r) h room
+
+region_rule_room : (into : Region) (x : Refused) → region_rule into ≡ Some x → IsOutOfRoom x → ⊥
+unfolding region_rule
+region_rule_room into x h room =
+    two_tests (is_unfit_to_receive (handed_of into)) (is_too_short (handed_of into)) refusals.WrongType refusals.Count x
+    (λ r. no_room_is refusals.WrongType (λ i. absurd cc) (λ i. absurd cc) r) (λ r. no_room_is refusals.Count (λ i. absurd cc) (λ i. absurd cc) r) h room
+
 -- what a call breaks by what it hands in is no limit
 argument_room : (p : Place) (q : core_calls.Call) (x : Refused) → argument_fault p q ≡ Some x → IsOutOfRoom x → ⊥
 argument_room p (calls.Isend s) x h room = send_rule_room p s x h room
@@ -203,6 +242,8 @@ argument_room p (calls.Test q) x h room = absurd cc
 argument_room p (calls.Waitany qs) x h room = absurd cc
 argument_room p (calls.Waitall qs) x h room = absurd cc
 argument_room p (calls.Cancel q) x h room = absurd cc
+argument_room p (calls.Improbe q) x h room = probe_rule_room p.size q.source q.tag x h room
+argument_room p (calls.Mrecv q into) x h room = region_rule_room into x h room
 
 -- ---- WHAT THE QUEUES FIND
 
@@ -226,6 +267,10 @@ unfolding receive_fault receive_rule
 receive_cut c v =
     tests_cut (is_unfit_to_receive (handed_of v.into)) (is_too_short (handed_of v.into)) (is_tag_above v.tag) (is_source_beyond c.place.size v.source) (is_full c.slots c.serial)
 
+first_alone : (o : Option Refused) → o ≡ first_of o None
+first_alone None = refl
+first_alone (Some x) = refl
+
 -- the fault of a call whose requests are in order, while no earlier one is blocked
 free_cut : (c : CoreState) (q : core_calls.Call) → free_request_fault c q ≡ None → free_fault c q ≡ first_of (argument_fault c.place q) (limit_fault c q)
 free_cut c (calls.Isend s) requests = send_cut (send_fault c.place s) c (announced_to c.place s) c.transfers
@@ -235,6 +280,8 @@ free_cut c (calls.Test q) requests = requests
 free_cut c (calls.Waitany qs) requests = requests
 free_cut c (calls.Waitall qs) requests = requests
 free_cut c (calls.Cancel q) requests = requests
+free_cut c (calls.Improbe p) requests = refl
+free_cut c (calls.Mrecv q into) requests = ap (λ (o : Option Refused). first_of o (region_rule into)) requests ∙ first_alone (region_rule into)
 
 pub core_fault : (c : CoreState) (q : core_calls.Call) → c.blocked ≡ None → free_request_fault c q ≡ None → call_fault c q ≡ first_of (argument_fault c.place q) (limit_fault c q)
 core_fault c q idle requests = ap (λ (b : Option Awaited). fault_at b c q) idle ∙ free_cut c q requests

@@ -1,8 +1,8 @@
 -- What a step of a collective sends: frames that the sessions may send, which bring its messages or announce them.
-use Rattle.std.proofs.Common.{◌≡◌, ℕ, ◌≤◌, ◌<◌, Bool, true, false, not, ◌&&◌, ◌||◌, ◌==◌, List, [], ◌∷◌, length, Option, Some, None, ◌+◌, if◌then◌else◌, nat_le, nat_lt, slice_index, refl, sym, ap, subst, ◌∙◌, arith}
+use Rattle.std.proofs.Common.{◌≡◌, ℕ, ◌≤◌, ◌<◌, Bool, true, false, not, ◌&&◌, ◌||◌, ◌==◌, List, [], ◌∷◌, length, Option, Some, None, ◌+◌, ◌*◌, if◌then◌else◌, nat_le, nat_lt, slice_index, refl, sym, ap, subst, ◌∙◌, arith}
 use Rattle.std.specs.List.{AllByRecursion}
 use Rattle.std.specs.Prelude.{slice_index_or}
-use Rattle.std.proofs.lemmas.Bool.{and_from, and_parts, cases_eq, eq-eqb, leb-true, ltb-false, ltb-true}
+use Rattle.std.proofs.lemmas.Bool.{and_from, and_parts, cases_eq, eq-eqb, leb-true, lt-ltb, ltb-false, ltb-true}
 use Rattle.std.proofs.lemmas.List.{length-set}
 use Rattle.collective_notes.specs.Messages.{says}
 use Rattle.collective_notes.specs.declared.message.Message.{Message}
@@ -118,7 +118,7 @@ can_be_sent p ns m goes whole most = go (is_large m) refl
         let limit : count ≤ 1048576 = (can_begin ns m.target.rank count above g.sendable).limit in
         let greatest : next_to ns m.target.rank ≤ 4294967295 = most in
         record {
-          fits = record { tag = g.tag; large = omega (arith, above); limit = omega (arith, limit); plane = refl };
+          fits = record { tag = g.tag; large = lt-ltb eager_limit (count * 1) (omega (arith, above)); limit = omega (arith, limit); plane = refl };
           width = record { context = whole.context; count = omega (arith, limit); transfer = omega (arith, greatest) };
         }
 
@@ -169,7 +169,7 @@ tells_message ns m = go (is_large m) refl
   where
     go : (large : Bool) → is_large m ≡ large → Tells m (payload_frame (if large then Some (next_to ns m.target.rank) else None) m.context m.number (bytes_of_message m))
     go false is = record { plane = refl; basic = refl; context = refl; number = refl; elements = refl }
-    go true is = record { plane = refl; basic = refl; context = refl; number = refl; count = refl; large = ltb-true eager_limit (length (bytes_of_message m)) is }
+    go true is = record { mode = refl; plane = refl; basic = refl; context = refl; number = refl; count = refl; large = ltb-true eager_limit (length (bytes_of_message m)) is }
 
 -- The frames of messages that go to whoever is known bring the messages
 pub bring : (known : List ℕ) (ns : List Numbers) (ms : List Message) → AreWhole ms → GoTo (IsKnown known) ms → Bring ms (all_addressed known (messages_sent ns ms))

@@ -15,24 +15,27 @@ use Rattle.perfect_queues.proofs.EndpointLemmas.{same_eq}
 use Rattle.perfect_queues.specs.Calls as queues
 use Rattle.perfect_queues.specs.Completions as completions
 use Rattle.perfect_queues.specs.Events as queue_events
-use Rattle.perfect_queues.specs.Receives.{Receive}
+use Rattle.perfect_queues.specs.Receives.{Probe, Receive}
 use Rattle.perfect_queues.specs.Refusals as refusals
 use Rattle.perfect_queues.specs.Runs as queue_runs
 use Rattle.perfect_queues.specs.State.{Local, State}
-use Rattle.perfect_queues.specs.Steps.{AreSteps, Finish, FinishSend, Learn, Match, Step, steps_at}
+use Rattle.perfect_queues.specs.Steps.{AreSteps, Finish, FinishSend, Learn, Match, See, Step, TakeOut, steps_at}
 use Rattle.vocabulary.specs.Endpoints.{is_same}
 use Rattle.vocabulary.specs.declared.endpoint.Endpoint.{Endpoint}
 use Rattle.proof_network_bridge.specs.OnWorld.{IsEntryOnWorld, IsOnWorld, RunsOnWorldAreOfQueues, call_on_world, entries_on_world, entry_on_world}
-use Rattle.proof_network_bridge.proofs.WorldCalls.{call_told, enters_nothing, receive_is, word_told, world_call}
+use Rattle.proof_network_bridge.proofs.WorldCalls.{call_told, enters_nothing, probe_is, receive_is, word_told, world_call}
 
 -- ---- what is seen on world is seen of one call
 
 call_back : (q : queues.Call) → IsOnWorld q → on_world (call_on_world q) ≡ Some q
-call_back (queues.Isend context to tag from) is = ap (λ (x : ℕ). Some (queues.Isend x to tag from)) (sym is)
+call_back (queues.Isend mode context to tag from) is = ap (λ (x : ℕ). Some (queues.Isend mode x to tag from)) (sym is)
 call_back (queues.Irecv p) is = ap (λ (x : Receive). Some (queues.Irecv x)) (receive_is p.source p.tag p.context p.group p.into is.0 is.1)
 call_back (queues.Wait a) is = refl
 call_back (queues.Test r) is = refl
 call_back (queues.Cancel r) is = refl
+call_back (queues.Iprobe q) is = ap (λ (x : Probe). Some (queues.Iprobe x)) (probe_is q.source q.tag q.context q.group is.0 is.1)
+call_back (queues.Improbe q) is = ap (λ (x : Probe). Some (queues.Improbe x)) (probe_is q.source q.tag q.context q.group is.0 is.1)
+call_back (queues.Mrecv message into) is = refl
 
 -- what an entry says of queues
 abbrev in_queues : Entry → Option queue_events.Entry
@@ -113,6 +116,8 @@ step_plain : (n : ℕ) (g : Groups) (e : Endpoint) (x : Step) → ((y : Endpoint
 step_plain n g e (Match k p earlier m later) old y = old y
 step_plain n g e (Finish k p m) old y = old y
 step_plain n g e (FinishSend k d) old y = old y
+step_plain n g e (See q earlier m later) old y = old y
+step_plain n g e (TakeOut q earlier m later) old y = old y
 step_plain n g e (Learn r i) old y = put_fresh n g.of e (learnt_member r i (g.of e)) old (ap (learnt_member r i) (old e)) y
 
 -- who is in no collective doesn't leave one

@@ -8,10 +8,12 @@ use Rattle.engine.specs.Datagrams.{DatagramGives}
 use Rattle.engine_parts.specs.EngineState.{EngineState, completion_of, emptied, member_of, opening}
 use Rattle.engine.specs.Ticks.{TickGives}
 use Rattle.engine_parts.specs.declared.call.Call.{Call}
+use Rattle.engine_parts.specs.declared.call.Call.TheVariants as calls
+use Rattle.engine_parts.specs.declared.call.Probe.{Probe}
 use Rattle.engine_parts.specs.declared.reply.Reply.{Reply}
 use Rattle.engine_parts.specs.declared.reply.Reply.TheVariants as replies
 use Rattle.perfect_groups.specs.Calls as machine_calls
-use Rattle.perfect_groups.specs.Calls.{held_at}
+use Rattle.perfect_groups.specs.Calls.{held_at, queue_call}
 use Rattle.perfect_groups.specs.Communicators.{Communicator}
 use Rattle.perfect_groups.specs.Events as machine
 use Rattle.perfect_groups.specs.Faults.{fault}
@@ -20,7 +22,9 @@ use Rattle.perfect_groups.specs.Quiet.{CollectivesAreLeft}
 use Rattle.perfect_groups.specs.Runs.{IsRun, after_run, seen}
 use Rattle.vocabulary.specs.Endpoints.{last_incarnation}
 use Rattle.vocabulary.specs.declared.endpoint.Endpoint.{Endpoint}
-use Rattle.perfect_queues.specs.Quiet.{IsAtRest}
+use Rattle.perfect_queues.specs.Calls as queues
+use Rattle.perfect_queues.specs.Quiet.{IsAtRest, ProbesFindAll}
+use Rattle.perfect_queues.specs.Receives as receives
 use Rattle.proof_engine_steps.specs.Refused.{IsReason}
 use Rattle.proof_link_truth.specs.Quiet.{AreQuiet}
 use Rattle.proof_network_bridge.specs.Joined.{IsFollowed, opening_engines, sessions_in}
@@ -120,6 +124,17 @@ pub record IsFaultless (found : Option ℕ) (c : CoreState) (call : Call) : Type
   pub own : call_meant c call ≡ call_seen call
   pub none : found ≡ None
 
+-- the engine at an endpoint answers a probe, which is this one in the machine, with none: one that looks, or one that takes out
+pub data AnswersNone (engines : List EngineState) (x : Endpoint) (q : receives.Probe) : Type 0 where
+  LooksInVain :
+      (r : ℕ) (e mid : EngineState) (p : Probe) → slice_get engines r ≡ Some e → e.sessions.place.endpoint ≡ x →
+      queue_call (member_of e.groups) (call_seen (calls.Iprobe p)) ≡ Some (queues.Iprobe q) →
+      CallGives e (calls.Iprobe p) (replies.Probed None) mid → AnswersNone engines x q
+  SearchesInVain :
+      (r : ℕ) (e mid : EngineState) (p : Probe) → slice_get engines r ≡ Some e → e.sessions.place.endpoint ≡ x →
+      queue_call (member_of e.groups) (call_seen (calls.Improbe p)) ≡ Some (queues.Improbe q) →
+      CallGives e (calls.Improbe p) (replies.Matched None) mid → AnswersNone engines x q
+
 -- A history is seen of a run of the machine of queues and groups among n ranks. The run ends with each rank at the
 -- incarnation of its engine, which knows there what its engine knows; a call that its engine refuses has a reason there, and
 -- one that it takes has no fault; and where their sessions are quiet, the run has come to a state that meets the machine's quiet
@@ -158,6 +173,8 @@ pub record IsSeenOfMachine (n : ℕ) (engines : List EngineState) (history : Lis
       held_at (member_of e.groups) first ≡ Some a → held_at (member_of d.groups) second ≡ Some b → a.context ≡ b.context → a ≡ b
   -- messages have all been handed up, and what was matched is finished
   pub quiet : AreQuiet (sessions_in engines) → IsAtRest (after_run (machine_opening n) events).queues
+  -- a probe finds nothing only where nothing is there that such a receive would accept
+  pub finds : AreQuiet (sessions_in engines) → ProbesFindAll (after_run (machine_opening n) events).queues (AnswersNone engines)
   -- a collective whose members are all current, know each other so and have all entered it alike was left by all
   pub leaves : AreQuiet (sessions_in engines) → CollectivesAreLeft n (after_run (machine_opening n) events)
 

@@ -1,7 +1,7 @@
 -- Runs of the machine of queues and groups whose calls are on world alone, which each rank holds first.
 use Rattle.std.specs.Prelude.{◌≡◌, ℕ, List, map, Some, None}
 use Rattle.std.specs.List.{AllByRecursion}
-use Rattle.perfect_groups.specs.Calls.{ByRequests, Call, Cancel, Irecv, Isend, OfRequests, Test, Wait}
+use Rattle.perfect_groups.specs.Calls.{ByRequests, Call, Cancel, Improbe, Iprobe, Irecv, Isend, Mrecv, OfRequests, Test, Wait}
 use Rattle.perfect_groups.specs.Events.{Called, Completed, Entry, Event, Restarted}
 use Rattle.perfect_groups.specs.Machine.{machine_opening}
 use Rattle.perfect_groups.specs.Runs.{IsRun, after_run, seen}
@@ -13,11 +13,14 @@ use Rattle.perfect_queues.specs.State.{State, opening}
 
 -- a call of queues and requests, on world
 abbrev pub call_on_world : queues.Call → Call
-call_on_world (queues.Isend context to tag from) = Isend (Some 0) to tag from
+call_on_world (queues.Isend mode context to tag from) = Isend mode (Some 0) to tag from
 call_on_world (queues.Irecv p) = Irecv (Some 0) p.source p.tag p.into
 call_on_world (queues.Wait a) = Wait a
 call_on_world (queues.Test r) = Test r
 call_on_world (queues.Cancel r) = Cancel r
+call_on_world (queues.Iprobe q) = Iprobe (Some 0) q.source q.tag
+call_on_world (queues.Improbe q) = Improbe (Some 0) q.source q.tag
+call_on_world (queues.Mrecv message into) = Mrecv message into
 
 -- what is seen of queues and requests, on world
 abbrev pub entry_on_world : queue_events.Entry → Entry
@@ -29,13 +32,16 @@ entry_on_world (queue_events.Restarted r) = Restarted r
 abbrev pub entries_on_world : List queue_events.Entry → List Entry
 entries_on_world entries = map entry_on_world entries
 
--- whether a call of queues and requests is on world: in its context, and a receive names ranks by themselves
+-- whether a call of queues and requests is on world: in its context, and a receive or a probe names ranks by themselves
 abbrev pub IsOnWorld : queues.Call → Type 0
-IsOnWorld (queues.Isend context to tag from) = context ≡ world
+IsOnWorld (queues.Isend mode context to tag from) = context ≡ world
 IsOnWorld (queues.Irecv p) = (p.context ≡ world) × (p.group ≡ None)
 IsOnWorld (queues.Wait a) = Unit {0}
 IsOnWorld (queues.Test r) = Unit {0}
 IsOnWorld (queues.Cancel r) = Unit {0}
+IsOnWorld (queues.Iprobe q) = (q.context ≡ world) × (q.group ≡ None)
+IsOnWorld (queues.Improbe q) = (q.context ≡ world) × (q.group ≡ None)
+IsOnWorld (queues.Mrecv message into) = Unit {0}
 
 -- whether what is seen is of such a call, where it is of a call
 abbrev pub IsEntryOnWorld : queue_events.Entry → Type 0

@@ -10,11 +10,12 @@ use Rattle.engine_parts.specs.declared.reply.Completion.{Completion}
 use Rattle.engine_parts.specs.declared.reply.Completion.TheVariants as completions
 use Rattle.engine_parts.specs.declared.reply.Reply as engine_replies
 use Rattle.engine_parts.specs.declared.reply.Reply.TheVariants as replies
-use Rattle.perfect_groups.specs.Calls.{ByCollective, ByRequests, Call, Cancel, Enter, Inquire, Irecv, Isend, OfCollective, OfFact, OfRequests, Test, Wait}
+use Rattle.perfect_groups.specs.Calls.{ByCollective, ByRequests, Call, Cancel, Enter, Improbe, Inquire, Iprobe, Irecv, Isend, Mrecv, OfCollective, OfFact, OfRequests, Test, Wait}
 use Rattle.perfect_groups.specs.Events.{Called, Completed, Entry}
 use Rattle.perfect_queues.specs.Calls as queues
+use Rattle.perfect_queues.specs.Completions.{ForMatch, ForProbe}
 use Rattle.proof_collective_steps.specs.Shown.{ending_is}
-use Rattle.proof_engine_view.specs.Seen.{answer_seen, awaited_by, own_serial, request_by, serial_meant}
+use Rattle.proof_engine_view.specs.Seen.{answer_seen, awaited_by, match_seen, own_serial, request_by, serial_meant}
 use Rattle.rank_core.specs.CoreState.{CoreState}
 use Rattle.requests.specs.Regions.{handed_of}
 use Rattle.requests.specs.declared.awaited.Awaited.TheVariants as awaiteds
@@ -22,13 +23,16 @@ use Rattle.requests.specs.declared.table.Request.{Request}
 
 -- a call, where requests are named so
 abbrev pub call_by : (Request → ℕ) → engine.Call → Call
-call_by f (calls.Isend s) = Isend s.comm s.target s.tag (handed_of s.from)
+call_by f (calls.Isend s) = Isend s.mode s.comm s.target s.tag (handed_of s.from)
 call_by f (calls.Irecv v) = Irecv v.comm v.source v.tag (handed_of v.into)
 call_by f (calls.Wait q) = Wait (awaited_by f (awaiteds.One q))
 call_by f (calls.Test q) = Test (request_by f q)
 call_by f (calls.Waitany qs) = Wait (awaited_by f (awaiteds.AnyOf qs))
 call_by f (calls.Waitall qs) = Wait (awaited_by f (awaiteds.AllOf qs))
 call_by f (calls.Cancel q) = Cancel (request_by f q)
+call_by f (calls.Iprobe p) = Iprobe p.comm p.source p.tag
+call_by f (calls.Improbe p) = Improbe p.comm p.source p.tag
+call_by f (calls.Mrecv q into) = Mrecv (request_by f q) (handed_of into)
 call_by f (calls.Enter comm x) = Enter comm (call_of x)
 call_by f (calls.Ask comm q) = Inquire comm (question_of q)
 
@@ -47,6 +51,8 @@ told_call e call (Some (replies.Started q)) = Called e (call_seen call) (OfReque
 told_call e call (Some (replies.Done a)) = Called e (call_seen call) (OfRequests (queues.Done (answer_seen a))) ∷ []
 told_call e call (Some replies.Pending) = Called e (call_seen call) (OfRequests queues.Pending) ∷ []
 told_call e call (Some replies.Accepted) = Called e (call_seen call) (OfRequests queues.Accepted) ∷ []
+told_call e call (Some (replies.Probed found)) = Called e (call_seen call) (OfRequests (queues.Done (ForProbe found))) ∷ []
+told_call e call (Some (replies.Matched found)) = Called e (call_seen call) (OfRequests (queues.Done (ForMatch (match_seen found)))) ∷ []
 told_call e call (Some replies.Blocked) = Called e (call_seen call) (OfRequests queues.Blocked) ∷ []
 told_call e call (Some (replies.Left o)) = Called e (call_seen call) (OfCollective (ending_is o)) ∷ []
 told_call e call (Some (replies.Fact f)) = Called e (call_seen call) (OfFact (fact_said f)) ∷ []

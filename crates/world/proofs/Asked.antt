@@ -36,6 +36,9 @@ refusal_given e new (calls.Test q) back why is = is
 refusal_given e new (calls.Waitany qs) back why is = is
 refusal_given e new (calls.Waitall qs) back why is = is
 refusal_given e new (calls.Cancel q) back why is = is
+refusal_given e new (calls.Iprobe p) back why is = is
+refusal_given e new (calls.Improbe p) back why is = is
+refusal_given e new (calls.Mrecv q into) back why is = is
 refusal_given e new (calls.Enter comm x) back why is = is
 refusal_given e new (calls.Ask comm q) back why is = is
 
@@ -48,6 +51,9 @@ given_refusal e new (calls.Test q) back why is = is
 given_refusal e new (calls.Waitany qs) back why is = is
 given_refusal e new (calls.Waitall qs) back why is = is
 given_refusal e new (calls.Cancel q) back why is = is
+given_refusal e new (calls.Iprobe p) back why is = is
+given_refusal e new (calls.Improbe p) back why is = is
+given_refusal e new (calls.Mrecv q into) back why is = is
 given_refusal e new (calls.Enter comm x) back why is = is
 given_refusal e new (calls.Ask comm q) back why is = is
 
@@ -139,6 +145,9 @@ lacking e (calls.Test q) why is = absurd is
 lacking e (calls.Waitany qs) why is = absurd is
 lacking e (calls.Waitall qs) why is = inl is
 lacking e (calls.Cancel q) why is = absurd is
+lacking e (calls.Iprobe p) why is = absurd is
+lacking e (calls.Improbe p) why is = inl is.0
+lacking e (calls.Mrecv q into) why is = inl is.0
 lacking e (calls.Enter comm x) why is = is
 lacking e (calls.Ask comm q) why is = inl is.0
 

@@ -19,6 +19,8 @@ is_taken replies.Accepted is = tt
 is_taken replies.Blocked is = tt
 is_taken (replies.Left ending) is = tt
 is_taken (replies.Fact fact) is = tt
+is_taken (replies.Probed found) is = tt
+is_taken (replies.Matched found) is = tt
 
 -- a call that is refused hands itself back, and leaves the engine as it was
 pub refused_call : (old new : EngineState) (call : Call) (r : Reply) (why e : Refused) → refusal_of r ≡ Some why → e ≡ why → CallGives old call r new → RefusedLeaves r old new →
@@ -38,3 +40,5 @@ refused_call old new call replies.Accepted why e is same gives leaves = absurd c
 refused_call old new call replies.Blocked why e is same gives leaves = absurd cc
 refused_call old new call (replies.Left ending) why e is same gives leaves = absurd cc
 refused_call old new call (replies.Fact fact) why e is same gives leaves = absurd cc
+refused_call old new call (replies.Probed found) why e is same gives leaves = absurd cc
+refused_call old new call (replies.Matched found) why e is same gives leaves = absurd cc

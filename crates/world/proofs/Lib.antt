@@ -7,6 +7,7 @@ pub mod Called
 pub mod Runs
 pub mod Sound
 pub mod Strays
+pub mod Keys
 pub mod Refusals
 pub mod Ordered
 pub mod Headlines

@@ -30,8 +30,7 @@ use Rattle.world.specs.declared.event.Event.TheVariants as events
 use Rattle.world.specs.declared.event.Failed.{Failed}
 use Rattle.world.proofs.Asked.{first_fault_refuses}
 use Rattle.world.proofs.Places.{sound_placed}
-use Rattle.world.proofs.Sound.{stray_breaks}
-use Rattle.world.proofs.Strays.{alike_at_engine}
+use Rattle.world.proofs.Strays.{alike_at_engine, stray_breaks}
 
 -- ---- what a refused datagram leaves of an engine
 
@@ -149,6 +148,7 @@ refusal_sound old d h event refusal s allowed ran =
     record {
       world = s.world;
       followed = event_followed old d (history_seen h) event ran.rank ran.engine ran.next refusal s.followed allowed ran.there ran.others ran.target ran.ran;
+      named = s.named;
     }
 
 -- ---- what is told of it

@@ -16,14 +16,15 @@ use Rattle.proof_network_bridge.specs.Joined.{IsFollowed, opening_engines}
 use Rattle.proof_network_bridge.proofs.Closed.{calls_follow, datagrams_follow, opening_follows, restarts_follow, ticks_follow}
 use Rattle.world.specs.WorldState.{IsWorld, StandsIn}
 use Rattle.world.specs.Headline.{IsSound, entry_seen, history_seen}
-use Rattle.world.specs.Faults.{event_fault, first_fault, target_fault, target_of}
+use Rattle.world.specs.Faults.{event_fault, target_of}
 use Rattle.world.specs.Steps.{CallRuns, DatagramRuns, DeliveryRuns, EventRuns, Gave, RanAt, RestartRuns, TakesBytes, TakesCall, TakesTime, TickRuns, entry_of, nothing_of}
 use Rattle.world.specs.declared.event.Entry.{Entry}
 use Rattle.world.specs.declared.event.Event.{Event}
 use Rattle.world.specs.declared.event.Event.TheVariants as events
-use Rattle.world.specs.Strays.{stray_fault}
 use Rattle.world.specs.declared.refused.Refused.{Refused}
-use Rattle.world.proofs.Places.{below_last}
+use Rattle.world.proofs.Keys.{all_named}
+use Rattle.world.proofs.Places.{below_last, sound_placed}
+use Rattle.world.proofs.Strays.{stray_breaks}
 
 pub sound_same : (e e' : List EngineState) (d d' : List (ℕ × List ℕ)) (h h' : List Entry) → e' ≡ e → d' ≡ d → h' ≡ h → IsSound e d h → IsSound e' d' h'
 sound_same e e' d d' h h' es ds hs s =
@@ -49,6 +50,7 @@ opening_sound n few =
     record {
       world = opening_is_world n few;
       followed = subst (λ (m : ℕ). IsFollowed m (opening_engines n 0 n) [] []) (sym (length_opening n 0 n)) (opening_follows n few);
+      named = λ r e there. record { past = tt; named = λ q given. absurd given };
     }
 
 -- one entry more is seen behind the others
@@ -174,14 +176,6 @@ pub fault_as : (size n : ℕ) (d d' : List (ℕ × List ℕ)) (event : Event) (o
 fault_as size n d d' event o size_is d_is h =
     subst (λ (m : ℕ). event_fault m d' event ≡ o) size_is (subst (λ (x : List (ℕ × List ℕ)). event_fault size x event ≡ o) d_is h)
 
--- stray bytes always break a rule
-pub stray_breaks : (size : ℕ) (d : List (ℕ × List ℕ)) (r : ℕ) (bytes : List ℕ) → event_fault size d (events.Stray r bytes) ≡ None → ⊥
-stray_breaks size d r bytes none = go (target_fault size (Some r)) none
-  where
-    go : (o : Option Refused) → first_fault o (Some (stray_fault bytes)) ≡ None → ⊥
-    go None h = absurd cc
-    go (Some fault) h = absurd cc
-
 event_followed : (old new : List EngineState) (d : List (ℕ × List ℕ)) (h : List Entry) (event : Event) (rank : ℕ) (e next : EngineState) (gave : Gave) →
     IsEngineOf old new d h rank e next → event_fault (length old) d event ≡ None → target_of d event ≡ Some rank → EventRuns d event e (Ok gave) next → Leaves new d h event gave
 event_followed old new d h (events.Call r call) rank e next gave at allowed target ran = call_followed old new d h rank r call e next gave at ran
@@ -194,7 +188,10 @@ event_followed old new d h (events.Restart r) rank e next gave at allowed target
 pub event_sound : (old new : List EngineState) (d : List (ℕ × List ℕ)) (h : List Entry) (event : Event) (gave : Gave) →
     IsSound old d h → event_fault (length old) d event ≡ None → RanAt d event old (Ok gave) new → IsWorld new → IsSound new (d ++ gave.out) (h ++ entry_of event gave ∷ [])
 event_sound old new d h event gave s allowed ran w =
+    let after : IsFollowed (length new) new (d ++ gave.out) (history_seen (h ++ entry_of event gave ∷ [])) =
+    event_followed old new d h event ran.rank ran.engine ran.next gave (record { before = s.followed; there = ran.there; others = ran.others }) allowed ran.target ran.ran in
     record {
       world = w;
-      followed = event_followed old new d h event ran.rank ran.engine ran.next gave (record { before = s.followed; there = ran.there; others = ran.others }) allowed ran.target ran.ran;
+      followed = after;
+      named = all_named old new d (d ++ gave.out) h event ran.rank ran.engine ran.next gave ran.there ran.others allowed ran.ran s.followed after (sound_placed old d h s) s.named;
     }

@@ -1,5 +1,5 @@
 -- Why an engine of a world would refuse the bytes that the world refuses as stray ones.
-use Rattle.std.proofs.Common.{◌≡◌, ℕ, ◌<◌, Bool, true, false, List, length, Some, None, Result, refl, sym, ap, subst, ◌∙◌, arith}
+use Rattle.std.proofs.Common.{◌≡◌, ℕ, ◌<◌, Bool, true, false, List, length, Some, None, Result, refl, sym, ap, subst, ◌∙◌, arith, Option}
 use Rattle.std.specs.Prelude.{Ok, Err, ◌==◌, ◌&&◌, nat_le, slice_get, if◌then◌else◌}
 use Rattle.std.proofs.lemmas.Option.{same_Some, slice_get_within}
 use Rattle.std.proofs.lemmas.Bool.{le-leb, leb-true, lt-leb}
@@ -28,7 +28,7 @@ use Rattle.rank_calls.specs.declared.refused.Refused as lower
 use Rattle.rank_calls.specs.declared.refused.Refused.TheVariants as lowers
 use Rattle.world.specs.declared.refused.Refused.{Refused}
 use Rattle.world.specs.declared.refused.Refused.TheVariants.{CarriesJob, Engine, NoSuchRank}
-use Rattle.world.specs.Faults.{event_fault, first_fault}
+use Rattle.world.specs.Faults.{event_fault, first_fault, target_fault}
 use Rattle.world.specs.Steps.{ByTheEngine, ByTheWorld, ForRoom, IsAsAtTheEngine, IsWhy}
 use Rattle.world.specs.Strays.{EngineRefuses, carries_job, fault_of_text, stray_fault}
 use Rattle.world.specs.WorldState.{ArePlaced, WorldState}
@@ -120,3 +120,11 @@ alike_at_engine old (events.Deliver number) why out placed is = tt
 alike_at_engine old (events.Tick r now) why out placed is = tt
 alike_at_engine old (events.Restart r) why out placed is = tt
 alike_at_engine old (events.Stray r bytes) why out placed is = λ e there other. stray_alike old r bytes why out e placed is there other
+
+-- stray bytes always break a rule
+pub stray_breaks : (size : ℕ) (d : List (ℕ × List ℕ)) (r : ℕ) (bytes : List ℕ) → event_fault size d (events.Stray r bytes) ≡ None → ⊥
+stray_breaks size d r bytes none = go (target_fault size (Some r)) none
+  where
+    go : (o : Option Refused) → first_fault o (Some (stray_fault bytes)) ≡ None → ⊥
+    go None h = absurd cc
+    go (Some fault) h = absurd cc

@@ -1,10 +1,11 @@
 -- The headline: what is seen of a world is a run of the machine of queues and groups.
 --
 -- Its words, and where they stand: the machine's `IsRun`, `after_run`, `seen` (perfect_groups, Runs), `fault` (Faults), `IsAtRest`
--- (perfect_queues, Quiet) and `CollectivesAreLeft` (perfect_groups, Quiet); what is seen of a call, its reply and a completion,
--- `call_seen`, `call_meant`, `told_call` and `told_completion` (proof_network_bridge, Seen); a call's fault in a state, and that
--- a call has none, `fault_in` and `IsFaultless` (proof_network_bridge, Following); why a call is refused, `IsReason`
--- (proof_engine_steps, Refused); what a rank holds of communicators, `member_of` (engine, EngineState) and `held_at`
+-- and `ProbesFindAll` (perfect_queues, Quiet) and `CollectivesAreLeft` (perfect_groups, Quiet); what is seen of a call, its reply
+-- and a completion, `call_seen`, `call_meant`, `told_call` and `told_completion` (proof_network_bridge, Seen); a call's fault in a
+-- state, that a call has none, and that an engine answers a probe with none, `fault_in`, `IsFaultless` and `AnswersNone`
+-- (proof_network_bridge, Following); why a call is refused, `IsReason` (proof_engine_steps, Refused); that a call names only
+-- requests that its own engine gave, `NamesOwn` (Given); what a rank holds of communicators, `member_of` (engine, EngineState) and `held_at`
 -- (perfect_groups, Calls); the sessions of all engines, `sessions_in` (proof_network_bridge, Joined), and when they are
 -- quiet, `AreQuiet` (proof_link_truth, Quiet); the links and what sessions and datagrams tell of them, `Links` (Links) and
 -- `AreTrue` (Truth, with Told and Witness). That a world is sound, `IsSound` below, is what its proofs carry from event to event
@@ -25,14 +26,15 @@ use Rattle.perfect_groups.specs.Events as machine
 use Rattle.perfect_groups.specs.Machine.{machine_opening}
 use Rattle.perfect_groups.specs.Quiet.{CollectivesAreLeft}
 use Rattle.perfect_groups.specs.Runs.{IsRun, after_run, seen}
-use Rattle.perfect_queues.specs.Quiet.{IsAtRest}
+use Rattle.perfect_queues.specs.Quiet.{IsAtRest, ProbesFindAll}
 use Rattle.proof_engine_steps.specs.Refused.{IsReason}
 use Rattle.proof_link_truth.specs.Links.{Links}
 use Rattle.proof_link_truth.specs.Quiet.{AreQuiet}
 use Rattle.proof_link_truth.specs.Truth.{AreTrue}
-use Rattle.proof_network_bridge.specs.Following.{IsFaultless, fault_in}
+use Rattle.proof_network_bridge.specs.Following.{AnswersNone, IsFaultless, fault_in}
 use Rattle.proof_network_bridge.specs.Joined.{IsFollowed, sessions_in}
 use Rattle.proof_network_bridge.specs.Seen.{call_meant, call_seen, told_call, told_completion}
+use Rattle.world.specs.Given.{AreNamed, NamesOwn}
 use Rattle.world.specs.WorldState.{WorldState, IsWorld}
 use Rattle.world.specs.declared.event.Entry.{Entry}
 use Rattle.world.specs.declared.event.Event.{Event}
@@ -60,9 +62,10 @@ history_seen entries = flat_map entry_seen entries
 -- point, collective, or questions about it. The run ends with each rank at the incarnation of its engine, which knows there what
 -- its engine knows, and holds the communicators that its engine holds, one group for each context; a call that its engine refuses
 -- has a reason there, and one that it takes has no fault; and where the world is quiet, the run has come to a state that meets the
--- machine's quiet clauses: between ranks that know each other as they are, no receive that waits accepts a pending message, and
--- what was matched is finished on both sides, however it went; and a collective whose members are all current, know each other so
--- and have all entered it alike was left by all
+-- machine's quiet clauses: between ranks that know each other as they are, no receive that waits accepts a pending message, what
+-- was matched is finished on both sides, however it went, and a probe finds nothing only where no pending message is there that
+-- such a receive would accept; and a collective whose members are all current, know each other so and have all entered it alike was
+-- left by all
 pub record IsRunOfMachine (w : WorldState) : Type 0 where
   pub run_events : List machine.Event
   pub run : IsRun (length w.engines) (machine_opening (length w.engines)) run_events
@@ -79,6 +82,10 @@ pub record IsRunOfMachine (w : WorldState) : Type 0 where
       (r : ℕ) (e mid : EngineState) (call back : Call) (why : Refused) → slice_get w.engines r ≡ Some e →
       CallGives e call (replies.Refused why back) mid →
       IsReason (fault_in (after_run (machine_opening (length w.engines)) run_events) e.sessions.place.endpoint (call_meant e.core call)) why
+  -- where a call names only requests that its own engine gave, it means there what is seen of it
+  pub own_requests :
+      (r : ℕ) (e : EngineState) (call : Call) → slice_get w.engines r ≡ Some e →
+      NamesOwn w.history e.sessions.place.endpoint call → call_meant e.core call ≡ call_seen call
   -- a call that the engine takes names no request of another engine, and the machine finds no fault with it
   pub takes :
       (r : ℕ) (e mid : EngineState) (call : Call) (reply : Reply) → slice_get w.engines r ≡ Some e → IsTaken reply →
@@ -93,6 +100,9 @@ pub record IsRunOfMachine (w : WorldState) : Type 0 where
       slice_get w.engines r ≡ Some e → slice_get w.engines x ≡ Some d →
       held_at (member_of e.groups) first ≡ Some a → held_at (member_of d.groups) second ≡ Some b → a.context ≡ b.context → a ≡ b
   pub quiet : AreQuiet (sessions_in w.engines) → IsAtRest (after_run (machine_opening (length w.engines)) run_events).queues
+  -- and then an engine answers a probe with none only where such a receive would accept no pending message of a current endpoint
+  -- that the engine's rank knows as current
+  pub finds : AreQuiet (sessions_in w.engines) → ProbesFindAll (after_run (machine_opening (length w.engines)) run_events).queues (AnswersNone w.engines)
   pub leaves : AreQuiet (sessions_in w.engines) → CollectivesAreLeft (length w.engines) (after_run (machine_opening (length w.engines)) run_events)
 
 -- THE LAW OF A SESSION, for all sessions that ever were. For each two endpoints there are the frames that the one's side
@@ -128,7 +138,9 @@ NothingIsHeld engines =
     slice_index d.sessions.known r ≡ e.sessions.place.endpoint.incarnation →
     (place : ℕ) → frame_held (peer_at d.sessions.peers r).receiver.held place ≡ None
 
--- what is true of every world: its engines know how many they are, and it follows the pure network
+-- what is true of every world: its engines know how many they are, it follows the pure network, and the requests that engines gave
+-- stand under their keys
 pub record IsSound (engines : List EngineState) (datagrams : List (ℕ × List ℕ)) (history : List Entry) : Type 0 where
   pub world : IsWorld engines
   pub followed : IsFollowed (length engines) engines datagrams (history_seen history)
+  pub named : (r : ℕ) (e : EngineState) → slice_get engines r ≡ Some e → AreNamed history e

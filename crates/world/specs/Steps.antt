@@ -228,6 +228,9 @@ IsEntryLimited e (calls.Waitany qs) = ⊥
 IsEntryLimited e (calls.Waitall qs) = ⊥
 IsEntryLimited e (calls.Cancel q) = ⊥
 IsEntryLimited e (calls.Ask comm question) = ⊥
+IsEntryLimited e (calls.Iprobe p) = ⊥
+IsEntryLimited e (calls.Improbe p) = ⊥
+IsEntryLimited e (calls.Mrecv q into) = ⊥
 
 -- so it is at the engine of this rank
 pub record IsLimitedAt (engines : List EngineState) (rank : ℕ) (call : Call) : Type 0 where

@@ -30,3 +30,5 @@ refusal_of replies.Accepted = None
 refusal_of replies.Blocked = None
 refusal_of (replies.Left ending) = None
 refusal_of (replies.Fact fact) = None
+refusal_of (replies.Probed found) = None
+refusal_of (replies.Matched found) = None

@@ -127,6 +127,8 @@ fn refusal_of(reply: &Reply) -> Option<engine::Refused>
         Reply::Blocked => None,
         Reply::Left(_) => None,
         Reply::Fact(_) => None,
+        Reply::Probed(_) => None,
+        Reply::Matched(_) => None,
     }
 }
 

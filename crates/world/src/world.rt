@@ -200,16 +200,19 @@ impl World {
     /// The events that were not refused, with what they answered, in order. It takes no memory.
     ///
     /// What is seen in it, calls with their replies, completions and restarts, is a run of the machine of queues and groups,
-    /// which has come to rest where the world is quiet (MPI 3.1, 3.5, 3.7, 3.8.4, 3.11, 5.3 and 6.4; restarts are this
+    /// which has come to rest where the world is quiet (MPI 3.1, 3.4, 3.5, 3.7, 3.8, 3.11, 5.3 and 6.4; restarts are this
     /// project's own). Calls are on any communicator of their rank, point to point, collective or questions, and each rank
     /// holds there the communicators that it holds here, one group for each context. A message is one message there, however
     /// it went: whole, or announced and in pieces; of a collective the machine knows who entered it and who left it, and no
     /// message. With a call that a rank would take now the machine finds no fault. With one that it would refuse the machine
-    /// finds the same fault first; or it finds none, and the number is 13 or 14. Where the world is quiet, a collective whose
-    /// members are all there as they were, know each other so and have all entered it alike was left by all. In each session
-    /// that ever was, what was handed up is a beginning of what was accepted, and every frame below the lowest unacknowledged
-    /// number was handed up (`law`, which the datagrams pin for former incarnations too; `sessions` says it in numbers of
-    /// ranks that know each other, and that a frame which is held before its turn is one that its sender still keeps).
+    /// finds the same fault first; or it finds none, and the number is 13 or 14. A request of another engine is there one that
+    /// was never given; one that the rank itself was given is named there by its serial. Where the world is quiet, a probe
+    /// answers none only where no message is pending that such a receive would accept, of a rank that its rank knows as it is;
+    /// and a collective whose members are all there as they were, know each other so and have all entered it alike was left by
+    /// all. In each session that ever was, what was handed up is a beginning of what was accepted, and every frame below the
+    /// lowest unacknowledged number was handed up (`law`, which the datagrams pin for former incarnations too; `sessions` says
+    /// it in numbers of ranks that know each other, and that a frame which is held before its turn is one that its sender still
+    /// keeps).
     pub fn history(&self) -> &[Entry]
         ensures entries { result.now ≡ self.now.history }
         ensures headline { IsRunOfMachine self.now }
@@ -222,8 +225,8 @@ impl World {
     /// Whether, of any two ranks that know each other at their present incarnations, no session with the other holds a
     /// frame that waits or is unacknowledged. Left out of account is a session of which one side does not know the other as
     /// it is: with a former incarnation, or with one that was not yet heard of. Between ranks that know each other, then, no
-    /// receive that waits accepts a pending message, and what was matched is finished on both sides: see `history`; and no
-    /// rank holds a frame of the other before its turn. It takes no memory.
+    /// receive that waits accepts a pending message, what was matched is finished on both sides, and no probe misses a
+    /// message that is there: see `history`; and no rank holds a frame of the other before its turn. It takes no memory.
     pub fn is_quiet(&self) -> bool
         ensures quiet { IsTrue result ↔ AreQuiet (sessions_in self.now.engines) }
         ensures held { IsTrue result → NothingIsHeld self.now.engines }
