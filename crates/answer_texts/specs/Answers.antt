@@ -34,6 +34,15 @@ tag_text (Some tag) = decimal tag
 abbrev pub status_text : Status → List ℕ
 status_text s = codes "source " ++ source_text s.source ++ codes " tag " ++ tag_text s.tag ++ codes " count " ++ decimal s.count
 
+-- the number of a message that was taken out; that of the null process has none
+abbrev pub serial_text : Option ℕ → List ℕ
+serial_text None = codes "null"
+serial_text (Some serial) = decimal serial
+
+-- `message M source S tag T count C`
+abbrev pub message_text : Option ℕ → Status → List ℕ
+message_text serial s = codes "message " ++ serial_text serial ++ codes " " ++ status_text s
+
 -- a space and its value for each element
 abbrev pub elements_text : Contents → List ℕ
 elements_text buffer = flat_map (λ number. codes " " ++ element_text buffer.basic number) buffer.values
@@ -80,6 +89,9 @@ answer_text (answers.Communicator communicator) = communicator_text communicator
 answer_text (answers.Position position) = position_text position.rank position.size
 answer_text (answers.Members members) = members_text members.ranks.now
 answer_text (answers.Comparison comparison) = comparison_text comparison
+answer_text (answers.Probed status) = status_text status.status
+answer_text (answers.Matched message) = message_text message.serial message.status
+answer_text answers.Nothing = codes "none"
 answer_text answers.Pending = codes "pending"
 answer_text answers.Done = codes "done"
 answer_text answers.Taken = codes "ok"

@@ -2,6 +2,7 @@
 
 use crate::communicators::{CommunicatorText, ComparisonText, MembersText, PositionText};
 use crate::outcomes::{Elements, OutcomeText, OutcomesText};
+use crate::statuses::{MessageText, StatusText};
 use datatypes::Buffer;
 use std::fmt;
 
@@ -32,6 +33,12 @@ pub enum Answer<'a> {
     Members(MembersText<'a>),
     /// How two communicators compare (MPI 3.1, 6.4.1).
     Comparison(ComparisonText),
+    /// The message that a probe found (MPI 3.1, 3.8.1).
+    Probed(StatusText),
+    /// The message that a probe took out (MPI 3.1, 3.8.2).
+    Matched(MessageText),
+    /// A probe found no message (MPI 3.1, 3.8.1 and 3.8.2).
+    Nothing,
     /// The operation isn't over yet.
     Pending,
     /// The call is over, and tells nothing else.
@@ -63,6 +70,9 @@ impl<'a> fmt::Display for Answer<'a> {
             Answer::Position(position) => position.fmt(f),
             Answer::Members(members) => members.fmt(f),
             Answer::Comparison(comparison) => comparison.fmt(f),
+            Answer::Probed(status) => status.fmt(f),
+            Answer::Matched(message) => message.fmt(f),
+            Answer::Nothing => f.write_str("none"),
             Answer::Pending => f.write_str("pending"),
             Answer::Done => f.write_str("done"),
             Answer::Taken => f.write_str("ok"),

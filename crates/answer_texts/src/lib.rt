@@ -13,4 +13,4 @@ pub use answers::Answer;
 pub use communicators::{CommunicatorText, ComparisonText, MembersText, PositionText};
 pub use emissions::{Emission, EndpointText, FrameKind, Load, Route};
 pub use outcomes::{Elements, OutcomeText, OutcomesText};
-pub use statuses::{CountText, SourceText, StatusText, TagText};
+pub use statuses::{CountText, MessageText, SourceText, StatusText, TagText};

@@ -71,6 +71,52 @@ impl fmt::Display for StatusText {
     }
 }
 
+/// A message that was taken out, as it is written: its number in the order of requests and messages, or `null`.
+#[derive(Clone, Copy)]
+struct SerialText {
+    serial: Option<u64>,
+}
+
+impl fmt::Display for SerialText {
+    ghost use Rattle.std.specs.Prelude.{Some};
+    ghost use Rattle.answer_texts.specs.Answers.{serial_text};
+
+    ghost output = { λ s. Some (serial_text s.serial) };
+
+    fn fmt<W: fmt::Write>(&self, f: &mut fmt::Formatter<W>) -> fmt::Result {
+        match self.serial {
+            None => f.write_str("null"),
+            Some(serial) => write!(f, "{serial}"),
+        }
+    }
+}
+
+/// `message M source S tag T count C`: a message that was taken out, and its status, as they are written (MPI 3.1, 3.8.2).
+#[derive(Clone, Copy)]
+pub struct MessageText {
+    /// Its number in the order of requests and messages; none: that of the null process.
+    pub serial: Option<u64>,
+    /// Its status.
+    pub status: Status,
+}
+
+impl fmt::Display for MessageText {
+    ghost use Rattle.std.specs.Prelude.{Some};
+    ghost use Rattle.answer_texts.specs.Answers.{message_text};
+
+    ghost output = { λ m. Some (message_text m.serial m.status) };
+
+    fn fmt<W: fmt::Write>(&self, f: &mut fmt::Formatter<W>) -> fmt::Result {
+        let serial = SerialText {
+            serial: self.serial,
+        };
+        let status = StatusText {
+            status: self.status,
+        };
+        write!(f, "message {serial} {status}")
+    }
+}
+
 /// How many copies of a layout were received, as it is written: a number, or `undefined` where what came is no whole number
 /// of copies (MPI 3.1, 3.2.5).
 #[derive(Clone, Copy)]

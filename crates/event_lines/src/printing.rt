@@ -2,12 +2,12 @@
 
 use crate::error::SimulateError;
 use answer_texts::{
-    CommunicatorText, ComparisonText, Emission, FrameKind, Load, MembersText, OutcomeText,
-    PositionText, Route,
+    CommunicatorText, ComparisonText, Emission, FrameKind, Load, MembersText, MessageText,
+    OutcomeText, PositionText, Route, StatusText,
 };
 use datagram::{Content, Datagram, Frame};
-use engine::{Comparison, Completion, Ending, Fact, Reply};
-use requests::{Answer, Outcome};
+use engine::{Comparison, Completion, Ending, Fact, Reply, Status};
+use requests::{Answer, Outcome, Request};
 use std::alloc::{AllocError, Global};
 use std::io;
 use std::io::Write;
@@ -91,6 +91,31 @@ fn fact_text(fact: &Fact) -> answer_texts::Answer<'_> {
     }
 }
 
+/// What a probe found (MPI 3.1, 3.8.1).
+fn probe_text(found: &Option<Status>) -> answer_texts::Answer<'_> {
+    match found {
+        Some(status) => answer_texts::Answer::Probed(StatusText { status: *status }),
+        None => answer_texts::Answer::Nothing,
+    }
+}
+
+/// What a matching probe took out (MPI 3.1, 3.8.2).
+fn match_text(found: &Option<(Option<Request>, Status)>) -> answer_texts::Answer<'_> {
+    match found {
+        Some((message, status)) => {
+            let serial = match message {
+                Some(message) => Some(message.serial),
+                None => None,
+            };
+            answer_texts::Answer::Matched(MessageText {
+                serial,
+                status: *status,
+            })
+        }
+        None => answer_texts::Answer::Nothing,
+    }
+}
+
 /// A rank in a communicator, and the communicator's size.
 pub fn print_position<W: Write>(rank: usize, size: usize, out: &mut W) -> io::Result<()> {
     let position = PositionText { rank, size };
@@ -134,6 +159,8 @@ pub fn print_reply<W: Write>(
         Reply::Blocked => answer_texts::Answer::Blocked,
         Reply::Left(ending) => ending_text(ending),
         Reply::Fact(fact) => fact_text(fact),
+        Reply::Probed(status) => probe_text(status),
+        Reply::Matched(found) => match_text(found),
         Reply::Refused(refused, _) => answer_texts::Answer::Refused(refused.number()),
     };
     print_text(&text, out)?;

@@ -7,6 +7,7 @@ use Rattle.statements.specs.declared.action.Communicator.{Communicator}
 use Rattle.statements.specs.declared.action.Communicator.TheVariants as communicators
 use Rattle.statements.specs.declared.action.Requested.{Requested}
 use Rattle.statements.specs.declared.action.Requested.TheVariants as requested
+use Rattle.statements.specs.declared.action.Landing.{Landing}
 use Rattle.statements.specs.declared.action.Through.{Through}
 use Rattle.statements.specs.declared.collective_line.Scattering.{Scattering}
 use Rattle.statements.specs.declared.layout_line.OldLayout.{OldLayout}
@@ -24,6 +25,7 @@ pub record Holdings : Type 0 where
   pub communicators : List ℕ → Bool
   pub layouts : List ℕ → Bool
   pub requests : List ℕ → Bool
+  pub messages : List ℕ → Bool
   pub slots : List ℕ → Slot
   pub members : Communicator → ℕ → Bool
 
@@ -93,6 +95,11 @@ abbrev pub lacks_place : Holdings → Communicator → Option Through → List �
 lacks_place h communicator through buffer =
     or_else (lacks_communicator h communicator) (or_else (lacks_places h through) (lacks_buffer h buffer))
 
+-- the receive of a message that was taken out: its message, its layout and its buffer
+abbrev pub lacks_message : Holdings → List ℕ → Landing → Option Fault
+lacks_message h message x =
+    or_else (unset_unless (h.messages message) message) (or_else (lacks_places h x.through) (lacks_buffer h x.buffer))
+
 -- what is set, if something is
 abbrev pub lacks_set : Holdings → Bool → List ℕ → Option Fault
 lacks_set h true name = lacks_setting h name
@@ -120,7 +127,11 @@ abbrev pub lacks_together : Holdings → Action → Option Fault
 lacks_together h (actions.Buffer line) = None
 lacks_together h (actions.Layout line) = None
 lacks_together h (actions.Isend name x) = None
+lacks_together h (actions.Issend name x) = None
 lacks_together h (actions.Irecv name x) = None
+lacks_together h (actions.Iprobe x) = lacks_communicator h x.communicator
+lacks_together h (actions.Improbe name x) = lacks_communicator h x.communicator
+lacks_together h (actions.Mrecv name x) = None
 lacks_together h (actions.Wait r) = None
 lacks_together h (actions.Test r) = None
 lacks_together h (actions.Cancel r) = None
@@ -143,7 +154,11 @@ abbrev pub lack_of_action : Holdings → Action → Option Fault
 lack_of_action h (actions.Buffer line) = lacks_setting h line.name
 lack_of_action h (actions.Layout line) = lacks_old h line.made_of
 lack_of_action h (actions.Isend name x) = lacks_place h x.communicator x.through x.buffer
+lack_of_action h (actions.Issend name x) = lacks_place h x.communicator x.through x.buffer
 lack_of_action h (actions.Irecv name x) = lacks_place h x.communicator x.through x.buffer
+lack_of_action h (actions.Iprobe x) = lacks_together h (actions.Iprobe x)
+lack_of_action h (actions.Improbe name x) = lacks_together h (actions.Improbe name x)
+lack_of_action h (actions.Mrecv name x) = lacks_message h name x
 lack_of_action h (actions.Wait r) = lacks_request h r
 lack_of_action h (actions.Test r) = lacks_request h r
 lack_of_action h (actions.Cancel r) = lacks_request h r

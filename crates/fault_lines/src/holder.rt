@@ -34,6 +34,10 @@ pub trait Holder {
     fn has_request(&self, name: &Name) -> bool
         ensures { result ≡ (held self.now).requests name.now };
 
+    /// Whether a message, which may have ended, has this name.
+    fn has_message(&self, name: &Name) -> bool
+        ensures { result ≡ (held self.now).messages name.now };
+
     /// What the name of a buffer stands for.
     fn slot(&self, name: &Name) -> Slot
         ensures { result ≡ (held self.now).slots name.now };

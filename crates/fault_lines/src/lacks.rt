@@ -1,15 +1,15 @@
 //! What a line lacks now that it is reached.
 
 ghost use Rattle.std.specs.Prelude.{◌≡◌, IfOk, Some, true};
-ghost use Rattle.fault_lines.specs.Lacks.{lacks_buffer, lacks_communicator, lacks_gathering, lacks_layout, lacks_old, lacks_place, lacks_places, lacks_block, lacks_request, lacks_requests, lacks_scatter, lacks_setting, lacks_together, lacks_two, lack_of_action, lack_of_statement};
+ghost use Rattle.fault_lines.specs.Lacks.{lacks_buffer, lacks_communicator, lacks_gathering, lacks_layout, lacks_message, lacks_old, lacks_place, lacks_places, lacks_block, lacks_request, lacks_requests, lacks_scatter, lacks_setting, lacks_together, lacks_two, lack_of_action, lack_of_statement};
 
 use crate::fault::Fault;
 use crate::holder::{Holder, Slot};
 use line_words::Name;
 use script_files::Statement;
 use statements::{
-    Action, Communicator, Gathering, OldLayout, Reducing, ReducingToAll, Requested, Scattering,
-    Through,
+    Action, Communicator, Gathering, Landing, OldLayout, Reducing, ReducingToAll, Requested,
+    Scattering, Through,
 };
 use std::alloc::{AllocError, Global};
 
@@ -186,6 +186,24 @@ fn lacks_place<H: Holder>(
     lacks_buffer(alloc, names, buffer)
 }
 
+/// The receive of a message that was taken out: its message, its layout and its buffer.
+fn lacks_message<H: Holder>(
+    alloc: Global,
+    names: &H,
+    message: &Name,
+    said: &Landing,
+) -> Result<Option<Fault>, AllocError>
+    ensures { IfOk result (λ fault. fault ≡ lacks_message (H.held names.now) message.now said.now) }
+{
+    if !names.has_message(message) {
+        return unset(alloc, message);
+    }
+    if let Some(fault) = lacks_places(alloc, names, &said.through)? {
+        return Ok(Some(fault));
+    }
+    lacks_buffer(alloc, names, &said.buffer)
+}
+
 /// A collective that hands a buffer in, and sets another one where it `sets`.
 fn lacks_gathering<H: Holder>(
     alloc: Global,
@@ -317,6 +335,9 @@ fn lacks_together<H: Holder>(
         | Action::Who(communicator)
         | Action::Members(communicator) => lacks_communicator(alloc, names, communicator),
         Action::Split(_, said) => lacks_communicator(alloc, names, &said.communicator),
+        Action::Iprobe(said) | Action::Improbe(_, said) => {
+            lacks_communicator(alloc, names, &said.communicator)
+        }
         Action::Compare(one, other) => lacks_two(alloc, names, one, other),
         Action::Bcast(said) => {
             lacks_place(alloc, names, &said.communicator, &None, &said.buffer)
@@ -342,7 +363,7 @@ pub fn lack_of_action<H: Holder>(
     match action {
         Action::Buffer(line) => lacks_setting(alloc, names, &line.name),
         Action::Layout(line) => lacks_old(alloc, names, &line.made_of),
-        Action::Isend(_, said) => {
+        Action::Isend(_, said) | Action::Issend(_, said) => {
             lacks_place(
                 alloc,
                 names,
@@ -360,6 +381,7 @@ pub fn lack_of_action<H: Holder>(
                 &said.buffer,
             )
         }
+        Action::Mrecv(message, said) => lacks_message(alloc, names, message, said),
         Action::Wait(requested) | Action::Test(requested) | Action::Cancel(requested) => {
             lacks_request(alloc, names, requested)
         }

@@ -37,6 +37,10 @@ pub(crate) fn is_action_verb(word: &[u8]) -> bool
         || is(word, b"cancel")
         || is(word, b"waitany")
         || is(word, b"waitall")
+        || is(word, b"issend")
+        || is(word, b"iprobe")
+        || is(word, b"improbe")
+        || is(word, b"mrecv")
         || is_communicator_verb(word)
 }
 

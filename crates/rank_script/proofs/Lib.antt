@@ -1,3 +1,0 @@
-pub mod CallLaws
-pub mod EntryLaws
-pub mod SeveralLaws

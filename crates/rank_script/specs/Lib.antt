@@ -1,3 +1,2 @@
-pub mod NamesState
-pub mod Acting
-pub mod Heeding
+pub mod Lines
+pub mod Running

@@ -1,9 +1,7 @@
 //! What each line of a script asks of its rank's engine, what is made of the answer, and what is printed.
 #![tactic(auto)]
 
-mod acting;
-mod entering;
-mod heeding;
-mod names;
+mod lines;
+mod rank;
 
-pub use names::Names;
+pub use rank::ScriptRank;

@@ -52,4 +52,4 @@ verb_again verbs.Fail = refl
 pub no_verb : (words : List Word) (action : Action) → Spells words action → (word : Word) × (rest : List Word) × (words ≡ word ∷ rest) × (verb_of word ≡ None)
 unfolding verb_of
 no_verb words action h =
-    begins words action h (λ word. verb_of word ≡ None) refl refl refl refl refl refl refl refl refl refl refl refl refl refl refl refl refl refl refl refl
+    begins words action h (λ word. verb_of word ≡ None) refl refl refl refl refl refl refl refl refl refl refl refl refl refl refl refl refl refl refl refl refl refl refl refl

@@ -13,6 +13,10 @@ error_line number = codes "error " ++ decimal number
 abbrev pub pending_line : List ℕ
 pending_line = codes "pending"
 
+-- `none`: a probe found no message
+abbrev pub none_line : List ℕ
+none_line = codes "none"
+
 -- a line's end and `error N`, for each
 abbrev pub further_errors : List ℕ → List ℕ
 further_errors numbers = flat_map (λ number. 10 ∷ error_line number) numbers

@@ -6,6 +6,6 @@
 mod lines;
 
 pub use lines::{
-    comparison_line, count_line, elements_line, error_line, error_lines, members_line,
+    comparison_line, count_line, elements_line, error_line, error_lines, members_line, none_line,
     pending_line, position_line, status_line, words_line,
 };

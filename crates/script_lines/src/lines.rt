@@ -3,7 +3,7 @@
 ghost use Rattle.std.specs.Prelude.{◌≡◌, drop, IfOk};
 ghost use Rattle.answer_texts.specs.Answers.{count_text, status_text};
 ghost use Rattle.answer_texts.specs.Communicators.{comparison_text, members_text, position_text};
-ghost use Rattle.script_lines.specs.Lines.{error_line, error_lines, further_errors, pending_line, elements_line, words_line, spaced};
+ghost use Rattle.script_lines.specs.Lines.{error_line, error_lines, further_errors, none_line, pending_line, elements_line, words_line, spaced};
 
 use answer_texts::{ComparisonText, CountText, Elements, MembersText, PositionText, StatusText};
 use datagram::Bytes;
@@ -34,6 +34,13 @@ pub fn pending_line(alloc: Global) -> Result<Bytes, AllocError>
     ensures { IfOk result (λ line. line ≡ pending_line) }
 {
     Bytes::from_slice(alloc, "pending".as_bytes())
+}
+
+/// `none`
+pub fn none_line(alloc: Global) -> Result<Bytes, AllocError>
+    ensures { IfOk result (λ line. line ≡ none_line) }
+{
+    Bytes::from_slice(alloc, "none".as_bytes())
 }
 
 /// A line's end and `error N`, for each of these numbers.

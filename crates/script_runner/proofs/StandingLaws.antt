@@ -1,294 +1,65 @@
 -- A line ends the script exactly where one of its names isn't set, or its buffer is lent.
-use Rattle.std.proofs.Common.{◌≡◌, ℕ, Bool, true, false, List, [], ◌∷◌, Option, Some, None, refl}
-use Rattle.std.specs.Prelude.{is_some, option_and_then, option_map, if◌then◌else◌}
+use Rattle.std.proofs.Common.{◌≡◌, ℕ, false, List, Option, Some, None, refl, ap}
+use Rattle.std.specs.Prelude.{option_map, is_some, length}
 use Rattle.datatypes.specs.Contents.{Contents}
-use Rattle.collective_notes.specs.declared.entry.Entry.{Entry}
-use Rattle.collective_notes.specs.declared.entry.Entry.TheVariants as entries
-use Rattle.engine_parts.specs.declared.call.Call.TheVariants as calls
+use Rattle.datatypes.specs.Transfers.{whole_copies}
+use Rattle.layouts.specs.Layouts.{Shape}
 use Rattle.fault_lines.specs.declared.fault.Fault.{Fault}
-use Rattle.fault_lines.specs.Lacks.{lack_of_action, lack_of_statement, lacks_block, lacks_buffer, lacks_communicator, lacks_layout, lacks_old, lacks_places, lacks_request, lacks_requests, lacks_set, lacks_setting, lacks_slot, lent_slot, or_else, unset_unless}
-use Rattle.requests.specs.declared.region.Places.{Places}
-use Rattle.requests.specs.declared.region.Places.TheVariants as places
-use Rattle.requests.specs.declared.table.Request.{Request}
+use Rattle.fault_lines.specs.Lacks.{lack_of_action, lack_of_statement, lacks_buffer, lacks_layout, lacks_place}
+use Rattle.interpreter.specs.declared.steps.Asked.{Asked}
+use Rattle.interpreter.specs.declared.steps.Asked.TheVariants as askeds
+use Rattle.interpreter.specs.Acting as interpreted
+use Rattle.interpreter.specs.Faults.{FaultyWhere, is_faulty}
+use Rattle.interpreter.specs.NamesState.{NamesState, here, holdings}
+use Rattle.interpreter.proofs.FaultLaws.{Matches, action_faults, buffer_matches, layout_matches, waited_receive_faults, waited_send_faults}
+use Rattle.name_tables.specs.Tables.{value_at}
+use Rattle.rank_drive.specs.declared.runner.Step.{Step}
+use Rattle.rank_drive.specs.declared.runner.Step.TheVariants as steps
+use Rattle.rank_script.specs.Running.{Acts, does, does_asked, prints_count, prints_elements, says, states, stops}
 use Rattle.script_files.specs.declared.script.Statement.{Statement}
 use Rattle.script_files.specs.declared.script.Statement.TheVariants as statements
-use Rattle.statement_calls.specs.declared.awaited.Held.{Held}
-use Rattle.statement_calls.specs.declared.awaited.Seat.{Seat}
-use Rattle.statement_calls.specs.Awaited.{entering, making, starting}
-use Rattle.statement_calls.specs.Entries.{entry_with, split_by}
-use Rattle.statement_calls.specs.declared.awaited.Stage.TheVariants as stages
-use Rattle.statements.specs.declared.action.Action.{Action}
-use Rattle.statements.specs.declared.action.Action.TheVariants as actions
-use Rattle.statements.specs.declared.action.Communicator.{Communicator}
-use Rattle.statements.specs.declared.action.Communicator.TheVariants as communicators
-use Rattle.statements.specs.declared.action.Requested.{Requested}
-use Rattle.statements.specs.declared.action.Requested.TheVariants as requested
-use Rattle.statements.specs.declared.action.Through.{Through}
-use Rattle.statements.specs.declared.layout_line.OldLayout.{OldLayout}
-use Rattle.statements.specs.declared.layout_line.OldLayout.TheVariants as olds
-use Rattle.derived_types.specs.Layouts.{is_beyond}
-use Rattle.layouts.specs.Layouts.{Shape}
-use Rattle.statements.specs.Meanings.{offsets_made}
-use Rattle.statements.specs.declared.layout_line.LayoutLine.{LayoutLine}
-use Rattle.statements.specs.declared.action.BufferLine.{BufferLine}
-use Rattle.name_tables.specs.Tables.{value_at}
-use Rattle.rank_script.specs.Acting.{Acts, acts_on, asks_group, asks_rank, blocks_named, cancels_for, compares, hands_in, hands_in_to, is_lent_at_root, makes, old_layout, places_named, prints_count, prints_elements, receives_into, request_named, requests_named, scatters_from, sends_from, sets_layout_of, sets_layout_unless, states, stops, tests_for, waits_for, waits_for_all, waits_for_several}
-use Rattle.rank_script.specs.NamesState.{NamesState, here, holdings, is_lent, is_lent_slot, is_root, place_named, slot_of, with_buffer}
 use Rattle.script_runner.specs.Standing.{StopsWhere, is_stop}
 
--- ---- what is looked for, and the fault where it isn't there
+-- what isn't faulty doesn't end the script
+goes_on : (number : ℕ) (asked : Asked) (names : NamesState) → is_faulty asked ≡ false → is_stop (does number asked names).0 ≡ false
+goes_on number askeds.Nothing names e = refl
+goes_on number (askeds.Call call pending) names e = refl
+goes_on number (askeds.Refused refusal) names e = refl
+goes_on number askeds.Faulty names e = absurd cc
 
--- there is a fault where nothing was found
-abbrev pub Matches : {A : Type 0} → Option Fault → Option A → Type 0
-Matches None None = ⊥
-Matches None (Some found) = Unit {0}
-Matches (Some fault) None = Unit {0}
-Matches (Some fault) (Some found) = ⊥
+-- a statement that is faulty ends the script, and no other
+asked_stops : (fault : Option Fault) (number : ℕ) (acted : interpreted.Acts) (names : NamesState) → FaultyWhere fault acted names →
+    StopsWhere fault number (does_asked number acted) names
+asked_stops None number acted names h = goes_on number acted.0 acted.1 h
+asked_stops (Some fault) number acted names h = ap (does_asked number) h
 
--- there is a fault where this is so
-abbrev pub Tells : Option Fault → Bool → Type 0
-Tells None false = Unit {0}
-Tells None true = ⊥
-Tells (Some fault) false = ⊥
-Tells (Some fault) true = Unit {0}
+print_stops : (number : ℕ) (names : NamesState) (buffer : Option Contents) (fault : Option Fault) → Matches fault buffer →
+    StopsWhere fault number (says (prints_elements number buffer) names) names
+print_stops number names None None m = absurd m
+print_stops number names None (Some fault) m = refl
+print_stops number names (Some buffer) None m = refl
+print_stops number names (Some buffer) (Some fault) m = absurd m
 
-set_matches : {A : Type 0} (found : Option A) (name : List ℕ) → Matches (unset_unless (is_some found) name) found
-set_matches None name = tt
-set_matches (Some x) name = tt
-
-mapped_matches : {A B : Type 0} (view : A → B) (fault : Option Fault) (found : Option A) → Matches fault found → Matches fault (option_map view found)
-mapped_matches view None None m = m
-mapped_matches view None (Some x) m = tt
-mapped_matches view (Some f) None m = tt
-mapped_matches view (Some f) (Some x) m = m
-
-communicator_matches : (s : NamesState) (c : Communicator) → Matches (lacks_communicator (holdings s) c) (place_named s c)
-communicator_matches s communicators.World = tt
-communicator_matches s communicators.Own = tt
-communicator_matches s (communicators.Named name) =
-    mapped_matches (λ (held : Option Seat). option_map (λ (seat : Seat). seat.place) held)
-    (unset_unless (is_some (value_at s.communicators name)) name) (value_at s.communicators name) (set_matches (value_at s.communicators name) name)
-
-slot_matches : (slot : Option (Option Contents)) (name : List ℕ) → Matches (lacks_slot (slot_of slot) name) (option_and_then (λ (b : Option Contents). b) slot)
-slot_matches None name = tt
-slot_matches (Some None) name = tt
-slot_matches (Some (Some buffer)) name = tt
-
-buffer_matches : (s : NamesState) (name : List ℕ) → Matches (lacks_buffer (holdings s) name) (here s name)
-buffer_matches s name = slot_matches (value_at s.buffers name) name
-
-layout_matches : (s : NamesState) (name : List ℕ) → Matches (lacks_layout (holdings s) name) (value_at s.layouts name)
-layout_matches s name = set_matches (value_at s.layouts name) name
-
-old_matches : (s : NamesState) (old : OldLayout) → Matches (lacks_old (holdings s) old) (old_layout s old)
-old_matches s (olds.Basic basic) = tt
-old_matches s (olds.Named name) = layout_matches s name
-
-places_match : (s : NamesState) (through : Option Through) → Matches (lacks_places (holdings s) through) (places_named s through)
-places_match s None = tt
-places_match s (Some through) =
-    mapped_matches (λ (layout : Shape). places.Copies layout through.copies) (lacks_layout (holdings s) through.layout)
-    (value_at s.layouts through.layout) (layout_matches s through.layout)
-
-request_matches : (s : NamesState) (r : Requested) → Matches (lacks_request (holdings s) r) (request_named s r)
-request_matches s requested.Null = tt
-request_matches s (requested.Named name) =
-    mapped_matches (λ (held : Held). held.request) (unset_unless (is_some (value_at s.requests name)) name) (value_at s.requests name)
-    (set_matches (value_at s.requests name) name)
-
-both_match : (f g : Option Fault) (one : Option (Option Request)) (rest : Option (List (Option Request))) → Matches f one → Matches g rest →
-    Matches (or_else f g) (option_and_then (λ (r : Option Request). option_map (λ (rs : List (Option Request)). r ∷ rs) rest) one)
-both_match None g None rest m n = absurd m
-both_match (Some f) g None rest m n = tt
-both_match (Some f) g (Some r) rest m n = absurd m
-both_match None g (Some r) rest m n = mapped_matches (λ (rs : List (Option Request)). r ∷ rs) g rest n
-
-requests_match : (s : NamesState) (rs : List Requested) → Matches (lacks_requests (holdings s) rs) (requests_named s rs)
-requests_match s [] = tt
-requests_match s (r ∷ rs) =
-    both_match (lacks_request (holdings s) r) (lacks_requests (holdings s) rs) (request_named s r) (requests_named s rs)
-    (request_matches s r) (requests_match s rs)
-
-slot_tells : (slot : Option (Option Contents)) (name : List ℕ) → Tells (lent_slot (slot_of slot) name) (is_lent_slot slot)
-slot_tells None name = tt
-slot_tells (Some None) name = tt
-slot_tells (Some (Some buffer)) name = tt
-
-setting_tells : (s : NamesState) (name : List ℕ) → Tells (lacks_setting (holdings s) name) (is_lent s name)
-setting_tells s name = slot_tells (value_at s.buffers name) name
-
-set_tells : (s : NamesState) (root : Bool) (name : List ℕ) → Tells (lacks_set (holdings s) root name) (is_lent_at_root s root name)
-set_tells s true name = setting_tells s name
-set_tells s false name = tt
-
-blocks_match : (s : NamesState) (root : Bool) (name : Option (List ℕ)) → Matches (lacks_block (holdings s) root name) (blocks_named s root name)
-blocks_match s false name = tt
-blocks_match s true None = tt
-blocks_match s true (Some name) =
-    mapped_matches (λ (blocks : Contents). Some blocks) (lacks_buffer (holdings s) name) (here s name) (buffer_matches s name)
-
--- ---- what a line asks for, where something isn't there
-
-one_stops : {A : Type 0} (number : ℕ) (s : NamesState) (act : Option A → Acts) (found : Option A) (f : Option Fault) → Matches f found →
-    act None ≡ stops number s → ((x : A) → is_stop (act (Some x)).0 ≡ false) → StopsWhere f number (act found) s
-one_stops number s act None None m none some = absurd m
-one_stops number s act None (Some f) m none some = none
-one_stops number s act (Some x) None m none some = some x
-one_stops number s act (Some x) (Some f) m none some = absurd m
-
-two_stop : {A B : Type 0} (number : ℕ) (s : NamesState) (act : Option A → Option B → Acts) (one : Option A) (two : Option B) (f g : Option Fault) →
-    Matches f one → Matches g two → ((b : Option B) → act None b ≡ stops number s) → ((a : A) → act (Some a) None ≡ stops number s) →
-    ((a : A) (b : B) → is_stop (act (Some a) (Some b)).0 ≡ false) → StopsWhere (or_else f g) number (act one two) s
-two_stop number s act None two None g m n first second all = absurd m
-two_stop number s act None two (Some f) g m n first second all = first two
-two_stop number s act (Some a) two (Some f) g m n first second all = absurd m
-two_stop number s act (Some a) two None g m n first second all = one_stops number s (act (Some a)) two g n (second a) (all a)
-
-three_stop : {A B C : Type 0} (number : ℕ) (s : NamesState) (act : Option A → Option B → Option C → Acts) (one : Option A) (two : Option B)
-    (three : Option C) (f g h : Option Fault) → Matches f one → Matches g two → Matches h three →
-    ((b : Option B) (c : Option C) → act None b c ≡ stops number s) → ((a : A) (c : Option C) → act (Some a) None c ≡ stops number s) →
-    ((a : A) (b : B) → act (Some a) (Some b) None ≡ stops number s) →
-    ((a : A) (b : B) (c : C) → is_stop (act (Some a) (Some b) (Some c)).0 ≡ false) →
-    StopsWhere (or_else f (or_else g h)) number (act one two three) s
-three_stop number s act None two three None g h m n o first second third all = absurd m
-three_stop number s act None two three (Some f) g h m n o first second third all = first two three
-three_stop number s act (Some a) two three (Some f) g h m n o first second third all = absurd m
-three_stop number s act (Some a) two three None g h m n o first second third all =
-    two_stop number s (act (Some a)) two three g h n o (second a) (third a) (all a)
-
-handed_goes_on : (comm : Option ℕ) (name : Option (List ℕ)) (entry : Option Entry) (s : NamesState) → is_stop (hands_in_to comm name entry s).0 ≡ false
-handed_goes_on comm name None s = refl
-handed_goes_on comm name (Some entry) s = refl
-
--- a collective that hands a block in
-hands_stop : (number : ℕ) (s : NamesState) (comm : Option (Option ℕ)) (lent : Bool) (name : Option (List ℕ)) (block : Option Contents)
-    (entry : Contents → Entry) (f g h : Option Fault) → Matches f comm → Tells g lent → Matches h block →
-    StopsWhere (or_else f (or_else g h)) number (hands_in number comm lent name block entry s) s
-hands_stop number s None lent name block entry None g h m n o = absurd m
-hands_stop number s None lent name block entry (Some f) g h m n o = refl
-hands_stop number s (Some comm) lent name block entry (Some f) g h m n o = absurd m
-hands_stop number s (Some comm) true name block entry None None h m n o = absurd n
-hands_stop number s (Some comm) true name block entry None (Some g) h m n o = refl
-hands_stop number s (Some comm) false name block entry None (Some g) h m n o = absurd n
-hands_stop number s (Some comm) false name None entry None None None m n o = absurd o
-hands_stop number s (Some comm) false name None entry None None (Some h) m n o = refl
-hands_stop number s (Some comm) false name (Some block) entry None None (Some h) m n o = absurd o
-hands_stop number s (Some comm) false name (Some block) entry None None None m n o = handed_goes_on comm name (entry_with entry block) s
-
-abbrev set_by : ℕ → NamesState → BufferLine → Bool → Acts
-set_by number s line lent = if lent then stops number s else (None, with_buffer s line.name (Some line.value))
-
-set_stops : (number : ℕ) (s : NamesState) (line : BufferLine) (f : Option Fault) (lent : Bool) → Tells f lent → StopsWhere f number (set_by number s line lent) s
-set_stops number s line None true t = absurd t
-set_stops number s line (Some f) true t = refl
-set_stops number s line None false t = refl
-set_stops number s line (Some f) false t = absurd t
-
-layout_goes_on : (beyond : Bool) (name : List ℕ) (layout : Shape) (s : NamesState) → is_stop (sets_layout_unless beyond name layout s).0 ≡ false
-layout_goes_on true name layout s = refl
-layout_goes_on false name layout s = refl
-
-layout_stops : (number : ℕ) (s : NamesState) (line : LayoutLine) → StopsWhere (lacks_old (holdings s) line.made_of) number
-    (sets_layout_of number line (old_layout s line.made_of) s) s
-layout_stops number s line =
-    one_stops number s (λ (old : Option Shape). sets_layout_of number line old s) (old_layout s line.made_of) (lacks_old (holdings s) line.made_of)
-    (old_matches s line.made_of) refl
-    (λ (old : Shape). layout_goes_on (is_beyond (offsets_made line.form old.offsets)) line.name
-    (record { basic = old.basic; offsets = offsets_made line.form old.offsets }) s)
-
--- ---- lines
-
-action_stops : (number : ℕ) (action : Action) (s : NamesState) → StopsWhere (lack_of_action (holdings s) action) number (acts_on number action s) s
-action_stops number (actions.Buffer line) s =
-    set_stops number s line (lacks_setting (holdings s) line.name) (is_lent s line.name) (setting_tells s line.name)
-action_stops number (actions.Layout line) s = layout_stops number s line
-action_stops number (actions.Isend name x) s =
-    three_stop number s (λ (comm : Option (Option ℕ)) (named : Option Places) (buffer : Option Contents). sends_from number (starting stages.Starting (Some name) None) x comm named buffer s)
-    (place_named s x.communicator) (places_named s x.through) (here s x.buffer)
-    (lacks_communicator (holdings s) x.communicator) (lacks_places (holdings s) x.through) (lacks_buffer (holdings s) x.buffer)
-    (communicator_matches s x.communicator) (places_match s x.through) (buffer_matches s x.buffer)
-    (λ b c. refl) (λ a c. refl) (λ a b. refl) (λ a b c. refl)
-action_stops number (actions.Irecv name x) s =
-    three_stop number s (λ (comm : Option (Option ℕ)) (named : Option Places) (buffer : Option Contents). receives_into number (starting stages.Starting (Some name) (Some x.buffer)) x comm named buffer s)
-    (place_named s x.communicator) (places_named s x.through) (here s x.buffer)
-    (lacks_communicator (holdings s) x.communicator) (lacks_places (holdings s) x.through) (lacks_buffer (holdings s) x.buffer)
-    (communicator_matches s x.communicator) (places_match s x.through) (buffer_matches s x.buffer)
-    (λ b c. refl) (λ a c. refl) (λ a b. refl) (λ a b c. refl)
-action_stops number (actions.Wait r) s =
-    one_stops number s (λ (request : Option (Option Request)). waits_for number r request s) (request_named s r) (lacks_request (holdings s) r) (request_matches s r) refl (λ x. refl)
-action_stops number (actions.Test r) s =
-    one_stops number s (λ (request : Option (Option Request)). tests_for number r request s) (request_named s r) (lacks_request (holdings s) r) (request_matches s r) refl (λ x. refl)
-action_stops number (actions.Cancel r) s =
-    one_stops number s (λ (request : Option (Option Request)). cancels_for number request s) (request_named s r) (lacks_request (holdings s) r) (request_matches s r) refl (λ x. refl)
-action_stops number (actions.Waitany rs) s =
-    one_stops number s (λ (requests : Option (List (Option Request))). waits_for_several number calls.Waitany rs requests s) (requests_named s rs) (lacks_requests (holdings s) rs)
-    (requests_match s rs) refl (λ x. refl)
-action_stops number (actions.Waitall rs) s =
-    one_stops number s (λ (requests : Option (List (Option Request))). waits_for_several number calls.Waitall rs requests s) (requests_named s rs) (lacks_requests (holdings s) rs)
-    (requests_match s rs) refl (λ x. refl)
-action_stops number (actions.Barrier c) s =
-    one_stops number s (λ (comm : Option (Option ℕ)). waits_for_all number comm s) (place_named s c) (lacks_communicator (holdings s) c) (communicator_matches s c) refl (λ x. refl)
-action_stops number (actions.Bcast x) s =
-    hands_stop number s (place_named s x.communicator) false (Some x.buffer) (here s x.buffer) (λ (block : Contents). entries.Bcast x.root block)
-    (lacks_communicator (holdings s) x.communicator) None (lacks_buffer (holdings s) x.buffer)
-    (communicator_matches s x.communicator) tt (buffer_matches s x.buffer)
-action_stops number (actions.Gather x) s =
-    hands_stop number s (place_named s x.communicator) (is_lent_at_root s (is_root s x.communicator x.root) x.into) (Some x.into) (here s x.buffer)
-    (λ (block : Contents). entries.Gather x.root block)
-    (lacks_communicator (holdings s) x.communicator) (lacks_set (holdings s) (is_root s x.communicator x.root) x.into) (lacks_buffer (holdings s) x.buffer)
-    (communicator_matches s x.communicator) (set_tells s (is_root s x.communicator x.root) x.into) (buffer_matches s x.buffer)
-action_stops number (actions.Scatter x) s =
-    three_stop number s (λ (comm : Option (Option ℕ)) (into : Option Contents) (blocks : Option (Option Contents)). scatters_from number x comm into blocks s)
-    (place_named s x.communicator) (here s x.into) (blocks_named s (is_root s x.communicator x.root) x.buffer)
-    (lacks_communicator (holdings s) x.communicator) (lacks_buffer (holdings s) x.into)
-    (lacks_block (holdings s) (is_root s x.communicator x.root) x.buffer)
-    (communicator_matches s x.communicator) (buffer_matches s x.into) (blocks_match s (is_root s x.communicator x.root) x.buffer)
-    (λ b c. refl) (λ a c. refl) (λ a b. refl) (λ a b c. refl)
-action_stops number (actions.Reduce x) s =
-    hands_stop number s (place_named s x.communicator) (is_lent_at_root s (is_root s x.communicator x.root) x.into) (Some x.into) (here s x.buffer)
-    (λ (block : Contents). entries.Reduce x.operation x.root block)
-    (lacks_communicator (holdings s) x.communicator) (lacks_set (holdings s) (is_root s x.communicator x.root) x.into) (lacks_buffer (holdings s) x.buffer)
-    (communicator_matches s x.communicator) (set_tells s (is_root s x.communicator x.root) x.into) (buffer_matches s x.buffer)
-action_stops number (actions.Allreduce x) s =
-    hands_stop number s (place_named s x.communicator) (is_lent s x.into) (Some x.into) (here s x.buffer)
-    (λ (block : Contents). entries.Allreduce x.operation block)
-    (lacks_communicator (holdings s) x.communicator) (lacks_setting (holdings s) x.into) (lacks_buffer (holdings s) x.buffer)
-    (communicator_matches s x.communicator) (setting_tells s x.into) (buffer_matches s x.buffer)
-action_stops number (actions.Dup name c) s =
-    one_stops number s (λ (comm : Option (Option ℕ)). makes number name comm entries.Dup s) (place_named s c) (lacks_communicator (holdings s) c) (communicator_matches s c) refl (λ x. refl)
-action_stops number (actions.Split name x) s =
-    one_stops number s (λ (comm : Option (Option ℕ)). makes number name comm (split_by x) s) (place_named s x.communicator) (lacks_communicator (holdings s) x.communicator)
-    (communicator_matches s x.communicator) refl
-    (λ comm. refl)
-action_stops number (actions.Who c) s =
-    one_stops number s (λ (comm : Option (Option ℕ)). asks_rank number comm s) (place_named s c) (lacks_communicator (holdings s) c) (communicator_matches s c) refl (λ x. refl)
-action_stops number (actions.Members c) s =
-    one_stops number s (λ (comm : Option (Option ℕ)). asks_group number comm s) (place_named s c) (lacks_communicator (holdings s) c) (communicator_matches s c) refl (λ x. refl)
-action_stops number (actions.Compare c d) s =
-    two_stop number s (λ (comm other : Option (Option ℕ)). compares number comm other s) (place_named s c) (place_named s d)
-    (lacks_communicator (holdings s) c) (lacks_communicator (holdings s) d)
-    (communicator_matches s c) (communicator_matches s d) (λ b. refl) (λ a. refl) (λ a b. refl)
+count_stops : (number : ℕ) (names : NamesState) (layout : Option Shape) (fault : Option Fault) → Matches fault layout →
+    StopsWhere fault number (says (prints_count number (option_map (λ (l : Shape). whole_copies names.last.count (length l.offsets)) layout)) names) names
+count_stops number names None None m = absurd m
+count_stops number names None (Some fault) m = refl
+count_stops number names (Some layout) None m = refl
+count_stops number names (Some layout) (Some fault) m = absurd m
 
 -- a line ends the script exactly where there is a fault, and then changes nothing
-pub stops_where_lacking : (number : ℕ) (statement : Statement) (s : NamesState) →
-    StopsWhere (lack_of_statement (holdings s) statement) number (states number statement s) s
-stops_where_lacking number (statements.Action action) s = action_stops number action s
-stops_where_lacking number (statements.Send x) s =
-    three_stop number s (λ (comm : Option (Option ℕ)) (named : Option Places) (buffer : Option Contents). sends_from number (starting stages.StartingToWait None None) x comm named buffer s)
-    (place_named s x.communicator) (places_named s x.through) (here s x.buffer)
-    (lacks_communicator (holdings s) x.communicator) (lacks_places (holdings s) x.through) (lacks_buffer (holdings s) x.buffer)
-    (communicator_matches s x.communicator) (places_match s x.through) (buffer_matches s x.buffer)
-    (λ b c. refl) (λ a c. refl) (λ a b. refl) (λ a b c. refl)
-stops_where_lacking number (statements.Recv x) s =
-    three_stop number s (λ (comm : Option (Option ℕ)) (named : Option Places) (buffer : Option Contents). receives_into number (starting stages.StartingToWait None (Some x.buffer)) x comm named buffer s)
-    (place_named s x.communicator) (places_named s x.through) (here s x.buffer)
-    (lacks_communicator (holdings s) x.communicator) (lacks_places (holdings s) x.through) (lacks_buffer (holdings s) x.buffer)
-    (communicator_matches s x.communicator) (places_match s x.through) (buffer_matches s x.buffer)
-    (λ b c. refl) (λ a c. refl) (λ a b. refl) (λ a b c. refl)
-stops_where_lacking number (statements.Print name) s =
-    one_stops number s (λ (buffer : Option Contents). prints_elements number buffer s) (here s name) (lacks_buffer (holdings s) name) (buffer_matches s name) refl (λ x. refl)
-stops_where_lacking number statements.Status s = refl
-stops_where_lacking number (statements.Count name) s =
-    one_stops number s (λ (layout : Option Shape). prints_count number layout s) (value_at s.layouts name) (lacks_layout (holdings s) name) (layout_matches s name) refl (λ x. refl)
-stops_where_lacking number (statements.Say words) s = refl
-stops_where_lacking number statements.Fail s = refl
+pub stops_where_lacking : (number : ℕ) (statement : Statement) (names : NamesState) →
+    StopsWhere (lack_of_statement (holdings names) statement) number (states number statement names) names
+stops_where_lacking number (statements.Action action) names =
+    asked_stops (lack_of_action (holdings names) action) number (interpreted.acts_on action names) names (action_faults action names)
+stops_where_lacking number (statements.Send x) names =
+    asked_stops (lacks_place (holdings names) x.communicator x.through x.buffer) number (interpreted.sends_to_wait x names) names (waited_send_faults x names)
+stops_where_lacking number (statements.Recv x) names =
+    asked_stops (lacks_place (holdings names) x.communicator x.through x.buffer) number (interpreted.receives_to_wait x names) names (waited_receive_faults x names)
+stops_where_lacking number (statements.Print name) names =
+    print_stops number names (here names name) (lacks_buffer (holdings names) name) (buffer_matches names name)
+stops_where_lacking number statements.Status names = refl
+stops_where_lacking number (statements.Count name) names =
+    count_stops number names (value_at names.layouts name) (lacks_layout (holdings names) name) (layout_matches names name)
+stops_where_lacking number (statements.Say words) names = refl
+stops_where_lacking number statements.Fail names = refl

@@ -6,35 +6,34 @@ use Rattle.script_files.specs.declared.script.RankLine.{RankLine}
 use Rattle.script_files.specs.Selections.{lines_for}
 use Rattle.rank_drive.specs.declared.runner.Step.{Step}
 use Rattle.rank_drive.specs.declared.runner.Step.TheVariants as steps
-use Rattle.rank_script.specs.Acting.{Acts, acts}
-use Rattle.rank_script.specs.Heeding.{heeds}
-use Rattle.rank_script.specs.NamesState.{NamesState, no_names}
+use Rattle.rank_script.specs.Running as script
+use Rattle.rank_script.specs.Running.{Acts, RankState, acts, heeds}
 
--- A rank that runs a script: the lines that are left, and what its names stand for.
+-- A rank that runs a script: the lines that are left, what its names stand for, and what it waits for.
 pub record RunnerState : Type 0 where
   pub lines : List RankLine
-  pub names : NamesState
+  pub rank : RankState
 
 -- a script for a rank at its start: no name is set
 abbrev pub opening : List Line → (rank incarnation : ℕ) → RunnerState
-opening script rank incarnation = record { lines = lines_for rank incarnation script; names = no_names rank }
+opening lines own incarnation = record { lines = lines_for own incarnation lines; rank = script.opening own }
 
 -- what a rank does, and what it then stands at
 abbrev pub Does : Type 0
 Does = Step × RunnerState
 
-abbrev pub does_by : List RankLine → Option Step → NamesState → Does → Does
-does_by rest (Some step) names otherwise = (step, record { lines = rest; names = names })
-does_by rest None names otherwise = otherwise
+abbrev pub does_by : List RankLine → Option Step → RankState → Does → Does
+does_by rest (Some step) s otherwise = (step, record { lines = rest; rank = s })
+does_by rest None s otherwise = otherwise
 
 -- a line asks for this, or for no more than a change of names: then otherwise
 abbrev pub does_or : List RankLine → Acts → Does → Does
 does_or rest acted otherwise = does_by rest acted.0 acted.1 otherwise
 
 -- The next line that asks for more than a change of names is done; behind the last one the script ends with status 0
-unfoldable pub along : List RankLine → NamesState → Does
-along [] names = (steps.End 0 None, record { lines = []; names = names })
-along (line ∷ rest) names = does_or rest (acts line names) (along rest (acts line names).1)
+unfoldable pub along : List RankLine → RankState → Does
+along [] s = (steps.End 0 None, record { lines = []; rank = s })
+along (line ∷ rest) s = does_or rest (acts line s) (along rest (acts line s).1)
 
 -- what follows from an answer at once, or the next line
 abbrev pub does_after : List RankLine → Acts → Does
@@ -42,8 +41,8 @@ does_after lines acted = does_or lines acted (along lines acted.1)
 
 -- what comes next, told this reply or none
 abbrev pub next_of : RunnerState → Option Reply → Does
-next_of s None = along s.lines s.names
-next_of s (Some reply) = does_after s.lines (heeds reply s.names)
+next_of s None = along s.lines s.rank
+next_of s (Some reply) = does_after s.lines (heeds reply s.rank)
 
 -- What comes next is what the script says; or memory is wanting, and the script ends with status 6
 abbrev pub NextGives : RunnerState → Option Reply → Step → RunnerState → Type 0

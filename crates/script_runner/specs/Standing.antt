@@ -4,28 +4,8 @@ use Rattle.fault_lines.specs.declared.fault.Fault.{Fault}
 use Rattle.rank_drive.specs.declared.runner.Step.{Step}
 use Rattle.rank_drive.specs.declared.runner.Step.TheVariants as steps
 use Rattle.script_files.specs.declared.script.RankLine.{RankLine}
-use Rattle.statement_calls.specs.declared.awaited.Doing.{Doing}
-use Rattle.statement_calls.specs.declared.awaited.Stage.{Stage}
-use Rattle.statement_calls.specs.declared.awaited.Stage.TheVariants as stages
-use Rattle.rank_script.specs.Acting.{Acts, stops}
-use Rattle.rank_script.specs.NamesState.{NamesState}
-
--- whether the answer to a call is awaited
-abbrev pub is_awaited : Stage → Bool
-is_awaited stages.Free = false
-is_awaited stages.Starting = true
-is_awaited stages.StartingToWait = true
-is_awaited stages.Waiting = true
-is_awaited stages.WaitingForSeveral = true
-is_awaited stages.Making = true
-is_awaited (stages.Seating place) = true
-is_awaited stages.Entering = true
-is_awaited (stages.AskingRank comm) = true
-is_awaited (stages.AskingSize rank) = true
-is_awaited stages.Asking = true
-
-abbrev pub is_awaiting : Doing → Bool
-is_awaiting doing = is_awaited doing.stage
+use Rattle.interpreter.specs.NamesState.{NamesState}
+use Rattle.rank_script.specs.Running.{Acts, stops}
 
 -- whether the script ends since its line is faulty
 abbrev pub is_stop : Option Step → Bool
@@ -36,8 +16,8 @@ is_stop (Some (steps.End status line)) = status == 1
 
 -- what a line of this number asks for is the end of the script exactly where there is a fault
 abbrev pub StopsWhere : Option Fault → ℕ → Acts → NamesState → Type 0
-StopsWhere None number acted s = is_stop acted.0 ≡ false
-StopsWhere (Some fault) number acted s = acted ≡ stops number s
+StopsWhere None number acted names = is_stop acted.0 ≡ false
+StopsWhere (Some fault) number acted names = acted ≡ stops number names
 
 -- the line behind which so many are left
 abbrev pub taken_last : ℕ → List RankLine → Option RankLine

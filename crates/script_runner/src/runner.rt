@@ -1,27 +1,25 @@
 //! Running the script of a rank.
 
-ghost use Rattle.std.specs.Prelude.{◌≡◌, IfOk, length, ℕ};
+ghost use Rattle.std.specs.Prelude.{◌≡◌, IfOk, is_some, length, ℕ};
 ghost use Rattle.fault_lines.specs.Lacks.{lack_of_statement};
-ghost use Rattle.rank_script.specs.Acting.{states};
-ghost use Rattle.rank_script.specs.Heeding.{heeds};
-ghost use Rattle.rank_script.specs.NamesState.{holdings};
+ghost use Rattle.interpreter.specs.NamesState.{holdings};
+ghost use Rattle.rank_script.specs.Running.{heeds, states};
 ghost use Rattle.script_runner.specs.Running.{along, does_after, next_of, opening};
-ghost use Rattle.script_runner.specs.Standing.{StopsWhere, is_awaiting};
+ghost use Rattle.script_runner.specs.Standing.{StopsWhere};
 
 use engine::Reply;
-use fault_lines::{Fault, lack_of_statement};
+use fault_lines::Fault;
 use rank_drive::{Runner, Step};
-use rank_script::Names;
+use rank_script::ScriptRank;
 use script_files::{RankLines, Script, Statement};
-use statement_calls::Stage;
 use std::alloc::{AllocError, Global};
 use std::marker::Model;
 
-/// A rank that runs a script: the lines that are left, and what its names stand for.
+/// A rank that runs a script: the lines that are left, what its names stand for, and what it waits for.
 #[derive(Drop)]
 pub struct ScriptRunner {
     lines: RankLines,
-    names: Names,
+    rank: ScriptRank,
 }
 
 impl Model for ScriptRunner {
@@ -29,15 +27,15 @@ impl Model for ScriptRunner {
 
     ghost Value = { RunnerState };
 
-    ghost view = { λ r. record { lines = r.lines; names = r.names } };
+    ghost view = { λ r. record { lines = r.lines; rank = r.rank } };
 }
 
 /// The next line that asks for more than a change of names is done; behind the last one the script ends with status 0.
-fn go_on(lines: &mut RankLines, names: &mut Names) -> Result<Step, AllocError>
-    ensures { IfOk result (λ step. along lines.old names.old ≡ (step, record { lines = lines.new; names = names.new })) }
+fn go_on(lines: &mut RankLines, rank: &mut ScriptRank) -> Result<Step, AllocError>
+    ensures { IfOk result (λ step. along lines.old rank.old ≡ (step, record { lines = lines.new; rank = rank.new })) }
 {
     while let Some(line) = lines.next() {
-        if let Some(step) = names.act(line)? {
+        if let Some(step) = rank.act(line)? {
             return Ok(step);
         }
     }
@@ -45,25 +43,29 @@ fn go_on(lines: &mut RankLines, names: &mut Names) -> Result<Step, AllocError>
 }
 
 /// What follows from an answer at once, or else what comes next.
-fn go_on_after(lines: &mut RankLines, names: &mut Names, reply: Reply) -> Result<Step, AllocError>
-    ensures { IfOk result (λ step. does_after lines.old (heeds reply names.old) ≡ (step, record { lines = lines.new; names = names.new })) }
+fn go_on_after(
+    lines: &mut RankLines,
+    rank: &mut ScriptRank,
+    reply: Reply,
+) -> Result<Step, AllocError>
+    ensures { IfOk result (λ step. does_after lines.old (heeds reply rank.old) ≡ (step, record { lines = lines.new; rank = rank.new })) }
 {
-    if let Some(step) = names.heed(reply)? {
+    if let Some(step) = rank.heed(reply)? {
         return Ok(step);
     }
-    go_on(lines, names)
+    go_on(lines, rank)
 }
 
 fn go_on_told(
     lines: &mut RankLines,
-    names: &mut Names,
+    rank: &mut ScriptRank,
     reply: Option<Reply>,
 ) -> Result<Step, AllocError>
-    ensures { IfOk result (λ step. next_of (record { lines = lines.old; names = names.old }) reply ≡ (step, record { lines = lines.new; names = names.new })) }
+    ensures { IfOk result (λ step. next_of (record { lines = lines.old; rank = rank.old }) reply ≡ (step, record { lines = lines.new; rank = rank.new })) }
 {
     match reply {
-        Some(reply) => go_on_after(lines, names, reply),
-        None => go_on(lines, names),
+        Some(reply) => go_on_after(lines, rank, reply),
+        None => go_on(lines, rank),
     }
 }
 
@@ -80,7 +82,7 @@ impl ScriptRunner {
         let lines = script.into_lines_for(alloc, rank, incarnation)?;
         Ok(ScriptRunner {
             lines,
-            names: Names::new(alloc, rank),
+            rank: ScriptRank::new(alloc, rank),
         })
     }
 
@@ -93,9 +95,9 @@ impl ScriptRunner {
 
     /// Whether it stands at a line whose call isn't answered yet.
     pub fn awaits_answer(&self) -> bool
-        ensures { result ≡ is_awaiting self.now.names.doing }
+        ensures { result ≡ is_some self.now.rank.pending }
     {
-        !matches!(self.names.doing.stage, Stage::Free)
+        self.rank.awaits_answer()
     }
 
     /// Why a line can't be followed by what the names stand for now, in which case the script ends at it with 51: the first of
@@ -103,11 +105,11 @@ impl ScriptRunner {
     /// is want of memory.
     #[tactic(auto, using(crate::proofs::StandingLaws::stops_where_lacking))]
     pub fn lack_of(&self, alloc: Global, statement: &Statement) -> Result<Option<Fault>, AllocError>
-        ensures exact { IfOk result (λ fault. fault ≡ lack_of_statement (holdings self.now.names) statement.now) }
+        ensures exact { IfOk result (λ fault. fault ≡ lack_of_statement (holdings self.now.rank.names) statement.now) }
         ensures stops { (number : ℕ) → IfOk result (λ fault.
-            StopsWhere fault number (states number statement.now self.now.names) self.now.names) }
+            StopsWhere fault number (states number statement.now self.now.rank.names) self.now.rank.names) }
     {
-        lack_of_statement(alloc, &self.names, statement)
+        self.rank.lack_of(alloc, statement)
     }
 }
 
@@ -117,7 +119,7 @@ impl Runner for ScriptRunner {
     ghost does = { NextGives };
 
     fn next(&mut self, reply: Option<Reply>) -> Step {
-        match go_on_told(&mut self.lines, &mut self.names, reply) {
+        match go_on_told(&mut self.lines, &mut self.rank, reply) {
             Ok(step) => step,
             Err(_) => Step::End(6, None),
         }

@@ -1,9 +1,9 @@
 //! Running a file of events, and what it prints.
 #![tactic(auto)]
 
-mod collecting;
-mod communicating;
+mod copies;
 mod printing;
+mod ranks;
 mod running;
 
 pub use event_lines::SimulateError;

@@ -10,11 +10,6 @@ use Rattle.statements.specs.declared.action.Splitting.{Splitting}
 abbrev pub split_by : Splitting → Entry
 split_by x = entries.Split (record { colour = x.colour; key = x.key })
 
--- the number of the refusal of a block of 2^32 elements or more: no call says how many they are, and no limit lets them pass
-abbrev pub refusal_of_block : (comm : Option ℕ) → ℕ
-refusal_of_block None = 4
-refusal_of_block (Some place) = 1
-
 -- what is entered with a block, of which a record can say how many elements it has
 abbrev pub entry_with : (Contents → Entry) → Contents → Option Entry
 entry_with entry block = if nat_lt (length block.values) (2 ^ 32) then Some (entry block) else None

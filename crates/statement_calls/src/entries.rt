@@ -1,7 +1,7 @@
 //! What is entered in a collective (MPI 3.1, 5 and 6.4.2).
 
 ghost use Rattle.std.specs.Prelude.{◌≡◌};
-ghost use Rattle.statement_calls.specs.Entries.{elements_like, entry_with, refusal_of_block, split_by};
+ghost use Rattle.statement_calls.specs.Entries.{elements_like, entry_with, split_by};
 
 use collective_notes::{Block, Entry};
 use datatypes::Buffer;
@@ -55,17 +55,6 @@ pub fn reduction_to_all_of(operation: Operation, buffer: Buffer) -> Option<Entry
     match Block::new(buffer) {
         Ok(block) => Some(Entry::Allreduce(operation, block)),
         Err(_) => None,
-    }
-}
-
-/// The number of the refusal of a block of 2^32 elements or more on the communicator at this place: 4 where there is none
-/// (MPI_COMM_NULL), else 1.
-pub fn refusal_of_block(comm: Option<usize>) -> u8
-    ensures { result ≡ refusal_of_block comm }
-{
-    match comm {
-        None => 4,
-        Some(_) => 1,
     }
 }
 

@@ -14,11 +14,11 @@ use Rattle.statements.specs.declared.action.Receiving.{Receiving}
 use Rattle.statements.specs.declared.action.Action.{Action}
 use Rattle.statements.specs.declared.action.Action.TheVariants as actions
 use Rattle.statements.specs.Grammar.{IsBuffer, IsSending, IsReceiving, Spells, IsRequested}
-use Rattle.line_words.specs.Grammar.{Word, type_word}
+use Rattle.line_words.specs.Grammar.{Word, NamesIt, type_word}
 use Rattle.statements.specs.Words.{verb_of}
 use Rattle.line_words.specs.Words.{basic_type_of}
 use Rattle.line_words.specs.Results.{◌>>=◌}
-use Rattle.statements.specs.Reading.{communicator_of, target_of, source_of, tag_of, requested_of, through_of, one_request, elements_of, buffer_with, buffer_of, sending_of, receiving_of, isend_of, irecv_of, one_of, layout_of, communicator_alone, two_communicators, bcast_of, gather_of, scatter_of, reduce_of, allreduce_of, dup_of, split_of, action_by, action_of}
+use Rattle.statements.specs.Reading.{communicator_of, target_of, source_of, tag_of, requested_of, through_of, one_request, elements_of, buffer_with, buffer_of, sending_of, receiving_of, isend_of, irecv_of, probing_of, improbe_of, mrecv_of, one_of, layout_of, communicator_alone, two_communicators, bcast_of, gather_of, scatter_of, reduce_of, allreduce_of, dup_of, split_of, action_by, action_of}
 use Rattle.line_words.specs.Fields.{first, ended, name_of, each}
 use Rattle.statements.proofs.VerbLaws.{verb_word, verb_takes, verb_again}
 use Rattle.line_words.proofs.WordLaws.{bind_ok, made, type_takes, type_again}
@@ -27,6 +27,7 @@ use Rattle.line_words.proofs.FieldLaws.{named_takes, named_again}
 use Rattle.statements.proofs.LayoutLaws.{layout_takes, layout_again}
 use Rattle.statements.proofs.CommunicatorLaws.{asks_takes, asks_again, compare_takes, compare_again, dup_takes, dup_again, split_takes, split_again}
 use Rattle.statements.proofs.CollectiveLaws.{bcast_takes, bcast_again, gather_takes, gather_again, scatter_takes, scatter_again, reduce_takes, reduce_again, allreduce_takes, allreduce_again}
+use Rattle.statements.proofs.ProbeLaws.{probing_takes, probing_again, improbe_takes, improbe_from, landing_again, mrecv_takes, mrecv_from}
 use Rattle.statements.proofs.FieldSteps.{five}
 use Rattle.statements.proofs.ElementLaws.{elements_take, elements_again}
 
@@ -82,13 +83,25 @@ receiving_again words receive h =
 
 -- ---- requests
 
-isend_takes : (words : List Word) (made : Word × Sending) → isend_of words ≡ Some made → Spells (codes "isend" ∷ words) (actions.Isend made.0 made.1)
-unfolding isend_of first
+-- a request's name, and a send
+IsNamedSending : List Word → Word × Sending → Type 0
+IsNamedSending words m = (name : Word) × (rest : List Word) × (words ≡ name ∷ rest) × NamesIt name m.0 × IsSending rest m.1
+
+isend_takes : (words : List Word) (made : Word × Sending) → isend_of words ≡ Some made → IsNamedSending words made
+unfolding isend_of first IsNamedSending
 isend_takes [] made e = absurd cc
 isend_takes (w ∷ ws) m e =
     let a = bind_ok (name_of w) (λ q. sending_of ws >>= λ send. Some (q, send)) m e in
     let b = bind_ok (sending_of ws) (λ send. Some (a.0, send)) m a.2 in
-    made (λ (m : Word × Sending). Spells (codes "isend" ∷ w ∷ ws) (actions.Isend m.0 m.1)) (a.0, b.0) m (w, ws, refl, named_takes w a.0 a.1, sending_takes ws b.0 b.1) b.2
+    made (IsNamedSending (w ∷ ws)) (a.0, b.0) m (w, ws, refl, named_takes w a.0 a.1, sending_takes ws b.0 b.1) b.2
+
+send_spelled : (words : List Word) (m : Word × Sending) → IsNamedSending words m → Spells (codes "isend" ∷ words) (actions.Isend m.0 m.1)
+unfolding IsNamedSending
+send_spelled words m h = (h.0, h.1, ap (λ (ws : List Word). codes "isend" ∷ ws) h.2, h.3, h.4)
+
+synchronous_spelled : (words : List Word) (m : Word × Sending) → IsNamedSending words m → Spells (codes "issend" ∷ words) (actions.Issend m.0 m.1)
+unfolding IsNamedSending
+synchronous_spelled words m h = (h.0, h.1, ap (λ (ws : List Word). codes "issend" ∷ ws) h.2, h.3, h.4)
 
 isend_from : (name : Word) (rest : List Word) (request : Word) (send : Sending) → name_of name ≡ Some request → sending_of rest ≡ Some send → isend_of (name ∷ rest) ≡ Some (request, send)
 unfolding isend_of first
@@ -153,8 +166,17 @@ buffer_again words line h =
 by_takes : (verb : Verb) (words : List Word) (s : Action) → action_by verb words ≡ Some s → Spells (verb_word verb ∷ words) s
 by_takes verbs.Buffer words s e = let b = bind_ok (buffer_of words) (λ x. Some (actions.Buffer x)) s e in made (Spells (codes "buf" ∷ words)) (actions.Buffer b.0) s (words, refl, buffer_takes words b.0 b.1) b.2
 by_takes verbs.Layout words s e = let b = bind_ok (layout_of words) (λ x. Some (actions.Layout x)) s e in made (Spells (codes "type" ∷ words)) (actions.Layout b.0) s (words, refl, layout_takes words b.0 b.1) b.2
-by_takes verbs.Isend words s e = let b = bind_ok (isend_of words) (λ x. Some (actions.Isend x.0 x.1)) s e in made (Spells (codes "isend" ∷ words)) (actions.Isend b.0.0 b.0.1) s (isend_takes words b.0 b.1) b.2
+by_takes verbs.Isend words s e = let b = bind_ok (isend_of words) (λ x. Some (actions.Isend x.0 x.1)) s e in made (Spells (codes "isend" ∷ words)) (actions.Isend b.0.0 b.0.1) s (send_spelled words b.0 (isend_takes words b.0 b.1)) b.2
+by_takes verbs.Issend words s e =
+    let b = bind_ok (isend_of words) (λ x. Some (actions.Issend x.0 x.1)) s e in
+    made (Spells (codes "issend" ∷ words)) (actions.Issend b.0.0 b.0.1) s (synchronous_spelled words b.0 (isend_takes words b.0 b.1)) b.2
 by_takes verbs.Irecv words s e = let b = bind_ok (irecv_of words) (λ x. Some (actions.Irecv x.0 x.1)) s e in made (Spells (codes "irecv" ∷ words)) (actions.Irecv b.0.0 b.0.1) s (irecv_takes words b.0 b.1) b.2
+by_takes verbs.Iprobe words s e =
+    let b = bind_ok (probing_of words) (λ x. Some (actions.Iprobe x)) s e in made (Spells (codes "iprobe" ∷ words)) (actions.Iprobe b.0) s (words, refl, probing_takes words b.0 b.1) b.2
+by_takes verbs.Improbe words s e =
+    let b = bind_ok (improbe_of words) (λ x. Some (actions.Improbe x.0 x.1)) s e in made (Spells (codes "improbe" ∷ words)) (actions.Improbe b.0.0 b.0.1) s (improbe_takes words b.0 b.1) b.2
+by_takes verbs.Mrecv words s e =
+    let b = bind_ok (mrecv_of words) (λ x. Some (actions.Mrecv x.0 x.1)) s e in made (Spells (codes "mrecv" ∷ words)) (actions.Mrecv b.0.0 b.0.1) s (mrecv_takes words b.0 b.1) b.2
 by_takes verbs.Wait words s e =
     let b = bind_ok (one_of words) (λ x. Some (actions.Wait x)) s e in
     made (Spells (codes "wait" ∷ words)) (actions.Wait b.0) s (request_takes (λ (ws : List Word). Spells (codes "wait" ∷ ws) (actions.Wait b.0)) words b.0 (λ a h. (a, refl, h)) b.1) b.2
@@ -206,8 +228,15 @@ action_again words (actions.Buffer x) h = ap action_of h.1 ∙ from_verb verbs.B
 action_again words (actions.Layout x) h = ap action_of h.1 ∙ from_verb verbs.Layout h.0 (actions.Layout x) (then_some (layout_of h.0) (λ y. actions.Layout y) x (layout_again h.0 x h.2))
 action_again words (actions.Isend q x) h =
     ap action_of h.2 ∙ from_verb verbs.Isend (h.0 ∷ h.1) (actions.Isend q x) (then_some (isend_of (h.0 ∷ h.1)) (λ y. actions.Isend y.0 y.1) (q, x) (isend_from h.0 h.1 q x (named_again h.0 q h.3) (sending_again h.1 x h.4)))
+action_again words (actions.Issend q x) h =
+    ap action_of h.2 ∙ from_verb verbs.Issend (h.0 ∷ h.1) (actions.Issend q x) (then_some (isend_of (h.0 ∷ h.1)) (λ y. actions.Issend y.0 y.1) (q, x) (isend_from h.0 h.1 q x (named_again h.0 q h.3) (sending_again h.1 x h.4)))
 action_again words (actions.Irecv q x) h =
     ap action_of h.2 ∙ from_verb verbs.Irecv (h.0 ∷ h.1) (actions.Irecv q x) (then_some (irecv_of (h.0 ∷ h.1)) (λ y. actions.Irecv y.0 y.1) (q, x) (irecv_from h.0 h.1 q x (named_again h.0 q h.3) (receiving_again h.1 x h.4)))
+action_again words (actions.Iprobe x) h = ap action_of h.1 ∙ from_verb verbs.Iprobe h.0 (actions.Iprobe x) (then_some (probing_of h.0) (λ y. actions.Iprobe y) x (probing_again h.0 x h.2))
+action_again words (actions.Improbe m x) h =
+    ap action_of h.2 ∙ from_verb verbs.Improbe (h.0 ∷ h.1) (actions.Improbe m x) (then_some (improbe_of (h.0 ∷ h.1)) (λ y. actions.Improbe y.0 y.1) (m, x) (improbe_from h.0 h.1 m x (named_again h.0 m h.3) (probing_again h.1 x h.4)))
+action_again words (actions.Mrecv m x) h =
+    ap action_of h.2 ∙ from_verb verbs.Mrecv (h.0 ∷ h.1) (actions.Mrecv m x) (then_some (mrecv_of (h.0 ∷ h.1)) (λ y. actions.Mrecv y.0 y.1) (m, x) (mrecv_from h.0 h.1 m x (named_again h.0 m h.3) (landing_again h.1 x h.4)))
 action_again words (actions.Wait x) h = ap action_of h.1 ∙ from_verb verbs.Wait (h.0 ∷ []) (actions.Wait x) (then_some (one_of (h.0 ∷ [])) (λ y. actions.Wait y) x (one_from h.0 x (requested_again h.0 x h.2)))
 action_again words (actions.Test x) h = ap action_of h.1 ∙ from_verb verbs.Test (h.0 ∷ []) (actions.Test x) (then_some (one_of (h.0 ∷ [])) (λ y. actions.Test y) x (one_from h.0 x (requested_again h.0 x h.2)))
 action_again words (actions.Cancel x) h = ap action_of h.1 ∙ from_verb verbs.Cancel (h.0 ∷ []) (actions.Cancel x) (then_some (one_of (h.0 ∷ [])) (λ y. actions.Cancel y) x (one_from h.0 x (requested_again h.0 x h.2)))
@@ -234,24 +263,29 @@ pub begins : (words : List Word) (s : Action) → Spells words s → (P : Word �
     → P (codes "test") → P (codes "cancel") → P (codes "waitany") → P (codes "waitall") → P (codes "barrier")
     → P (codes "bcast") → P (codes "gather") → P (codes "scatter") → P (codes "reduce") → P (codes "allreduce")
     → P (codes "dup") → P (codes "split") → P (codes "who") → P (codes "members") → P (codes "compare")
+    → P (codes "issend") → P (codes "iprobe") → P (codes "improbe") → P (codes "mrecv")
     → (word : Word) × (rest : List Word) × (words ≡ word ∷ rest) × P word
-begins words (actions.Buffer x) h P of0 of1 of2 of3 of4 of5 of6 of7 of8 of9 of10 of11 of12 of13 of14 of15 of16 of17 of18 of19 = (codes "buf", h.0, h.1, of0)
-begins words (actions.Layout x) h P of0 of1 of2 of3 of4 of5 of6 of7 of8 of9 of10 of11 of12 of13 of14 of15 of16 of17 of18 of19 = (codes "type", h.0, h.1, of1)
-begins words (actions.Isend q x) h P of0 of1 of2 of3 of4 of5 of6 of7 of8 of9 of10 of11 of12 of13 of14 of15 of16 of17 of18 of19 = (codes "isend", h.0 ∷ h.1, h.2, of2)
-begins words (actions.Irecv q x) h P of0 of1 of2 of3 of4 of5 of6 of7 of8 of9 of10 of11 of12 of13 of14 of15 of16 of17 of18 of19 = (codes "irecv", h.0 ∷ h.1, h.2, of3)
-begins words (actions.Wait x) h P of0 of1 of2 of3 of4 of5 of6 of7 of8 of9 of10 of11 of12 of13 of14 of15 of16 of17 of18 of19 = (codes "wait", h.0 ∷ [], h.1, of4)
-begins words (actions.Test x) h P of0 of1 of2 of3 of4 of5 of6 of7 of8 of9 of10 of11 of12 of13 of14 of15 of16 of17 of18 of19 = (codes "test", h.0 ∷ [], h.1, of5)
-begins words (actions.Cancel x) h P of0 of1 of2 of3 of4 of5 of6 of7 of8 of9 of10 of11 of12 of13 of14 of15 of16 of17 of18 of19 = (codes "cancel", h.0 ∷ [], h.1, of6)
-begins words (actions.Waitany x) h P of0 of1 of2 of3 of4 of5 of6 of7 of8 of9 of10 of11 of12 of13 of14 of15 of16 of17 of18 of19 = (codes "waitany", h.0, h.1, of7)
-begins words (actions.Waitall x) h P of0 of1 of2 of3 of4 of5 of6 of7 of8 of9 of10 of11 of12 of13 of14 of15 of16 of17 of18 of19 = (codes "waitall", h.0, h.1, of8)
-begins words (actions.Barrier x) h P of0 of1 of2 of3 of4 of5 of6 of7 of8 of9 of10 of11 of12 of13 of14 of15 of16 of17 of18 of19 = (codes "barrier", h.0 ∷ [], h.1, of9)
-begins words (actions.Bcast x) h P of0 of1 of2 of3 of4 of5 of6 of7 of8 of9 of10 of11 of12 of13 of14 of15 of16 of17 of18 of19 = (codes "bcast", h.0, h.1, of10)
-begins words (actions.Gather x) h P of0 of1 of2 of3 of4 of5 of6 of7 of8 of9 of10 of11 of12 of13 of14 of15 of16 of17 of18 of19 = (codes "gather", h.0, h.1, of11)
-begins words (actions.Scatter x) h P of0 of1 of2 of3 of4 of5 of6 of7 of8 of9 of10 of11 of12 of13 of14 of15 of16 of17 of18 of19 = (codes "scatter", h.0, h.1, of12)
-begins words (actions.Reduce x) h P of0 of1 of2 of3 of4 of5 of6 of7 of8 of9 of10 of11 of12 of13 of14 of15 of16 of17 of18 of19 = (codes "reduce", h.0, h.1, of13)
-begins words (actions.Allreduce x) h P of0 of1 of2 of3 of4 of5 of6 of7 of8 of9 of10 of11 of12 of13 of14 of15 of16 of17 of18 of19 = (codes "allreduce", h.0, h.1, of14)
-begins words (actions.Dup q x) h P of0 of1 of2 of3 of4 of5 of6 of7 of8 of9 of10 of11 of12 of13 of14 of15 of16 of17 of18 of19 = (codes "dup", h.0 ∷ h.1 ∷ [], h.2, of15)
-begins words (actions.Split q x) h P of0 of1 of2 of3 of4 of5 of6 of7 of8 of9 of10 of11 of12 of13 of14 of15 of16 of17 of18 of19 = (codes "split", h.0 ∷ h.1, h.2, of16)
-begins words (actions.Who x) h P of0 of1 of2 of3 of4 of5 of6 of7 of8 of9 of10 of11 of12 of13 of14 of15 of16 of17 of18 of19 = (codes "who", h.0 ∷ [], h.1, of17)
-begins words (actions.Members x) h P of0 of1 of2 of3 of4 of5 of6 of7 of8 of9 of10 of11 of12 of13 of14 of15 of16 of17 of18 of19 = (codes "members", h.0 ∷ [], h.1, of18)
-begins words (actions.Compare x y) h P of0 of1 of2 of3 of4 of5 of6 of7 of8 of9 of10 of11 of12 of13 of14 of15 of16 of17 of18 of19 = (codes "compare", h.0 ∷ h.1 ∷ [], h.2, of19)
+begins words (actions.Buffer x) h P of0 of1 of2 of3 of4 of5 of6 of7 of8 of9 of10 of11 of12 of13 of14 of15 of16 of17 of18 of19 of20 of21 of22 of23 = (codes "buf", h.0, h.1, of0)
+begins words (actions.Layout x) h P of0 of1 of2 of3 of4 of5 of6 of7 of8 of9 of10 of11 of12 of13 of14 of15 of16 of17 of18 of19 of20 of21 of22 of23 = (codes "type", h.0, h.1, of1)
+begins words (actions.Isend q x) h P of0 of1 of2 of3 of4 of5 of6 of7 of8 of9 of10 of11 of12 of13 of14 of15 of16 of17 of18 of19 of20 of21 of22 of23 = (codes "isend", h.0 ∷ h.1, h.2, of2)
+begins words (actions.Irecv q x) h P of0 of1 of2 of3 of4 of5 of6 of7 of8 of9 of10 of11 of12 of13 of14 of15 of16 of17 of18 of19 of20 of21 of22 of23 = (codes "irecv", h.0 ∷ h.1, h.2, of3)
+begins words (actions.Wait x) h P of0 of1 of2 of3 of4 of5 of6 of7 of8 of9 of10 of11 of12 of13 of14 of15 of16 of17 of18 of19 of20 of21 of22 of23 = (codes "wait", h.0 ∷ [], h.1, of4)
+begins words (actions.Test x) h P of0 of1 of2 of3 of4 of5 of6 of7 of8 of9 of10 of11 of12 of13 of14 of15 of16 of17 of18 of19 of20 of21 of22 of23 = (codes "test", h.0 ∷ [], h.1, of5)
+begins words (actions.Cancel x) h P of0 of1 of2 of3 of4 of5 of6 of7 of8 of9 of10 of11 of12 of13 of14 of15 of16 of17 of18 of19 of20 of21 of22 of23 = (codes "cancel", h.0 ∷ [], h.1, of6)
+begins words (actions.Waitany x) h P of0 of1 of2 of3 of4 of5 of6 of7 of8 of9 of10 of11 of12 of13 of14 of15 of16 of17 of18 of19 of20 of21 of22 of23 = (codes "waitany", h.0, h.1, of7)
+begins words (actions.Waitall x) h P of0 of1 of2 of3 of4 of5 of6 of7 of8 of9 of10 of11 of12 of13 of14 of15 of16 of17 of18 of19 of20 of21 of22 of23 = (codes "waitall", h.0, h.1, of8)
+begins words (actions.Barrier x) h P of0 of1 of2 of3 of4 of5 of6 of7 of8 of9 of10 of11 of12 of13 of14 of15 of16 of17 of18 of19 of20 of21 of22 of23 = (codes "barrier", h.0 ∷ [], h.1, of9)
+begins words (actions.Bcast x) h P of0 of1 of2 of3 of4 of5 of6 of7 of8 of9 of10 of11 of12 of13 of14 of15 of16 of17 of18 of19 of20 of21 of22 of23 = (codes "bcast", h.0, h.1, of10)
+begins words (actions.Gather x) h P of0 of1 of2 of3 of4 of5 of6 of7 of8 of9 of10 of11 of12 of13 of14 of15 of16 of17 of18 of19 of20 of21 of22 of23 = (codes "gather", h.0, h.1, of11)
+begins words (actions.Scatter x) h P of0 of1 of2 of3 of4 of5 of6 of7 of8 of9 of10 of11 of12 of13 of14 of15 of16 of17 of18 of19 of20 of21 of22 of23 = (codes "scatter", h.0, h.1, of12)
+begins words (actions.Reduce x) h P of0 of1 of2 of3 of4 of5 of6 of7 of8 of9 of10 of11 of12 of13 of14 of15 of16 of17 of18 of19 of20 of21 of22 of23 = (codes "reduce", h.0, h.1, of13)
+begins words (actions.Allreduce x) h P of0 of1 of2 of3 of4 of5 of6 of7 of8 of9 of10 of11 of12 of13 of14 of15 of16 of17 of18 of19 of20 of21 of22 of23 = (codes "allreduce", h.0, h.1, of14)
+begins words (actions.Dup q x) h P of0 of1 of2 of3 of4 of5 of6 of7 of8 of9 of10 of11 of12 of13 of14 of15 of16 of17 of18 of19 of20 of21 of22 of23 = (codes "dup", h.0 ∷ h.1 ∷ [], h.2, of15)
+begins words (actions.Split q x) h P of0 of1 of2 of3 of4 of5 of6 of7 of8 of9 of10 of11 of12 of13 of14 of15 of16 of17 of18 of19 of20 of21 of22 of23 = (codes "split", h.0 ∷ h.1, h.2, of16)
+begins words (actions.Who x) h P of0 of1 of2 of3 of4 of5 of6 of7 of8 of9 of10 of11 of12 of13 of14 of15 of16 of17 of18 of19 of20 of21 of22 of23 = (codes "who", h.0 ∷ [], h.1, of17)
+begins words (actions.Members x) h P of0 of1 of2 of3 of4 of5 of6 of7 of8 of9 of10 of11 of12 of13 of14 of15 of16 of17 of18 of19 of20 of21 of22 of23 = (codes "members", h.0 ∷ [], h.1, of18)
+begins words (actions.Compare x y) h P of0 of1 of2 of3 of4 of5 of6 of7 of8 of9 of10 of11 of12 of13 of14 of15 of16 of17 of18 of19 of20 of21 of22 of23 = (codes "compare", h.0 ∷ h.1 ∷ [], h.2, of19)
+begins words (actions.Issend q x) h P of0 of1 of2 of3 of4 of5 of6 of7 of8 of9 of10 of11 of12 of13 of14 of15 of16 of17 of18 of19 of20 of21 of22 of23 = (codes "issend", h.0 ∷ h.1, h.2, of20)
+begins words (actions.Iprobe x) h P of0 of1 of2 of3 of4 of5 of6 of7 of8 of9 of10 of11 of12 of13 of14 of15 of16 of17 of18 of19 of20 of21 of22 of23 = (codes "iprobe", h.0, h.1, of21)
+begins words (actions.Improbe m x) h P of0 of1 of2 of3 of4 of5 of6 of7 of8 of9 of10 of11 of12 of13 of14 of15 of16 of17 of18 of19 of20 of21 of22 of23 = (codes "improbe", h.0 ∷ h.1, h.2, of22)
+begins words (actions.Mrecv m x) h P of0 of1 of2 of3 of4 of5 of6 of7 of8 of9 of10 of11 of12 of13 of14 of15 of16 of17 of18 of19 of20 of21 of22 of23 = (codes "mrecv", h.0 ∷ h.1, h.2, of23)

@@ -6,4 +6,5 @@ pub mod ElementSteps
 pub mod LayoutLaws
 pub mod CommunicatorLaws
 pub mod CollectiveLaws
+pub mod ProbeLaws
 pub mod ActionLaws

@@ -12,7 +12,11 @@ abbrev pub verb_word : Verb → Word
 verb_word verbs.Buffer = codes "buf"
 verb_word verbs.Layout = codes "type"
 verb_word verbs.Isend = codes "isend"
+verb_word verbs.Issend = codes "issend"
 verb_word verbs.Irecv = codes "irecv"
+verb_word verbs.Iprobe = codes "iprobe"
+verb_word verbs.Improbe = codes "improbe"
+verb_word verbs.Mrecv = codes "mrecv"
 verb_word verbs.Wait = codes "wait"
 verb_word verbs.Test = codes "test"
 verb_word verbs.Cancel = codes "cancel"
@@ -43,6 +47,10 @@ verbs_are word =
     (step P (bytes_eq word (codes "cancel")) _ _ (same_word word (codes "cancel"))
     (step P (bytes_eq word (codes "waitany")) _ _ (same_word word (codes "waitany"))
     (step P (bytes_eq word (codes "waitall")) _ _ (same_word word (codes "waitall"))
+    (step P (bytes_eq word (codes "issend")) _ _ (same_word word (codes "issend"))
+    (step P (bytes_eq word (codes "iprobe")) _ _ (same_word word (codes "iprobe"))
+    (step P (bytes_eq word (codes "improbe")) _ _ (same_word word (codes "improbe"))
+    (step P (bytes_eq word (codes "mrecv")) _ _ (same_word word (codes "mrecv"))
     (step P (bytes_eq word (codes "barrier")) _ _ (same_word word (codes "barrier"))
     (step P (bytes_eq word (codes "bcast")) _ _ (same_word word (codes "bcast"))
     (step P (bytes_eq word (codes "gather")) _ _ (same_word word (codes "gather"))
@@ -53,7 +61,7 @@ verbs_are word =
     (step P (bytes_eq word (codes "split")) _ _ (same_word word (codes "split"))
     (step P (bytes_eq word (codes "who")) _ _ (same_word word (codes "who"))
     (step P (bytes_eq word (codes "members")) _ _ (same_word word (codes "members"))
-    (step P (bytes_eq word (codes "compare")) _ _ (same_word word (codes "compare")) tt)))))))))))))))))))
+    (step P (bytes_eq word (codes "compare")) _ _ (same_word word (codes "compare")) tt)))))))))))))))))))))))
 
 pub verb_takes : (word : Word) (verb : Verb) → verb_of word ≡ Some verb → word ≡ verb_word verb
 verb_takes word verb e = yielded (λ verb. word ≡ verb_word verb) (verb_of word) verb (verbs_are word) e
@@ -63,7 +71,11 @@ unfolding verb_of communicator_verb_of
 verb_again verbs.Buffer = refl
 verb_again verbs.Layout = refl
 verb_again verbs.Isend = refl
+verb_again verbs.Issend = refl
 verb_again verbs.Irecv = refl
+verb_again verbs.Iprobe = refl
+verb_again verbs.Improbe = refl
+verb_again verbs.Mrecv = refl
 verb_again verbs.Wait = refl
 verb_again verbs.Test = refl
 verb_again verbs.Cancel = refl

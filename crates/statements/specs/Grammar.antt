@@ -16,6 +16,8 @@ use Rattle.statements.specs.declared.action.BufferLine.{BufferLine}
 use Rattle.statements.specs.declared.action.Through.{Through}
 use Rattle.statements.specs.declared.action.Sending.{Sending}
 use Rattle.statements.specs.declared.action.Receiving.{Receiving}
+use Rattle.statements.specs.declared.action.Probing.{Probing}
+use Rattle.statements.specs.declared.action.Landing.{Landing}
 use Rattle.statements.specs.declared.action.Splitting.{Splitting}
 use Rattle.statements.specs.declared.collective_line.Broadcasting.{Broadcasting}
 use Rattle.statements.specs.declared.collective_line.Gathering.{Gathering}
@@ -125,6 +127,19 @@ IsReceiving words receive =
     (communicator source tag buffer : Word) × (rest : List Word) × (words ≡ communicator ∷ source ∷ tag ∷ buffer ∷ rest)
     × IsCommunicator communicator receive.communicator × IsSource source receive.source × IsTag tag receive.tag × NamesIt buffer receive.buffer
     × IsThrough rest receive.through
+
+-- ---- probes and the messages that they find
+
+-- `COMM SRC TAG`
+abbrev pub IsProbing : List Word → Probing → Type 0
+IsProbing words probe =
+    (communicator source tag : Word) × (words ≡ communicator ∷ source ∷ tag ∷ [])
+    × IsCommunicator communicator probe.communicator × IsSource source probe.source × IsTag tag probe.tag
+
+-- `B`, and what stands behind it
+abbrev pub IsLanding : List Word → Landing → Type 0
+IsLanding words landing =
+    (buffer : Word) × (rest : List Word) × (words ≡ buffer ∷ rest) × NamesIt buffer landing.buffer × IsThrough rest landing.through
 
 -- ---- layouts
 
@@ -242,8 +257,15 @@ Spells words (actions.Buffer line) = (rest : List Word) × (words ≡ codes "buf
 Spells words (actions.Layout line) = (rest : List Word) × (words ≡ codes "type" ∷ rest) × IsLayout rest line
 Spells words (actions.Isend request send) =
     (name : Word) × (rest : List Word) × (words ≡ codes "isend" ∷ name ∷ rest) × NamesIt name request × IsSending rest send
+Spells words (actions.Issend request send) =
+    (name : Word) × (rest : List Word) × (words ≡ codes "issend" ∷ name ∷ rest) × NamesIt name request × IsSending rest send
 Spells words (actions.Irecv request receive) =
     (name : Word) × (rest : List Word) × (words ≡ codes "irecv" ∷ name ∷ rest) × NamesIt name request × IsReceiving rest receive
+Spells words (actions.Iprobe probe) = (rest : List Word) × (words ≡ codes "iprobe" ∷ rest) × IsProbing rest probe
+Spells words (actions.Improbe message probe) =
+    (name : Word) × (rest : List Word) × (words ≡ codes "improbe" ∷ name ∷ rest) × NamesIt name message × IsProbing rest probe
+Spells words (actions.Mrecv message landing) =
+    (name : Word) × (rest : List Word) × (words ≡ codes "mrecv" ∷ name ∷ rest) × NamesIt name message × IsLanding rest landing
 Spells words (actions.Wait request) = (word : Word) × (words ≡ codes "wait" ∷ word ∷ []) × IsRequested word request
 Spells words (actions.Test request) = (word : Word) × (words ≡ codes "test" ∷ word ∷ []) × IsRequested word request
 Spells words (actions.Cancel request) = (word : Word) × (words ≡ codes "cancel" ∷ word ∷ []) × IsRequested word request

@@ -20,6 +20,8 @@ use Rattle.statements.specs.declared.action.BufferLine.{BufferLine}
 use Rattle.statements.specs.declared.action.Through.{Through}
 use Rattle.statements.specs.declared.action.Sending.{Sending}
 use Rattle.statements.specs.declared.action.Receiving.{Receiving}
+use Rattle.statements.specs.declared.action.Probing.{Probing}
+use Rattle.statements.specs.declared.action.Landing.{Landing}
 use Rattle.statements.specs.declared.action.Splitting.{Splitting}
 use Rattle.statements.specs.declared.collective_line.Broadcasting.{Broadcasting}
 use Rattle.statements.specs.declared.collective_line.Gathering.{Gathering}
@@ -205,6 +207,32 @@ isend_of words = first words >>= λ request. name_of request.0 >>= λ q. sending
 
 unfoldable pub irecv_of : List Word → Option (Word × Receiving)
 irecv_of words = first words >>= λ request. name_of request.0 >>= λ q. receiving_of request.1 >>= λ receive. Some (q, receive)
+
+-- `COMM SRC TAG`
+unfoldable pub probing_of : List Word → Option Probing
+probing_of words = do
+  communicator ← first words
+  source ← first communicator.1
+  tag ← first source.1
+  end ← ended tag.1
+  c ← communicator_of communicator.0
+  r ← source_of source.0
+  t ← tag_of tag.0
+  Some (record { communicator = c; source = r; tag = t })
+
+-- `B`, and what stands behind it
+unfoldable pub landing_of : List Word → Option Landing
+landing_of words = do
+  buffer ← first words
+  b ← name_of buffer.0
+  u ← through_of buffer.1
+  Some (record { buffer = b; through = u })
+
+unfoldable pub improbe_of : List Word → Option (Word × Probing)
+improbe_of words = first words >>= λ message. name_of message.0 >>= λ m. probing_of message.1 >>= λ probe. Some (m, probe)
+
+unfoldable pub mrecv_of : List Word → Option (Word × Landing)
+mrecv_of words = first words >>= λ message. name_of message.0 >>= λ m. landing_of message.1 >>= λ landing. Some (m, landing)
 
 unfoldable pub one_of : List Word → Option Requested
 one_of words = first words >>= λ request. ended request.1 >>= λ end. requested_of request.0
@@ -463,7 +491,11 @@ abbrev pub action_by : Verb → List Word → Option Action
 action_by verbs.Buffer words = buffer_of words >>= λ line. Some (actions.Buffer line)
 action_by verbs.Layout words = layout_of words >>= λ line. Some (actions.Layout line)
 action_by verbs.Isend words = isend_of words >>= λ made. Some (actions.Isend made.0 made.1)
+action_by verbs.Issend words = isend_of words >>= λ made. Some (actions.Issend made.0 made.1)
 action_by verbs.Irecv words = irecv_of words >>= λ made. Some (actions.Irecv made.0 made.1)
+action_by verbs.Iprobe words = probing_of words >>= λ probe. Some (actions.Iprobe probe)
+action_by verbs.Improbe words = improbe_of words >>= λ made. Some (actions.Improbe made.0 made.1)
+action_by verbs.Mrecv words = mrecv_of words >>= λ made. Some (actions.Mrecv made.0 made.1)
 action_by verbs.Wait words = one_of words >>= λ request. Some (actions.Wait request)
 action_by verbs.Test words = one_of words >>= λ request. Some (actions.Test request)
 action_by verbs.Cancel words = one_of words >>= λ request. Some (actions.Cancel request)

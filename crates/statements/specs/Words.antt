@@ -33,4 +33,8 @@ verb_of word =
     else (if bytes_eq word (codes "cancel") then Some verbs.Cancel
     else (if bytes_eq word (codes "waitany") then Some verbs.Waitany
     else (if bytes_eq word (codes "waitall") then Some verbs.Waitall
-    else communicator_verb_of word))))))))
+    else (if bytes_eq word (codes "issend") then Some verbs.Issend
+    else (if bytes_eq word (codes "iprobe") then Some verbs.Iprobe
+    else (if bytes_eq word (codes "improbe") then Some verbs.Improbe
+    else (if bytes_eq word (codes "mrecv") then Some verbs.Mrecv
+    else communicator_verb_of word))))))))))))

@@ -128,6 +128,27 @@ pub struct Receiving {
     pub through: Option<Through>,
 }
 
+/// `COMM SRC TAG`: the arguments of a probe (MPI 3.1, 3.8.1).
+#[derive(Drop)]
+pub struct Probing {
+    /// The communicator in which the message comes.
+    pub communicator: Communicator,
+    /// From whom it is wanted; a rank that 16 bits don't hold stands as the greatest number that they hold.
+    pub source: Source,
+    /// The tag that is wanted; none: the wildcard. A tag that 32 bits don't hold stands as the greatest number that they
+    /// hold.
+    pub tag: Option<u32>,
+}
+
+/// `B`, and `as L N` if it stands there: where the data of a message go that was taken out (MPI 3.1, 3.8.3).
+#[derive(Drop)]
+pub struct Landing {
+    /// The name of the buffer that is lent.
+    pub buffer: Name,
+    /// The places that the data go to; none: the buffer as it is.
+    pub through: Option<Through>,
+}
+
 /// `COMM COLOUR KEY`: the arguments of a split (MPI 3.1, 6.4.2).
 #[derive(Drop)]
 pub struct Splitting {
@@ -148,8 +169,16 @@ pub enum Action {
     Layout(LayoutLine),
     /// `isend Q COMM DEST TAG B` starts a send, and names its request.
     Isend(Name, Sending),
+    /// `issend Q COMM DEST TAG B` starts a synchronous send, and names its request (MPI 3.1, 3.4).
+    Issend(Name, Sending),
     /// `irecv Q COMM SRC TAG B` starts a receive, and names its request; the buffer is lent until the outcome.
     Irecv(Name, Receiving),
+    /// `iprobe COMM SRC TAG` asks for the message that such a receive would take (MPI 3.1, 3.8.1).
+    Iprobe(Probing),
+    /// `improbe M COMM SRC TAG` takes the message out that such a receive would take, and names it (MPI 3.1, 3.8.2).
+    Improbe(Name, Probing),
+    /// `mrecv M B` receives a message that was taken out (MPI 3.1, 3.8.3).
+    Mrecv(Name, Landing),
     /// `wait Q` waits for the request (MPI 3.1, 3.7.3).
     Wait(Requested),
     /// `test Q` asks whether the request is finished (MPI 3.1, 3.7.3).

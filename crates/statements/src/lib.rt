@@ -12,13 +12,14 @@ mod fields;
 mod front;
 mod layout_line;
 mod layout_reading;
+mod probe_reading;
 mod reading;
 mod values;
 mod verb;
 
 pub use action::{
-    Action, BufferLine, Communicator, Receiving, Requested, RequestedList, Sending, Splitting,
-    Through,
+    Action, BufferLine, Communicator, Landing, Probing, Receiving, Requested, RequestedList,
+    Sending, Splitting, Through,
 };
 pub use collective_line::{Broadcasting, Gathering, Reducing, ReducingToAll, Scattering};
 pub use layout_line::{Blocks, LayoutForm, LayoutLine, OldLayout, Stripes};

@@ -1,7 +1,7 @@
 //! What a rank does, by the words that spell it.
 
 ghost use Rattle.std.specs.Prelude.{◌≡◌};
-ghost use Rattle.statements.specs.Reading.{places_of, sending_of, receiving_of, one_of, action_by, action_of};
+ghost use Rattle.statements.specs.Reading.{places_of, sending_of, receiving_of, isend_of, one_of, action_by, action_of};
 ghost use Rattle.line_words.specs.Results.{Gives};
 
 use crate::action::{Action, BufferLine, Communicator, Receiving, Requested, Sending, Through};
@@ -12,6 +12,7 @@ use crate::fields::{
 };
 use crate::front::{first_four, first_two, one_alone};
 use crate::layout_reading::layout_of;
+use crate::probe_reading::{improbe_of, mrecv_of, probing_of};
 use crate::values::buffer_with;
 use crate::verb::{Verb, verb_of};
 use line_words::{LineError, Name, Word, basic_type_of, first, name_of, required};
@@ -78,13 +79,15 @@ pub fn receiving_of(alloc: Global, words: &[Word]) -> Result<Receiving, LineErro
     })
 }
 
+/// `Q COMM DEST TAG B`: the name of a send's request, and its arguments.
 #[tactic(auto, unfolding(crate::specs::Reading::isend_of))]
-fn isend_of(alloc: Global, words: &[Word]) -> Result<Action, LineError>
-    ensures { Gives (λ x. x) result (action_by Verb.Isend words.now) }
+fn isend_of(alloc: Global, words: &[Word]) -> Result<(Name, Sending), LineError>
+    ensures { Gives (λ x. x) result (isend_of words.now) }
 {
     let (request, rest) = first(words)?;
     let request = name_of(alloc, request)?;
-    Ok(Action::Isend(request, sending_of(alloc, rest)?))
+    let sending = sending_of(alloc, rest)?;
+    Ok((request, sending))
 }
 
 #[tactic(auto, unfolding(crate::specs::Reading::irecv_of))]
@@ -110,8 +113,18 @@ fn action_by(alloc: Global, verb: Verb, rest: &[Word]) -> Result<Action, LineErr
     match verb {
         Verb::Buffer => buffer_of(alloc, rest),
         Verb::Layout => layout_of(alloc, rest),
-        Verb::Isend => isend_of(alloc, rest),
+        Verb::Isend => {
+            let (request, sending) = isend_of(alloc, rest)?;
+            Ok(Action::Isend(request, sending))
+        }
+        Verb::Issend => {
+            let (request, sending) = isend_of(alloc, rest)?;
+            Ok(Action::Issend(request, sending))
+        }
         Verb::Irecv => irecv_of(alloc, rest),
+        Verb::Iprobe => Ok(Action::Iprobe(probing_of(alloc, rest)?)),
+        Verb::Improbe => improbe_of(alloc, rest),
+        Verb::Mrecv => mrecv_of(alloc, rest),
         Verb::Wait => Ok(Action::Wait(one_of(alloc, rest)?)),
         Verb::Test => Ok(Action::Test(one_of(alloc, rest)?)),
         Verb::Cancel => Ok(Action::Cancel(one_of(alloc, rest)?)),

@@ -14,8 +14,16 @@ pub(crate) enum Verb {
     Layout,
     /// `isend`
     Isend,
+    /// `issend`
+    Issend,
     /// `irecv`
     Irecv,
+    /// `iprobe`
+    Iprobe,
+    /// `improbe`
+    Improbe,
+    /// `mrecv`
+    Mrecv,
     /// `wait`
     Wait,
     /// `test`
@@ -105,6 +113,14 @@ pub(crate) fn verb_of(word: &[u8]) -> Option<Verb>
         Some(Verb::Waitany)
     } else if is(word, b"waitall") {
         Some(Verb::Waitall)
+    } else if is(word, b"issend") {
+        Some(Verb::Issend)
+    } else if is(word, b"iprobe") {
+        Some(Verb::Iprobe)
+    } else if is(word, b"improbe") {
+        Some(Verb::Improbe)
+    } else if is(word, b"mrecv") {
+        Some(Verb::Mrecv)
     } else {
         communicator_verb_of(word)
     }

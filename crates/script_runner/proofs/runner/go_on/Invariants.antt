@@ -6,4 +6,4 @@ abbrev pub decreases-loop-line : goal.decreases-loop-line
 decreases-loop-line l = length l.lines
 
 abbrev pub invariant-loop-line : goal.invariant-loop-line
-invariant-loop-line l = along l.lines l.names ≡ along l.fn.lines l.fn.names
+invariant-loop-line l = along l.lines l.rank ≡ along l.fn.lines l.fn.rank

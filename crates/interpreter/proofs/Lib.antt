@@ -1,0 +1,4 @@
+pub mod CallLaws
+pub mod EntryLaws
+pub mod FaultLaws
+pub mod SeveralLaws

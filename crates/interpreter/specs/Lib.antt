@@ -1,0 +1,4 @@
+pub mod NamesState
+pub mod Acting
+pub mod Faults
+pub mod Hearing

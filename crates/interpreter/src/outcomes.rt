@@ -1,0 +1,263 @@
+//! What is made of the outcomes of operations.
+
+ghost use Rattle.std.specs.Prelude.{◌≡◌, IfOk, OnOk, slice_get};
+ghost use Rattle.statement_calls.specs.Awaited.{null};
+ghost use Rattle.interpreter.specs.NamesState.{with_request};
+ghost use Rattle.interpreter.specs.Hearing.{ended_each, ended_named, ends_all, ends_at, ends_by, ends_message, ends_named_one, ends_one, ends_requested, ends_with, EndsNext, error_told, errors_told, held_buffer, returned};
+
+use crate::names::Names;
+use crate::steps::{ErrorNumbers, Heard, Told};
+use requests::{Answer, Outcome};
+use statement_calls::{Held, NamedMessage, Pending, error_of, status_after};
+use statements::{Name, Requested, RequestedList};
+use std::alloc::{AllocError, Global};
+
+/// The error is told, if there is one.
+fn error_told(error: Option<u8>) -> Heard
+    ensures { result ≡ error_told error }
+{
+    match error {
+        Some(number) => Heard::Told(Told::Error(number)),
+        None => Heard::Nothing,
+    }
+}
+
+/// The errors are told, if there are any.
+fn errors_told(errors: ErrorNumbers) -> Heard
+    ensures { result ≡ errors_told errors }
+{
+    match errors.as_slice() {
+        [] => Heard::Nothing,
+        [_, ..] => Heard::Told(Told::Errors(errors)),
+    }
+}
+
+/// The request at this place of a list. The only error is want of memory.
+fn requested_at(
+    alloc: Global,
+    several: &RequestedList,
+    index: usize,
+) -> Result<Option<Requested>, AllocError>
+    ensures { IfOk result (λ requested. requested ≡ slice_get several.now index) }
+{
+    match several.as_slice().get(index) {
+        Some(Requested::Null) => Ok(Some(Requested::Null)),
+        Some(Requested::Named(name)) => Ok(Some(Requested::Named(name.try_clone(alloc)?))),
+        None => Ok(None),
+    }
+}
+
+impl Names {
+    /// The request of this name is null from now on. Answers the name of the buffer that comes back with its outcome.
+    fn null_request(&mut self, name: &Name) -> Result<Option<Name>, AllocError>
+        ensures { IfOk result (λ buffer.
+            (buffer ≡ held_buffer self.old name.now) × (self.new ≡ with_request self.old name.now null)) }
+    {
+        match self.requests.replace(name, Held::null()) {
+            Some(held) => Ok(held.buffer),
+            None => {
+                self.requests.set(name, Held::null())?;
+                Ok(None)
+            }
+        }
+    }
+
+    /// A receive's buffer comes back to this name with its outcome.
+    fn return_buffer(&mut self, name: &Option<Name>, outcome: Outcome) -> Result<(), AllocError>
+        ensures { OnOk result (self.new ≡ returned name.now outcome self.old) }
+    {
+        match outcome {
+            Outcome::Sent => Ok(()),
+            Outcome::Received(_, buffer) => self.give_back(name, buffer),
+            Outcome::Ended(_, _, buffer) => self.give_back(name, buffer),
+            Outcome::Replaced(None) => Ok(()),
+            Outcome::Replaced(Some(buffer)) => self.give_back(name, buffer),
+            Outcome::Cancelled(buffer) => self.give_back(name, buffer),
+            Outcome::Empty => Ok(()),
+        }
+    }
+
+    /// The one operation that was waited for or tested has ended so, and its buffer comes back to this name.
+    fn end_with(&mut self, name: &Option<Name>, outcome: Outcome) -> Result<Heard, AllocError>
+        ensures { IfOk result (λ heard. ends_with name.now outcome self.old ≡ (heard, self.new)) }
+    {
+        let error = error_of(&outcome);
+        let last = status_after(self.last, &outcome);
+        self.return_buffer(name, outcome)?;
+        self.last = last;
+        Ok(error_told(error))
+    }
+
+    /// The request that a line names has ended so.
+    fn end_requested(&mut self, requested: Requested, outcome: Outcome) -> Result<Heard, AllocError>
+        ensures { IfOk result (λ heard. ends_requested requested outcome self.old ≡ (heard, self.new)) }
+    {
+        match requested {
+            Requested::Null => self.end_with(&None, outcome),
+            Requested::Named(name) => {
+                let buffer = self.null_request(&name)?;
+                self.end_with(&buffer, outcome)
+            }
+        }
+    }
+
+    /// The message of this name was received into the buffer of that name, and is ended.
+    fn end_message(
+        &mut self,
+        message: &Name,
+        buffer: Name,
+        outcome: Outcome,
+    ) -> Result<Heard, AllocError>
+        ensures { IfOk result (λ heard. ends_message message.now buffer outcome self.old ≡ (heard, self.new)) }
+    {
+        self.messages.set(message, NamedMessage::Ended)?;
+        let name = Some(buffer);
+        self.end_with(&name, outcome)
+    }
+
+    /// An operation that was waited for alone has ended so.
+    fn end_one(&mut self, pending: Pending, outcome: Outcome) -> Result<Heard, AllocError>
+        ensures { IfOk result (λ heard. ends_one pending outcome self.old ≡ (heard, self.new)) }
+    {
+        match pending {
+            Pending::Waiting(requested) => self.end_requested(requested, outcome),
+            Pending::WaitingUnnamed(buffer) => self.end_with(&buffer, outcome),
+            Pending::Receiving(message, buffer) => self.end_message(&message, buffer, outcome),
+            other => {
+                drop(other);
+                drop(outcome);
+                Ok(Heard::Nothing)
+            }
+        }
+    }
+
+    /// One of several requests has ended so.
+    fn end_named(&mut self, requested: Requested, outcome: Outcome) -> Result<(), AllocError>
+        ensures { OnOk result (self.new ≡ ended_named requested outcome self.old) }
+    {
+        match requested {
+            Requested::Null => Ok(()),
+            Requested::Named(name) => {
+                let buffer = self.null_request(&name)?;
+                self.return_buffer(&buffer, outcome)
+            }
+        }
+    }
+
+    /// The request that stands there among several has ended so.
+    fn end_named_one(
+        &mut self,
+        requested: Option<Requested>,
+        outcome: Outcome,
+    ) -> Result<Heard, AllocError>
+        ensures { IfOk result (λ heard. ends_named_one requested outcome self.old ≡ (heard, self.new)) }
+    {
+        match requested {
+            Some(requested) => {
+                let error = error_of(&outcome);
+                self.end_named(requested, outcome)?;
+                Ok(error_told(error))
+            }
+            None => {
+                drop(outcome);
+                Ok(Heard::Nothing)
+            }
+        }
+    }
+
+    /// The request at this place among several has ended so.
+    fn end_at(
+        &mut self,
+        pending: Pending,
+        index: usize,
+        outcome: Outcome,
+    ) -> Result<Heard, AllocError>
+        ensures { IfOk result (λ heard. ends_at pending index outcome self.old ≡ (heard, self.new)) }
+    {
+        match pending {
+            Pending::WaitingForSeveral(several) => {
+                let Ok(requested) = requested_at(self.alloc, &several, index) else {
+                    drop(outcome);
+                    return Err(AllocError);
+                };
+                self.end_named_one(requested, outcome)
+            }
+            other => {
+                drop(other);
+                drop(outcome);
+                Ok(Heard::Nothing)
+            }
+        }
+    }
+
+    /// One more of several requests has ended so: its error, if it has one, comes behind those before.
+    fn end_next(
+        &mut self,
+        errors: &mut ErrorNumbers,
+        requested: Requested,
+        outcome: Outcome,
+    ) -> Result<(), AllocError>
+        ensures { OnOk result (EndsNext errors.old requested outcome self.old errors.new self.new) }
+    {
+        if let Some(number) = error_of(&outcome) {
+            errors.push(number)?;
+        }
+        self.end_named(requested, outcome)
+    }
+
+    /// Each of several requests has ended, in order. Answers the errors with which they did.
+    fn end_each(
+        &mut self,
+        several: Vec<Requested>,
+        outcomes: Vec<Outcome>,
+    ) -> Result<ErrorNumbers, AllocError>
+        ensures { IfOk result (λ errors. ended_each several.items outcomes.items self.old ≡ (errors, self.new)) }
+    {
+        let mut errors = ErrorNumbers::new(self.alloc);
+        let mut outcomes = outcomes.into_iter();
+        for requested in several {
+            let Some(outcome) = outcomes.next() else {
+                return Ok(errors);
+            };
+            self.end_next(&mut errors, requested, outcome)?;
+        }
+        Ok(errors)
+    }
+
+    /// The operations that were waited for together have ended so, in the order in which the statement names them. The only error is
+    /// want of memory.
+    pub fn hear_all(
+        &mut self,
+        pending: Pending,
+        outcomes: Vec<Outcome>,
+    ) -> Result<Heard, AllocError>
+        ensures { IfOk result (λ heard. ends_all pending outcomes.items self.old ≡ (heard, self.new)) }
+    {
+        match pending {
+            Pending::WaitingForSeveral(several) => {
+                let errors = self.end_each(several.into_vec(), outcomes)?;
+                Ok(errors_told(errors))
+            }
+            other => {
+                drop(other);
+                drop(outcomes);
+                Ok(Heard::Nothing)
+            }
+        }
+    }
+
+    /// What was waited for is answered so.
+    pub(crate) fn end(&mut self, pending: Pending, answer: Answer) -> Result<Heard, AllocError>
+        ensures { IfOk result (λ heard. ends_by pending answer self.old ≡ (heard, self.new)) }
+    {
+        match answer {
+            Answer::One(outcome) => self.end_one(pending, outcome),
+            Answer::Index(index, outcome) => self.end_at(pending, index, outcome),
+            Answer::IndexUndefined => {
+                drop(pending);
+                Ok(Heard::Nothing)
+            }
+            Answer::All(outcomes) => self.hear_all(pending, outcomes.into_vec()),
+        }
+    }
+}

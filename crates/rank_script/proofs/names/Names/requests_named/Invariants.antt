@@ -1,7 +1,0 @@
-use Rattle.std.proofs.Common.{◌≡◌, drop}
-use Rattle.rank_script.specs.Acting.{requests_named}
-use Rattle.rank_script.proofs.SeveralLaws.{found_before}
-use Rattle.rank_script.proofs.names.Names.requests_named.Given as goal
-
-abbrev pub invariant-loop-requested : goal.invariant-loop-requested
-invariant-loop-requested l = found_before l.requests.items (requests_named l.self (drop l.requested-index l.several)) ≡ requests_named l.self l.several

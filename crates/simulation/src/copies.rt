@@ -1,0 +1,105 @@
+//! Copies of what a world's history holds of an answer, for the names of its rank.
+
+use datatypes::Buffer;
+use engine::{Completion, Ending, Fact, Reply};
+use requests::{Answer, Outcome};
+use std::alloc::{AllocError, Global};
+
+/// An answer, as the names of a rank take it.
+#[derive(Drop)]
+pub enum Copied {
+    /// Any but that of several requests which all ended.
+    Reply(Reply),
+    /// How each of several requests ended, in order.
+    Outcomes(Vec<Outcome>),
+}
+
+fn buffer_copied(alloc: Global, buffer: &Option<Buffer>) -> Result<Option<Buffer>, AllocError> {
+    match buffer {
+        Some(buffer) => Ok(Some(buffer.try_clone(alloc)?)),
+        None => Ok(None),
+    }
+}
+
+fn outcome_copied(alloc: Global, outcome: &Outcome) -> Result<Outcome, AllocError> {
+    match outcome {
+        Outcome::Sent => Ok(Outcome::Sent),
+        Outcome::Received(status, buffer) => {
+            Ok(Outcome::Received(*status, buffer.try_clone(alloc)?))
+        }
+        Outcome::Ended(failure, status, buffer) => {
+            Ok(Outcome::Ended(*failure, *status, buffer.try_clone(alloc)?))
+        }
+        Outcome::Replaced(buffer) => Ok(Outcome::Replaced(buffer_copied(alloc, buffer)?)),
+        Outcome::Cancelled(buffer) => Ok(Outcome::Cancelled(buffer.try_clone(alloc)?)),
+        Outcome::Empty => Ok(Outcome::Empty),
+    }
+}
+
+fn outcomes_copied(alloc: Global, outcomes: &[Outcome]) -> Result<Vec<Outcome>, AllocError> {
+    let mut copies = Vec::with_capacity(alloc, outcomes.len())?;
+    for outcome in outcomes {
+        let copy = outcome_copied(alloc, outcome)?;
+        copies.push(copy).map_err(AllocError::from)?;
+    }
+    Ok(copies)
+}
+
+fn answer_copied(alloc: Global, answer: &Answer) -> Result<Copied, AllocError> {
+    match answer {
+        Answer::One(outcome) => {
+            let copy = outcome_copied(alloc, outcome)?;
+            Ok(Copied::Reply(Reply::Done(Answer::One(copy))))
+        }
+        Answer::Index(place, outcome) => {
+            let copy = outcome_copied(alloc, outcome)?;
+            Ok(Copied::Reply(Reply::Done(Answer::Index(*place, copy))))
+        }
+        Answer::IndexUndefined => Ok(Copied::Reply(Reply::Done(Answer::IndexUndefined))),
+        Answer::All(outcomes) => {
+            Ok(Copied::Outcomes(outcomes_copied(alloc, outcomes.as_slice())?))
+        }
+    }
+}
+
+fn ending_copied(alloc: Global, ending: &Ending) -> Result<Copied, AllocError> {
+    let copy = match ending {
+        Ending::Left(buffer) => Ending::Left(buffer_copied(alloc, buffer)?),
+        Ending::Comm(place) => Ending::Comm(*place),
+        Ending::Replaced => Ending::Replaced,
+        Ending::Mismatch => Ending::Mismatch,
+    };
+    Ok(Copied::Reply(Reply::Left(copy)))
+}
+
+/// Of a fact the names of a rank take its number alone.
+fn fact_copied(alloc: Global, fact: &Fact) -> Fact {
+    match fact {
+        Fact::Number(number) => Fact::Number(*number),
+        Fact::Ranks(_) => Fact::Ranks(Vec::new(alloc)),
+        Fact::Compares(comparison) => Fact::Compares(*comparison),
+    }
+}
+
+/// What a call answered. A refused call stands in no history.
+pub fn reply_copied(alloc: Global, reply: &Reply) -> Result<Copied, AllocError> {
+    match reply {
+        Reply::Started(request) => Ok(Copied::Reply(Reply::Started(*request))),
+        Reply::Done(answer) => answer_copied(alloc, answer),
+        Reply::Pending => Ok(Copied::Reply(Reply::Pending)),
+        Reply::Accepted | Reply::Refused(_, _) => Ok(Copied::Reply(Reply::Accepted)),
+        Reply::Blocked => Ok(Copied::Reply(Reply::Blocked)),
+        Reply::Left(ending) => ending_copied(alloc, ending),
+        Reply::Fact(fact) => Ok(Copied::Reply(Reply::Fact(fact_copied(alloc, fact)))),
+        Reply::Probed(status) => Ok(Copied::Reply(Reply::Probed(*status))),
+        Reply::Matched(found) => Ok(Copied::Reply(Reply::Matched(*found))),
+    }
+}
+
+/// What a call that was blocked answered.
+pub fn completion_copied(alloc: Global, completion: &Completion) -> Result<Copied, AllocError> {
+    match completion {
+        Completion::Requests(answer) => answer_copied(alloc, answer),
+        Completion::Collective(ending) => ending_copied(alloc, ending),
+    }
+}

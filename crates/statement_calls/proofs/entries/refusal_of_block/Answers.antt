@@ -1,9 +1,0 @@
--- Answered so that a wrong body is refused soon.
-use Rattle.std.proofs.Common.{rules}
-use Rattle.statement_calls.proofs.entries.refusal_of_block.Goals as goal
-
-pub returns-in-None : goal.returns-in-None
-returns-in-None c = search rules
-
-pub returns-in-Some : goal.returns-in-Some
-returns-in-Some c = search rules
