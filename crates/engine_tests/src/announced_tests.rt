@@ -4,7 +4,7 @@
 use crate::steps::{Told, block, copies, deliver, enter, rank_of_two, two_ranks};
 use engine::{Call, Engine, Entry, Region, Reply, Send};
 use std::alloc::Global;
-use vocabulary::Source;
+use vocabulary::{Mode, Source};
 
 /// Datagrams go to and fro until none is left; how many went from each in each turn, the first one's first.
 fn exchange(zero: &mut Engine, one: &mut Engine) -> Option<[usize; 6]> {
@@ -27,6 +27,7 @@ fn is_started(engine: &mut Engine, call: Call) -> bool {
 /// A send of so many bytes to rank 1 is started.
 fn start_send(alloc: Global, engine: &mut Engine, count: usize) -> Option<()> {
     let call = Call::Isend(Send {
+        mode: Mode::Standard,
         comm: Some(0),
         target: Source::Rank(1),
         tag: Some(4),

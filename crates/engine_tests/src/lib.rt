@@ -5,6 +5,8 @@
 #[cfg(test)]
 mod announced_tests;
 #[cfg(test)]
+mod probe_tests;
+#[cfg(test)]
 mod steps;
 #[cfg(test)]
 mod tests;

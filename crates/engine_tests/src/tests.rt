@@ -6,7 +6,7 @@ use datatypes::Buffer;
 use engine::{Call, Completion, Engine, Receive, Refused, Reply, Send, Session};
 use requests::{Answer, Outcome, Region, Request};
 use std::alloc::Global;
-use vocabulary::{BasicType, Source};
+use vocabulary::{BasicType, Mode, Source};
 
 /// What a reply or a completion says, without the memory that it owns.
 #[derive(Clone, Copy)]
@@ -81,6 +81,7 @@ fn copied(alloc: Global, call: Call) -> Option<Call> {
 
 fn start_send(alloc: Global, engine: &mut Engine) -> Option<Request> {
     let call = Call::Isend(Send {
+        mode: Mode::Standard,
         comm: Some(0),
         target: Source::Rank(1),
         tag: Some(3),
@@ -102,6 +103,7 @@ fn start_receive(alloc: Global, engine: &mut Engine, source: Source) -> Option<R
 /// A send of rank 0 to itself, of no elements.
 fn send_to_itself(alloc: Global) -> Call {
     Call::Isend(Send {
+        mode: Mode::Standard,
         comm: Some(0),
         target: Source::Rank(0),
         tag: Some(3),

@@ -2,7 +2,7 @@
 
 use answer_texts::OutcomeText;
 use datatypes::Buffer;
-use engine::{Answer, Call, Outcome, Receive, Region, Send, Source};
+use engine::{Answer, Call, Mode, Outcome, Receive, Region, Send, Source};
 use std::alloc::{AllocError, Global};
 use std::io;
 use vocabulary::BasicType;
@@ -20,6 +20,7 @@ pub fn send(alloc: Global, target: u16) -> Result<Call, AllocError> {
     integers.push_number(2)?;
     integers.push_number(3)?;
     Ok(Call::Isend(Send {
+        mode: Mode::Standard,
         comm: WORLD,
         target: Source::Rank(target),
         tag: TAG,

@@ -2,7 +2,7 @@
 
 use datagram::*;
 use std::alloc::Global;
-use vocabulary::{BasicType, Endpoint};
+use vocabulary::{BasicType, Endpoint, Mode};
 
 /// The header of frame 0 from rank 0 to rank 1 in job 1, whose body is empty.
 const HEADER: [u8; 32] = [
@@ -38,6 +38,7 @@ const LONGER_DATA: [u8; 41] = [
 
 fn request(count: u32) -> RequestToSend {
     RequestToSend {
+        mode: Mode::Standard,
         plane: Plane::PointToPoint,
         basic: BasicType::Int32,
         tag: 7,
@@ -186,6 +187,35 @@ fn announced_are_more_bytes_than_go_in_one_frame(rt: HostRuntime) {
     }
 }
 
+/// Whether an RTS of a synchronous send of so many bytes of data is read, and whether it may be written.
+fn is_announced_synchronously(alloc: Global, count: u32) -> Option<(bool, bool)> {
+    let mut body = Vec::from_slice(alloc, &REQUEST[..16]).ok()?;
+    body[2] = 9;
+    body[3] = 1;
+    body.extend_from_slice(&count.to_be_bytes()).ok()?;
+    body.extend_from_slice(&REQUEST[20..]).ok()?;
+    let request = RequestToSend {
+        mode: Mode::Synchronous,
+        basic: BasicType::Byte,
+        ..request(count)
+    };
+    let found = request_of(alloc, body.as_slice());
+    Some((found == Some(request), request.fits()))
+}
+
+#[test]
+fn synchronous_sends_announce_however_few_bytes(rt: HostRuntime) {
+    for (count, is_allowed) in [
+        (0, true),
+        (1024, true),
+        (1_048_576, true),
+        (1_048_577, false),
+    ] {
+        let found = is_announced_synchronously(rt.alloc(), count);
+        assert_eq!(rt; found, Some((is_allowed, is_allowed)), "{count} bytes");
+    }
+}
+
 /// Whether a DATA frame of this offset and so many bytes is read, and whether it may be written.
 fn is_carried(alloc: Global, offset: u32, count: usize) -> Option<(bool, bool)> {
     let bytes = vec![in alloc; 7; count].ok()?;
@@ -236,7 +266,7 @@ fn other_forms_are_refused(rt: HostRuntime) {
     for (frame, at, byte) in [
         (&REQUEST[..], 1, 1),
         (&REQUEST, 2, 10),
-        (&REQUEST, 3, 1),
+        (&REQUEST, 3, 2),
         (&REQUEST, 4, 0x80),
         (&REQUEST[..23], 0, 2),
         (&CLEAR, 0, 5),

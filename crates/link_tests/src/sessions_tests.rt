@@ -4,7 +4,7 @@ ghost use Rattle.datagram.specs.Spelling.{frame_text, FrameFits};
 use datagram::{ClearToSend, Clearance, Data, Eager, Frame, Plane, RequestToSend};
 use sessions::*;
 use std::alloc::Global;
-use vocabulary::{BasicType, Endpoint};
+use vocabulary::{BasicType, Endpoint, Mode};
 
 /// The sessions of a rank of job 1, which has three ranks.
 fn sessions_of(alloc: Global, rank: u16, incarnation: u16) -> Option<Sessions> {
@@ -296,6 +296,7 @@ fn passed(alloc: Global, frame: Frame<'_>, bytes: &[u8]) -> Option<(bool, Option
 #[test]
 fn an_announcement_is_handed_up(rt: HostRuntime) {
     let frame = Frame::RequestToSend(RequestToSend {
+        mode: Mode::Standard,
         plane: Plane::PointToPoint,
         basic: BasicType::Byte,
         tag: 5,

@@ -111,22 +111,17 @@ fn run_ranks<R: Net + Clock + Print + AllocGlobal + Processes>(
         "a script that is faulty when it is reached",
         &["unset.txt"],
     )?;
+    run_alone(rt, itself, "messages that are taken out", &["messages.txt"])?;
     run_alone(rt, itself, "a file that isn't there", &["nothere.txt"])?;
     run_words(rt, itself, "no words", &["rank"])?;
     run_rank_faults(rt, itself)
 }
 
-/// Ranks under the launcher.
-fn run_launches<R: Net + Clock + Print + AllocGlobal + Processes>(
+/// Ranks that fail under the launcher.
+fn run_failing<R: Net + Clock + Print + AllocGlobal + Processes>(
     rt: &R,
     itself: &str,
 ) -> io::Result<()> {
-    run_launch(
-        rt,
-        itself,
-        "two ranks under the launcher, at one time",
-        &["-patience", "5000", "-n", "2", itself, "pingpong.txt"],
-    )?;
     run_launch(
         rt,
         itself,
@@ -145,6 +140,26 @@ fn run_launches<R: Net + Clock + Print + AllocGlobal + Processes>(
         "who waits for a rank that is started anew is told",
         &["-restart", "1", "-n", "2", itself, "anew.txt"],
     )?;
+    run_launch(
+        rt,
+        itself,
+        "a rank fails with a large message on its way, and is started anew",
+        &["-restart", "1", "-n", "2", itself, "dies.txt"],
+    )
+}
+
+/// Ranks under the launcher.
+fn run_launches<R: Net + Clock + Print + AllocGlobal + Processes>(
+    rt: &R,
+    itself: &str,
+) -> io::Result<()> {
+    run_launch(
+        rt,
+        itself,
+        "two ranks under the launcher, at one time",
+        &["-patience", "5000", "-n", "2", itself, "pingpong.txt"],
+    )?;
+    run_failing(rt, itself)?;
     run_launch(
         rt,
         itself,

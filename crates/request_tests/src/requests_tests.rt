@@ -215,20 +215,37 @@ fn numbers_of_refusals(rt: HostRuntime) {
     assert_eq!(rt; Failure::Truncated.number(), 10);
 }
 
-/// Whether the receive under a key wants no byte, and whether it wants one.
+/// The status of a message of one element.
+fn status_of_one() -> Status {
+    Status {
+        count: 1,
+        ..empty_status()
+    }
+}
+
+/// Whether the receive under a key wants one byte, and whether it wants two.
 fn wanted(requests: &Requests, key: usize) -> [bool; 2] {
     [
-        requests.wants(key, BasicType::Byte, 0),
         requests.wants(key, BasicType::Byte, 1),
+        requests.wants(key, BasicType::Byte, 2),
     ]
 }
 
 /// What is seen of a receive that collects an announced message, before its data are there and then.
-fn collect(alloc: Global, requests: &mut Requests, request: Request) -> [Seen; 2] {
-    requests.announce(request.key, empty_status(), BasicType::Byte);
+fn collect(requests: &mut Requests, request: Request, data: Buffer) -> [Seen; 2] {
+    requests.announce(request.key, status_of_one(), BasicType::Byte);
     let before = look(requests, request);
-    requests.deliver(request.key, Buffer::new(alloc, BasicType::Byte));
+    requests.deliver(request.key, data);
     [before, look(requests, request)]
+}
+
+/// A receive of one byte.
+fn receiving_one(alloc: Global) -> Option<Progress> {
+    let region = Region::whole(bytes(alloc, &[0])?);
+    Some(Progress::Receiving(Posted {
+        group: None,
+        into: judged(region)?,
+    }))
 }
 
 /// Whether the request has the key that was told before, what it wants, and what is seen of it.
@@ -236,15 +253,15 @@ fn collected(alloc: Global) -> Option<(bool, [bool; 2], [Seen; 2])> {
     let mut requests = Requests::new(alloc);
     requests.reserve().ok()?;
     let key = requests.next_key();
-    let request = requests.start(receiving(alloc)?);
+    let request = requests.start(receiving_one(alloc)?);
     let wants = wanted(&requests, key);
-    let seen = collect(alloc, &mut requests, request);
+    let seen = collect(&mut requests, request, bytes(alloc, &[5])?);
     Some((request.key == key, wants, seen))
 }
 
 #[test]
 fn a_receive_collects_what_was_announced(rt: HostRuntime) {
-    let seen = [Seen::Pending, Seen::Received(empty_status())];
+    let seen = [Seen::Pending, Seen::Received(status_of_one())];
     assert_eq!(rt; collected(rt.alloc()), Some((true, [true, false], seen)));
 }
 

@@ -3,7 +3,7 @@
 use datatypes::Buffer;
 use engine::{Call, Completion, Ending, Region, Reply, Send};
 use std::alloc::Global;
-use vocabulary::{BasicType, Source};
+use vocabulary::{BasicType, Mode, Source};
 use world::{Entry, Event, World};
 
 /// The place of a rank's first communicator.
@@ -120,6 +120,7 @@ pub(crate) fn send(
     value: u8,
 ) -> Option<Told> {
     let call = Call::Isend(Send {
+        mode: Mode::Standard,
         comm,
         target: Source::Rank(to),
         tag: Some(tag),

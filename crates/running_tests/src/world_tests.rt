@@ -5,7 +5,7 @@ use datatypes::Buffer;
 use engine::{Call, Entry, Send};
 use requests::Region;
 use std::alloc::Global;
-use vocabulary::{BasicType, Source};
+use vocabulary::{BasicType, Mode, Source};
 use world::{Answer, Event, World};
 
 /// The first, count and place of an event that ran.
@@ -37,6 +37,7 @@ fn send_to_rank_1(alloc: Global) -> Option<Event> {
     Some(Event::Call(
         0,
         Call::Isend(Send {
+            mode: Mode::Standard,
             comm: Some(0),
             target: Source::Rank(1),
             tag: Some(7),

@@ -146,6 +146,28 @@ const SENDS_AND_RECEIVES: &str = "\
     - irecv q world 1 7 a as null 1\n\
     - irecv q world 1 7 as l 1";
 
+/// Rows of synchronous sends, of probes, and of messages that were taken out.
+const PROBES: &str = "\
+    + issend q world 1 7 a as l 1\n\
+    - issend q world any 7 a\n\
+    - ssend world 1 7 a\n\
+    + iprobe world any any\n\
+    + iprobe self null 99999999999999999999\n\
+    - iprobe m world any any\n\
+    - iprobe world any\n\
+    - iprobe null any any\n\
+    + improbe m c 1 any\n\
+    - improbe world any any\n\
+    - improbe world world any any\n\
+    - improbe null world any any\n\
+    + mrecv m a\n\
+    + mrecv m m as m 2\n\
+    - mrecv m\n\
+    - mrecv null a\n\
+    - mrecv m a as l\n\
+    - mrecv m a b\n\
+    - mprobe m world any any";
+
 /// Rows of completions.
 const COMPLETIONS: &str = "\
     + wait null\n\
@@ -207,6 +229,7 @@ fn lines_are_told_from_other_lines(rt: HostRuntime) {
     for rows in [
         BUFFERS,
         SENDS_AND_RECEIVES,
+        PROBES,
         COMPLETIONS,
         COLLECTIVES,
         LAYOUTS,
