@@ -12,8 +12,9 @@ HIGHEST_TAG = 2**31 - 1
 
 
 def length_of_message(body):
-    """How many bytes of data a message has by bytes 1 to 19 of an EAGER frame or an RTS; None where they say no message."""
-    if len(body) < 20 or body[1] > 1 or body[3] != 0:
+    """How many bytes of data a message has by bytes 1 to 19 of an EAGER frame or an RTS; None where they say no message. Byte 3 is the
+    mode of its send: 0 of a standard one, 1 of a synchronous one."""
+    if len(body) < 20 or body[1] > 1 or body[3] > 1:
         return None
     sizes = [size for size, _, code in TYPES.values() if code == body[2]]
     if not sizes or (body[1] == 1 and body[2] != TYPES["byte"][2]):
@@ -25,12 +26,13 @@ def length_of_message(body):
 
 def is_eager(body):
     length = length_of_message(body)
-    return length is not None and length <= MOST_EAGER_BYTES and len(body) == 20 + length
+    return length is not None and body[3] == 0 and length <= MOST_EAGER_BYTES and len(body) == 20 + length
 
 
 def is_request(body):
+    """Whether a message is announced: of a standard send one that doesn't go in one frame, of a synchronous one any."""
     length = length_of_message(body)
-    return length is not None and MOST_EAGER_BYTES < length <= MOST_BYTES and len(body) == 24
+    return length is not None and (body[3] == 1 or MOST_EAGER_BYTES < length) and length <= MOST_BYTES and len(body) == 24
 
 
 def is_clear(body):

@@ -32,7 +32,16 @@ ODD_LINES = [
     "0 who", "0 who null", "0 who self", "0 who world self", "0 who World", "0 members", "0 members self", "0 members world world",
     "0 compare world", "0 compare world world", "0 compare world self world", "0 compare null world", "0 compare int8 self",
     "0 send world 0 0 b", "0 recv world 0 0 b", "0 print b", "0 status", "0 count l", "0 say hi", "0 fail", "on 0", "on all",
-    "0 on all", "0 issend q world 0 0 b", "0 deliver 0",
+    "0 on all", "0 ssend world 0 0 b", "0 probe world 0 0", "0 deliver 0",
+    "0 issend q world 0 0 b", "0 issend q world 1 0 b", "0 issend q world 0 0", "0 issend q world any 0 b", "0 issend q world 0 0 b as l",
+    "0 issend null world 0 0 b", "0 issend q world 0 0 b b", "0 iprobe", "0 iprobe world 0", "0 iprobe world 0 0", "0 iprobe world any any",
+    "0 iprobe world null any", "0 iprobe world any null", "0 iprobe world 00 0", "0 iprobe world 0 -1", "0 iprobe null 0 0", "0 iprobe int8 0 0",
+    "0 iprobe m world 0 0", "0 iprobe world 0 0 0", "0 iprobe self any any", "0 iprobe World 0 0", "0 improbe", "0 improbe m", "0 improbe world 0 0",
+    "0 improbe m world 0", "0 improbe m world 0 0", "0 improbe m world any any", "0 improbe m world null any", "0 improbe M world 0 0",
+    "0 improbe null world 0 0", "0 improbe world world 0 0", "0 improbe byte world 0 0", "0 improbe m null 0 0", "0 improbe m world 0 0 0",
+    "0 improbe m world any null", "0 improbe 1 world 0 0", "0 mrecv", "0 mrecv m", "0 mrecv null b", "0 mrecv world b", "0 mrecv m int8",
+    "0 mrecv m b b", "0 mrecv M b", "0 mrecv m b as l", "0 mrecv m b as l -1", "0 mrecv m b as int8 1", "0 mrecv m b at l 1", "0 mrecv m b as l 1 1",
+    "0 mrecv - b", "0 mprobe m world 0 0", "0 imrecv q m b", "0 irsend q world 0 0 b", "0 ibsend q world 0 0 b",
     "0 barrier", "0 barrier null", "0 barrier int8", "0 barrier world self", "0 barrier self", "0 bcast world 0", "0 bcast world 0 -",
     "0 bcast world any b", "0 bcast world -1 b", "0 bcast world 00 b", "0 bcast world 0 b b", "0 bcast 0 world b", "0 gather world 0 b",
     "0 gather world 0 - b", "0 gather world 0 b -", "0 gather world null b b", "0 gather world 0 b b b", "0 scatter world 0 b",
@@ -81,6 +90,9 @@ UNSET = [
     "0 compare world other", "0 compare other world", "999 who other", "0 isend q any 0 0 okay", "0 irecv q okay any any okay",
     "0 test nothere", "0 cancel nothere", "0 waitany null nothere", "0 waitall nothere null", "0 type l contiguous 2 nothere",
     "0 isend q world 0 0 okay as nothere 1", "0 irecv q world 0 0 okay as nothere 1", "0 isend q world 99 0 okay as nothere 1",
+    "0 mrecv nothere okay", "0 mrecv okay okay", "0 mrecv nothere nothere", "0 mrecv nothere okay as nothere 1", "999 mrecv m okay",
+    "0 iprobe other 0 0", "0 improbe m other 0 0", "999 iprobe other 0 0", "0 improbe m okay any any", "0 issend q other 0 0 okay",
+    "0 issend q world 0 0 nothere", "0 issend q world 99 0 okay as nothere 1",
     "0 isend q world 0 4294967303 nothere", "999 wait q", "999 isend q world 0 0 okay", "0 irecv q world null 0 nothere",
 ]
 
@@ -169,14 +181,20 @@ def with_other_first_line(random):
 def with_unset_name(random):
     """A line that uses what isn't set or is lent, after lines that print."""
     lines = some_lines(random)
-    kind = random.randrange(4)
+    kind = random.randrange(6)
     if kind == 0:
         lines += [b"0 buf okay int32 1", random.choice(UNSET).encode()]
     elif kind == 1:
         lines += [b"0 buf okay int32 1", b"0 irecv lent world any any okay",
                   random.choice([b"0 buf okay int32 2", b"0 isend q world 0 0 okay", b"0 irecv r world 0 0 okay"])]
     elif kind == 2:
-        lines += [b"0 buf okay int32 1", b"restart 0", random.choice([b"0 isend q world 0 0 okay", b"0 wait q1"])]
+        lines += [b"0 buf okay int32 1", b"restart 0", random.choice([b"0 isend q world 0 0 okay", b"0 wait q1", b"0 mrecv m1 okay"])]
+    elif kind == 4:
+        lines += [b"0 buf okay int32 1", random.choice([b"0 improbe nothing world 0 7", b"0 improbe refused world 999 0"]),
+                  random.choice([b"0 mrecv nothing okay", b"0 mrecv refused okay", b"0 wait nothing"])]
+    elif kind == 5:
+        lines += [b"0 buf okay int32 1", b"0 improbe m self null any", b"0 irecv lent world any any okay",
+                  random.choice([b"0 mrecv m okay", b"0 wait m", b"0 cancel m"])]
     else:
         lines += [b"0 buf okay int32 1", b"0 isend refused world 999 0 okay", b"0 wait refused"]
     return b"\n".join(lines + [b"deliver 0"]) + b"\n"

@@ -21,6 +21,7 @@ class Message:
     type: str
     values: list
     transfer: object = None
+    waiting: object = None  # the send to the own rank that is finished once a receive has the message
 
 
 @dataclass

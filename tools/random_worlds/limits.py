@@ -15,6 +15,16 @@ def many_requests(random):
     return lines
 
 
+def many_messages(random):
+    """Messages that were taken out count as requests do, of which there may be as many at one time: a matching probe that finds one needs a
+    place, and one that finds nothing doesn't."""
+    lines = ["world 1", "0 buf a uint8 1", "0 buf b uint8 0"]
+    lines += [f"0 {random.choice(['isend', 'issend'])} q world 0 {number % 3} a" for number in range(65534)]
+    return lines + ["0 improbe m world any 1", "0 improbe n world 0 any", "0 improbe o world 0 any", "0 improbe o world 0 9", "0 improbe p world null any",
+                    "0 iprobe world any any", "0 mrecv p b", "0 mrecv m b", "0 mrecv m b", "0 improbe o world 0 2", "0 improbe p world 0 2",
+                    "0 improbe p world 0 2147483648", "0 irecv r world 0 1 b", "0 mrecv o b", "0 irecv r world 0 1 b", "0 wait r", "0 issend q world 0 1 a"]
+
+
 def many_restarts(random):
     """As many restarts of a rank as there may be, and one more."""
     rank = random.randrange(2)
@@ -117,5 +127,5 @@ def largest_messages(random):
 
 def a_long_file(random):
     kinds = [many_communicators] if communicators.ARE_THERE else []
-    lines = random.choice(kinds + [many_requests, many_restarts, many_frames, whole_crowd, crowd_in_collectives, crowd_in_a_split, largest_messages])(random)
+    lines = random.choice(kinds + [many_requests, many_messages, many_restarts, many_frames, whole_crowd, crowd_in_collectives, crowd_in_a_split, largest_messages])(random)
     return ("\n".join(lines) + "\n").encode()

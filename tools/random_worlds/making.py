@@ -7,10 +7,12 @@ What is compared later is the model on the whole text, from its first byte on.
 
 import collecting
 import communicators
+import probing
 import reading
 import rules
 import strays
 from communicators import Notice
+from frames import Message
 from reading import ANY, NULL, TYPES
 from rules import NotSet
 
@@ -20,7 +22,7 @@ MIXED = {
     "tick": 5, "restart": 1, "stray": 1, "refused_call": 3, "refused_event": 2, "set_buffer": 2, "rename": 0.3, "unblock": 6,
     "test": 5, "cancel": 2, "wait_for_several": 5, "set_layout": 2, "bring_some": 2,
     "restart_in_the_middle": 0.5, "cancel_in_the_middle": 0.5, "make_communicator": 1, "enter_alone": 0.5, "ask": 2,
-    "move_elements": 1.5, "enter_one": 0.3, "refused_collective": 0.3, "come_early": 1,
+    "move_elements": 1.5, "enter_one": 0.3, "refused_collective": 0.3, "come_early": 1, "probe": 6, "receive_message": 5,
 }
 ON_COMMUNICATORS = ["make_communicator", "enter_alone", "ask", "restart_in_a_collective", "move_elements", "enter_one", "refused_collective"]
 THEMES = {
@@ -37,6 +39,8 @@ THEMES = {
     "queues": (4, {"receive": 40, "send": 40}),
     "crowd": (4, {"restart": 2}),
     "several": (10, {"wait_for_several": 30, "receive": 34, "send": 28, "cancel": 6, "test": 12}),
+    "probes": (40, {"probe": 34, "receive_message": 22, "send": 30, "receive": 8, "test": 8, "bring_some": 6}),
+    "probes_and_restarts": (14, {"probe": 30, "receive_message": 16, "send": 30, "restart": 5, "restart_in_the_middle": 8, "deliver_late": 4}),
     "layouts": (10, {"set_layout": 14, "receive": 26, "send": 26}),
     "large": (24, {"send": 14, "receive": 16, "deliver_new": 30, "bring_some": 14, "deliver_any": 10, "lose": 4, "tick": 8, "cancel": 4, "test": 8,
                    "restart_in_the_middle": 3, "cancel_in_the_middle": 4}),
@@ -53,12 +57,13 @@ THEMES = {
 SHARE_OF_LARGE = {"large_losses": 0.65, "early": 0.15, "large": 0.65, "large_restarts": 0.65, "restarts": 0.2, "losses": 0.15, "several": 0.1, "wildcards": 0.1, "window": 0.1}
 LARGE_BYTES = [1025, 1025, 1026, 1032, 2048, 2049, 3072, 5000, 5000]
 SHARE_OFF_WORLD = {"communicators": 0.8, "collectives": 0.3, "replaced": 0.7, "mixed": 0.3, "trees": 0.3, "large": 0.2, "large_restarts": 0.2, "restarts": 0.2, "wildcards": 0.2}
+CALLS = ("send", "receive", "wait", "test", "cancel", "wait_for_several", "ask", "probe", "receive_message")
 TAGS = [0, 1, 2, 7]
 COLOURS = ["undefined", 0, 1, 7, 2**32 - 1]
 KEYS = [0, 0, 1, -1, 5, 2**31 - 1, -2**31]
 
 
-class Maker(collecting.Collecting):
+class Maker(collecting.Collecting, probing.Probing):
     """A file of events that is being made."""
 
     def __init__(self, random, theme, size=None):
@@ -100,7 +105,7 @@ class Maker(collecting.Collecting):
         if not communicators.ARE_THERE:
             weights |= dict.fromkeys(ON_COMMUNICATORS, 0)
         kind = self.random.choices(list(weights), list(weights.values()))[0]
-        if kind in ("send", "receive", "wait", "test", "cancel", "wait_for_several", "ask") and self.random.random() < 0.5 * len(self.blocked_ranks()) / self.size:
+        if kind in CALLS and self.random.random() < 0.5 * len(self.blocked_ranks()) / self.size:
             kind = "unblock"
         getattr(self, kind)()
 
@@ -245,7 +250,7 @@ class Maker(collecting.Collecting):
             target = NULL
         if not self.is_over:
             ending = self.through(rank, buffer)
-            self.add(f"{rank} isend {self.a_name('q')} {self.in_communicator(rank, target)} {self.a_tag()} {buffer}{ending}")
+            self.add(f"{rank} {self.a_send()} {self.a_name('q')} {self.in_communicator(rank, target)} {self.a_tag()} {buffer}{ending}")
 
     def in_communicator(self, rank, other, context=None):
         """A communicator and a rank in it, by which one rank names another one: world, or one of its own that has this member; of the
@@ -353,7 +358,7 @@ class Maker(collecting.Collecting):
             length = self.a_large_length(kind)
             into, tag = self.a_buffer(rank, kind, length), self.random.choice([11, 12])
             self.add(f"{rank} irecv {self.a_name('r')} world {self.random.choice([ANY, source])} {tag} {into}")
-            self.add(f"{source} isend {self.a_name('q')} world {rank} {tag} {self.a_buffer(source, kind, length)}")
+            self.add(f"{source} {self.a_send()} {self.a_name('q')} world {rank} {tag} {self.a_buffer(source, kind, length)}")
             self.bring(source, rank, self.random.choice([3, 5, 5, 6, 7, 8]))
         halves = self.half_received()
         return self.random.choice(halves) if halves else None
@@ -377,7 +382,8 @@ class Maker(collecting.Collecting):
         half = self.a_half_received()
         announced = [(rank.number, message.source, None) for rank in self.world.ranks for message in rank.unexpected
                      if message.transfer is not None]
-        choices = announced[:3] + ([] if half is None else [half] * 3)
+        taken = [(rank, held.taken.source, None) for rank, _, held in self.taken_out() if held != NULL and isinstance(held.taken, Message)]
+        choices = announced[:3] + taken[:3] + ([] if half is None else [half] * 3)
         if not choices or self.is_over:
             return
         rank, source, receive = self.random.choice(choices)
@@ -386,7 +392,10 @@ class Maker(collecting.Collecting):
         self.add(f"{source} isend {self.a_name('q')} world {rank} {self.a_tag()} {buffer}")
         if self.random.random() < 0.9:
             self.bring(source, rank)
-        if receive is not None and not self.is_over:
+        replaced = [name for other, name, held in self.taken_out() if other == rank and held != NULL and held.taken == rules.REPLACED]
+        if replaced and not self.is_over:
+            self.add(f"{rank} mrecv {self.random.choice(replaced)} {self.a_set_buffer(rank)}")
+        elif receive is not None and not self.is_over:
             self.add(f"{rank} {self.random.choice(['wait', 'test'])} {self.name_of(rank, receive)}")
 
     def wait_for_several(self):
@@ -413,6 +422,9 @@ class Maker(collecting.Collecting):
         if not receive.is_receive():
             self.receive_from(rank, receive)
             return
+        if receive.source is None:
+            self.bring_data(rank, receive)
+            return
         source = self.another(rank) if receive.source == ANY and self.size > 1 else receive.source
         members = [member for member in receive.group or [] if member != rank]
         if receive.source == ANY and members:
@@ -427,7 +439,7 @@ class Maker(collecting.Collecting):
         if not self.is_over:
             named = self.in_context(source, rank, receive.context)
             if named is not None:
-                self.add(f"{source} isend {self.a_name('q')} {named} {tag} {buffer}")
+                self.add(f"{source} {self.a_send()} {self.a_name('q')} {named} {tag} {buffer}")
                 self.bring(source, rank)
 
     def in_context(self, rank, other, context):
@@ -448,8 +460,12 @@ class Maker(collecting.Collecting):
         unanswered = self.world.ranks[rank].session(send.target).unanswered.values()
         message = next(message for request, message in unanswered if request is send)
         shorter = self.random.choices([-1, 0, 1], [1, 6, 2])[0]
-        buffer = self.a_buffer(send.target, message.type, len(message.values) + shorter)
-        if not self.is_over:
+        taken = self.name_of_taken(send.target, message)
+        buffer = self.a_buffer(send.target, message.type, max(0, len(message.values) + shorter))
+        if taken is not None and not self.is_over:
+            self.add(f"{send.target} mrecv {taken} {buffer}")
+            self.bring(rank, send.target)
+        elif not self.is_over:
             tag = self.random.choice([ANY, message.tag])
             named = self.in_context(send.target, rank, message.context)
             if named is not None:
@@ -598,7 +614,9 @@ class Maker(collecting.Collecting):
             length = self.random.choices([128, 129, 2**17, 2**17 + 1], [1, 1, 0.3, 12])[0]
         buffer = self.a_buffer(rank, "uint64" if length else None, length)
         word = "world" if kind == "absent" or not communicators.ARE_THERE or self.random.random() < 0.7 else self.a_communicator(rank)
-        if sends:
+        if not sends and kind != "absent" and self.random.random() < 0.35:
+            self.refused_probe(rank, word, target, tag)
+        elif sends:
             if kind == "tag" and self.random.random() < 0.4:
                 tag = ANY
             self.add(f"{rank} isend {self.a_name('q')} {word} {target} {tag} {buffer}")
@@ -668,7 +686,7 @@ class Maker(collecting.Collecting):
         if self.is_free(source) and self.random.random() < 0.7:
             buffer = self.a_set_buffer(source)
             for _ in range(0 if self.is_over else self.random.choice([1, 2, 3, 5, 8, 66])):
-                self.add(f"{source} isend {self.a_name('q')} world {target} {self.a_tag()} {buffer}")
+                self.add(f"{source} {self.a_send()} {self.a_name('q')} world {target} {self.a_tag()} {buffer}")
         return [number for number in self.new if self.world.datagrams[number].frame is not None
                 and (self.world.datagrams[number].source, self.world.datagrams[number].target) == (source, target)]
 
@@ -765,6 +783,9 @@ def finish(maker):
         for _ in range(4):
             if maker.is_free(rank) and maker.is_owed(rank):
                 maker.wait(rank)
+    for rank, name, message in maker.taken_out()[:6]:
+        if maker.is_free(rank) and not maker.is_over:
+            maker.receive_taken(rank, name, message)
     for _ in range(2):
         maker.unblock()
 

@@ -79,12 +79,44 @@ class Isend:
 
 
 @dataclass
+class Issend(Isend):
+    """As an `Isend`, but synchronous."""
+
+
+@dataclass
 class Irecv:
     rank: int
     request: str
     communicator: str
     source: object
     tag: object
+    buffer: str
+    through: object = None
+
+
+@dataclass
+class Iprobe:
+    rank: int
+    communicator: str
+    source: object
+    tag: object
+
+
+@dataclass
+class Improbe:
+    """`message` is the name that a message gets which is found."""
+
+    rank: int
+    message: str
+    communicator: str
+    source: object
+    tag: object
+
+
+@dataclass
+class Mrecv:
+    rank: int
+    message: str
     buffer: str
     through: object = None
 
@@ -256,7 +288,7 @@ def number_or(word, *others):
 
 
 def name(word):
-    """A name of a buffer, of a layout, of a request or of a communicator."""
+    """A name of a buffer, of a layout, of a request, of a message or of a communicator."""
     if NAME.fullmatch(word) is None or word in RESERVED:
         raise Faulty
     return word
@@ -313,13 +345,19 @@ def two_parts(word):
     return parts
 
 
-def transfer(words):
-    """The words of a send or a receive without its ending, and what the ending `as L N` says, if it is there."""
-    if len(words) == 5:
+def transfer(words, count=5):
+    """So many words of a send or a receive without its ending, and what the ending `as L N` says, if it is there."""
+    if len(words) == count:
         return words, None
-    if len(words) == 8 and words[5] == "as":
-        return words[:5], (name(words[6]), number(words[7]))
+    if len(words) == count + 3 and words[count] == "as":
+        return words[:count], (name(words[count + 1]), number(words[count + 2]))
     raise Faulty
+
+
+def probed(words):
+    """Where a probe looks: a communicator, a source and a tag."""
+    communicator, source, tag = words
+    return a_communicator(communicator), number_or(source, ANY, NULL), number_or(tag, ANY)
 
 
 def statement(rank, words):
@@ -331,14 +369,22 @@ def statement(rank, words):
         return SetBuffer(rank, name(rest[0]), rest[1], values(rest[1], rest[2:]))
     if kind == "type":
         return a_layout(rank, rest)
-    if kind == "isend":
+    if kind in ("isend", "issend"):
         (named, communicator, target, tag, buffer), through = transfer(rest)
-        return Isend(rank, name(named), a_communicator(communicator), number_or(target, NULL), number_or(tag, ANY),
+        sends = {"isend": Isend, "issend": Issend}[kind]
+        return sends(rank, name(named), a_communicator(communicator), number_or(target, NULL), number_or(tag, ANY),
                      name(buffer), through)
     if kind == "irecv":
         (named, communicator, source, tag, buffer), through = transfer(rest)
         return Irecv(rank, name(named), a_communicator(communicator), number_or(source, ANY, NULL),
                      number_or(tag, ANY), name(buffer), through)
+    if kind == "iprobe" and len(rest) == 3:
+        return Iprobe(rank, *probed(rest))
+    if kind == "improbe" and len(rest) == 4:
+        return Improbe(rank, name(rest[0]), *probed(rest[1:]))
+    if kind == "mrecv":
+        (message, buffer), through = transfer(rest, 2)
+        return Mrecv(rank, name(message), name(buffer), through)
     if kind in ("wait", "test", "cancel") and len(rest) == 1:
         return {"wait": Wait, "test": Test, "cancel": Cancel}[kind](rank, request(rest[0]))
     if kind in ("waitany", "waitall"):

@@ -10,7 +10,8 @@ UNFIT = "words that don't fit the statement"
 
 # The first words of events, of the line that says how many ranks there are, and of statements behind a rank.
 EVENTS = ("world", "deliver", "tick", "restart", "stray")
-STATEMENTS = ("buf", "type", "isend", "irecv", "wait", "test", "cancel", "waitany", "waitall", *reading.COLLECTIVES, *reading.COMMUNICATORS)
+STATEMENTS = ("buf", "type", "isend", "issend", "irecv", "iprobe", "improbe", "mrecv", "wait", "test", "cancel", "waitany", "waitall",
+              *reading.COLLECTIVES, *reading.COMMUNICATORS)
 
 # So many bytes of a line are told.
 MOST_TOLD = 80

@@ -22,10 +22,14 @@ from reading import ANY, NULL, TYPES
 MOST_REQUESTS = 65536
 LAST_INCARNATION = 65535
 
+# What the null process answers, and what stands in place of a message whose sender's rank was started anew.
+FROM_NULL = "source null tag any count 0"
+REPLACED = "replaced"
+
 
 @dataclass
 class Request:
-    """A send or a receive that was started; `outcome` is None while it isn't finished."""
+    """A send or a receive that was started, or a message that was taken out; `outcome` is None while it isn't finished."""
 
     serial: int
     outcome: object = None
@@ -38,6 +42,7 @@ class Request:
     context: int = WORLD
     group: object = None  # the ranks by which a status names the source; None: those of world
     target: object = None  # where a send goes, a rank of world
+    taken: object = None  # a message that was taken out and isn't received; `REPLACED` where its sender's rank was started anew
 
     def is_receive(self):
         return self.values is not None
@@ -84,12 +89,13 @@ class Rank:
 
 @dataclass
 class Names:
-    """What one rank's statements named. A request that was answered is None, which is the null request; a communicator is its place, or
-    None, which is MPI_COMM_NULL."""
+    """What one rank's statements named. A request that was answered is None, which is the null request; a message that was received is
+    None, and that of the null process `NULL`; a communicator is its place, or None, which is MPI_COMM_NULL."""
 
     buffers: dict = field(default_factory=dict)
     layouts: dict = field(default_factory=dict)
     requests: dict = field(default_factory=dict)
+    messages: dict = field(default_factory=dict)
     communicators: dict = field(default_factory=dict)
     lent: set = field(default_factory=set)
 
@@ -251,6 +257,12 @@ class World:
         return kind, values, layout, event.through[1]
 
     def on_isend(self, event):
+        return self.send(event, is_synchronous=False)
+
+    def on_issend(self, event):
+        return self.send(event, is_synchronous=True)
+
+    def send(self, event, is_synchronous):
         place = self.place_of(event.rank, event.communicator)
         kind, values, layout, copies = self.region(event)
         rank = self.caller(event.rank)
@@ -265,16 +277,19 @@ class World:
         elements = [values[place] for place in layout.places(copies)]
         message = Message(rank.number, rank.incarnation, communicator.context, event.tag, kind, elements)
         if target == rank.number:
+            if is_synchronous:
+                request.outcome, request.target, message.waiting = None, target, request
             self.arrive(rank, message)
             return f"request {request.serial}", [], None
         session = rank.session(target)
-        session.frames.append(self.first_frame(session, request, target, message))
+        session.frames.append(self.first_frame(session, request, target, message, is_synchronous))
         return f"request {request.serial}", self.in_window(rank, target), None
 
     @staticmethod
-    def first_frame(session, request, target, message):
-        """A message goes whole; a large one is announced, and its send, where it has one, isn't finished before that is answered."""
-        if byte_count(message) <= MOST_EAGER_BYTES:
+    def first_frame(session, request, target, message, is_synchronous=False):
+        """A message goes whole; a large one and any of a synchronous send is announced, and its send, where it has one, isn't finished
+        before that is answered (MPI 3.1, 3.4)."""
+        if byte_count(message) <= MOST_EAGER_BYTES and not is_synchronous:
             return Frame("EAGER", message)
         message.transfer = session.transfers
         session.transfers += 1
@@ -290,18 +305,80 @@ class World:
         communicator = self.communicator(rank, place)
         self.check(self.fault_of_receive(event, rank, communicator, kind, values, layout, copies))
         request = self.start(rank)
-        request.buffer_name, request.type, request.values = event.buffer, kind, values
-        request.places = layout.places(copies)
-        request.source = event.source if event.source in (ANY, NULL) else communicator.ranks()[event.source]
-        request.tag, request.context, request.group = event.tag, communicator.context, communicator.group()
-        names = self.names_of(event.rank)
-        names.requests[event.request] = request
-        names.lent.add(event.buffer)
+        self.lend(request, event, kind, values, layout, copies)
+        self.look_for(request, event, communicator)
+        self.names_of(event.rank).requests[event.request] = request
         if event.source == NULL:
-            request.outcome = "source null tag any count 0"
+            request.outcome = FROM_NULL
             return f"request {request.serial}", [], None
         answered = self.post(rank, request)
         return f"request {request.serial}", [] if answered is None else self.in_window(rank, answered), None
+
+    def lend(self, request, event, kind, values, layout, copies):
+        """A receive gets its buffer, which is lent until its outcome is answered."""
+        request.buffer_name, request.type, request.values = event.buffer, kind, values
+        request.places = layout.places(copies)
+        self.names_of(event.rank).lent.add(event.buffer)
+
+    @staticmethod
+    def look_for(request, event, communicator):
+        """What a receive or a probe looks for."""
+        request.source = event.source if event.source in (ANY, NULL) else communicator.ranks()[event.source]
+        request.tag, request.context, request.group = event.tag, communicator.context, communicator.group()
+
+    # Probes: what a receive that is posted now would take (MPI 3.1, 3.8).
+
+    def probed(self, event):
+        """The rank of a probe, what it looks for, and the message that it finds, if it finds one."""
+        place = self.place_of(event.rank, event.communicator)
+        rank = self.caller(event.rank)
+        communicator = self.communicator(rank, place)
+        self.check(self.fault_of_probe(event, rank, communicator))
+        wanted = Request(None)
+        self.look_for(wanted, event, communicator)
+        return rank, wanted, next((message for message in rank.unexpected if accepts(wanted, message)), None)
+
+    def on_iprobe(self, event):
+        _, wanted, found = self.probed(event)
+        if event.source == NULL:
+            return FROM_NULL, [], None
+        return "none" if found is None else status_of(wanted, found), [], None
+
+    def on_improbe(self, event):
+        """The message that is found is taken out: no receive and no probe finds it any more. It needs a request's place."""
+        rank, wanted, found = self.probed(event)
+        names = self.names_of(event.rank)
+        if event.source == NULL:
+            names.messages[event.message] = NULL
+            return f"message null {FROM_NULL}", [], None
+        if found is None:
+            return "none", [], None
+        self.check(13 if self.is_full(event.rank) else None)
+        request = self.start(rank)
+        request.taken, request.group = found, wanted.group
+        names.messages[event.message] = request
+        rank.unexpected = [message for message in rank.unexpected if message is not found]
+        return f"message {request.serial} {status_of(wanted, found)}", [], None
+
+    def on_mrecv(self, event):
+        """A message that was taken out is received, and its outcome waited for; its name is that of no message from then on."""
+        names = self.names_of(event.rank)
+        message = names.found(names.messages, event.message)
+        kind, values, layout, copies = self.region(event)
+        rank = self.caller(event.rank)
+        self.check(6 if message is None else self.fault_of_region(kind, values, layout, copies))
+        if message == NULL:
+            names.messages[event.message] = None
+            return text_of(Request(None, FROM_NULL, values=values)), [], None
+        self.lend(message, event, kind, values, layout, copies)
+        taken, message.taken = message.taken, None
+        answered = None
+        if taken == REPLACED:
+            message.outcome = "error 11"
+        else:
+            answered = self.match(rank, message, taken)
+        answer, _, _ = self.complete(rank, Waiting("one", [message]))
+        return answer, [] if answered is None else self.in_window(rank, answered), None
 
     def named(self, rank, name):
         """The request of a name that is set; None is the null request."""
@@ -384,13 +461,21 @@ class World:
         return self.fault_of_rank(rank, communicator, event.target) or (13 if self.is_full(event.rank) else None)
 
     def fault_of_receive(self, event, rank, communicator, kind, values, layout, copies):
+        fault = self.fault_of_region(kind, values, layout, copies) or self.fault_of_probe(event, rank, communicator)
+        return fault or (13 if self.is_full(event.rank) else None)
+
+    @staticmethod
+    def fault_of_region(kind, values, layout, copies):
+        """What is wrong with where a receive puts its data."""
         if layout.type != kind or layout.repeats():
             return 2
-        if layout.room(copies) > len(values):
-            return 1
+        return 1 if layout.room(copies) > len(values) else None
+
+    def fault_of_probe(self, event, rank, communicator):
+        """What is wrong with what a receive or a probe looks for."""
         if event.tag != ANY and event.tag > HIGHEST_TAG:
             return 3
-        return self.fault_of_rank(rank, communicator, event.source) or (13 if self.is_full(event.rank) else None)
+        return self.fault_of_rank(rank, communicator, event.source)
 
     def is_full(self, rank):
         return len(self.ranks[rank].requests) == MOST_REQUESTS
@@ -543,11 +628,12 @@ class World:
         return request
 
     def hand_out(self, rank, request):
-        """Answers a finished request, whose name is null from now on and whose buffer comes back."""
+        """Answers a finished request, whose name is null from now on, or that of no message, and whose buffer comes back."""
         del rank.requests[request.serial]
         names = self.names_of(rank.number)
-        for name in [name for name, named in names.requests.items() if named is request]:
-            names.requests[name] = None
+        for kept in (names.requests, names.messages):
+            for name in [name for name, named in kept.items() if named is request]:
+                kept[name] = None
         if request.buffer_name is not None:
             names.lent.discard(request.buffer_name)
             names.buffers[request.buffer_name] = (request.type, request.values)
@@ -574,18 +660,23 @@ class World:
 
     @staticmethod
     def match(rank, receive, message):
-        """A receive takes a message: a whole one at once, while an announced one is answered, and its data come later."""
+        """A receive takes a message: a whole one at once, while an announced one is answered, and its data come later, where it has any. A
+        send to the own rank that waits for this is finished."""
         fault = fault_of_match(receive, message)
         if fault is not None:
             receive.outcome = f"error {fault} {status_of(receive, message)}"
+        if message.waiting is not None:
+            message.waiting.outcome = "sent"
         if message.transfer is None:
             if fault is None:
                 fill(receive, message, message.values)
             return None
         session = rank.session(message.source)
         session.frames.append(Frame("CTS", transfer=message.transfer, is_wanted=fault is None))
-        if fault is None:
+        if fault is None and message.values:
             session.collections[message.transfer] = Collection(receive, message)
+        elif fault is None:
+            fill(receive, message, [])
         return message.source
 
     # The network.
@@ -668,7 +759,7 @@ class World:
 
     @staticmethod
     def learn(rank, other, incarnation):
-        """The other rank was started anew: what was under way between the two is over."""
+        """The other rank was started anew: what was under way between the two is over, and no message of it can be received any more."""
         rank.known[other] = incarnation
         rank.communicators.learn(other, incarnation)
         former = rank.session(other)
@@ -680,8 +771,14 @@ class World:
             if receive.source == other:
                 receive.outcome = "error 11"
         rank.posted = [receive for receive in rank.posted if receive.outcome is None]
-        rank.unexpected = [message for message in rank.unexpected
-                           if message.source != other or message.incarnation == incarnation]
+
+        def is_former(message):
+            return isinstance(message, Message) and message.source == other and message.incarnation != incarnation
+
+        rank.unexpected = [message for message in rank.unexpected if not is_former(message)]
+        for request in rank.requests.values():
+            if is_former(request.taken):
+                request.taken = REPLACED
 
     def handle(self, rank, datagram):
         """Takes a datagram in that is neither refused nor late, and gives what goes out."""

@@ -75,12 +75,14 @@ def a_transfer(random):
 
 
 def a_request(random):
-    """The announcement of a large message (RTS), of a rank's calls or of a collective."""
+    """The announcement of a message (RTS), of a rank's calls or of a collective: of a large one, or of a synchronous send's of any length."""
     plane = random.choice([0, 0, 1])
     kind = "byte" if plane == 1 else random.choice(list(TYPES))
     size, _, code = TYPES[kind]
-    count = random.choice([1024 // size + 1, 5000, 2**20 // size])
-    return b"\x02" + frame(random, plane, code, count)[1:] + a_transfer(random)
+    mode = random.choice([0, 0, 1])
+    count = random.choice([1024 // size + 1, 5000, 2**20 // size] + [0, 1, 1024 // size] * mode)
+    opening = frame(random, plane, code, count)
+    return b"\x02" + opening[1:3] + bytes([mode]) + opening[4:] + a_transfer(random)
 
 
 def a_bad_request(random):
@@ -92,12 +94,13 @@ def a_bad_request(random):
         return good + bytes(random.choice([1, 1005]))
     if kind == 2:
         size, _, code = TYPES[random.choice(list(TYPES))]
-        count = random.choice([0, 1024 // size, 2**20 // size + 1, 2**32 - 1])
-        return b"\x02" + frame(random, 0, code, count)[1:] + a_transfer(random)
+        mode, count = random.choice([(0, 0), (0, 1024 // size), (0, 2**20 // size + 1), (0, 2**32 - 1), (1, 2**20 // size + 1), (1, 2**32 - 1)])
+        opening = frame(random, 0, code, count)
+        return b"\x02" + opening[1:3] + bytes([mode]) + opening[4:] + a_transfer(random)
     if kind == 3:
         return good[:1] + bytes([random.choice([2, 255])]) + good[2:]
     if kind == 4:
-        return good[:3] + bytes([random.choice([1, 255])]) + good[4:]
+        return good[:3] + bytes([random.choice([2, 255])]) + good[4:]
     return good[:4] + (2**31 + random.choice([0, 5])).to_bytes(4, "big") + good[8:]
 
 
