@@ -110,10 +110,9 @@ def random_below(bound):
 
 def free_ports(count):
     """The first of so many ports in a row that are free."""
-    for _ in range(200):
-        first = ports.LOWEST + random_below(ports.BEHIND - ports.LOWEST - count)
-        if ports.are_free(first, count):
-            return first
+    first = ports.some_free(count)
+    if first is not None:
+        return first
     raise Fault("no %d ports in a row are free from %d to %d: give -baseport" % (count, ports.LOWEST, ports.BEHIND - 1))
 
 
