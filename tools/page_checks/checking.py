@@ -95,6 +95,8 @@ class Checks:
             self.add(where, self.answers, fence, before)
         elif fence.kind in reading.EXCERPTS:
             self.add(where, self.excerpt, fence)
+        elif fence.kind == "crates":
+            self.add(where, self.crates, fence)
         elif fence.kind in ("output", "errors") and (before is None or before.kind not in ("script", "events", "sh")):
             page.fault(fence.number, "no run stands before this")
 
@@ -150,6 +152,14 @@ class Checks:
             if at is None:
                 return ["these lines don't stand so in %s: %s .." % (fence.words[0], wanted[0].strip())]
         return []
+
+    def crates(self, fence):
+        """Looks whether a list of crates names each one of crates.txt, and each once."""
+        shown = [it.split()[0] for it in fence.lines if re.match(r"  \S", it)]
+        listed = [it.split()[0].rstrip(":") for it in (self.top / "crates.txt").read_text().split("\n") if it and not it.startswith("#")]
+        found = ["it lacks %s" % it for it in sorted(set(listed) - set(shown))]
+        found += ["crates.txt has no %s" % it for it in sorted(set(shown) - set(listed))]
+        return found + ["it names %s twice" % it for it in sorted(set(shown)) if shown.count(it) > 1]
 
     def example(self, file, kind):
         """Checks an example by the files beside it."""

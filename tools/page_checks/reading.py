@@ -8,7 +8,7 @@ from pathlib import Path
 MOST_IN_LINE, MOST_IN_CELL, MOST_LINES_OF_README = 120, 200, 120
 RUN = ("script", "events", "answers", "sh", "shell", "file", "output", "errors")
 EXCERPTS = ("rattle", "antt")
-KINDS = (*RUN, *EXCERPTS, "text")
+KINDS = (*RUN, *EXCERPTS, "crates", "text")
 # A path of the repository; those with a wildcard or a word in capitals for a name aren't seen as one.
 PATH = re.compile(r"`((?:docs|tools|examples|crates)/[a-z0-9_./-]+(?:[A-Z_]{2,}\.md)?|docs/[A-Z_]+\.md)`")
 LINK = re.compile(r"\[[^\]]*\]\(([^)\s]+)\)")
