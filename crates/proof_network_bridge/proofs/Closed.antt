@@ -1,4 +1,5 @@
 -- A world of engines follows the pure network with communicators: the laws of the parts, put together.
+use Rattle.std.proofs.Common.{[]}
 use Rattle.perfect_groups.proofs.GroupRuns.{one_group_for_each_context}
 use Rattle.proof_collective_steps.proofs.RankSteps.{entries_of_ranks_follow, openings_are_shown}
 use Rattle.proof_engine_matching.proofs.AnnouncedLemmas.{announcements_agree}
@@ -28,21 +29,29 @@ use Rattle.proof_link_truth.proofs.Sendings.{events_are_true, rest_is_true}
 use Rattle.proof_link_truth.proofs.Ticks.{ticks_are_true}
 use Rattle.proof_session_carrying.proofs.EventSteps.{entries_are_carried}
 use Rattle.proof_session_carrying.proofs.MessageSteps.{others_are_carried, queue_calls_are_carried, still_texts_are_quiet}
+use Rattle.proof_network_runs.proofs.GoingOn.{one_group_along_runs, runs_show_all}
 use Rattle.proof_network_bridge.specs.Following.{CallsFollow, DatagramsFollow, FollowingIsRun, OpeningFollows, RefusalsFollow, RestartsFollow, TicksFollow}
+use Rattle.proof_network_bridge.specs.GoingOn.{CallsFollowOn, DatagramsFollowOn, EnginesShareGroups, FollowingIsEachRun, OpeningFollowsNone, RefusalsStand, RestartsFollowOn, TicksStand}
+use Rattle.proof_network_bridge.specs.Joined.{opening_engines}
 use Rattle.proof_network_bridge.proofs.Calls as calls
 use Rattle.proof_network_bridge.proofs.Calls.{CoreCallsFollow, EntriesFollow, LooksFollow, QuestionsFollow}
 use Rattle.proof_network_bridge.proofs.CoreCalls as core_calls
 use Rattle.proof_network_bridge.proofs.Delivering as delivering
 use Rattle.proof_network_bridge.proofs.Entering as entering
+use Rattle.proof_network_bridge.proofs.Followed.{by_happenings, followed, followed_on}
 use Rattle.proof_network_bridge.proofs.Looks as looks
 use Rattle.proof_network_bridge.proofs.Machine as machine
+use Rattle.proof_network_bridge.proofs.Machine.{SeenLaws}
 use Rattle.proof_network_bridge.proofs.Opening as opening
 use Rattle.proof_network_bridge.proofs.Questions as questions
 use Rattle.proof_network_bridge.proofs.Reasons.{refused_reason, taken_faultless}
 use Rattle.proof_network_bridge.proofs.Unanswered as unanswered
 
+pub opening_follows_none : OpeningFollowsNone
+opening_follows_none = opening.opening_follows opening_is_shown openings_are_shown new_sessions_are_part opening_is_true
+
 pub opening_follows : OpeningFollows
-opening_follows = opening.opening_follows opening_is_shown openings_are_shown new_sessions_are_part opening_is_true
+opening_follows n few = followed n [] (opening_engines n 0 n) [] [] (opening_follows_none n few)
 
 -- each kind of calls
 core_calls_follow : CoreCallsFollow
@@ -59,8 +68,13 @@ questions_follow = questions.questions_follow rest_is_true questions_happen othe
 looks_follow : LooksFollow
 looks_follow = looks.looks_follow (looks_are_shown takes_match) rest_is_true queue_calls_happen others_are_carried taken_faultless
 
+pub calls_follow_on : CallsFollowOn
+calls_follow_on = calls.calls_follow core_calls_follow entries_follow questions_follow looks_follow
+
+-- whoever is followed by some happenings is followed
 pub calls_follow : CallsFollow
-calls_follow = calls.calls_follow core_calls_follow entries_follow questions_follow looks_follow
+calls_follow n r engines datagrams history old mid call reply f there taken gives =
+    followed_on n r f.happenings _ _ _ (calls_follow_on n r f.happenings engines datagrams history old mid call reply (by_happenings n engines datagrams history f) there taken gives)
 
 -- each kind of frame of messages is taken in as it is in the network
 news_follow : NewsAreShown
@@ -72,8 +86,8 @@ news_follow =
       pieces = pieces_are_taken outcomes_agree;
     })
 
-pub datagrams_follow : DatagramsFollow
-datagrams_follow = delivering.datagrams_follow news_follow wakes_are_shown (record {
+pub datagrams_follow_on : DatagramsFollowOn
+datagrams_follow_on = delivering.datagrams_follow news_follow wakes_are_shown (record {
   hears = hearing_is_true;
   events = events_are_true;
   starts = deliveries_begin;
@@ -84,15 +98,47 @@ datagrams_follow = delivering.datagrams_follow news_follow wakes_are_shown (reco
   rest = rest_is_true;
 })
 
+pub datagrams_follow : DatagramsFollow
+datagrams_follow n r number bytes engines datagrams history old mid f there emitted gives =
+    followed_on n r f.happenings _ _ _ (datagrams_follow_on n r number bytes f.happenings engines datagrams history old mid (by_happenings n engines datagrams history f) there emitted gives)
+
+pub refusals_stand : RefusalsStand
+refusals_stand = unanswered.refusals_stand rest_is_true refusals_are_true
+
 pub refusals_follow : RefusalsFollow
-refusals_follow = unanswered.refusals_follow rest_is_true refusals_are_true
+refusals_follow n r number bytes engines datagrams history old mid why f there emitted gives =
+    followed n f.happenings _ _ _ (refusals_stand n r number bytes f.happenings engines datagrams history old mid why (by_happenings n engines datagrams history f) there emitted gives)
+
+pub ticks_stand : TicksStand
+ticks_stand = unanswered.ticks_stand ticks_are_true
 
 pub ticks_follow : TicksFollow
-ticks_follow = unanswered.ticks_follow ticks_are_true
+ticks_follow n r now engines datagrams history old mid f there gives =
+    followed n f.happenings _ _ _ (ticks_stand n r now f.happenings engines datagrams history old mid (by_happenings n engines datagrams history f) there gives)
+
+pub restarts_follow_on : RestartsFollowOn
+restarts_follow_on = opening.restarts_follow opening_is_shown openings_are_shown restarts_are_true restarts_happen unborn_are_new
 
 pub restarts_follow : RestartsFollow
-restarts_follow = opening.restarts_follow opening_is_shown openings_are_shown restarts_are_true restarts_happen unborn_are_new
+restarts_follow n r engines datagrams history old f there few =
+    followed_on n r f.happenings _ _ _ (restarts_follow_on n r f.happenings engines datagrams history old (by_happenings n engines datagrams history f) there few)
+
+seen_laws : SeenLaws
+seen_laws = record {
+  idle = idle_is_still;
+  texts = still_texts_are_quiet;
+  one = one_group_for_each_context;
+  refused = refused_reason;
+  taken = taken_faultless;
+  looks = looks_are_shown takes_match;
+  searches = searches_find_all takes_match;
+}
 
 pub following_is_run : FollowingIsRun
-following_is_run =
-    machine.following_is_run idle_is_still still_texts_are_quiet one_group_for_each_context refused_reason taken_faultless (looks_are_shown takes_match) (searches_find_all takes_match)
+following_is_run = machine.following_is_run seen_laws
+
+pub following_is_each_run : FollowingIsEachRun
+following_is_each_run = machine.following_is_each_run runs_show_all seen_laws
+
+pub engines_share_groups : EnginesShareGroups
+engines_share_groups = machine.engines_share_groups one_group_along_runs

@@ -72,7 +72,7 @@ use Rattle.sessions.specs.Events.{Sending, after_event, sends_limit}
 use Rattle.sessions.specs.SessionsState.{SessionsState}
 use Rattle.vocabulary.specs.declared.endpoint.Endpoint.{Endpoint}
 use Rattle.proof_network_bridge.specs.Joined.{IsClean, IsHeldBy, network_after, sessions_in}
-use Rattle.proof_network_bridge.specs.Following.{LeavesFollowed}
+use Rattle.proof_network_bridge.specs.GoingOn.{LeavesFollowedOn}
 use Rattle.proof_network_bridge.specs.Payloads.{ArePayloads}
 use Rattle.proof_network_bridge.specs.Seen.{call_seen, told_call, told_completion}
 use Rattle.proof_network_bridge.proofs.Calls.{CoreCallsFollow}
@@ -297,9 +297,9 @@ called_at a p old known core call reply new is c =
 
 pub core_calls_follow : CallsAreShown → EventsAreTrue → QueueCallsHappen → QueueCallsAreCarried → TakenIsFaultless → CoreCallsFollow
 core_calls_follow shows truth happen carried taken n r engines datagrams history old mid call reply f there is gives answer =
-    subst (λ (es : List Entry). LeavesFollowed n engines datagrams r mid (history ++ es)) entries_are
+    subst (λ (es : List Entry). LeavesFollowedOn n f.happenings engines datagrams r mid (history ++ es)) entries_are
     (followed_after n r engines datagrams history _ mid (Ask r (call_seen call)) (core_settled (called own core q).core) (accept_all w.net.link own out) (w.member own) w.notices
-    f.joined.said (carriers.accept_all f.joined.texts own texts) sessions f after between (only_out f.joined.sessions own (frames_carried out)) leaves held (said_same f.joined.said) kept)
+    f.joined.said (carriers.accept_all f.joined.texts own texts) sessions f after between (only_out f.joined.sessions own (frames_carried out)) leaves held (said_same f.joined.said) kept refl)
   where
     w : GroupNetwork
     w = network_after n f.happenings

@@ -43,12 +43,12 @@ use Rattle.sessions.specs.Heard.{Acknowledges, Follows, Hands, HeardText, Holds,
 use Rattle.sessions.specs.SessionsState.{SessionsState}
 use Rattle.sessions.specs.declared.heard.Unheard.{Unheard}
 use Rattle.vocabulary.specs.declared.endpoint.Endpoint.{Endpoint}
-use Rattle.proof_network_bridge.specs.Following.{DatagramsFollow, LeavesFollowed}
+use Rattle.proof_network_bridge.specs.GoingOn.{DatagramsFollowOn, Happened, LeavesFollowedOn, Stands}
 use Rattle.proof_network_bridge.specs.Joined.{IsClean, IsFollowed, IsHeldBy, IsJoined, network_after, sessions_in}
 use Rattle.proof_network_bridge.specs.Payloads.{ArePayloads}
 use Rattle.proof_network_bridge.specs.Seen.{told_completion}
 use Rattle.proof_network_bridge.proofs.Datagrams.{heard_step}
-use Rattle.proof_network_bridge.proofs.Followed.{IsHeldUnder, clean_emptied, followed_unanswered, held_by, held_emptied}
+use Rattle.proof_network_bridge.proofs.Followed.{IsHeldUnder, clean_emptied, followed, followed_unanswered, held_by, held_emptied}
 use Rattle.proof_network_bridge.proofs.Halves.{leaves_engines, sessions_set}
 use Rattle.proof_network_bridge.proofs.Heard.{ended_alike, is_word, lesson_same, told_alike}
 use Rattle.proof_network_bridge.proofs.KnownMembers.{midway_known}
@@ -370,14 +370,13 @@ turns_follow shows laws (suc turns) n r place engines datagrams happenings old e
 ends : WakesAreShown → (n r : ℕ) (engines : List EngineState) (datagrams : List (ℕ × List ℕ)) (history : List Entry) (old e : EngineState) (s : Endpoint) (f : IsFollowed n engines datagrams history) → slice_get engines r ≡ Some old →
     IsWord n r (network_after n f.happenings) s →
     IsDelivering n r engines (network_after n f.happenings) s (λ (t : SessionsState) (texts : LinksOf FrameText). LeavesTrue n (sessions_in engines) datagrams r t texts (network_after n f.happenings).net.current) e →
-    LeavesFollowed n engines datagrams r (woken_engine e) (history ++ told_completion old.sessions.place.endpoint (completion_of (woken_engine e)))
+    LeavesFollowedOn n f.happenings engines datagrams r (woken_engine e) (history ++ told_completion old.sessions.place.endpoint (completion_of (woken_engine e)))
 ends wakes n r engines datagrams history old e s f there word d =
-    record {
-      happenings = f.happenings ++ Word s r d.frames d.notices ∷ [];
+    Happened (Word s r d.frames d.notices) refl (record {
       few = f.few;
       joined = subst (λ (v : GroupNetwork). IsJoined n (slice_set engines r (emptied new)) (datagrams ++ e.sessions.out) v) (sym pushed) joined;
       seen = ap (λ (v : GroupNetwork). v.history) pushed ∙ a.seen ∙ ap (λ (es : List Entry). es ++ entries) (on.seen ∙ f.seen) ∙ ap (λ (es : List Entry). history ++ es) told_is;
-    }
+    })
   where
     w : GroupNetwork
     w = network_after n f.happenings
@@ -482,10 +481,10 @@ pub record LinkLaws : Type 0 where
 
 -- what is heard in a datagram is followed, with all that follows it
 taken_in : NewsAreShown → WakesAreShown → LinkLaws → (n r : ℕ) (engines : List EngineState) (datagrams : List (ℕ × List ℕ)) (history : List Entry) (old mid : EngineState) (h : HeardText) →
-    IsFollowed n engines datagrams history → slice_get engines r ≡ Some old → IsFromDatagram datagrams r old.sessions h → IsTakenIn old h mid →
-    LeavesFollowed n engines datagrams r mid (history ++ told_completion old.sessions.place.endpoint (completion_of mid))
+    (f : IsFollowed n engines datagrams history) → slice_get engines r ≡ Some old → IsFromDatagram datagrams r old.sessions h → IsTakenIn old h mid →
+    LeavesFollowedOn n f.happenings engines datagrams r mid (history ++ told_completion old.sessions.place.endpoint (completion_of mid))
 taken_in shows wakes laws n r engines datagrams history old mid h f there comes i =
-    subst (λ (x : EngineState). LeavesFollowed n engines datagrams r x (history ++ told_completion old.sessions.place.endpoint (completion_of x))) (sym i.new_is)
+    subst (λ (x : EngineState). LeavesFollowedOn n f.happenings engines datagrams r x (history ++ told_completion old.sessions.place.endpoint (completion_of x))) (sym i.new_is)
     (ends wakes n r engines datagrams history old i.last h.source f there word (go h.word refl i.follows))
   where
     w : GroupNetwork
@@ -536,26 +535,29 @@ taken_in shows wakes laws n r engines datagrams history old mid h f there comes 
 
 -- what says nothing new changes nothing
 unchanged : LinkLaws → (n r : ℕ) (engines : List EngineState) (datagrams : List (ℕ × List ℕ)) (history : List Entry) (old mid : EngineState) →
-    IsFollowed n engines datagrams history → slice_get engines r ≡ Some old → mid ≡ old →
-    LeavesFollowed n engines datagrams r mid (history ++ told_completion old.sessions.place.endpoint (completion_of mid))
+    (f : IsFollowed n engines datagrams history) → slice_get engines r ≡ Some old → mid ≡ old →
+    LeavesFollowedOn n f.happenings engines datagrams r mid (history ++ told_completion old.sessions.place.endpoint (completion_of mid))
 unchanged laws n r engines datagrams history old mid f there same =
     let w : GroupNetwork = network_after n f.happenings in
-    subst (λ (x : EngineState). LeavesFollowed n engines datagrams r x (history ++ told_completion old.sessions.place.endpoint (completion_of x))) (sym same)
-    (followed_unanswered n r engines datagrams history old old f there (record { core = refl; groups = refl; ended = refl; payloads = refl; known = refl; place = refl })
-    (laws.rest n r (sessions_in engines) datagrams f.joined.texts w.net.current old.sessions f.joined.links (is_at n r engines datagrams w old f.joined there)))
+    subst (λ (x : EngineState). LeavesFollowedOn n f.happenings engines datagrams r x (history ++ told_completion old.sessions.place.endpoint (completion_of x))) (sym same)
+    (Stands (followed_unanswered n r engines datagrams history old old f there (record { core = refl; groups = refl; ended = refl; payloads = refl; known = refl; place = refl })
+    (laws.rest n r (sessions_in engines) datagrams f.joined.texts w.net.current old.sessions f.joined.links (is_at n r engines datagrams w old f.joined there))))
 
 -- all that is heard in a datagram is followed
 heard_follows : NewsAreShown → WakesAreShown → LinkLaws → (n r : ℕ) (engines : List EngineState) (datagrams : List (ℕ × List ℕ)) (history : List Entry) (old mid : EngineState) (h : HeardText) (nothing : Bool) →
-    IsFollowed n engines datagrams history → slice_get engines r ≡ Some old → IsFromDatagram datagrams r old.sessions h → IsTakenInUnless nothing old h mid →
-    LeavesFollowed n engines datagrams r mid (history ++ told_completion old.sessions.place.endpoint (completion_of mid))
+    (f : IsFollowed n engines datagrams history) → slice_get engines r ≡ Some old → IsFromDatagram datagrams r old.sessions h → IsTakenInUnless nothing old h mid →
+    LeavesFollowedOn n f.happenings engines datagrams r mid (history ++ told_completion old.sessions.place.endpoint (completion_of mid))
 heard_follows shows wakes laws n r engines datagrams history old mid h true f there comes same = unchanged laws n r engines datagrams history old mid f there same
 heard_follows shows wakes laws n r engines datagrams history old mid h false f there comes taken = taken_in shows wakes laws n r engines datagrams history old mid h f there comes taken
 
-pub datagrams_follow : NewsAreShown → WakesAreShown → LinkLaws → DatagramsFollow
-datagrams_follow shows wakes laws n r number bytes engines datagrams history old mid f there emitted gives = go (heard_of old.sessions bytes) refl gives
+pub datagrams_follow : NewsAreShown → WakesAreShown → LinkLaws → DatagramsFollowOn
+datagrams_follow shows wakes laws n r number bytes before engines datagrams history old mid by there emitted gives = go (heard_of old.sessions bytes) refl gives
   where
+    f : IsFollowed n engines datagrams history
+    f = followed n before engines datagrams history by
+
     go : (o : Result HeardText Unheard) → heard_of old.sessions bytes ≡ o → HearingGives o old (Ok tt) mid →
-        LeavesFollowed n engines datagrams r mid (history ++ told_completion old.sessions.place.endpoint (completion_of mid))
+        LeavesFollowedOn n before engines datagrams r mid (history ++ told_completion old.sessions.place.endpoint (completion_of mid))
     go (Ok h) is g =
         heard_follows shows wakes laws n r engines datagrams history old mid h (says_nothing h.lesson h.word) f there
         (record { number = number; bytes = bytes; there = emitted; hears = is }) g

@@ -26,10 +26,11 @@ use Rattle.proof_session_carrying.specs.EventLaws.{AreJoined}
 use Rattle.rank_core.specs.CoreState.{CoreState}
 use Rattle.vocabulary.specs.Endpoints.{is_same}
 use Rattle.vocabulary.specs.declared.endpoint.Endpoint.{Endpoint}
-use Rattle.proof_network_bridge.specs.Following.{LeavesFollowed}
+use Rattle.proof_network_bridge.specs.GoingOn.{Happened, IsFollowedBy, IsFollowedOn, LeavesFollowedOn, Stands}
 use Rattle.proof_network_bridge.specs.Joined.{IsClean, IsFollowed, IsHeldBy, IsJoined, network_after, sessions_in}
 use Rattle.proof_network_bridge.specs.Payloads.{ArePayloads, SaidGrows}
 use Rattle.proof_network_bridge.specs.Seen.{told_completion}
+use Rattle.proof_network_runs.specs.Runs.{rank_of}
 use Rattle.proof_network_bridge.proofs.Payloads.{payloads_grow}
 use Rattle.proof_network_bridge.proofs.Halves.{leaves_engines}
 use Rattle.proof_network_bridge.proofs.Worlds.{OnlyFrom, later_apart, ranks_apart, run_push, set_cases, shown_more}
@@ -168,6 +169,19 @@ joined_still n r engines datagrams datagrams' w new j truth held kept clean =
 
 -- ---- what follows
 
+-- these happenings are some
+abbrev pub followed : (n : ℕ) (happenings : List Happening) (engines : List EngineState) (datagrams : List (ℕ × List ℕ)) (history : List Entry) → IsFollowedBy n happenings engines datagrams history → IsFollowed n engines datagrams history
+followed n happenings engines datagrams history f = record { happenings = happenings; few = f.few; joined = f.joined; seen = f.seen }
+
+-- and some are known
+pub by_happenings : (n : ℕ) (engines : List EngineState) (datagrams : List (ℕ × List ℕ)) (history : List Entry) → (f : IsFollowed n engines datagrams history) → IsFollowedBy n f.happenings engines datagrams history
+by_happenings n engines datagrams history f = record { few = f.few; joined = f.joined; seen = f.seen }
+
+-- so it is with one more, or with none
+pub followed_on : (n r : ℕ) (before : List Happening) (engines : List EngineState) (datagrams : List (ℕ × List ℕ)) (history : List Entry) → IsFollowedOn n r before engines datagrams history → IsFollowed n engines datagrams history
+followed_on n r before engines datagrams history (Stands f) = followed n before engines datagrams history f
+followed_on n r before engines datagrams history (Happened h is f) = followed n (before ++ h ∷ []) engines datagrams history f
+
 -- a happening more
 pub followed_after : (n r : ℕ) (engines : List EngineState) (datagrams : List (ℕ × List ℕ)) (history entries : List Entry) (mid : EngineState) (h : Happening) (core : Core)
     (messages : Endpoint → Endpoint → Link) (m : Member) (notices : Endpoint → Endpoint → NoticeLink) (said : Saying) (texts : LinksOf FrameText) (sessions : Sessions) (f : IsFollowed n engines datagrams history) →
@@ -175,20 +189,19 @@ pub followed_after : (n r : ℕ) (engines : List EngineState) (datagrams : List 
     AreJoined (happens n (network_after n f.happenings) h) said texts sessions → OnlyFrom (here (network_after n f.happenings).net r) f.joined.sessions sessions →
     LeavesTrue n (sessions_in engines) datagrams r mid.sessions texts (network_after n f.happenings).net.current →
     IsHeldUnder sessions (here (network_after n f.happenings).net r) mid core m →
-    SaidGrows f.joined.said said → ArePayloads sessions said (here (network_after n f.happenings).net r) mid.sessions.known mid.payloads →
-    LeavesFollowed n engines datagrams r mid (history ++ entries)
-followed_after n r engines datagrams history entries mid h core messages m notices said texts sessions f a between only truth held grows kept =
+    SaidGrows f.joined.said said → ArePayloads sessions said (here (network_after n f.happenings).net r) mid.sessions.known mid.payloads → rank_of h ≡ r →
+    LeavesFollowedOn n f.happenings engines datagrams r mid (history ++ entries)
+followed_after n r engines datagrams history entries mid h core messages m notices said texts sessions f a between only truth held grows kept at_r =
     let w : GroupNetwork = network_after n f.happenings in
     let own : Endpoint = here w.net r in
     let pushed : network_after n (f.happenings ++ h ∷ []) ≡ happens n w h = run_push n f.happenings h (new_group_network n) in
-    record {
-      happenings = f.happenings ++ h ∷ [];
+    Happened h at_r (record {
       few = f.few;
       joined = subst (λ (after : GroupNetwork). IsJoined n (slice_set engines r (emptied mid)) (datagrams ++ mid.sessions.out) after) (sym pushed)
           (joined_after n r engines datagrams (datagrams ++ mid.sessions.out) w (happens n w h) (emptied mid) core messages m notices entries said texts sessions f.joined a between only
           (leaves_engines n r engines datagrams mid texts w.net.current truth) (λ serial. held_emptied (announcements_in serial sessions own) own mid core m (held serial)) grows kept (clean_emptied mid));
       seen = ap (λ (after : GroupNetwork). after.history) pushed ∙ a.seen ∙ ap (λ (es : List Entry). es ++ entries) f.seen;
-    }
+    })
 
 -- an event after which the core and the groups are as they were, and the sessions know what they knew and stand where they stood
 pub record IsBeside (old new : EngineState) : Type 0 where
@@ -215,12 +228,11 @@ payloads_beside sessions said own old new b h =
 -- nothing happens to the network
 pub followed_still : (n r : ℕ) (engines : List EngineState) (datagrams : List (ℕ × List ℕ)) (history : List Entry) (old mid : EngineState) (f : IsFollowed n engines datagrams history) →
     slice_get engines r ≡ Some old → IsBeside old mid →
-    LeavesTrue n (sessions_in engines) datagrams r mid.sessions f.joined.texts (network_after n f.happenings).net.current → LeavesFollowed n engines datagrams r mid history
+    LeavesTrue n (sessions_in engines) datagrams r mid.sessions f.joined.texts (network_after n f.happenings).net.current → IsFollowedBy n f.happenings (slice_set engines r (emptied mid)) (datagrams ++ mid.sessions.out) history
 followed_still n r engines datagrams history old mid f there beside truth =
     let w : GroupNetwork = network_after n f.happenings in
     let own : Endpoint = here w.net r in
     record {
-      happenings = f.happenings;
       few = f.few;
       joined = joined_still n r engines datagrams (datagrams ++ mid.sessions.out) w (emptied mid) f.joined (leaves_engines n r engines datagrams mid f.joined.texts w.net.current truth)
           (λ serial. held_emptied (announcements_in serial f.joined.sessions own) own mid (w.net.core own) (w.member own)
@@ -233,11 +245,11 @@ followed_still n r engines datagrams history old mid f there beside truth =
 pub followed_unanswered : (n r : ℕ) (engines : List EngineState) (datagrams : List (ℕ × List ℕ)) (history : List Entry) (old mid : EngineState) (f : IsFollowed n engines datagrams history) →
     slice_get engines r ≡ Some old → IsBeside old mid →
     LeavesTrue n (sessions_in engines) datagrams r mid.sessions f.joined.texts (network_after n f.happenings).net.current →
-    LeavesFollowed n engines datagrams r mid (history ++ told_completion old.sessions.place.endpoint (completion_of mid))
+    IsFollowedBy n f.happenings (slice_set engines r (emptied mid)) (datagrams ++ mid.sessions.out) (history ++ told_completion old.sessions.place.endpoint (completion_of mid))
 followed_unanswered n r engines datagrams history old mid f there beside truth =
     let clean : IsClean old = f.joined.clean r old there in
     let none : completion_of mid ≡ None =
     ap (λ (o : Option Ending). completion_by o mid.core.completion) (beside.ended ∙ clean.ended) ∙ ap (completion_by None) (ap (λ (c : CoreState). c.completion) beside.core ∙ clean.completion) in
     let nothing : history ≡ history ++ told_completion old.sessions.place.endpoint (completion_of mid) =
     sym (append-nil history) ∙ ap (λ (o : Option Completion). history ++ told_completion old.sessions.place.endpoint o) (sym none) in
-    subst (λ (es : List Entry). LeavesFollowed n engines datagrams r mid es) nothing (followed_still n r engines datagrams history old mid f there beside truth)
+    subst (λ (es : List Entry). IsFollowedBy n f.happenings (slice_set engines r (emptied mid)) (datagrams ++ mid.sessions.out) es) nothing (followed_still n r engines datagrams history old mid f there beside truth)

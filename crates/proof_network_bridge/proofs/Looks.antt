@@ -1,5 +1,5 @@
 -- A world of engines follows the pure network through probes that take nothing out: each is answered at once, and changes nothing.
-use Rattle.std.proofs.Common.{◌≡◌, ℕ, ◌<◌, List, [], ◌∷◌, ◌++◌, Option, Some, None, option_map, sym, ap, subst, ◌∙◌, append-nil}
+use Rattle.std.proofs.Common.{◌≡◌, ℕ, ◌<◌, List, [], ◌∷◌, ◌++◌, Option, Some, None, option_map, sym, ap, subst, ◌∙◌, append-nil, refl}
 use Rattle.collective_steps.specs.declared.step.Ending.{Ending}
 use Rattle.engine_parts.specs.EngineState.{EngineState, completion_by, completion_of, member_of}
 use Rattle.engine_parts.specs.declared.call.Call.TheVariants as calls
@@ -31,7 +31,7 @@ use Rattle.proof_session_carrying.specs.Announced.{announcements_in}
 use Rattle.proof_session_carrying.specs.MessageLaws.{OthersAreCarried}
 use Rattle.vocabulary.specs.declared.endpoint.Endpoint.{Endpoint}
 use Rattle.vocabulary.specs.declared.envelope.Status.{Status}
-use Rattle.proof_network_bridge.specs.Following.{LeavesFollowed}
+use Rattle.proof_network_bridge.specs.GoingOn.{LeavesFollowedOn}
 use Rattle.proof_network_bridge.specs.Joined.{IsClean, IsHeldBy, network_after, sessions_in}
 use Rattle.proof_network_bridge.specs.Seen.{call_seen, told_call, told_completion}
 use Rattle.proof_network_bridge.proofs.Calls.{LeavesCalled, LooksFollow}
@@ -65,12 +65,12 @@ replied e q c found None is = absurd cc
 
 pub looks_follow : LooksAreShown → RestIsTrue → QueueCallsHappen → OthersAreCarried → TakenIsFaultless → LooksFollow
 looks_follow shows rest happen carried taken n r engines datagrams history old mid p found f there given =
-    subst (λ (e : EngineState). LeavesCalled n engines datagrams r history old e (calls.Iprobe p) (replies.Probed found)) (sym given.unchanged)
-    (subst (λ (es : List Entry). LeavesFollowed n engines datagrams r old (history ++ es)) entries_are
+    subst (λ (e : EngineState). LeavesCalled n f.happenings engines datagrams r history old e (calls.Iprobe p) (replies.Probed found)) (sym given.unchanged)
+    (subst (λ (es : List Entry). LeavesFollowedOn n f.happenings engines datagrams r old (history ++ es)) entries_are
     (followed_after n r engines datagrams history _ old (Ask r c) core w.net.link (w.member own) w.notices f.joined.said f.joined.texts f.joined.sessions f after
     (carried w (happens n w (Ask r c)) f.joined.said f.joined.texts f.joined.sessions own core (w.member own) _ f.joined.between after) (only_same f.joined.sessions own)
     (rest n r (sessions_in engines) datagrams f.joined.texts w.net.current old.sessions f.joined.links (is_at n r engines datagrams w old f.joined there))
-    (followed.held_at n r engines datagrams w old f.joined there) (said_same f.joined.said) (f.joined.payloads r old there)))
+    (followed.held_at n r engines datagrams w old f.joined there) (said_same f.joined.said) (f.joined.payloads r old there) refl))
   where
     w : GroupNetwork
     w = network_after n f.happenings

@@ -1,5 +1,5 @@
 -- Whoever follows the pure network with communicators is seen as a run of the machine of queues and groups.
-use Rattle.std.proofs.Common.{◌≡◌, ℕ, zero, suc, ◌<◌, ◌≤◌, List, [], ◌∷◌, Option, Some, None, map, sym, ap, subst, ◌∙◌, inl, inr, arith, append-nil}
+use Rattle.std.proofs.Common.{◌≡◌, ℕ, zero, suc, ◌<◌, ◌≤◌, List, [], ◌∷◌, Option, Some, None, map, sym, ap, subst, ◌∙◌, inl, inr, arith, append-nil, refl}
 use Rattle.std.specs.Prelude.{slice_get, slice_index}
 use Rattle.std.proofs.lemmas.Option.{same_Some}
 use Rattle.engine_parts.specs.Calls.{CallGives, IsTaken}
@@ -27,6 +27,7 @@ use Rattle.proof_session_carrying.specs.Announced.{announcements_in}
 use Rattle.proof_group_network.proofs.NetworkRest.{is_run_of_groups}
 use Rattle.proof_group_network.specs.Network.{GroupNetwork, IsRunOfGroups, NoticesAreHanded}
 use Rattle.proof_link_truth.specs.Events.{IdleIsStill, Knows}
+use Rattle.proof_network_runs.specs.Runs.{IsShownBy, OneGroupAlongRuns, RunsShowAll}
 use Rattle.proof_link_truth.specs.Quiet.{AreQuiet}
 use Rattle.proof_link_truth.specs.Wire.{at}
 use Rattle.proof_pure_network.specs.Core.{view}
@@ -39,9 +40,11 @@ use Rattle.sessions.specs.SessionsState.{SessionsState}
 use Rattle.vocabulary.specs.declared.endpoint.Endpoint.{Endpoint}
 use Rattle.perfect_queues.specs.Receives as receives
 use Rattle.perfect_queues.specs.Receives.{such_receive}
-use Rattle.proof_network_bridge.specs.Following.{AnswersNone, FollowingIsRun, IsFaultless, LooksInVain, SearchesInVain, fault_in}
+use Rattle.proof_network_bridge.specs.Following.{AnswersNone, FollowingIsRun, IsFaultless, IsSeenOfMachine, LooksInVain, SearchesInVain, fault_in}
+use Rattle.proof_network_bridge.specs.GoingOn.{EnginesShareGroups, FollowingIsEachRun, IsSeenBy}
 use Rattle.proof_network_bridge.specs.Joined.{IsFollowed, IsJoined, network_after, sessions_in}
 use Rattle.proof_network_bridge.specs.Seen.{call_meant, call_seen}
+use Rattle.proof_network_bridge.proofs.Followed.{followed}
 use Rattle.proof_network_bridge.proofs.Halves.{IsOf, engine_there}
 use Rattle.proof_network_bridge.proofs.Finding.{looks_in_vain, searches_in_vain}
 use Rattle.proof_network_bridge.proofs.Worlds.{place_is}
@@ -129,34 +132,23 @@ one_of law n events x y a b few run rx ry ha hb same =
 
 -- ---- the run
 
-pub following_is_run : IdleIsStill → StillTextsAreQuiet → OneGroupForEachContext → RefusedHasReason → TakenIsFaultless → LooksAreShown → SearchesFindAll → FollowingIsRun
-following_is_run idle texts one refused taken looks searches n engines datagrams history f =
-    record {
-      events = m.events;
-      run = m.run;
-      tells = m.tells ∙ f.seen;
-      now = λ r e there. m.current r ∙ sym (ap (λ (x : Endpoint). x.incarnation) (endpoint_is n r engines datagrams w e f.joined there));
-      knows = λ r e there x.
-          m.knows e.sessions.place.endpoint x ∙ ap (λ (y : Endpoint). (w.net.core y).known x) (endpoint_is n r engines datagrams w e f.joined there)
-          ∙ ((f.joined.held r e there).queues 0).known_alike x;
-      refuses = λ r e mid call back why there gives.
-          subst (λ (o : Option ℕ). IsReason o why) (sym (faults r e there (call_meant e.core call))) (refused n r engines datagrams history e mid call back why f there gives);
-      takes = λ r e mid call reply there is gives.
-          subst (λ (o : Option ℕ). IsFaultless o e.core call) (sym (faults r e there (call_seen call))) (taken n r engines datagrams history e mid call reply f there is gives);
-      holds = holds;
-      one_group = λ r x e d first second a b e_there d_there a_is b_is same.
-          one_of one n m.events e.sessions.place.endpoint d.sessions.place.endpoint a b f.few m.run (real_there n r engines datagrams w e f.few f.joined e_there) (real_there n x engines datagrams w d f.few f.joined d_there)
-          (subst (IsAmong a) (sym (holds r e e_there)) (among_held (member_of e.groups) first a a_is)) (subst (IsAmong b) (sym (holds x d d_there)) (among_held (member_of d.groups) second b b_is)) same;
-      quiet = λ quiet. m.quiet (still idle texts n engines datagrams w f.joined quiet).0;
-      finds = λ quiet e sender current q none. m.finds (still idle texts n engines datagrams w f.joined quiet).0 e sender current q (holds_none e q none);
-      leaves = λ quiet. m.leaves (still idle texts n engines datagrams w f.joined quiet).1;
-    }
+-- the laws that what is seen of engines rests on
+pub record SeenLaws : Type 0 where
+  pub idle : IdleIsStill
+  pub texts : StillTextsAreQuiet
+  pub one : OneGroupForEachContext
+  pub refused : RefusedHasReason
+  pub taken : TakenIsFaultless
+  pub looks : LooksAreShown
+  pub searches : SearchesFindAll
+
+-- whatever a run shows of the network it tells of the engines
+seen_of : SeenLaws → (n : ℕ) (engines : List EngineState) (datagrams : List (ℕ × List ℕ)) (history : List machine_events.Entry) (f : IsFollowed n engines datagrams history) → (m : IsRunOfGroups n (network_after n f.happenings)) →
+    IsSeenBy n engines history m.events
+seen_of laws n engines datagrams history f m = record { seen = seen; by = refl }
   where
     w : GroupNetwork
     w = network_after n f.happenings
-
-    m : IsRunOfGroups n w
-    m = is_run_of_groups n f.happenings (omega (arith, f.few))
 
     ends : Machine
     ends = after_run (machine_opening n) m.events
@@ -175,9 +167,50 @@ following_is_run idle texts one refused taken looks searches n engines datagrams
     -- who answers a probe with none holds no such message
     holds_none : (x : Endpoint) (q : receives.Probe) → AnswersNone engines x q → found (such_receive q) (w.net.core x).held ≡ None
     holds_none x q (LooksInVain r e mid p there is seen gives) =
-        looks_in_vain looks (announcements_in 0 f.joined.sessions x) e mid (w.net.core x) p q (shown_at r e x there is) seen gives
+        looks_in_vain laws.looks (announcements_in 0 f.joined.sessions x) e mid (w.net.core x) p q (shown_at r e x there is) seen gives
     holds_none x q (SearchesInVain r e mid p there is seen gives) =
-        searches_in_vain searches (announcements_in 0 f.joined.sessions x) e mid (w.net.core x) p q (shown_at r e x there is) seen gives
+        searches_in_vain laws.searches (announcements_in 0 f.joined.sessions x) e mid (w.net.core x) p q (shown_at r e x there is) seen gives
 
     holds : (r : ℕ) (e : EngineState) → slice_get engines r ≡ Some e → (ends.groups.of e.sessions.place.endpoint).held ≡ (member_of e.groups).held
     holds r e there = held_there n r engines datagrams w e ends.groups.of f.joined there (λ x. ap (λ (g : Groups). (g.of x).held) m.groups)
+
+    seen : IsSeenOfMachine n engines history
+    seen =
+        record {
+          events = m.events;
+          run = m.run;
+          tells = m.tells ∙ f.seen;
+          now = λ r e there. m.current r ∙ sym (ap (λ (x : Endpoint). x.incarnation) (endpoint_is n r engines datagrams w e f.joined there));
+          knows = λ r e there x.
+              m.knows e.sessions.place.endpoint x ∙ ap (λ (y : Endpoint). (w.net.core y).known x) (endpoint_is n r engines datagrams w e f.joined there)
+              ∙ ((f.joined.held r e there).queues 0).known_alike x;
+          refuses = λ r e mid call back why there gives.
+              subst (λ (o : Option ℕ). IsReason o why) (sym (faults r e there (call_meant e.core call))) (laws.refused n r engines datagrams history e mid call back why f there gives);
+          takes = λ r e mid call reply there is gives.
+              subst (λ (o : Option ℕ). IsFaultless o e.core call) (sym (faults r e there (call_seen call))) (laws.taken n r engines datagrams history e mid call reply f there is gives);
+          holds = holds;
+          one_group = λ r x e d first second a b e_there d_there a_is b_is same.
+              one_of laws.one n m.events e.sessions.place.endpoint d.sessions.place.endpoint a b f.few m.run (real_there n r engines datagrams w e f.few f.joined e_there) (real_there n x engines datagrams w d f.few f.joined d_there)
+              (subst (IsAmong a) (sym (holds r e e_there)) (among_held (member_of e.groups) first a a_is)) (subst (IsAmong b) (sym (holds x d d_there)) (among_held (member_of d.groups) second b b_is)) same;
+          quiet = λ quiet. m.quiet (still laws.idle laws.texts n engines datagrams w f.joined quiet).0;
+          finds = λ quiet e sender current q none. m.finds (still laws.idle laws.texts n engines datagrams w f.joined quiet).0 e sender current q (holds_none e q none);
+          leaves = λ quiet. m.leaves (still laws.idle laws.texts n engines datagrams w f.joined quiet).1;
+        }
+
+pub following_is_run : SeenLaws → FollowingIsRun
+following_is_run laws n engines datagrams history f = (seen_of laws n engines datagrams history f (is_run_of_groups n f.happenings (omega (arith, f.few)))).seen
+
+-- so does each run that goes with what the engines follow
+pub following_is_each_run : RunsShowAll → SeenLaws → FollowingIsEachRun
+following_is_each_run show laws n happenings events engines datagrams history f g =
+    let shown : IsShownBy n (network_after n happenings) events = show n happenings events (omega (arith, f.few)) g in
+    subst (λ (vs : List Event). IsSeenBy n engines history vs) shown.by (seen_of laws n engines datagrams history (followed n happenings engines datagrams history f) shown.shown)
+
+-- ---- one group for each context, at any two moments
+
+pub engines_share_groups : OneGroupAlongRuns → EnginesShareGroups
+engines_share_groups one n earlier later events more engines engines' datagrams datagrams' history history' r x e d a b f g f' g' e_there d_there a_is b_is same =
+    one n earlier later events more e.sessions.place.endpoint d.sessions.place.endpoint a b (omega (arith, f.few)) g g'
+    (real_there n r engines datagrams (network_after n earlier) e f.few f.joined e_there) (real_there n x engines' datagrams' (network_after n later) d f'.few f'.joined d_there)
+    (subst (IsAmong a) (sym (held_there n r engines datagrams (network_after n earlier) e (λ y. ((network_after n earlier).member y).membership) f.joined e_there (λ y. refl))) a_is)
+    (subst (IsAmong b) (sym (held_there n x engines' datagrams' (network_after n later) d (λ y. ((network_after n later).member y).membership) f'.joined d_there (λ y. refl))) b_is) same

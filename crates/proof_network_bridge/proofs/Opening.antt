@@ -25,7 +25,8 @@ use Rattle.proof_pure_network.specs.Network.{here}
 use Rattle.proof_session_carrying.specs.Announced.{announcements_in}
 use Rattle.sessions.specs.SessionsState.{SessionsState}
 use Rattle.vocabulary.specs.declared.endpoint.Endpoint.{Endpoint}
-use Rattle.proof_network_bridge.specs.Following.{OpeningFollows, RestartsFollow, next_place}
+use Rattle.proof_network_bridge.specs.Following.{next_place}
+use Rattle.proof_network_bridge.specs.GoingOn.{Happened, OpeningFollowsNone, RestartsFollowOn}
 use Rattle.proof_network_bridge.specs.Joined.{IsClean, IsJoined, network_after, opening_engines, sessions_in}
 use Rattle.proof_network_bridge.specs.Payloads.{ArePayloads}
 use Rattle.proof_network_bridge.proofs.Followed.{IsHeldUnder, held_at, held_by}
@@ -77,10 +78,9 @@ opening_is shows groups_show n r e is =
     subst (λ (g : EngineState). IsNew no_sessions (at r 0) g (new_core (at r 0)) ((new_group_network n).member (at r 0))) (sym here_is)
     (new_is shows groups_show n (at r 0) no_sessions found.0 (λ serial d. refl))
 
-pub opening_follows : OpeningIsShown → OpeningsAreShown → NewSessionsArePart → OpeningIsTrue → OpeningFollows
+pub opening_follows : OpeningIsShown → OpeningsAreShown → NewSessionsArePart → OpeningIsTrue → OpeningFollowsNone
 opening_follows shows groups_show parts truth n few =
     record {
-      happenings = [];
       few = few;
       joined = record {
         texts = no_links;
@@ -165,18 +165,17 @@ restarted_at shows groups_show truth n r engines datagrams w old members j there
     (new_is shows groups_show n (next_of w r) j.sessions (place_is n r engines datagrams w old j there).0
     (λ serial d. none_announced n engines datagrams w j serial (next_of w r) d (j.links.none_accepted (next_of w r) d (omega arith))))
 
-pub restarts_follow : OpeningIsShown → OpeningsAreShown → RestartsAreTrue → RestartsHappen → UnbornAreNew → RestartsFollow
-restarts_follow shows groups_show truth restarts unborn n r engines datagrams history old f there few =
-    let w : GroupNetwork = network_after n f.happenings in
+pub restarts_follow : OpeningIsShown → OpeningsAreShown → RestartsAreTrue → RestartsHappen → UnbornAreNew → RestartsFollowOn
+restarts_follow shows groups_show truth restarts unborn n r before engines datagrams history old f there few =
+    let w : GroupNetwork = network_after n before in
     let place = place_is n r engines datagrams w old f.joined there in
     let incarnation_is : old.sessions.place.endpoint.incarnation ≡ w.net.current r = ap (λ (p : Place). p.endpoint.incarnation) place.1 in
     let room : w.net.current r < 65535 = omega (arith, few, incarnation_is) in
-    let pushed : network_after n (f.happenings ++ Restarts r ∷ []) ≡ anew w r = run_push n f.happenings (Restarts r) (new_group_network n) ∙ restarts n r w place.0 room in
-    record {
-      happenings = f.happenings ++ Restarts r ∷ [];
+    let pushed : network_after n (before ++ Restarts r ∷ []) ≡ anew w r = run_push n before (Restarts r) (new_group_network n) ∙ restarts n r w place.0 room in
+    Happened (Restarts r) refl (record {
       few = f.few;
       joined = subst (λ (after : GroupNetwork). IsJoined n (slice_set engines r (opening (next_place old.sessions.place))) datagrams after) (sym pushed)
           (subst (λ (p : Place). IsJoined n (slice_set engines r (opening (next_place p))) datagrams (anew w r)) (sym place.1)
-          (restarted_at shows groups_show truth n r engines datagrams w old (unborn n f.happenings) f.joined there room));
+          (restarted_at shows groups_show truth n r engines datagrams w old (unborn n before) f.joined there room));
       seen = ap (λ (after : GroupNetwork). after.history) pushed ∙ ap (λ (es : List Entry). es ++ Restarted r ∷ []) f.seen;
-    }
+    })

@@ -20,7 +20,7 @@ use Rattle.proof_link_truth.specs.Wire.{place_of}
 use Rattle.proof_pure_network.specs.Network.{here}
 use Rattle.proof_session_carrying.specs.MessageLaws.{OthersAreCarried}
 use Rattle.vocabulary.specs.declared.endpoint.Endpoint.{Endpoint}
-use Rattle.proof_network_bridge.specs.Following.{LeavesFollowed}
+use Rattle.proof_network_bridge.specs.GoingOn.{LeavesFollowedOn}
 use Rattle.proof_network_bridge.specs.Joined.{IsClean, IsHeldBy, network_after, sessions_in}
 use Rattle.proof_network_bridge.specs.Seen.{told_call, told_completion}
 use Rattle.proof_network_bridge.proofs.Calls.{LeavesCalled, QuestionsFollow}
@@ -46,12 +46,12 @@ facts_same e a b (Some c) q held = ap (λ (x : machine.Fact). Some (OfFact x)) (
 
 pub questions_follow : RestIsTrue → QuestionsHappen → OthersAreCarried → TakenIsFaultless → QuestionsFollow
 questions_follow rest happen carried taken n r engines datagrams history old mid comm q fact f there told =
-    subst (λ (e : EngineState). LeavesCalled n engines datagrams r history old e (calls.Ask comm q) (replies.Fact fact)) (sym told.unchanged)
-    (subst (λ (es : List Entry). LeavesFollowed n engines datagrams r old (history ++ es)) entries_are
+    subst (λ (e : EngineState). LeavesCalled n f.happenings engines datagrams r history old e (calls.Ask comm q) (replies.Fact fact)) (sym told.unchanged)
+    (subst (λ (es : List Entry). LeavesFollowedOn n f.happenings engines datagrams r old (history ++ es)) entries_are
     (followed_after n r engines datagrams history _ old (Ask r (Inquire comm (question_of q))) (w.net.core own) w.net.link (w.member own) w.notices f.joined.said f.joined.texts f.joined.sessions f after
     (carried w (happens n w (Ask r (Inquire comm (question_of q)))) f.joined.said f.joined.texts f.joined.sessions own (w.net.core own) (w.member own) _ f.joined.between after) (only_same f.joined.sessions own)
     (rest n r (sessions_in engines) datagrams f.joined.texts w.net.current old.sessions f.joined.links (is_at n r engines datagrams w old f.joined there))
-    (followed.held_at n r engines datagrams w old f.joined there) (said_same f.joined.said) (f.joined.payloads r old there)))
+    (followed.held_at n r engines datagrams w old f.joined there) (said_same f.joined.said) (f.joined.payloads r old there) refl))
   where
     w : GroupNetwork
     w = network_after n f.happenings

@@ -18,6 +18,7 @@ use Rattle.perfect_groups.specs.Calls as machine
 use Rattle.perfect_groups.specs.Events.{Entry}
 use Rattle.perfect_groups.specs.Faults.{fault, fault_by, is_within}
 use Rattle.perfect_queues.specs.Refusals.{standing}
+use Rattle.proof_collective_steps.specs.Shown as collectives
 use Rattle.proof_engine_steps.specs.Refused.{IsReason}
 use Rattle.proof_engine_view.specs.Transfers.{Announcements}
 use Rattle.proof_session_carrying.specs.Announced.{announcements_in}
@@ -29,6 +30,7 @@ use Rattle.proof_network_bridge.proofs.Members.{are_in_world, busy_same, held_sa
 use Rattle.proof_network_bridge.proofs.Refusals.{by_rule, free_faultless, free_reason}
 use Rattle.proof_network_bridge.proofs.Routed.{IsFree}
 use Rattle.proof_network_bridge.proofs.Worlds.{place_is}
+use Rattle.proof_network_bridge.specs.Alone.{EnginesAreRanks, EnginesJudgeAsTheMachine, EnginesRefuseAsTheMachine, EnginesTakeNoFault, IsRank}
 use Rattle.proof_network_bridge.specs.Following.{IsFaultless}
 use Rattle.proof_network_bridge.specs.Joined.{IsFollowed, network_after}
 use Rattle.proof_network_bridge.specs.Seen.{call_meant, call_seen}
@@ -177,66 +179,82 @@ busy_fault : (a : Announcements) (own : Endpoint) (e : EngineState) (core : Core
 busy_fault a own e core m c h busy =
     ap (λ (b : Bool). fault_by b (λ k. standing (slice_get (view blank core).requests k)) own core.known m.membership c) (busy_same a own e core m h.queues h.groups ∙ busy)
 
--- ---- BOTH LAWS
+-- ---- AN ENGINE ALONE
+
+-- a call that an engine refuses has the fault of its own part of the machine; or that finds none, and the number is 13 or 14
+refused_alone : (a : Announcements) (own : Endpoint) (e mid : EngineState) (core : Core) (m : Member) (call back : Call) (why : Refused) → IsHeldAs a own e core m → AreInWorld e.core.place.size m.membership →
+    CallGives e call (replies.Refused why back) mid → IsReason (fault own (view blank core) m.membership (call_meant e.core call)) why
+refused_alone a own e mid core m call back why h inside gives = go (is_busy e) refl (refused e mid call why back gives).reason
+  where
+    go : (b : Bool) → is_busy e ≡ b → WhyRefused (first_fault (broken b refusals.Request) (free_fault e call)) e call why →
+        IsReason (fault own (view blank core) m.membership (call_meant e.core call)) why
+    go true busy because = by_rule (fault own (view blank core) m.membership (call_meant e.core call)) refusals.Request why because (busy_fault a own e core m (call_meant e.core call) h busy)
+    go false idle because = free_reason a own e core m.membership call why (free_at a own e core m h idle inside) h.groups.own because
+
+-- a call that meets no rule and no limit has no fault there, and names no request of another engine
+allowed_alone : (a : Announcements) (own : Endpoint) (e : EngineState) (core : Core) (m : Member) (call : Call) → IsHeldAs a own e core m → AreInWorld e.core.place.size m.membership → fault_of e call ≡ None →
+    IsFaultless (fault own (view blank core) m.membership (call_seen call)) e.core call
+allowed_alone a own e core m call h inside fine = go (is_busy e) refl fine
+  where
+    go : (b : Bool) → is_busy e ≡ b → first_fault (broken b refusals.Request) (free_fault e call) ≡ None → IsFaultless (fault own (view blank core) m.membership (call_seen call)) e.core call
+    go true busy none = absurd cc
+    go false idle none = free_faultless a own e core m.membership call (free_at a own e core m h idle inside) h.groups.own none
+
+-- a rank holds what its core and its member hold
+rank_holds : (e : EngineState) (core : Core) (m : Member) → (r : IsRank e core m) → IsHeldAs r.announced e.sessions.place.endpoint e core m
+rank_holds e core m r = record { queues = r.queues; groups = r.groups; placed = r.placed }
+
+pub engines_refuse_as_the_machine : EnginesRefuseAsTheMachine
+engines_refuse_as_the_machine e mid core m call back why r gives = refused_alone r.announced e.sessions.place.endpoint e mid core m call back why (rank_holds e core m r) r.inside gives
+
+pub engines_judge_as_the_machine : EnginesJudgeAsTheMachine
+engines_judge_as_the_machine e core m call r fine = allowed_alone r.announced e.sessions.place.endpoint e core m call (rank_holds e core m r) r.inside fine
+
+pub engines_take_no_fault : EnginesTakeNoFault
+engines_take_no_fault e mid core m call reply r taken gives = engines_judge_as_the_machine e core m call r (allowed e mid call reply taken gives)
+
+-- ---- AN ENGINE OF A WORLD
+
+-- it is a rank
+pub engines_are_ranks : EnginesAreRanks
+engines_are_ranks n r engines datagrams history e f there =
+    let w : GroupNetwork = network_after n f.happenings in
+    let own : Endpoint = here w.net r in
+    let h : IsHeldAs (announcements_in 0 f.joined.sessions own) own e (w.net.core own) (w.member own) = held_at n r engines datagrams w e f.joined there 0 in
+    let endpoint : own ≡ e.sessions.place.endpoint = sym (ap (λ (p : Place). p.endpoint) (place_is n r engines datagrams w e f.joined there).1) in
+    record {
+      core = w.net.core own;
+      member = w.member own;
+      rank = record {
+        announced = announcements_in 0 f.joined.sessions own;
+        queues = h.queues;
+        groups = subst (λ (x : Endpoint). collectives.IsShown x e.groups.collective e.groups.contexts (w.member own) None) endpoint h.groups;
+        placed = h.placed;
+        inside = inside_world n r engines datagrams history e f there;
+      };
+    }
 
 -- a call that the engine refuses has the network's first fault, by its number; or the network finds none, and the number is 13 or 14
 pub refused_reason : (n r : ℕ) (engines : List EngineState) (datagrams : List (ℕ × List ℕ)) (history : List Entry) (e mid : EngineState) (call back : Call) (why : Refused) →
     (f : IsFollowed n engines datagrams history) → slice_get engines r ≡ Some e → CallGives e call (replies.Refused why back) mid →
     IsReason (fault (here (network_after n f.happenings).net r) (view blank ((network_after n f.happenings).net.core (here (network_after n f.happenings).net r)))
     ((network_after n f.happenings).member (here (network_after n f.happenings).net r)).membership (call_meant e.core call)) why
-refused_reason n r engines datagrams history e mid call back why f there gives = go (is_busy e) refl (refused e mid call why back gives).reason
-  where
-    w : GroupNetwork
-    w = network_after n f.happenings
-
-    own : Endpoint
-    own = here w.net r
-
-    core : Core
-    core = w.net.core own
-
-    m : Member
-    m = w.member own
-
-    a : Announcements
-    a = announcements_in 0 f.joined.sessions own
-
-    h : IsHeldAs a own e core m
-    h = held_at n r engines datagrams w e f.joined there 0
-
-    go : (b : Bool) → is_busy e ≡ b → WhyRefused (first_fault (broken b refusals.Request) (free_fault e call)) e call why →
-        IsReason (fault own (view blank core) m.membership (call_meant e.core call)) why
-    go true busy because = by_rule (fault own (view blank core) m.membership (call_meant e.core call)) refusals.Request why because (busy_fault a own e core m (call_meant e.core call) h busy)
-    go false idle because = free_reason a own e core m.membership call why (free_at a own e core m h idle (inside_world n r engines datagrams history e f there)) h.groups.own because
+refused_reason n r engines datagrams history e mid call back why f there gives =
+    let w : GroupNetwork = network_after n f.happenings in
+    let own : Endpoint = here w.net r in
+    refused_alone (announcements_in 0 f.joined.sessions own) own e mid (w.net.core own) (w.member own) call back why (held_at n r engines datagrams w e f.joined there 0)
+    (inside_world n r engines datagrams history e f there) gives
 
 -- a call that meets no rule and no limit has no fault there, and names no request of another engine
 pub allowed_faultless : (n r : ℕ) (engines : List EngineState) (datagrams : List (ℕ × List ℕ)) (history : List Entry) (e : EngineState) (call : Call) → (f : IsFollowed n engines datagrams history) →
     slice_get engines r ≡ Some e → fault_of e call ≡ None →
     IsFaultless (fault (here (network_after n f.happenings).net r) (view blank ((network_after n f.happenings).net.core (here (network_after n f.happenings).net r)))
     ((network_after n f.happenings).member (here (network_after n f.happenings).net r)).membership (call_seen call)) e.core call
-allowed_faultless n r engines datagrams history e call f there fine = go (is_busy e) refl fine
-  where
-    w : GroupNetwork
-    w = network_after n f.happenings
-
-    own : Endpoint
-    own = here w.net r
-
-    core : Core
-    core = w.net.core own
-
-    m : Member
-    m = w.member own
-
-    a : Announcements
-    a = announcements_in 0 f.joined.sessions own
-
-    h : IsHeldAs a own e core m
-    h = held_at n r engines datagrams w e f.joined there 0
-
-    go : (b : Bool) → is_busy e ≡ b → first_fault (broken b refusals.Request) (free_fault e call) ≡ None → IsFaultless (fault own (view blank core) m.membership (call_seen call)) e.core call
-    go true busy none = absurd cc
-    go false idle none = free_faultless a own e core m.membership call (free_at a own e core m h idle (inside_world n r engines datagrams history e f there)) h.groups.own none
+allowed_faultless n r engines datagrams history e call f there fine =
+    let w : GroupNetwork = network_after n f.happenings in
+    let own : Endpoint = here w.net r in
+    allowed_alone (announcements_in 0 f.joined.sessions own) own e (w.net.core own) (w.member own) call (held_at n r engines datagrams w e f.joined there 0)
+    (inside_world n r engines datagrams history e f there) fine
 
 -- so has one that it takes
 pub taken_faultless : (n r : ℕ) (engines : List EngineState) (datagrams : List (ℕ × List ℕ)) (history : List Entry) (e mid : EngineState) (call : Call) (reply : Reply) →

@@ -1,30 +1,31 @@
 -- A world follows the pure network through what is nothing to the network: ticks, and datagrams that are refused.
 use Rattle.std.proofs.Common.{◌≡◌, ◌++◌, Bool, true, false, Option, Some, None, refl, sym, ap, subst}
-use Rattle.std.specs.Prelude.{Result, Ok, Err}
+use Rattle.std.specs.Prelude.{Result, Ok, Err, slice_set}
 use Rattle.collective_transfers.specs.Payloads.{Whole}
 use Rattle.collective_transfers.specs.State.{is_due, whole_with}
 use Rattle.datagram.specs.Spelling.{DataText}
 use Rattle.engine.specs.Datagrams.{HeardGivesBy, HearingGives, NoticeText, OfAnnouncement, OfAnswer, OfMessage, OfPiece, PieceGivesBy, notice_in}
-use Rattle.engine_parts.specs.EngineState.{EngineState, completion_of}
+use Rattle.engine_parts.specs.EngineState.{EngineState, completion_of, emptied}
 use Rattle.engine.specs.Ticks.{after_tick}
 use Rattle.proof_group_network.specs.Network.{GroupNetwork}
 use Rattle.proof_link_truth.specs.Events.{IsAt, RefusalsAreTrue, RestIsTrue, TicksAreTrue}
 use Rattle.rank_calls.specs.declared.refused.Refused.{Refused}
 use Rattle.sessions.specs.Heard.{HeardText, heard_of}
 use Rattle.sessions.specs.declared.heard.Unheard.{Unheard}
-use Rattle.proof_network_bridge.specs.Following.{LeavesFollowed, RefusalsFollow, TicksFollow}
-use Rattle.proof_network_bridge.specs.Joined.{network_after, sessions_in}
+use Rattle.proof_network_bridge.specs.GoingOn.{IsFollowedBy, RefusalsStand, TicksStand}
+use Rattle.proof_network_bridge.specs.Joined.{IsFollowed, network_after, sessions_in}
 use Rattle.proof_network_bridge.specs.Seen.{told_completion}
-use Rattle.proof_network_bridge.proofs.Followed.{IsBeside, followed_still, followed_unanswered}
+use Rattle.proof_network_bridge.proofs.Followed.{IsBeside, followed, followed_still, followed_unanswered}
 use Rattle.proof_network_bridge.proofs.Halves.{Keeps, away_keeps}
 use Rattle.proof_network_bridge.proofs.Worlds.{is_at}
 
 -- ---- a tick
 
-pub ticks_follow : TicksAreTrue → TicksFollow
-ticks_follow truth n r now engines datagrams history old mid f there gives =
-    let w : GroupNetwork = network_after n f.happenings in
-    subst (λ (e : EngineState). LeavesFollowed n engines datagrams r e (history ++ told_completion old.sessions.place.endpoint (completion_of e))) (sym gives.1)
+pub ticks_stand : TicksAreTrue → TicksStand
+ticks_stand truth n r now before engines datagrams history old mid by there gives =
+    let f : IsFollowed n engines datagrams history = followed n before engines datagrams history by in
+    let w : GroupNetwork = network_after n before in
+    subst (λ (e : EngineState). IsFollowedBy n before (slice_set engines r (emptied e)) (datagrams ++ e.sessions.out) (history ++ told_completion old.sessions.place.endpoint (completion_of e))) (sym gives.1)
     (followed_unanswered n r engines datagrams history old (after_tick old now) f there (record { core = refl; groups = refl; ended = refl; payloads = refl; known = refl; place = refl })
     (truth n r now (sessions_in engines) datagrams f.joined.texts w.net.current old.sessions f.joined.links (is_at n r engines datagrams w old f.joined there)))
 
@@ -44,18 +45,21 @@ refused_leaves (Some (OfAnswer t)) old mid h why gives = gives.1
 refused_leaves (Some (OfPiece t)) old mid h why gives =
     piece_leaves (is_due old.payloads h.source.rank t.transfer t.offset t.bytes) (whole_with old.payloads h.source.rank t.transfer t.bytes) old mid h t why gives
 
-pub refusals_follow : RestIsTrue → RefusalsAreTrue → RefusalsFollow
-refusals_follow rest refusals n r number bytes engines datagrams history old mid why f there emitted gives = go (heard_of old.sessions bytes) refl gives
+pub refusals_stand : RestIsTrue → RefusalsAreTrue → RefusalsStand
+refusals_stand rest refusals n r number bytes before engines datagrams history old mid why by there emitted gives = go (heard_of old.sessions bytes) refl gives
   where
+    f : IsFollowed n engines datagrams history
+    f = followed n before engines datagrams history by
+
     w : GroupNetwork
     w = network_after n f.happenings
 
     here_is : IsAt (sessions_in engines) r old.sessions
     here_is = is_at n r engines datagrams w old f.joined there
 
-    go : (o : Result HeardText Unheard) → heard_of old.sessions bytes ≡ o → HearingGives o old (Err why) mid → LeavesFollowed n engines datagrams r mid history
+    go : (o : Result HeardText Unheard) → heard_of old.sessions bytes ≡ o → HearingGives o old (Err why) mid → IsFollowedBy n before (slice_set engines r (emptied mid)) (datagrams ++ mid.sessions.out) history
     go (Ok h) is g =
-        subst (λ (e : EngineState). LeavesFollowed n engines datagrams r e history) (sym (refused_leaves (notice_in h.lesson old.payloads h.source.rank h.word) old mid h why g))
+        subst (λ (e : EngineState). IsFollowedBy n before (slice_set engines r (emptied e)) (datagrams ++ e.sessions.out) history) (sym (refused_leaves (notice_in h.lesson old.payloads h.source.rank h.word) old mid h why g))
         (followed_still n r engines datagrams history old old f there (record { core = refl; groups = refl; ended = refl; payloads = refl; known = refl; place = refl })
         (rest n r (sessions_in engines) datagrams f.joined.texts w.net.current old.sessions f.joined.links here_is))
     go (Err u) is g =

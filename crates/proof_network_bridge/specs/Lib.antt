@@ -3,3 +3,5 @@ pub mod Seen
 pub mod Payloads
 pub mod Joined
 pub mod Following
+pub mod GoingOn
+pub mod Alone

@@ -2,6 +2,8 @@
 
 ghost use Rattle.proof_network_bridge.specs.OnWorld.{RunsOnWorldAreOfQueues};
 ghost use Rattle.proof_network_bridge.specs.Following.{OpeningFollows, CallsFollow, DatagramsFollow, RefusalsFollow, TicksFollow, RestartsFollow, FollowingIsRun};
+ghost use Rattle.proof_network_bridge.specs.Alone.{EnginesAreRanks, EnginesRefuseAsTheMachine, EnginesTakeNoFault, EnginesJudgeAsTheMachine};
+ghost use Rattle.proof_network_bridge.specs.GoingOn.{OpeningFollowsNone, CallsFollowOn, DatagramsFollowOn, RefusalsStand, TicksStand, RestartsFollowOn, FollowingIsEachRun, EnginesShareGroups};
 
 /// States that a world of engines follows the pure network with communicators from its opening on, through every call that
 /// is taken, every datagram that is taken in or refused, every tick and every restart of a rank; and that whoever follows
@@ -22,6 +24,39 @@ pub fn worlds_are_runs()
     ensures ticks { TicksFollow }
     ensures restarts { RestartsFollow }
     ensures run { FollowingIsRun }
+{}
+
+/// States that a world of engines goes on from the happenings of the network that it followed before: at its opening from none,
+/// with a call, a datagram that is taken in and a restart by one more at the rank of the event, or by none, and with a datagram
+/// that is refused and with a tick by none; that whatever is told of its engines by some run of the machine is so by each run that
+/// goes with these happenings; and that along such a run engines share one group for each context, one that is there with one
+/// that was started anew since. It does nothing when it is called.
+///
+/// Communicators are those of MPI 3.1, 6.2.4; restarts are this project's own.
+pub fn worlds_go_on()
+    ensures opening { OpeningFollowsNone }
+    ensures calls { CallsFollowOn }
+    ensures datagrams { DatagramsFollowOn }
+    ensures refusals { RefusalsStand }
+    ensures ticks { TicksStand }
+    ensures restarts { RestartsFollowOn }
+    ensures run { FollowingIsEachRun }
+    ensures groups { EnginesShareGroups }
+{}
+
+/// States of an engine alone, without a world, that it refuses a call exactly where its own part of the machine finds a fault: a
+/// refused call has the machine's first fault, by its number, or the machine finds none and the number is 13 or 14; with a call
+/// that is taken, or judged to meet no rule and no limit, the machine finds none. It stands on the engine's contract and on what
+/// it holds: its table of requests is that of a core of the network, and its communicators are those of a member, of ranks of its
+/// job (`IsRank`); and each engine of a world that follows the network is such a rank (`ranks`). It does nothing when it is
+/// called.
+///
+/// Faults are those of MPI 3.1, 3, 5 and 6.4; their order is this project's own.
+pub fn engines_refuse_as_the_machine()
+    ensures refused { EnginesRefuseAsTheMachine }
+    ensures taken { EnginesTakeNoFault }
+    ensures judged { EnginesJudgeAsTheMachine }
+    ensures ranks { EnginesAreRanks }
 {}
 
 /// States that a run of the machine of queues and groups in which all calls are of point to point on world is a run of the

@@ -11,3 +11,4 @@ pub mod Keys
 pub mod Refusals
 pub mod Ordered
 pub mod Headlines
+pub mod EventByEvent

@@ -17,10 +17,13 @@ use Rattle.sessions.specs.Heard.{HeardText, heard_of}
 use Rattle.sessions.specs.SessionsState.{SessionsState}
 use Rattle.rank_calls.specs.declared.refused.Refused.{Refused}
 use Rattle.proof_network_bridge.specs.Following.{RefusesDatagram}
-use Rattle.proof_network_bridge.specs.Joined.{IsClean, IsFollowed}
-use Rattle.proof_network_bridge.proofs.Closed.{refusals_follow}
+use Rattle.proof_group_network.specs.Network.{Happening}
+use Rattle.proof_network_bridge.specs.GoingOn.{IsFollowedBy}
+use Rattle.proof_network_bridge.specs.Joined.{IsClean}
+use Rattle.proof_network_bridge.proofs.Closed.{refusals_stand}
 use Rattle.requests.specs.declared.answer.Answer.{Answer}
 use Rattle.world.specs.Faults.{event_fault, target_of}
+use Rattle.world.specs.EventByEvent.{IsSoundBy}
 use Rattle.world.specs.Headline.{IsSound, history_seen}
 use Rattle.world.specs.Steps.{DatagramRuns, DeliveryRuns, EventRuns, HasOwnBytes, IsCall, IsRefusedBy, IsWhy, RanAt, Refusal, fault_in, first_of, with_out}
 use Rattle.world.specs.WorldState.{HasRoom, WorldState}
@@ -30,6 +33,7 @@ use Rattle.world.specs.declared.event.Event.TheVariants as events
 use Rattle.world.specs.declared.event.Failed.{Failed}
 use Rattle.world.proofs.Asked.{first_fault_refuses}
 use Rattle.world.proofs.Places.{sound_placed}
+use Rattle.world.proofs.Sound.{is_sound, sound_by}
 use Rattle.world.proofs.Strays.{alike_at_engine, stray_breaks}
 
 -- ---- what a refused datagram leaves of an engine
@@ -102,54 +106,59 @@ emptied_is_old old mid bytes why clean g =
 -- ---- what it leaves of a world
 
 -- a refusal with which nothing goes out
-silent : (n : ℕ) (engines : List EngineState) (d : List (ℕ × List ℕ)) (h : List machine.Entry) (out : List (ℕ × List ℕ)) → out ≡ [] → IsFollowed n engines d h → IsFollowed n engines (d ++ out) h
-silent n engines d h out none f = subst (λ (x : List (ℕ × List ℕ)). IsFollowed n engines x h) (sym (ap (λ (o : List (ℕ × List ℕ)). d ++ o) none ∙ append-nil d)) f
+silent : (n : ℕ) (before : List Happening) (engines : List EngineState) (d : List (ℕ × List ℕ)) (h : List machine.Entry) (out : List (ℕ × List ℕ)) → out ≡ [] → IsFollowedBy n before engines d h → IsFollowedBy n before engines (d ++ out) h
+silent n before engines d h out none f = subst (λ (x : List (ℕ × List ℕ)). IsFollowedBy n before engines x h) (sym (ap (λ (o : List (ℕ × List ℕ)). d ++ o) none ∙ append-nil d)) f
 
 -- a datagram that the engine of its rank refuses
-datagram_followed : (old : List EngineState) (d : List (ℕ × List ℕ)) (h : List machine.Entry) (number rank : ℕ) (bytes : List ℕ) (e next : EngineState) (refusal : Refusal) →
-    IsFollowed (length old) old d h → slice_get old rank ≡ Some e → old ≡ slice_set old rank next → slice_get d number ≡ Some (rank, bytes) → DatagramRuns e bytes (Err refusal) next →
-    IsFollowed (length old) old (d ++ refusal.out) h
-datagram_followed old d h number rank bytes e next refusal f there others emitted ran =
+datagram_followed : (before : List Happening) (old : List EngineState) (d : List (ℕ × List ℕ)) (h : List machine.Entry) (number rank : ℕ) (bytes : List ℕ) (e next : EngineState) (refusal : Refusal) →
+    IsFollowedBy (length old) before old d h → slice_get old rank ≡ Some e → old ≡ slice_set old rank next → slice_get d number ≡ Some (rank, bytes) → DatagramRuns e bytes (Err refusal) next →
+    IsFollowedBy (length old) before old (d ++ refusal.out) h
+datagram_followed before old d h number rank bytes e next refusal f there others emitted ran =
     let mid : EngineState = with_out e refusal.out in
     let clean : IsClean e = f.joined.clean rank e there in
     let engines_are : slice_set old rank (emptied mid) ≡ old =
     ap (slice_set old rank) (emptied_is_old e mid bytes refusal.refused clean ran.1 ∙ sym ran.0) ∙ sym others in
     let out_is : refusal.out ≡ mid.sessions.out = ap (λ (x : List (ℕ × List ℕ)). x ++ refusal.out) (sym clean.out) in
-    subst (λ (x : List (ℕ × List ℕ)). IsFollowed (length old) old (d ++ x) h) (sym out_is)
-    (subst (λ (x : List EngineState). IsFollowed (length old) x (d ++ mid.sessions.out) h) engines_are
-    (refusals_follow (length old) rank number bytes old d h e mid refusal.refused f there emitted ran.1))
+    subst (λ (x : List (ℕ × List ℕ)). IsFollowedBy (length old) before old (d ++ x) h) (sym out_is)
+    (subst (λ (x : List EngineState). IsFollowedBy (length old) before x (d ++ mid.sessions.out) h) engines_are
+    (refusals_stand (length old) rank number bytes before old d h e mid refusal.refused f there emitted ran.1))
 
 -- the datagram under a number
-delivery_followed : (old : List EngineState) (d : List (ℕ × List ℕ)) (h : List machine.Entry) (number rank : ℕ) (e next : EngineState) (refusal : Refusal) →
-    IsFollowed (length old) old d h → slice_get old rank ≡ Some e → old ≡ slice_set old rank next → target_of d (events.Deliver number) ≡ Some rank →
-    DeliveryRuns (slice_get d number) e (Err refusal) next → IsFollowed (length old) old (d ++ refusal.out) h
-delivery_followed old d h number rank e next refusal f there others target ran = go (slice_get d number) refl target ran
+delivery_followed : (before : List Happening) (old : List EngineState) (d : List (ℕ × List ℕ)) (h : List machine.Entry) (number rank : ℕ) (e next : EngineState) (refusal : Refusal) →
+    IsFollowedBy (length old) before old d h → slice_get old rank ≡ Some e → old ≡ slice_set old rank next → target_of d (events.Deliver number) ≡ Some rank →
+    DeliveryRuns (slice_get d number) e (Err refusal) next → IsFollowedBy (length old) before old (d ++ refusal.out) h
+delivery_followed before old d h number rank e next refusal f there others target ran = go (slice_get d number) refl target ran
   where
     go : (o : Option (ℕ × List ℕ)) → slice_get d number ≡ o → option_map (λ (t : ℕ × List ℕ). t.0) o ≡ Some rank → DeliveryRuns o e (Err refusal) next →
-        IsFollowed (length old) old (d ++ refusal.out) h
+        IsFollowedBy (length old) before old (d ++ refusal.out) h
     go None is t n = absurd n
     go (Some (to, bytes)) is t n =
         let to_is : to ≡ rank = same_Some to rank t in
-        datagram_followed old d h number rank bytes e next refusal f there others (is ∙ ap (λ (x : ℕ). Some (x, bytes)) to_is) n
+        datagram_followed before old d h number rank bytes e next refusal f there others (is ∙ ap (λ (x : ℕ). Some (x, bytes)) to_is) n
 
-event_followed : (old : List EngineState) (d : List (ℕ × List ℕ)) (h : List machine.Entry) (event : Event) (rank : ℕ) (e next : EngineState) (refusal : Refusal) →
-    IsFollowed (length old) old d h → event_fault (length old) d event ≡ None → slice_get old rank ≡ Some e → old ≡ slice_set old rank next → target_of d event ≡ Some rank →
-    EventRuns d event e (Err refusal) next → IsFollowed (length old) old (d ++ refusal.out) h
-event_followed old d h (events.Call r call) rank e next refusal f allowed there others target ran = silent (length old) old d h refusal.out ran.1 f
-event_followed old d h (events.Deliver number) rank e next refusal f allowed there others target ran =
-    delivery_followed old d h number rank e next refusal f there others target ran
-event_followed old d h (events.Stray r bytes) rank e next refusal f allowed there others target ran = absurd (stray_breaks (length old) d r bytes allowed)
-event_followed old d h (events.Tick r now) rank e next refusal f allowed there others target ran = silent (length old) old d h refusal.out ran.1 f
-event_followed old d h (events.Restart r) rank e next refusal f allowed there others target ran = silent (length old) old d h refusal.out ran.1 f
+event_followed : (before : List Happening) (old : List EngineState) (d : List (ℕ × List ℕ)) (h : List machine.Entry) (event : Event) (rank : ℕ) (e next : EngineState) (refusal : Refusal) →
+    IsFollowedBy (length old) before old d h → event_fault (length old) d event ≡ None → slice_get old rank ≡ Some e → old ≡ slice_set old rank next → target_of d event ≡ Some rank →
+    EventRuns d event e (Err refusal) next → IsFollowedBy (length old) before old (d ++ refusal.out) h
+event_followed before old d h (events.Call r call) rank e next refusal f allowed there others target ran = silent (length old) before old d h refusal.out ran.1 f
+event_followed before old d h (events.Deliver number) rank e next refusal f allowed there others target ran =
+    delivery_followed before old d h number rank e next refusal f there others target ran
+event_followed before old d h (events.Stray r bytes) rank e next refusal f allowed there others target ran = absurd (stray_breaks (length old) d r bytes allowed)
+event_followed before old d h (events.Tick r now) rank e next refusal f allowed there others target ran = silent (length old) before old d h refusal.out ran.1 f
+event_followed before old d h (events.Restart r) rank e next refusal f allowed there others target ran = silent (length old) before old d h refusal.out ran.1 f
+
+pub refusal_sound_by : (before : List Happening) (old : List EngineState) (d : List (ℕ × List ℕ)) (h : List Entry) (event : Event) (refusal : Refusal) →
+    IsSoundBy before old d h → event_fault (length old) d event ≡ None → RanAt d event old (Err refusal) old → IsSoundBy before old (d ++ refusal.out) h
+refusal_sound_by before old d h event refusal s allowed ran =
+    record {
+      world = s.world;
+      followed = event_followed before old d (history_seen h) event ran.rank ran.engine ran.next refusal s.followed allowed ran.there ran.others ran.target ran.ran;
+      named = s.named;
+    }
 
 pub refusal_sound : (old : List EngineState) (d : List (ℕ × List ℕ)) (h : List Entry) (event : Event) (refusal : Refusal) →
     IsSound old d h → event_fault (length old) d event ≡ None → RanAt d event old (Err refusal) old → IsSound old (d ++ refusal.out) h
 refusal_sound old d h event refusal s allowed ran =
-    record {
-      world = s.world;
-      followed = event_followed old d (history_seen h) event ran.rank ran.engine ran.next refusal s.followed allowed ran.there ran.others ran.target ran.ran;
-      named = s.named;
-    }
+    is_sound s.followed.happenings old (d ++ refusal.out) h (refusal_sound_by s.followed.happenings old d h event refusal (sound_by old d h s) allowed ran)
 
 -- ---- what is told of it
 

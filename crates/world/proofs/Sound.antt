@@ -11,9 +11,15 @@ use Rattle.engine_parts.specs.declared.reply.Completion.{Completion}
 use Rattle.engine_parts.specs.declared.reply.Reply.{Reply}
 use Rattle.perfect_groups.specs.Events as machine
 use Rattle.proof_network_bridge.specs.Seen.{told_call, told_completion}
-use Rattle.proof_network_bridge.specs.Following.{LeavesFollowed, next_place}
+use Rattle.proof_group_network.specs.Network.{Happening}
+use Rattle.proof_network_runs.specs.Runs.{rank_of}
+use Rattle.proof_network_bridge.specs.Following.{next_place}
+use Rattle.proof_network_bridge.specs.GoingOn.{Happened, IsFollowedBy, IsFollowedOn, LeavesFollowedOn, Stands}
 use Rattle.proof_network_bridge.specs.Joined.{IsFollowed, opening_engines}
-use Rattle.proof_network_bridge.proofs.Closed.{calls_follow, datagrams_follow, opening_follows, restarts_follow, ticks_follow}
+use Rattle.proof_network_bridge.proofs.Closed.{calls_follow_on, datagrams_follow_on, opening_follows_none, restarts_follow_on, ticks_stand}
+use Rattle.proof_network_bridge.proofs.Followed.{by_happenings}
+use Rattle.proof_network_bridge.proofs.Followed.{followed as followed_by}
+use Rattle.world.specs.EventByEvent.{IsSoundBy}
 use Rattle.world.specs.WorldState.{IsWorld, StandsIn}
 use Rattle.world.specs.Headline.{IsSound, entry_seen, history_seen}
 use Rattle.world.specs.Faults.{event_fault, target_of}
@@ -30,6 +36,18 @@ pub sound_same : (e e' : List EngineState) (d d' : List (ℕ × List ℕ)) (h h'
 sound_same e e' d d' h h' es ds hs s =
     subst (λ (x : List EngineState). IsSound x d' h') (sym es) (subst (λ (x : List (ℕ × List ℕ)). IsSound e x h') (sym ds) (subst (λ (x : List Entry). IsSound e d x) (sym hs) s))
 
+-- ---- by which happenings
+
+-- what holds by some happenings holds
+pub is_sound : (happenings : List Happening) (engines : List EngineState) (d : List (ℕ × List ℕ)) (h : List Entry) → IsSoundBy happenings engines d h → IsSound engines d h
+is_sound happenings engines d h s = record { world = s.world; followed = followed_by (length engines) happenings engines d (history_seen h) s.followed; named = s.named }
+
+-- and what holds does so by some
+pub sound_by : (engines : List EngineState) (d : List (ℕ × List ℕ)) (h : List Entry) → (s : IsSound engines d h) → IsSoundBy s.followed.happenings engines d h
+sound_by engines d h s = record { world = s.world; followed = by_happenings (length engines) engines d (history_seen h) s.followed; named = s.named }
+
+-- ---- the opening
+
 length_opening : (n a k : ℕ) → length (opening_engines n a k) ≡ k
 length_opening n a zero = refl
 length_opening n a (suc k) = ap suc (length_opening n (suc a) k)
@@ -45,39 +63,42 @@ opening_is_world n few =
     let size : length (opening_engines n 0 n) ≡ n = length_opening n 0 n in
     (omega (arith, few, size), λ k d lt. opening_stands (length (opening_engines n 0 n)) n 0 n k d (omega (arith, lt, size)) (sym size))
 
-pub opening_sound : (n : ℕ) → n ≤ 1024 → IsSound (opening_engines n 0 n) [] []
-opening_sound n few =
+pub opening_sound_by : (n : ℕ) → n ≤ 1024 → IsSoundBy [] (opening_engines n 0 n) [] []
+opening_sound_by n few =
     record {
       world = opening_is_world n few;
-      followed = subst (λ (m : ℕ). IsFollowed m (opening_engines n 0 n) [] []) (sym (length_opening n 0 n)) (opening_follows n few);
+      followed = subst (λ (m : ℕ). IsFollowedBy m [] (opening_engines n 0 n) [] []) (sym (length_opening n 0 n)) (opening_follows_none n few);
       named = λ r e there. record { past = tt; named = λ q given. absurd given };
     }
+
+pub opening_sound : (n : ℕ) → n ≤ 1024 → IsSound (opening_engines n 0 n) [] []
+opening_sound n few = is_sound [] (opening_engines n 0 n) [] [] (opening_sound_by n few)
 
 -- one entry more is seen behind the others
 seen_more : (h : List Entry) (e : Entry) → history_seen (h ++ e ∷ []) ≡ history_seen h ++ entry_seen e
 seen_more h e = flat_map-append entry_seen h (e ∷ []) ∙ ap (λ (x : List machine.Entry). history_seen h ++ x) (append-nil (entry_seen e))
 
 -- the parts of what followed, put together
-followed : (old new : List EngineState) (d : List (ℕ × List ℕ)) (h : List Entry) (rank : ℕ) (event : Event) (gave : Gave) (mid next : EngineState) (seen : List machine.Entry) →
-    LeavesFollowed (length old) old d rank mid (history_seen h ++ seen) → next ≡ emptied mid → new ≡ slice_set old rank next → gave.out ≡ mid.sessions.out → seen ≡ entry_seen (entry_of event gave) →
-    IsFollowed (length new) new (d ++ gave.out) (history_seen (h ++ entry_of event gave ∷ []))
-followed old new d h rank event gave mid next seen f state others out is =
+followed : (before : List Happening) (old new : List EngineState) (d : List (ℕ × List ℕ)) (h : List Entry) (rank : ℕ) (event : Event) (gave : Gave) (mid next : EngineState) (seen : List machine.Entry) →
+    LeavesFollowedOn (length old) before old d rank mid (history_seen h ++ seen) → next ≡ emptied mid → new ≡ slice_set old rank next → gave.out ≡ mid.sessions.out → seen ≡ entry_seen (entry_of event gave) →
+    IsFollowedOn (length new) rank before new (d ++ gave.out) (history_seen (h ++ entry_of event gave ∷ []))
+followed before old new d h rank event gave mid next seen f state others out is =
     let engines_are : new ≡ slice_set old rank (emptied mid) = others ∙ ap (slice_set old rank) state in
     let size_is : length new ≡ length old = ap length engines_are ∙ length-set old rank (emptied mid) in
     let history_is : history_seen (h ++ entry_of event gave ∷ []) ≡ history_seen h ++ seen =
     seen_more h (entry_of event gave) ∙ ap (λ (x : List machine.Entry). history_seen h ++ x) (sym is) in
-    subst (λ (x : List machine.Entry). IsFollowed (length new) new (d ++ gave.out) x) (sym history_is)
-    (subst (λ (x : List (ℕ × List ℕ)). IsFollowed (length new) new (d ++ x) (history_seen h ++ seen)) (sym out)
-    (subst (λ (x : List EngineState). IsFollowed (length new) x (d ++ mid.sessions.out) (history_seen h ++ seen)) (sym engines_are)
-    (subst (λ (m : ℕ). IsFollowed m (slice_set old rank (emptied mid)) (d ++ mid.sessions.out) (history_seen h ++ seen)) (sym size_is) f)))
+    subst (λ (x : List machine.Entry). IsFollowedOn (length new) rank before new (d ++ gave.out) x) (sym history_is)
+    (subst (λ (x : List (ℕ × List ℕ)). IsFollowedOn (length new) rank before new (d ++ x) (history_seen h ++ seen)) (sym out)
+    (subst (λ (x : List EngineState). IsFollowedOn (length new) rank before x (d ++ mid.sessions.out) (history_seen h ++ seen)) (sym engines_are)
+    (subst (λ (m : ℕ). IsFollowedOn m rank before (slice_set old rank (emptied mid)) (d ++ mid.sessions.out) (history_seen h ++ seen)) (sym size_is) f)))
 
 -- what an event that the engine of a rank took leaves, by what the history says of it
-abbrev Leaves : (new : List EngineState) (d : List (ℕ × List ℕ)) (h : List Entry) → Event → Gave → Type 0
-Leaves new d h event gave = IsFollowed (length new) new (d ++ gave.out) (history_seen (h ++ entry_of event gave ∷ []))
+abbrev pub Leaves : (rank : ℕ) (before : List Happening) (new : List EngineState) (d : List (ℕ × List ℕ)) (h : List Entry) → Event → Gave → Type 0
+Leaves rank before new d h event gave = IsFollowedOn (length new) rank before new (d ++ gave.out) (history_seen (h ++ entry_of event gave ∷ []))
 
 -- an engine of a world that was followed so far, and what stands for it afterwards
-record IsEngineOf (old new : List EngineState) (d : List (ℕ × List ℕ)) (h : List Entry) (rank : ℕ) (e next : EngineState) : Type 0 where
-  pub before : IsFollowed (length old) old d (history_seen h)
+record IsEngineOf (happenings : List Happening) (old new : List EngineState) (d : List (ℕ × List ℕ)) (h : List Entry) (rank : ℕ) (e next : EngineState) : Type 0 where
+  pub before : IsFollowedBy (length old) happenings old d (history_seen h)
   pub there : slice_get old rank ≡ Some e
   pub others : new ≡ slice_set old rank next
 
@@ -89,17 +110,17 @@ completion_at e mid gave endpoint completion =
 
 -- ---- a call
 
-call_followed : (old new : List EngineState) (d : List (ℕ × List ℕ)) (h : List Entry) (rank r : ℕ) (call : Call) (e next : EngineState) (gave : Gave) →
-    IsEngineOf old new d h rank e next → CallRuns e call (Ok gave) next → Leaves new d h (events.Call r call) gave
-call_followed old new d h rank r call e next gave at ran = go gave.reply refl
+call_followed : (before : List Happening) (old new : List EngineState) (d : List (ℕ × List ℕ)) (h : List Entry) (rank r : ℕ) (call : Call) (e next : EngineState) (gave : Gave) →
+    IsEngineOf before old new d h rank e next → CallRuns e call (Ok gave) next → Leaves rank before new d h (events.Call r call) gave
+call_followed before old new d h rank r call e next gave at ran = go gave.reply refl
   where
-    go : (o : Option Reply) → gave.reply ≡ o → Leaves new d h (events.Call r call) gave
+    go : (o : Option Reply) → gave.reply ≡ o → Leaves rank before new d h (events.Call r call) gave
     go None is = absurd (subst (λ (o : Option Reply). TakesCall e call o ran.mid) is ran.event)
     go (Some reply) is =
         let a = subst (λ (o : Option Reply). TakesCall e call o ran.mid) is ran.event in
-        followed old new d h rank (events.Call r call) gave ran.mid next
+        followed before old new d h rank (events.Call r call) gave ran.mid next
         (told_call e.sessions.place.endpoint call (Some reply) ++ told_completion e.sessions.place.endpoint (completion_of ran.mid))
-        (calls_follow (length old) rank old d (history_seen h) e ran.mid call reply at.before at.there a.0 a.1)
+        (calls_follow_on (length old) rank before old d (history_seen h) e ran.mid call reply at.before at.there a.0 a.1)
         ran.state at.others ran.out
         (ap (λ (o : Option Reply). told_call e.sessions.place.endpoint call o ++ told_completion e.sessions.place.endpoint (completion_of ran.mid)) (sym is)
         ∙ ap (λ (es : List machine.Entry). told_call e.sessions.place.endpoint call gave.reply ++ es) (completion_at e ran.mid gave ran.endpoint ran.completion)
@@ -107,67 +128,68 @@ call_followed old new d h rank r call e next gave at ran = go gave.reply refl
 
 -- ---- a datagram
 
-datagram_followed : (old new : List EngineState) (d : List (ℕ × List ℕ)) (h : List Entry) (number rank : ℕ) (bytes : List ℕ) (e next : EngineState) (gave : Gave) →
-    IsEngineOf old new d h rank e next → slice_get d number ≡ Some (rank, bytes) → DatagramRuns e bytes (Ok gave) next →
-    Leaves new d h (events.Deliver number) gave
-datagram_followed old new d h number rank bytes e next gave at emitted ran = go gave.reply refl
+datagram_followed : (before : List Happening) (old new : List EngineState) (d : List (ℕ × List ℕ)) (h : List Entry) (number rank : ℕ) (bytes : List ℕ) (e next : EngineState) (gave : Gave) →
+    IsEngineOf before old new d h rank e next → slice_get d number ≡ Some (rank, bytes) → DatagramRuns e bytes (Ok gave) next →
+    Leaves rank before new d h (events.Deliver number) gave
+datagram_followed before old new d h number rank bytes e next gave at emitted ran = go gave.reply refl
   where
-    go : (o : Option Reply) → gave.reply ≡ o → Leaves new d h (events.Deliver number) gave
+    go : (o : Option Reply) → gave.reply ≡ o → Leaves rank before new d h (events.Deliver number) gave
     go (Some reply) is = absurd (subst (λ (o : Option Reply). TakesBytes e bytes o ran.mid) is ran.event)
     go None is =
-        followed old new d h rank (events.Deliver number) gave ran.mid next
+        followed before old new d h rank (events.Deliver number) gave ran.mid next
         (told_completion e.sessions.place.endpoint (completion_of ran.mid))
-        (datagrams_follow (length old) rank number bytes old d (history_seen h) e ran.mid at.before at.there emitted
+        (datagrams_follow_on (length old) rank number bytes before old d (history_seen h) e ran.mid at.before at.there emitted
         (subst (λ (o : Option Reply). TakesBytes e bytes o ran.mid) is ran.event))
         ran.state at.others ran.out (completion_at e ran.mid gave ran.endpoint ran.completion)
 
 -- by the datagram under the number, which goes to the rank that the delivery comes to
-delivery_followed : (old new : List EngineState) (d : List (ℕ × List ℕ)) (h : List Entry) (number rank : ℕ) (e next : EngineState) (gave : Gave) →
-    IsEngineOf old new d h rank e next → target_of d (events.Deliver number) ≡ Some rank → DeliveryRuns (slice_get d number) e (Ok gave) next →
-    Leaves new d h (events.Deliver number) gave
-delivery_followed old new d h number rank e next gave at target ran = go (slice_get d number) refl target ran
+delivery_followed : (before : List Happening) (old new : List EngineState) (d : List (ℕ × List ℕ)) (h : List Entry) (number rank : ℕ) (e next : EngineState) (gave : Gave) →
+    IsEngineOf before old new d h rank e next → target_of d (events.Deliver number) ≡ Some rank → DeliveryRuns (slice_get d number) e (Ok gave) next →
+    Leaves rank before new d h (events.Deliver number) gave
+delivery_followed before old new d h number rank e next gave at target ran = go (slice_get d number) refl target ran
   where
     go : (o : Option (ℕ × List ℕ)) → slice_get d number ≡ o → option_map (λ (t : ℕ × List ℕ). t.0) o ≡ Some rank → DeliveryRuns o e (Ok gave) next →
-        Leaves new d h (events.Deliver number) gave
+        Leaves rank before new d h (events.Deliver number) gave
     go None is t n = absurd n
     go (Some (to, bytes)) is t n =
         let to_is : to ≡ rank = same_Some to rank t in
-        datagram_followed old new d h number rank bytes e next gave at (is ∙ ap (λ (x : ℕ). Some (x, bytes)) to_is) n
+        datagram_followed before old new d h number rank bytes e next gave at (is ∙ ap (λ (x : ℕ). Some (x, bytes)) to_is) n
 
 -- ---- a tick
 
-tick_followed : (old new : List EngineState) (d : List (ℕ × List ℕ)) (h : List Entry) (rank r now : ℕ) (e next : EngineState) (gave : Gave) →
-    IsEngineOf old new d h rank e next → TickRuns e now (Ok gave) next → Leaves new d h (events.Tick r now) gave
-tick_followed old new d h rank r now e next gave at ran = go gave.reply refl
+tick_followed : (before : List Happening) (old new : List EngineState) (d : List (ℕ × List ℕ)) (h : List Entry) (rank r now : ℕ) (e next : EngineState) (gave : Gave) →
+    IsEngineOf before old new d h rank e next → TickRuns e now (Ok gave) next → Leaves rank before new d h (events.Tick r now) gave
+tick_followed before old new d h rank r now e next gave at ran = go gave.reply refl
   where
-    go : (o : Option Reply) → gave.reply ≡ o → Leaves new d h (events.Tick r now) gave
+    go : (o : Option Reply) → gave.reply ≡ o → Leaves rank before new d h (events.Tick r now) gave
     go (Some reply) is = absurd (subst (λ (o : Option Reply). TakesTime e now o ran.mid) is ran.event)
     go None is =
-        followed old new d h rank (events.Tick r now) gave ran.mid next
+        followed before old new d h rank (events.Tick r now) gave ran.mid next
         (told_completion e.sessions.place.endpoint (completion_of ran.mid))
-        (ticks_follow (length old) rank now old d (history_seen h) e ran.mid at.before at.there
-        (subst (λ (o : Option Reply). TakesTime e now o ran.mid) is ran.event))
+        (Stands (ticks_stand (length old) rank now before old d (history_seen h) e ran.mid at.before at.there
+        (subst (λ (o : Option Reply). TakesTime e now o ran.mid) is ran.event)))
         ran.state at.others ran.out (completion_at e ran.mid gave ran.endpoint ran.completion)
 
 -- ---- a restart
 
-restart_followed : (old new : List EngineState) (d : List (ℕ × List ℕ)) (h : List Entry) (rank : ℕ) (e next : EngineState) (gave : Gave) →
-    IsEngineOf old new d h rank e next → RestartRuns e (Ok gave) next → Leaves new d h (events.Restart rank) gave
-restart_followed old new d h rank e next gave at ran =
+restart_followed : (before : List Happening) (old new : List EngineState) (d : List (ℕ × List ℕ)) (h : List Entry) (rank : ℕ) (e next : EngineState) (gave : Gave) →
+    IsEngineOf before old new d h rank e next → RestartRuns e (Ok gave) next → Leaves rank before new d h (events.Restart rank) gave
+restart_followed before old new d h rank e next gave at ran =
     let after : EngineState = opening (next_place e.sessions.place) in
     let engines_are : new ≡ slice_set old rank after = at.others ∙ ap (slice_set old rank) ran.1 in
     let size_is : length new ≡ length old = ap length engines_are ∙ length-set old rank after in
     let none : Gave = nothing_of e.sessions.place.endpoint in
-    let done : IsFollowed (length old) (slice_set old rank after) d (history_seen h ++ machine.Restarted rank ∷ []) =
-    restarts_follow (length old) rank old d (history_seen h) e at.before at.there (below_last (length old) old d (history_seen h) rank e at.before at.there ran.0)
+    let done : IsFollowedOn (length old) rank before (slice_set old rank after) d (history_seen h ++ machine.Restarted rank ∷ []) =
+    restarts_follow_on (length old) rank before old d (history_seen h) e at.before at.there
+    (below_last (length old) old d (history_seen h) rank e (followed_by (length old) before old d (history_seen h) at.before) at.there ran.0)
     in
-    let there : IsFollowed (length new) new d (history_seen h ++ machine.Restarted rank ∷ []) =
-    subst (λ (x : List EngineState). IsFollowed (length new) x d (history_seen h ++ machine.Restarted rank ∷ [])) (sym engines_are)
-    (subst (λ (m : ℕ). IsFollowed m (slice_set old rank after) d (history_seen h ++ machine.Restarted rank ∷ [])) (sym size_is) done)
+    let there : IsFollowedOn (length new) rank before new d (history_seen h ++ machine.Restarted rank ∷ []) =
+    subst (λ (x : List EngineState). IsFollowedOn (length new) rank before x d (history_seen h ++ machine.Restarted rank ∷ [])) (sym engines_are)
+    (subst (λ (m : ℕ). IsFollowedOn m rank before (slice_set old rank after) d (history_seen h ++ machine.Restarted rank ∷ [])) (sym size_is) done)
     in
-    subst (λ (g : Gave). Leaves new d h (events.Restart rank) g) (sym ran.2)
-    (subst (λ (x : List machine.Entry). IsFollowed (length new) new (d ++ []) x) (sym (seen_more h (entry_of (events.Restart rank) none)))
-    (subst (λ (x : List (ℕ × List ℕ)). IsFollowed (length new) new x (history_seen h ++ machine.Restarted rank ∷ [])) (sym (append-nil d)) there))
+    subst (λ (g : Gave). Leaves rank before new d h (events.Restart rank) g) (sym ran.2)
+    (subst (λ (x : List machine.Entry). IsFollowedOn (length new) rank before new (d ++ []) x) (sym (seen_more h (entry_of (events.Restart rank) none)))
+    (subst (λ (x : List (ℕ × List ℕ)). IsFollowedOn (length new) rank before new x (history_seen h ++ machine.Restarted rank ∷ [])) (sym (append-nil d)) there))
 
 -- ---- any event
 
@@ -176,22 +198,44 @@ pub fault_as : (size n : ℕ) (d d' : List (ℕ × List ℕ)) (event : Event) (o
 fault_as size n d d' event o size_is d_is h =
     subst (λ (m : ℕ). event_fault m d' event ≡ o) size_is (subst (λ (x : List (ℕ × List ℕ)). event_fault size x event ≡ o) d_is h)
 
-event_followed : (old new : List EngineState) (d : List (ℕ × List ℕ)) (h : List Entry) (event : Event) (rank : ℕ) (e next : EngineState) (gave : Gave) →
-    IsEngineOf old new d h rank e next → event_fault (length old) d event ≡ None → target_of d event ≡ Some rank → EventRuns d event e (Ok gave) next → Leaves new d h event gave
-event_followed old new d h (events.Call r call) rank e next gave at allowed target ran = call_followed old new d h rank r call e next gave at ran
-event_followed old new d h (events.Deliver number) rank e next gave at allowed target ran = delivery_followed old new d h number rank e next gave at target ran
-event_followed old new d h (events.Stray r bytes) rank e next gave at allowed target ran = absurd (stray_breaks (length old) d r bytes allowed)
-event_followed old new d h (events.Tick r now) rank e next gave at allowed target ran = tick_followed old new d h rank r now e next gave at ran
-event_followed old new d h (events.Restart r) rank e next gave at allowed target ran =
-    subst (λ (x : ℕ). Leaves new d h (events.Restart x) gave) (sym (same_Some r rank target)) (restart_followed old new d h rank e next gave at ran)
+event_followed : (before : List Happening) (old new : List EngineState) (d : List (ℕ × List ℕ)) (h : List Entry) (event : Event) (rank : ℕ) (e next : EngineState) (gave : Gave) →
+    IsEngineOf before old new d h rank e next → event_fault (length old) d event ≡ None → target_of d event ≡ Some rank → EventRuns d event e (Ok gave) next → Leaves rank before new d h event gave
+event_followed before old new d h (events.Call r call) rank e next gave at allowed target ran = call_followed before old new d h rank r call e next gave at ran
+event_followed before old new d h (events.Deliver number) rank e next gave at allowed target ran = delivery_followed before old new d h number rank e next gave at target ran
+event_followed before old new d h (events.Stray r bytes) rank e next gave at allowed target ran = absurd (stray_breaks (length old) d r bytes allowed)
+event_followed before old new d h (events.Tick r now) rank e next gave at allowed target ran = tick_followed before old new d h rank r now e next gave at ran
+event_followed before old new d h (events.Restart r) rank e next gave at allowed target ran =
+    subst (λ (x : ℕ). Leaves rank before new d h (events.Restart x) gave) (sym (same_Some r rank target)) (restart_followed before old new d h rank e next gave at ran)
+
+-- what is true of a world by some happenings is true after an event by one more, at its rank, or by none
+pub data IsSoundOn (rank : ℕ) (before : List Happening) (engines : List EngineState) (d : List (ℕ × List ℕ)) (h : List Entry) : Type 0 where
+  Still : IsSoundBy before engines d h → IsSoundOn rank before engines d h
+  Further : (x : Happening) → rank_of x ≡ rank → IsSoundBy (before ++ x ∷ []) engines d h → IsSoundOn rank before engines d h
+
+pub event_sound_on : (before : List Happening) (old new : List EngineState) (d : List (ℕ × List ℕ)) (h : List Entry) (event : Event) (gave : Gave) →
+    IsSoundBy before old d h → event_fault (length old) d event ≡ None → (ran : RanAt d event old (Ok gave) new) → IsWorld new → IsSoundOn ran.rank before new (d ++ gave.out) (h ++ entry_of event gave ∷ [])
+event_sound_on before old new d h event gave s allowed ran w =
+    go (event_followed before old new d h event ran.rank ran.engine ran.next gave (record { before = s.followed; there = ran.there; others = ran.others }) allowed ran.target ran.ran)
+  where
+    was : IsFollowed (length old) old d (history_seen h)
+    was = followed_by (length old) before old d (history_seen h) s.followed
+
+    sound : (happenings : List Happening) → IsFollowedBy (length new) happenings new (d ++ gave.out) (history_seen (h ++ entry_of event gave ∷ [])) → IsSoundBy happenings new (d ++ gave.out) (h ++ entry_of event gave ∷ [])
+    sound happenings f = record {
+      world = w;
+      followed = f;
+      named = all_named old new d (d ++ gave.out) h event ran.rank ran.engine ran.next gave ran.there ran.others allowed ran.ran was
+          (followed_by (length new) happenings new (d ++ gave.out) (history_seen (h ++ entry_of event gave ∷ [])) f) (sound_placed old d h (is_sound before old d h s)) s.named;
+    }
+
+    go : Leaves ran.rank before new d h event gave → IsSoundOn ran.rank before new (d ++ gave.out) (h ++ entry_of event gave ∷ [])
+    go (Stands f) = Still (sound before f)
+    go (Happened x is f) = Further x is (sound (before ++ x ∷ []) f)
 
 pub event_sound : (old new : List EngineState) (d : List (ℕ × List ℕ)) (h : List Entry) (event : Event) (gave : Gave) →
     IsSound old d h → event_fault (length old) d event ≡ None → RanAt d event old (Ok gave) new → IsWorld new → IsSound new (d ++ gave.out) (h ++ entry_of event gave ∷ [])
-event_sound old new d h event gave s allowed ran w =
-    let after : IsFollowed (length new) new (d ++ gave.out) (history_seen (h ++ entry_of event gave ∷ [])) =
-    event_followed old new d h event ran.rank ran.engine ran.next gave (record { before = s.followed; there = ran.there; others = ran.others }) allowed ran.target ran.ran in
-    record {
-      world = w;
-      followed = after;
-      named = all_named old new d (d ++ gave.out) h event ran.rank ran.engine ran.next gave ran.there ran.others allowed ran.ran s.followed after (sound_placed old d h s) s.named;
-    }
+event_sound old new d h event gave s allowed ran w = go (event_sound_on s.followed.happenings old new d h event gave (sound_by old d h s) allowed ran w)
+  where
+    go : IsSoundOn ran.rank s.followed.happenings new (d ++ gave.out) (h ++ entry_of event gave ∷ []) → IsSound new (d ++ gave.out) (h ++ entry_of event gave ∷ [])
+    go (Still x) = is_sound s.followed.happenings new (d ++ gave.out) (h ++ entry_of event gave ∷ []) x
+    go (Further y is x) = is_sound (s.followed.happenings ++ y ∷ []) new (d ++ gave.out) (h ++ entry_of event gave ∷ []) x

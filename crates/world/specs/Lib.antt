@@ -7,3 +7,4 @@ pub mod Headline
 pub mod Steps
 pub mod Views
 pub mod Quiet
+pub mod EventByEvent

@@ -7,6 +7,7 @@ ghost use Rattle.proof_network_bridge.specs.Joined.{sessions_in};
 ghost use Rattle.vocabulary.specs.Limits.{most_ranks};
 ghost use Rattle.world.specs.WorldState.{is_outside, opening_world};
 ghost use Rattle.world.specs.Headline.{IsRunOfMachine, IsSound, NothingIsHeld, SessionsAreInOrder, SessionsAreTrue};
+ghost use Rattle.world.specs.EventByEvent.{GoesAllTheWay, GoesOn, GoesOnFrom, HasRun, HasSomeRun, SharesGroupsOnwards};
 ghost use Rattle.world.specs.Steps.{StepGives, RunGives, IsNotRun, entry_of, first_of};
 ghost use Rattle.world.specs.Views.{gave_in};
 
@@ -165,9 +166,10 @@ fn advance(
 impl World {
     /// A world of so many ranks, 1 to 1,024, in which nothing happened yet.
     ///
-    /// Refused with 13 for another number, and with 14.
+    /// Refused with 13 for another number, and with 14. The run of the machine that it has come by is that of no event.
     pub fn new(alloc: Global, size: u16) -> Result<World, Refused>
         ensures opening { IfOk result (λ w. w ≡ opening_world size) }
+        ensures run { IfOk result (λ w. HasRun w []) }
         ensures limit { (result ≡ Err (Refused.Engine lowers.Limit)) ↔ IsTrue (is_outside size) }
         ensures refused { IfErr result (λ e. (e ≡ Refused.Engine lowers.Limit) ⊎ (e ≡ Refused.Engine lowers.OutOfMemory)) }
     {
@@ -213,11 +215,17 @@ impl World {
     /// lowest unacknowledged number was handed up (`law`, which the datagrams pin for former incarnations too; `sessions` says
     /// it in numbers of ranks that know each other, and that a frame which is held before its turn is one that its sender still
     /// keeps).
+    ///
+    /// Every world has come by some such run (`run`), from which the next event goes on: see `step`. Ranks of this world and of any
+    /// later one whose run goes on from this one's share one group for each context, also where a rank was started anew between
+    /// them (`groups`).
     pub fn history(&self) -> &[Entry]
         ensures entries { result.now ≡ self.now.history }
         ensures headline { IsRunOfMachine self.now }
         ensures law { SessionsAreTrue self.now }
         ensures sessions { SessionsAreInOrder self.now.engines }
+        ensures run { HasSomeRun self.now }
+        ensures groups { SharesGroupsOnwards self.now }
     {
         &self.history
     }
@@ -249,9 +257,14 @@ impl World {
     /// where no rule and no limit refuses it. A refusal hands the event back, and changes nothing but this: with 29, the
     /// refusal of a datagram for a former incarnation of its target, a reset goes out to the datagram's source, unless the
     /// datagram was a reset; it is numbered, and the refusal tells its number.
+    ///
+    /// Whatever run of the machine the world had come by, it has now come by that run and steps of the machine at the event's own
+    /// endpoint alone, which is that of the rank's engine before the event; and by the very same run where the event is refused
+    /// (`event_by_event`).
     pub fn step(&mut self, event: Event) -> Answer
         ensures exact { StepGives self.old event result self.new }
         ensures headline { IsRunOfMachine self.new }
+        ensures event_by_event { GoesOn self.old event result self.new }
     {
         advance(
             self.alloc,
@@ -267,10 +280,13 @@ impl World {
     ///
     /// Room for all answers is made first. Where memory for that is wanting, which is 14, nothing happens, and the events are
     /// handed back. For every list of events, what is seen of the world after each of them is a run of the machine of
-    /// queues and groups, which has come to rest where the world is quiet: see `history`.
+    /// queues and groups, which has come to rest where the world is quiet: see `history`. Each of these runs goes on from the one
+    /// before by its event's own steps: see `step`. And of any two worlds on the way, be it that a rank was started anew between
+    /// them, ranks share one group for each context (`event_by_event`).
     pub fn run(&mut self, events: Vec<Event>) -> Result<Vec<Answer>, FailedRun>
         ensures exact { IfOk result (λ answers. RunGives self.old events.items answers.items self.new) }
         ensures refused { IfErr result (λ failed. IsNotRun self.old events.items failed self.new) }
+        ensures event_by_event { IfOk result (λ answers. GoesAllTheWay self.old events.items answers.items self.new) }
         ensures headline { IsRunOfMachine self.new }
         ensures law { SessionsAreTrue self.new }
         ensures sessions { SessionsAreInOrder self.new.engines }
@@ -292,6 +308,7 @@ impl World {
         requires empty { vec_len answers.old ≡ 0 }
         requires room { vec_len events ≤ vec_capacity answers.old }
         ensures exact { RunGives self.old events.items answers.new.items self.new }
+        ensures event_by_event { GoesOnFrom self.old events.items answers.new.items self.new }
     {
         let _engines = &self.engines;
         for event in events {

@@ -1,3 +1,4 @@
+use Rattle.world.proofs.EventByEvent.{goes_all_the_way}
 use Rattle.world.proofs.Headlines.{is_run_of_machine, sessions_are_true}
 use Rattle.world.proofs.Ordered.{sessions_are_in_order}
 use Rattle.world.proofs.world.World.run.Goals as goal
@@ -19,3 +20,6 @@ returns-clause-law c = rw (← c.self-2.view_is) (sessions_are_true _ c.self-2.i
 
 pub returns-clause-sessions : goal.returns-clause-sessions
 returns-clause-sessions c = rw (← c.self-2.view_is) (sessions_are_in_order _ _ _ c.self-2.invariant)
+
+pub returns-clause-event_by_event : goal.returns-clause-event_by_event
+returns-clause-event_by_event c = goes_all_the_way _ _ _ _ c.run_into.ensures.event_by_event

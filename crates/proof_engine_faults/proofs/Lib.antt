@@ -1,0 +1,5 @@
+pub mod Calm
+pub mod Rows
+pub mod Alike
+pub mod Judged
+pub mod Orderly

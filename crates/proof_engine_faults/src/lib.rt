@@ -1,0 +1,8 @@
+//! An engine alone refuses a call exactly where the machine finds a fault with it, by what the engine itself holds.
+//!
+//! `specs/` says which fault that is, and what is asked of the engine (`Own`).
+#![tactic(auto)]
+
+mod law;
+
+pub use law::engines_find_the_machines_faults;

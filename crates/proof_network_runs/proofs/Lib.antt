@@ -1,0 +1,4 @@
+pub mod Values
+pub mod Ends
+pub mod Events
+pub mod GoingOn

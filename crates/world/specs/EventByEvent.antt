@@ -1,0 +1,107 @@
+-- The headline, event by event: the run of the machine that a world has come by is a parameter, and each event goes on from it.
+--
+-- Its words, and where they stand: the machine's events and `IsRun` (perfect_groups, Events and Runs); that an event of the machine
+-- is at an endpoint, `IsAt`, and that a run goes with what happened in the pure network, `GoesWith` (proof_network_runs, Runs); that
+-- a world follows that network by just these happenings, `IsFollowedBy` (proof_network_bridge, GoingOn)
+use Rattle.std.specs.Prelude.{◌≡◌, ℕ, List, [], ◌∷◌, ◌++◌, length, Option, Some, Result, Ok, Err, slice_get}
+use Rattle.std.specs.List.{AllByRecursion}
+use Rattle.engine_parts.specs.EngineState.{EngineState, member_of}
+use Rattle.perfect_groups.specs.Calls.{held_at}
+use Rattle.perfect_groups.specs.Communicators.{Communicator}
+use Rattle.perfect_groups.specs.Events as machine
+use Rattle.proof_group_network.specs.Network.{Happening}
+use Rattle.proof_network_bridge.specs.GoingOn.{IsFollowedBy}
+use Rattle.proof_network_runs.specs.Runs.{GoesWith, IsAt}
+use Rattle.world.specs.Faults.{target_of}
+use Rattle.world.specs.Given.{AreNamed}
+use Rattle.world.specs.Headline.{IsRunOfMachine, history_seen}
+use Rattle.world.specs.Steps.{StepGives}
+use Rattle.world.specs.WorldState.{IsWorld, WorldState}
+use Rattle.world.specs.declared.event.Entry.{Entry}
+use Rattle.world.specs.declared.event.Event.{Event}
+use Rattle.world.specs.declared.event.Failed.{Failed}
+use Rattle.world.specs.declared.event.Stepped.{Stepped}
+
+-- what is true of every world, by what happened in the pure network that it follows
+pub record IsSoundBy (happenings : List Happening) (engines : List EngineState) (datagrams : List (ℕ × List ℕ)) (history : List Entry) : Type 0 where
+  pub world : IsWorld engines
+  pub followed : IsFollowedBy (length engines) happenings engines datagrams (history_seen history)
+  pub named : (r : ℕ) (e : EngineState) → slice_get engines r ≡ Some e → AreNamed history e
+
+-- THE RELATION THAT JOINS A WORLD TO THE MACHINE. The world has come by this run of the machine of queues and groups: all that the
+-- headline says of some run it says of this one
+pub record HasRun (w : WorldState) (run_events : List machine.Event) : Type 0 where
+  pub headline : IsRunOfMachine w
+  pub by : headline.run_events ≡ run_events
+  -- and behind it stand the happenings with which the run goes, and from which it goes on
+  pub happenings : List Happening
+  pub goes : GoesWith (length w.engines) happenings run_events
+  pub sound : IsSoundBy happenings w.engines w.datagrams w.history
+
+-- steps of the machine that are all at the endpoint at which an event happens: that of the engine of its rank before the event
+pub record AreOwnSteps (w : WorldState) (event : Event) (more : List machine.Event) : Type 0 where
+  pub rank : ℕ
+  pub target : target_of w.datagrams event ≡ Some rank
+  pub engine : EngineState
+  pub there : slice_get w.engines rank ≡ Some engine
+  pub own : AllByRecursion (IsAt engine.sessions.place.endpoint) more
+
+-- what an event adds to the run: steps at its own endpoint alone, and none where it is refused
+abbrev pub AreStepsOf : WorldState → Event → Result Stepped Failed → List machine.Event → Type 0
+AreStepsOf w event (Ok added) more = AreOwnSteps w event more
+AreStepsOf w event (Err failed) more = more ≡ []
+
+-- an event goes on from the run: the new world has come by the old run and the event's own steps
+abbrev pub StepGoesOn : WorldState → List machine.Event → Event → Result Stepped Failed → WorldState → Type 0
+StepGoesOn old run_events event answer new =
+    (more : List machine.Event) × AreStepsOf old event answer more × HasRun new (run_events ++ more)
+
+-- so it is from whatever run the world had come by
+abbrev pub GoesOn : WorldState → Event → Result Stepped Failed → WorldState → Type 0
+GoesOn old event answer new = (run_events : List machine.Event) → HasRun old run_events → StepGoesOn old run_events event answer new
+
+-- so do all events of a list, one after the other. `way` are the worlds after each of them
+abbrev pub RunGoesOn : WorldState → List machine.Event → List Event → List (Result Stepped Failed) → (way : List WorldState) → WorldState → Type 0
+RunGoesOn old run_events [] [] [] new = (new ≡ old) × HasRun old run_events
+RunGoesOn old run_events [] [] (mid ∷ way) new = ⊥
+RunGoesOn old run_events [] (answer ∷ answers) way new = ⊥
+RunGoesOn old run_events (event ∷ events) [] way new = ⊥
+RunGoesOn old run_events (event ∷ events) (answer ∷ answers) [] new = ⊥
+RunGoesOn old run_events (event ∷ events) (answer ∷ answers) (mid ∷ way) new =
+    HasRun old run_events × StepGives old event answer mid ×
+    ((more : List machine.Event) × AreStepsOf old event answer more × RunGoesOn mid (run_events ++ more) events answers way new)
+
+-- ONE GROUP FOR EACH CONTEXT, of two worlds: communicators of an engine of the one and of an engine of the other that have one
+-- context are one, members and their order. Where a rank was started anew between them, its engine of the one is a former one
+abbrev pub ShareGroups : WorldState → WorldState → Type 0
+ShareGroups w v =
+    (r x : ℕ) (e d : EngineState) (first second : Option ℕ) (a b : Communicator) →
+    slice_get w.engines r ≡ Some e → slice_get v.engines x ≡ Some d →
+    held_at (member_of e.groups) first ≡ Some a → held_at (member_of d.groups) second ≡ Some b → a.context ≡ b.context → a ≡ b
+
+-- so it is of any two of these
+abbrev pub AllShareGroups : List WorldState → Type 0
+AllShareGroups worlds = (i j : ℕ) (w v : WorldState) → slice_get worlds i ≡ Some w → slice_get worlds j ≡ Some v → ShareGroups w v
+
+-- a way of worlds, from whatever run the first one had come by
+pub record GoesOnFrom (old : WorldState) (events : List Event) (answers : List (Result Stepped Failed)) (new : WorldState) : Type 0 where
+  pub from :
+      (run_events : List machine.Event) → HasRun old run_events →
+      (way : List WorldState) × RunGoesOn old run_events events answers way new
+
+-- and any two worlds on the way share their groups
+abbrev pub GoesAllTheWay : WorldState → List Event → List (Result Stepped Failed) → WorldState → Type 0
+GoesAllTheWay old events answers new =
+    (run_events : List machine.Event) → HasRun old run_events →
+    (way : List WorldState) × RunGoesOn old run_events events answers way new × AllShareGroups (old ∷ way)
+
+-- a world and any other one of as many ranks that has come by a run which goes on from its own share their groups
+abbrev pub SharesGroupsOnwards : WorldState → Type 0
+SharesGroupsOnwards w =
+    (run_events more : List machine.Event) (later : WorldState) → length later.engines ≡ length w.engines →
+    HasRun w run_events → HasRun later (run_events ++ more) → ShareGroups w later
+
+-- every world has come by some run
+pub record HasSomeRun (w : WorldState) : Type 0 where
+  pub run_events : List machine.Event
+  pub has : HasRun w run_events
