@@ -3,8 +3,8 @@
 
 use crate::steps::{copies, deliver, rank_of_two, two_ranks};
 use datatypes::Buffer;
-use engine::{Call, Completion, Engine, Probe, Receive, Refused, Reply, Send};
-use requests::{Answer, Outcome, Region, Request};
+use engine::{Call, Completion, Engine, Layout, Probe, Receive, Refused, Reply, Send};
+use requests::{Answer, Outcome, Places, Region, Request};
 use std::alloc::Global;
 use vocabulary::{BasicType, Mode, Source, Status};
 
@@ -310,13 +310,31 @@ fn faults_of_probes(engine: &mut Engine) -> [[Option<u8>; 2]; 3] {
     ]
 }
 
-/// How the receive of a message is refused that is none and has elements of another type, and that of the null process's with elements of
-/// another type than its layout.
-fn faults_of_receives(alloc: Global, engine: &mut Engine) -> Option<[Said; 2]> {
-    let nothing = Some(Request { key: 0, serial: 0 });
+/// What the receive of a message into so many copies of an element of this type, in a buffer of one byte, is answered.
+fn receive_copies(
+    alloc: Global,
+    engine: &mut Engine,
+    message: Option<Request>,
+    basic: BasicType,
+    count: u64,
+) -> Option<Said> {
+    let layout = Layout::new(alloc, basic).ok()?;
+    let into = Region {
+        buffer: copies(alloc, 0, 1)?,
+        places: Places::Copies(layout, count),
+    };
+    Some(ask(engine, Call::Mrecv(message, into)))
+}
+
+/// How the receive of a message is refused that breaks the rules 6, 2 and 1, then 2 and 1, and then 1 alone, and what it is answered
+/// where it breaks none: the message is none there is, and then that of the null process.
+fn faults_of_receives(alloc: Global, engine: &mut Engine) -> Option<[Said; 4]> {
+    let none = Some(Request { key: 0, serial: 0 });
     Some([
-        receive(alloc, engine, nothing, 1)?,
-        receive(alloc, engine, None, 1)?,
+        receive_copies(alloc, engine, none, BasicType::Int32, 2)?,
+        receive_copies(alloc, engine, None, BasicType::Int32, 2)?,
+        receive_copies(alloc, engine, None, BasicType::Uint8, 2)?,
+        receive_copies(alloc, engine, None, BasicType::Uint8, 1)?,
     ])
 }
 
@@ -325,7 +343,7 @@ fn faults_of_receives(alloc: Global, engine: &mut Engine) -> Option<[Said; 2]> {
 fn faults_in_order(
     alloc: Global,
     engine: &mut Engine,
-) -> Option<([[Option<u8>; 2]; 3], [Said; 2], [Said; 2], [Option<u8>; 2])> {
+) -> Option<([[Option<u8>; 2]; 3], [Said; 4], [Said; 2], [Option<u8>; 2])> {
     let probes = faults_of_probes(engine);
     let receives = faults_of_receives(alloc, engine)?;
     let sends = [
@@ -353,7 +371,7 @@ fn too_large(alloc: Global, comm: Option<usize>) -> Option<Call> {
     }))
 }
 
-fn faults(alloc: Global) -> Option<([[Option<u8>; 2]; 3], [Said; 2], [Said; 2], [Option<u8>; 2])> {
+fn faults(alloc: Global) -> Option<([[Option<u8>; 2]; 3], [Said; 4], [Said; 2], [Option<u8>; 2])> {
     let mut engine = rank_of_two(alloc, 0, 0).ok()?;
     let told = faults_in_order(alloc, &mut engine);
     drop(engine);
@@ -367,7 +385,12 @@ fn the_first_rule_that_is_broken_is_told(rt: HostRuntime) {
         faults(rt.alloc()),
         Some((
             [alike(4), alike(3), alike(5)],
-            [Said::Refused(6), Said::Received(0)],
+            [
+                Said::Refused(6),
+                Said::Refused(2),
+                Said::Refused(1),
+                Said::Received(0)
+            ],
             [Said::Refused(4), Said::Refused(1)],
             alike(6)
         ))
