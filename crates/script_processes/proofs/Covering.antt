@@ -44,6 +44,7 @@ use Rattle.statements.specs.declared.collective_line.Scattering.{Scattering}
 use Rattle.statements.specs.declared.layout_line.LayoutLine.{LayoutLine}
 use Rattle.vocabulary.specs.declared.mode.Mode.{Mode}
 use Rattle.vocabulary.specs.declared.mode.Mode.TheVariants as modes
+use Rattle.script_processes.specs.Forgetting.{plain_request}
 use Rattle.script_processes.specs.Processes.{AreCoveredLines, IsCoveredAction, IsCoveredRunning, IsCoveredStatement, next_by, next_in_script, next_told, reply_for, step_seen, tells_ranks}
 use Rattle.script_processes.proofs.Answers.{IsNext, hears_go}
 
@@ -209,7 +210,7 @@ follows_fine p (heards.Told told) names n = tt
 
 heeds_fine : (o : Option Pending) (reply : Reply) (names : NamesState) → IsFine (heeds_by o reply names).0
 heeds_fine None reply names = tt
-heeds_fine (Some p) reply names = follows_fine p (hears p reply names).0 (hears p reply names).1 (hears_go p reply names).1
+heeds_fine (Some p) reply names = follows_fine p (hears p reply names).0 (hears p reply names).1 (hears_go plain_request p reply names).1
 
 ranks_fine : (o : Option Pending) (ranks : List ℕ) (names : NamesState) → IsFine (tells_ranks o ranks names).0
 ranks_fine None ranks names = tt

@@ -24,6 +24,7 @@ use Rattle.script_files.specs.declared.script.RankLine.{RankLine}
 use Rattle.script_runner.specs.Running.{Does, RunnerState, along, does_after, does_by, next_of}
 use Rattle.statement_calls.specs.declared.awaited.Pending.{Pending}
 use Rattle.statement_calls.specs.declared.awaited.Pending.TheVariants as pendings
+use Rattle.script_processes.specs.Forgetting.{plain_request}
 use Rattle.script_processes.specs.Processes.{IsCoveredRunning, Running, next_by, next_in_script, next_told, reply_for, running_at_start, step_seen, steps_for, steps_left, tells_ranks}
 use Rattle.script_processes.specs.ScriptLaws.{AreCoveredScripts, ScriptsComeToTheirMeaning, ScriptsPlayTheirMeaning, meaning_of}
 use Rattle.script_processes.proofs.Answers.{IsNext, hears_go}
@@ -109,7 +110,7 @@ heeds_light :
     left_of (does_after lines (heeds_by o reply names)) < 3 * length lines + steps_for o
 heeds_light lines None reply names g =
     let u : left_of (along lines (record { names = names; pending = None })) < 3 * length lines = along_light lines (record { names = names; pending = None }) g in omega (arith, u)
-heeds_light lines (Some p) reply names g = follows_light lines p (hears p reply names).0 (hears p reply names).1 (hears_go p reply names).1 g
+heeds_light lines (Some p) reply names g = follows_light lines p (hears p reply names).0 (hears p reply names).1 (hears_go plain_request p reply names).1 g
 
 ranks_light :
     (lines : List RankLine) (o : Option Pending) (ranks : List ℕ) (names : NamesState) → GoesOn (does_after lines (tells_ranks o ranks names)) →

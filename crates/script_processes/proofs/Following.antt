@@ -18,7 +18,8 @@ use Rattle.statement_calls.specs.declared.awaited.Held.{Held}
 use Rattle.statement_calls.specs.declared.awaited.NamedMessage.{NamedMessage}
 use Rattle.statement_calls.specs.declared.awaited.NamedMessage.TheVariants as messages
 use Rattle.script_processes.specs.Following.{Follows, RunnersFollow, StartsFollow}
-use Rattle.script_processes.specs.Forgetting.{plain_call, plain_does, plain_entry, plain_held, plain_message, plain_reply, plain_request, plain_requests, plain_state, plain_step}
+use Rattle.script_processes.specs.Changing.{changed_entry}
+use Rattle.script_processes.specs.Forgetting.{plain_call, plain_does, plain_held, plain_message, plain_reply, plain_request, plain_requests, plain_state, plain_step}
 use Rattle.script_processes.specs.Hearing.{IsReplyTo, told_of}
 use Rattle.script_processes.specs.Processes.{Running, call_in, goes_to, next_by, script_at, step_seen}
 use Rattle.script_processes.proofs.Hearing.{replies_are_heard}
@@ -38,7 +39,7 @@ twice_message (messages.TakenOut q) = ap (λ (x : Option Request). messages.Take
 twice_message messages.Ended = refl
 
 twice_entries :
-    {V : Type 0} → (f : V → V) → ((v : V) → f (f v) ≡ f v) → (es : List (Entry V)) → map (plain_entry f) (map (plain_entry f) es) ≡ map (plain_entry f) es
+    {V : Type 0} → (f : V → V) → ((v : V) → f (f v) ≡ f v) → (es : List (Entry V)) → map (changed_entry f) (map (changed_entry f) es) ≡ map (changed_entry f) es
 twice_entries f twice [] = refl
 twice_entries {V = V} f twice (e ∷ es) =
     ap₂ (λ (x : Entry V) (xs : List (Entry V)). x ∷ xs) (ap (λ (v : V). record { name = e.name; value = v }) (twice e.value)) (twice_entries f twice es)

@@ -28,7 +28,7 @@ use Rattle.statement_calls.specs.declared.awaited.Pending.{Pending}
 use Rattle.std.specs.Global.{Vec}
 use Rattle.vocabulary.specs.declared.envelope.Status.{Status}
 use Rattle.script_processes.specs.Forgetting.{plain_found, plain_request}
-use Rattle.script_processes.specs.Hearing.{IsOfCalls, RepliesAreHeard, told_of}
+use Rattle.script_processes.specs.Hearing.{RepliesAreHeard, told_of}
 use Rattle.script_processes.specs.Processes.{comparison_for, done_for, ending_for, found_for, next_told, outcome_for, refusal_for, request_for, tells_ranks}
 
 outcome_back : (o : Outcome) → outcome_for (outcome_seen o) ≡ o
@@ -70,30 +70,30 @@ comparison_back comparisons.Congruent = refl
 comparison_back comparisons.Similar = refl
 comparison_back comparisons.Unequal = refl
 
-number_back : (why : lower.Refused) → IsOfCalls why → refusal_for (number_of_refusal why) ≡ why
-number_back lowers.Count h = refl
-number_back lowers.WrongType h = refl
-number_back lowers.Tag h = refl
-number_back lowers.Communicator h = refl
-number_back lowers.Rank h = refl
-number_back lowers.Request h = refl
-number_back lowers.Root h = refl
-number_back lowers.Operation h = refl
-number_back lowers.Replaced h = refl
-number_back lowers.Limit h = refl
-number_back lowers.OutOfMemory h = refl
-number_back lowers.Short h = absurd h
-number_back lowers.Magic h = absurd h
-number_back lowers.Version h = absurd h
-number_back lowers.Kind h = absurd h
-number_back lowers.Length h = absurd h
-number_back lowers.ForeignJob h = absurd h
-number_back lowers.NotForMe h = absurd h
-number_back lowers.StaleSource h = absurd h
-number_back lowers.StaleTarget h = absurd h
-number_back lowers.BadFrame h = absurd h
-number_back lowers.OutOfWindow h = absurd h
-number_back lowers.ClockBack h = absurd h
+number_back : (why : lower.Refused) → refusal_for (number_of_refusal why) ≡ why
+number_back lowers.Count = refl
+number_back lowers.WrongType = refl
+number_back lowers.Tag = refl
+number_back lowers.Communicator = refl
+number_back lowers.Rank = refl
+number_back lowers.Request = refl
+number_back lowers.Root = refl
+number_back lowers.Operation = refl
+number_back lowers.Replaced = refl
+number_back lowers.Limit = refl
+number_back lowers.OutOfMemory = refl
+number_back lowers.Short = refl
+number_back lowers.Magic = refl
+number_back lowers.Version = refl
+number_back lowers.Kind = refl
+number_back lowers.Length = refl
+number_back lowers.ForeignJob = refl
+number_back lowers.NotForMe = refl
+number_back lowers.StaleSource = refl
+number_back lowers.StaleTarget = refl
+number_back lowers.BadFrame = refl
+number_back lowers.OutOfWindow = refl
+number_back lowers.ClockBack = refl
 
 ranks_heard : (p : Option Pending) (ranks : Vec ℕ) (names : NamesState) → tells_ranks p ranks.items names ≡ heeds_by p (replies.Fact (facts.Ranks ranks)) names
 ranks_heard None ranks names = refl
@@ -114,4 +114,4 @@ replies_are_heard s call (replies.Left o) h = ap (λ (x : Ending). next_of s (So
 replies_are_heard s call (replies.Fact f) h = facts_heard s call f
 replies_are_heard s call (replies.Probed found) h = refl
 replies_are_heard s call (replies.Matched found) h = ap (λ (x : Option (Option Request × Status)). next_of s (Some (replies.Matched x))) (found_back found)
-replies_are_heard s call (replies.Refused why back) h = ap₂ (λ (x : lower.Refused) (c : Call). next_of s (Some (replies.Refused x c))) (number_back why h.0) h.1
+replies_are_heard s call (replies.Refused why back) h = ap₂ (λ (x : lower.Refused) (c : Call). next_of s (Some (replies.Refused x c))) (number_back why) h

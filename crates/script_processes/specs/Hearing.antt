@@ -11,8 +11,6 @@ use Rattle.perfect_queues.specs.Completions as completions
 use Rattle.proof_collective_steps.specs.Shown.{ending_is}
 use Rattle.proof_engine_view.specs.Seen.{answer_seen, match_seen}
 use Rattle.rank_calls.specs.Refusals.{number_of_refusal}
-use Rattle.rank_calls.specs.declared.refused.Refused as lower
-use Rattle.rank_calls.specs.declared.refused.Refused.TheVariants as lowers
 use Rattle.script_runner.specs.Running.{RunnerState, next_of}
 use Rattle.script_processes.specs.Forgetting.{plain_call, plain_reply}
 use Rattle.script_processes.specs.Processes.{next_told}
@@ -30,24 +28,9 @@ told_of (replies.Probed found) = Replied (machine.OfRequests (queues.Done (compl
 told_of (replies.Matched found) = Replied (machine.OfRequests (queues.Done (completions.ForMatch (match_seen found))))
 told_of (replies.Refused why call) = Refused (number_of_refusal why)
 
--- a rule or a limit of calls, or want of memory
-abbrev pub IsOfCalls : lower.Refused → Type 0
-IsOfCalls lowers.Count = Unit {0}
-IsOfCalls lowers.WrongType = Unit {0}
-IsOfCalls lowers.Tag = Unit {0}
-IsOfCalls lowers.Communicator = Unit {0}
-IsOfCalls lowers.Rank = Unit {0}
-IsOfCalls lowers.Request = Unit {0}
-IsOfCalls lowers.Root = Unit {0}
-IsOfCalls lowers.Operation = Unit {0}
-IsOfCalls lowers.Replaced = Unit {0}
-IsOfCalls lowers.Limit = Unit {0}
-IsOfCalls lowers.OutOfMemory = Unit {0}
-IsOfCalls _ = ⊥
-
 -- what a reply to this call may be: a refused call comes back
 abbrev pub IsReplyTo : Call → Reply → Type 0
-IsReplyTo call (replies.Refused why back) = IsOfCalls why × (call ≡ plain_call back)
+IsReplyTo call (replies.Refused why back) = call ≡ plain_call back
 IsReplyTo call _ = Unit {0}
 
 -- A runner goes on alike, whether its engine's reply is told to it, or what the machine tells of that

@@ -81,12 +81,19 @@ comparison_for machine.Congruent = comparisons.Congruent
 comparison_for machine.Similar = comparisons.Similar
 comparison_for machine.Unequal = comparisons.Unequal
 
+-- the rule of datagrams or ticks with a number
+abbrev pub event_refusal_for : ℕ → lower.Refused
+event_refusal_for n =
+    if n == 21 then lowers.Short else (if n == 22 then lowers.Magic else (if n == 23 then lowers.Version else (if n == 24 then lowers.Kind else
+    (if n == 25 then lowers.Length else (if n == 26 then lowers.ForeignJob else (if n == 27 then lowers.NotForMe else (if n == 28 then lowers.StaleSource else
+    (if n == 29 then lowers.StaleTarget else (if n == 30 then lowers.BadFrame else (if n == 31 then lowers.OutOfWindow else lowers.ClockBack))))))))))
+
 -- the rule with a number
 abbrev pub refusal_for : ℕ → lower.Refused
 refusal_for n =
     if n == 6 then lowers.Request else (if n == 4 then lowers.Communicator else (if n == 2 then lowers.WrongType else (if n == 1 then lowers.Count else
     (if n == 3 then lowers.Tag else (if n == 5 then lowers.Rank else (if n == 7 then lowers.Root else (if n == 9 then lowers.Operation else
-    (if n == 11 then lowers.Replaced else (if n == 13 then lowers.Limit else lowers.OutOfMemory)))))))))
+    (if n == 11 then lowers.Replaced else (if n == 13 then lowers.Limit else (if n == 14 then lowers.OutOfMemory else event_refusal_for n))))))))))
 
 -- (a list of ranks is told apart, below: a list in memory isn't made in a definition)
 abbrev pub fact_for : machine.Fact → engine_facts.Fact

@@ -1,14 +1,16 @@
 //! Laws of scripts.
 
 ghost use Rattle.script_processes.specs.Following.{RunnersFollow, StartsFollow};
-ghost use Rattle.script_processes.specs.ForgettingLaws.{KeysAreNoMatter};
+ghost use Rattle.script_processes.specs.ForgettingLaws.{KeysAreNoMatter, RequestsAreHandedOn};
 ghost use Rattle.script_processes.specs.Hearing.{RepliesAreHeard};
 ghost use Rattle.script_processes.specs.ScriptLaws.{ScriptsComeToTheirMeaning, ScriptsPlayTheirMeaning};
 
-/// States that what a script does next, what it prints and what it calls is the same whatever keys its requests and messages have: only
-/// their serials matter. It does nothing when it is called.
+/// States that a script's runner hands its requests and messages on and looks into none: with others in their place it does the same
+/// with those. So what it does next, what it prints and what it calls is the same whatever keys they have: only their serials matter.
+/// It does nothing when it is called.
 pub fn keys_are_no_matter()
-    ensures { KeysAreNoMatter }
+    ensures any { RequestsAreHandedOn }
+    ensures keys { KeysAreNoMatter }
 {}
 
 /// States that scripts come to their one meaning; and that those that are covered, in whose one meaning no two records of a collective differ, play it over
