@@ -1,0 +1,4 @@
+pub mod Goes
+pub mod Sizes
+pub mod Histories
+pub mod Moving

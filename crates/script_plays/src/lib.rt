@@ -1,0 +1,11 @@
+//! Scripts of ranks that play in a world, move by move of a schedule.
+#![tactic(auto)]
+
+mod laws;
+mod moves;
+mod playing;
+
+pub use laws::histories_are_of_schedules;
+pub use moves::Move;
+pub use playing::play;
+pub use script_players::{Played, Stage};
