@@ -2,3 +2,14 @@ pub mod Goes
 pub mod Sizes
 pub mod Histories
 pub mod Moving
+pub mod Ways
+pub mod Joining
+pub mod Alike
+pub mod Fine
+pub mod Fitting
+pub mod Places
+pub mod Own
+pub mod Keeps
+pub mod Rules
+pub mod Join
+pub mod Whole

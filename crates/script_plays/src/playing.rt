@@ -3,6 +3,7 @@
 ghost use Rattle.std.specs.Prelude.{◌≡◌, ◌≤◌, ◌↔◌, ◌⊎◌, length, IfOk, IfErr, OnOk, IsTrue, Err, Result, slice_get};
 ghost use Rattle.rank_calls.specs.declared.refused.Refused.TheVariants as lowers;
 ghost use Rattle.script_plays.specs.Events.{AreEventsOf};
+ghost use Rattle.script_plays.specs.Joined.{PlaysTheOneMeaning};
 ghost use Rattle.script_plays.specs.Playing.{EventGives, MoveGives, PlayGives, ScheduleGives, players_of, with_told};
 ghost use Rattle.vocabulary.specs.Limits.{most_ranks};
 ghost use Rattle.world.specs.Headline.{IsRunOfMachine};
@@ -137,6 +138,7 @@ pub fn play(
     ensures refused { IfErr result (λ e. (e ≡ Refused.Engine lowers.Limit) ⊎ (e ≡ Refused.Engine lowers.OutOfMemory)) }
     ensures exact { IfOk result (λ out. PlayGives scripts.items schedule.now (record { world = out.0; players = out.1.items })) }
     ensures history { IfOk result (λ out. AreEventsOf schedule.now out.0.history) }
+    ensures one_meaning { IfOk result (λ out. PlaysTheOneMeaning scripts.items (record { world = out.0; players = out.1.items })) }
 {
     if scripts.is_empty() || scripts.len() > MOST_RANKS as usize {
         drop(scripts);
