@@ -1,5 +1,9 @@
 //! A keeper: it starts the program of one rank, and starts it again where it may.
 
+ghost use Rattle.std.specs.Prelude.{◌≡◌, IfOk};
+ghost use Rattle.launch_process.specs.Commands.{IsCommandOf};
+
+use crate::commands::add_arguments;
 use crate::text::text_of;
 use crate::watching::{await_end, collect};
 use keeping::{After, Ending, EndingLine, Keeper, Report, Words};
@@ -11,15 +15,15 @@ use std::os::fd::AsRawFd;
 use std::os::unix::process::ExitStatusExt;
 use std::process::{Child, Command, ExitStatus, OpenProcess, Processes, Stdio};
 
-/// The command of these words.
-fn command_of(alloc: Global, words: &Words) -> io::Result<Command> {
+/// The command of these words: the first is the program, the others are its arguments.
+fn command_of(alloc: Global, words: &Words) -> io::Result<Command>
+    ensures { IfOk result (λ command. IsCommandOf words.now command) }
+{
     let Some((program, arguments)) = words.as_slice().split_first() else {
         return Err(io::Error::from(ErrorKind::InvalidInput));
     };
     let mut command = Command::new(alloc, text_of(program)?)?;
-    for word in arguments {
-        command.arg(text_of(word)?)?;
-    }
+    add_arguments(&mut command, arguments)?;
     command.stdin(Stdio::null());
     command.stdout(Stdio::piped());
     Ok(command)

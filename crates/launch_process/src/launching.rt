@@ -1,6 +1,10 @@
 //! The launcher: it starts a keeper for each rank, and prints what their ranks wrote.
 
-use crate::text::text_of;
+ghost use Rattle.std.specs.Prelude.{◌≡◌, ◌∷◌, IfOk};
+ghost use Rattle.keeping.specs.Roles.{keeper_words};
+ghost use Rattle.launch_process.specs.Commands.{IsCommandOf};
+
+use crate::commands::add_arguments;
 use keeping::{
     LostKeeperLine, Report, TakenPortsLine, UnstartedKeeperLine, Word, join_from, keeper_words,
     launch_status,
@@ -15,11 +19,12 @@ use std::{env, io};
 
 /// The command that starts this program as the keeper of a rank. The keeper's standard input ends
 /// when this process does.
-fn keeper_command(alloc: Global, itself: &str, rank: u16, words: &[Word]) -> io::Result<Command> {
+fn keeper_command(alloc: Global, itself: &str, rank: u16, words: &[Word]) -> io::Result<Command>
+    ensures { IfOk result (λ command. IsCommandOf (itself.now ∷ keeper_words rank words.now) command) }
+{
     let mut command = Command::new(alloc, itself)?;
-    for word in keeper_words(alloc, rank, words)?.as_slice() {
-        command.arg(text_of(word)?)?;
-    }
+    let arguments = keeper_words(alloc, rank, words)?;
+    add_arguments(&mut command, arguments.as_slice())?;
     command.stdin(Stdio::piped());
     command.stdout(Stdio::piped());
     Ok(command)

@@ -2,6 +2,7 @@
 //! `main`, so that a program of worked rows can run it too.
 #![tactic(auto)]
 
+mod commands;
 mod keeper;
 mod launching;
 mod running;
