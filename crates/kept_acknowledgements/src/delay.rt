@@ -1,8 +1,9 @@
 //! How long an acknowledgement has been kept back.
 
-ghost use Rattle.std.specs.Prelude.{◌≡◌, ◌+◌, ◌||◌, nat_le, min, true, None};
+ghost use Rattle.std.specs.Prelude.{◌≡◌, ◌+◌, ◌-◌, ◌||◌, ◌⊎◌, nat_le, min, true, None, IfSome};
+ghost use Rattle.std.specs.Time.{instant_nanos};
 
-use std::time::{Clock, Duration, Instant};
+use std::time::Instant;
 
 /// The one that goes stands for so many at most: a quarter of the frames that a sender may have out at one time.
 const MOST_STOOD_FOR: u32 = 16;
@@ -10,9 +11,9 @@ const MOST_STOOD_FOR: u32 = 16;
 /// For so many receives one is kept back at most.
 const MOST_RECEIVES: u32 = 128;
 
-/// For so many milliseconds one is kept back at most where its rank waits: a twentieth of the time after which a frame is sent
-/// again.
-const LATE: u64 = 1;
+/// For so many nanoseconds one is kept back at most where its rank waits: a millisecond, a twentieth of the time after which a frame
+/// is sent again.
+const LATE: u128 = 1_000_000;
 
 /// For how many others, how many receives and how long an acknowledgement has been kept back.
 #[derive(Clone, Copy)]
@@ -26,14 +27,14 @@ pub struct Delay {
 }
 
 impl Delay {
-    /// The delay of one that is kept from now on.
-    pub fn begun<R: Clock>(rt: &R) -> Delay
-        ensures { (result.stands_for ≡ 1) × (result.receives ≡ 0) }
+    /// The delay of one that is kept from now on; none where the clock doesn't tell when that is.
+    pub fn begun(now: Option<Instant>) -> Delay
+        ensures { (result.stands_for ≡ 1) × (result.receives ≡ 0) × (result.since ≡ now) }
     {
         Delay {
             stands_for: 1,
             receives: 0,
-            since: Instant::now(rt).ok(),
+            since: now,
         }
     }
 
@@ -66,16 +67,16 @@ impl Delay {
         self.stands_for >= MOST_STOOD_FOR || self.receives >= MOST_RECEIVES
     }
 
-    /// Whether it has been kept for as long as it may; where the clock doesn't tell it, it has.
-    pub fn is_late<R: Clock>(self, rt: &R) -> bool
-        ensures { self.since ≡ None → result ≡ true }
+    /// Whether it has been kept for as long as it may, a millisecond; where the clock doesn't tell the time now, or didn't tell when
+    /// that began, it has.
+    pub fn is_late(self, now: Option<Instant>) -> bool
+        ensures told { IfSome self.since (λ since. IfSome now (λ time.
+            result ≡ nat_le 1000000 (instant_nanos time - instant_nanos since))) }
+        ensures untold { (self.since ≡ None) ⊎ (now ≡ None) → result ≡ true }
     {
-        match self.since {
-            Some(since) => match since.elapsed(rt) {
-                Ok(passed) => passed >= Duration::from_millis(LATE),
-                Err(_) => true,
-            },
-            None => true,
+        match (self.since, now) {
+            (Some(since), Some(now)) => now.duration_since(since).as_nanos() >= LATE,
+            _ => true,
         }
     }
 }

@@ -12,7 +12,7 @@ use std::io;
 use std::io::{ErrorKind, Write};
 use std::net::{Ipv4Addr, Net, SocketAddr};
 use std::thread::yield_now;
-use std::time::{Clock, Duration};
+use std::time::{Clock, Duration, Instant};
 
 /// How often a rank that waits behind a datagram lets other processes run and asks for the next one.
 const YIELDS: u32 = 24;
@@ -72,7 +72,7 @@ fn put(buffer: &mut [u8], room: &[u8], len: usize) -> usize
 /// Whether something is kept back with this delay, and is late.
 fn is_late<R: Clock>(rt: &R, delay: Option<Delay>) -> bool {
     match delay {
-        Some(delay) => delay.is_late(rt),
+        Some(delay) => delay.is_late(Instant::now(rt).ok()),
         None => false,
     }
 }
@@ -146,7 +146,7 @@ impl<'a, R: Print + Clock> Udp<'a, R> {
             room: vec![in alloc; 0u8; LONGEST]?,
             held: None,
             kept: None,
-            delay: Delay::begun(rt),
+            delay: Delay::begun(Instant::now(rt).ok()),
             last: None,
             has_carried: false,
             text: Vec::new(alloc),
@@ -226,7 +226,7 @@ impl<'a, R: Print + Clock> Udp<'a, R> {
             self.delay = self.delay.of_one_more();
             return self.flush_if_over();
         }
-        self.delay = Delay::begun(self.rt);
+        self.delay = Delay::begun(Instant::now(self.rt).ok());
         self.carry_kept(leaves)
     }
 
