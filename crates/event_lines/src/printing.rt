@@ -1,19 +1,31 @@
 //! What a file of events prints.
 
+ghost use Rattle.std.specs.Prelude.{◌≡◌, ◌∷◌, [], map, IfErr, IfOk, OnOk};
+ghost use Rattle.answer_texts.specs.Answers.{answer_text, emission_text, outcome_text};
+ghost use Rattle.answer_texts.specs.Communicators.{position_text};
+ghost use Rattle.datagram.specs.Spelling.{content_text, datagram_text};
+ghost use Rattle.event_lines.specs.Lines.{answer_line, compared, completion_line, datagram_lines, emission_of, ending_line, fact_line, kind_of_body, match_line, outcome_line, outcomes_line, probe_line, refusal_line, reply_line, taken_line, told_line};
+ghost use Rattle.event_lines.specs.Printing.{CutsOff, Prints};
+
 use crate::error::SimulateError;
 use answer_texts::{
     CommunicatorText, ComparisonText, Emission, FrameKind, Load, MembersText, MessageText,
     OutcomeText, PositionText, Route, StatusText,
 };
+use collective_steps::Ending;
+use communicators::Comparison;
 use datagram::{Content, Datagram, Frame};
-use engine::{Comparison, Completion, Ending, Fact, Reply, Status};
+use engine_parts::{Completion, Fact, Reply};
 use requests::{Answer, Outcome, Request};
 use std::alloc::{AllocError, Global};
 use std::io;
 use std::io::Write;
+use vocabulary::Status;
 
 /// The text of an outcome.
-fn outcome_text(outcome: &Outcome) -> OutcomeText<'_> {
+fn outcome_text(outcome: &Outcome) -> OutcomeText<'_>
+    ensures { outcome_text result ≡ outcome_line outcome.now }
+{
     match outcome {
         Outcome::Sent => OutcomeText::Sent,
         Outcome::Received(status, buffer) => OutcomeText::Received(*status, buffer),
@@ -27,38 +39,81 @@ fn outcome_text(outcome: &Outcome) -> OutcomeText<'_> {
     }
 }
 
-fn print_text<W: Write>(text: &answer_texts::Answer<'_>, out: &mut W) -> io::Result<()> {
+fn print_text<W: Write>(text: &answer_texts::Answer<'_>, out: &mut W) -> io::Result<()>
+    ensures { OnOk result (Prints (W.contents out.old) (W.contents out.new) (answer_text text.now ∷ [])) }
+{
     writeln!(out, "{text}")
+}
+
+/// The text of an answer, behind the rank that is called where one is named.
+fn print_told<W: Write>(
+    caller: Option<u16>,
+    text: &answer_texts::Answer<'_>,
+    out: &mut W,
+) -> io::Result<()>
+    ensures { OnOk result (Prints (W.contents out.old) (W.contents out.new) (told_line caller (answer_text text.now) ∷ [])) }
+{
+    match caller {
+        Some(rank) => writeln!(out, "{rank} {text}"),
+        None => print_text(text, out),
+    }
+}
+
+/// The texts of outcomes, in order. The only error is want of memory.
+fn outcome_texts(alloc: Global, outcomes: &[Outcome]) -> Result<Vec<OutcomeText<'_>>, AllocError>
+    ensures { IfOk result (λ texts. map outcome_text texts.items ≡ map outcome_line outcomes.now) }
+{
+    let mut texts = Vec::with_capacity(alloc, outcomes.len())?;
+    for outcome in outcomes {
+        texts.push(outcome_text(outcome)).map_err(AllocError::from)?;
+    }
+    Ok(texts)
+}
+
+/// How several operations ended.
+#[tactic(auto, using(crate::proofs::OutcomeLaws::outcomes_same))]
+fn print_outcomes<W: Write>(
+    alloc: Global,
+    caller: Option<u16>,
+    outcomes: &[Outcome],
+    out: &mut W,
+) -> Result<(), SimulateError>
+    ensures ok { OnOk result (Prints (W.contents out.old) (W.contents out.new) (told_line caller (outcomes_line outcomes.now) ∷ [])) }
+    ensures err { IfErr result (λ e. CutsOff e (W.contents out.old) (W.contents out.new) (told_line caller (outcomes_line outcomes.now) ∷ [])) }
+{
+    let texts = outcome_texts(alloc, outcomes)?;
+    print_told(caller, &answer_texts::Answer::All(texts.as_slice()), out)?;
+    Ok(())
 }
 
 /// The answer of a completing call.
 fn print_answer<W: Write>(
     alloc: Global,
+    caller: Option<u16>,
     answer: &Answer,
     out: &mut W,
-) -> Result<(), SimulateError> {
-    match answer {
-        Answer::One(outcome) => {
-            print_text(&answer_texts::Answer::One(outcome_text(outcome)), out)?;
-        }
+) -> Result<(), SimulateError>
+    ensures ok { OnOk result (Prints (W.contents out.old) (W.contents out.new) (told_line caller (answer_line answer.now) ∷ [])) }
+    ensures err { IfErr result (λ e. CutsOff e (W.contents out.old) (W.contents out.new) (told_line caller (answer_line answer.now) ∷ [])) }
+{
+    let text = match answer {
+        Answer::One(outcome) => answer_texts::Answer::One(outcome_text(outcome)),
         Answer::Index(index, outcome) => {
-            let text = answer_texts::Answer::Index(*index, outcome_text(outcome));
-            print_text(&text, out)?;
+            answer_texts::Answer::Index(*index, outcome_text(outcome))
         }
-        Answer::IndexUndefined => print_text(&answer_texts::Answer::IndexUndefined, out)?,
+        Answer::IndexUndefined => answer_texts::Answer::IndexUndefined,
         Answer::All(outcomes) => {
-            let mut texts = Vec::new(alloc);
-            for outcome in outcomes.as_slice() {
-                texts.push(outcome_text(outcome)).map_err(AllocError::from)?;
-            }
-            print_text(&answer_texts::Answer::All(texts.as_slice()), out)?;
+            return print_outcomes(alloc, caller, outcomes.as_slice(), out);
         }
-    }
+    };
+    print_told(caller, &text, out)?;
     Ok(())
 }
 
 /// With what a collective ended.
-fn ending_text(ending: &Ending) -> answer_texts::Answer<'_> {
+fn ending_text(ending: &Ending) -> answer_texts::Answer<'_>
+    ensures { answer_text result ≡ ending_line ending.now }
+{
     match ending {
         Ending::Left(None) => answer_texts::Answer::Done,
         Ending::Left(Some(buffer)) => answer_texts::Answer::Data(buffer),
@@ -71,7 +126,9 @@ fn ending_text(ending: &Ending) -> answer_texts::Answer<'_> {
 }
 
 /// The text of how two communicators compare.
-fn comparison_text(comparison: Comparison) -> ComparisonText {
+fn compared(comparison: Comparison) -> ComparisonText
+    ensures { result ≡ compared comparison }
+{
     match comparison {
         Comparison::Ident => ComparisonText::Ident,
         Comparison::Congruent => ComparisonText::Congruent,
@@ -81,18 +138,20 @@ fn comparison_text(comparison: Comparison) -> ComparisonText {
 }
 
 /// What is told of a communicator. A rank or a size is told with the other one alone: see `print_position`.
-fn fact_text(fact: &Fact) -> answer_texts::Answer<'_> {
+fn fact_text(fact: &Fact) -> answer_texts::Answer<'_>
+    ensures { answer_text result ≡ fact_line fact.now }
+{
     match fact {
         Fact::Number(_) => answer_texts::Answer::Done,
         Fact::Ranks(ranks) => answer_texts::Answer::Members(MembersText { ranks }),
-        Fact::Compares(comparison) => {
-            answer_texts::Answer::Comparison(comparison_text(*comparison))
-        }
+        Fact::Compares(comparison) => { answer_texts::Answer::Comparison(compared(*comparison)) }
     }
 }
 
 /// What a probe found (MPI 3.1, 3.8.1).
-fn probe_text(found: &Option<Status>) -> answer_texts::Answer<'_> {
+fn probe_text(found: &Option<Status>) -> answer_texts::Answer<'_>
+    ensures { answer_text result ≡ probe_line found.now }
+{
     match found {
         Some(status) => answer_texts::Answer::Probed(StatusText { status: *status }),
         None => answer_texts::Answer::Nothing,
@@ -100,7 +159,9 @@ fn probe_text(found: &Option<Status>) -> answer_texts::Answer<'_> {
 }
 
 /// What a matching probe took out (MPI 3.1, 3.8.2).
-fn match_text(found: &Option<(Option<Request>, Status)>) -> answer_texts::Answer<'_> {
+fn match_text(found: &Option<(Option<Request>, Status)>) -> answer_texts::Answer<'_>
+    ensures { answer_text result ≡ match_line found.now }
+{
     match found {
         Some((message, status)) => {
             let serial = match message {
@@ -117,43 +178,37 @@ fn match_text(found: &Option<(Option<Request>, Status)>) -> answer_texts::Answer
 }
 
 /// A rank in a communicator, and the communicator's size.
-pub fn print_position<W: Write>(rank: usize, size: usize, out: &mut W) -> io::Result<()> {
+pub fn print_position<W: Write>(rank: usize, size: usize, out: &mut W) -> io::Result<()>
+    ensures { OnOk result (Prints (W.contents out.old) (W.contents out.new) (position_text rank size ∷ [])) }
+{
     let position = PositionText { rank, size };
     print_text(&answer_texts::Answer::Position(position), out)
 }
 
-/// The answer of a call that was blocked.
-fn print_completed<W: Write>(
-    alloc: Global,
-    completion: &Completion,
-    out: &mut W,
-) -> Result<(), SimulateError> {
-    match completion {
-        Completion::Requests(answer) => print_answer(alloc, answer, out),
-        Completion::Collective(ending) => Ok(print_text(&ending_text(ending), out)?),
-    }
-}
-
-/// The answer of a call of this rank that was blocked.
+/// The answer of a call of this rank that was blocked. Want of memory comes before anything is printed.
 pub fn print_completion<W: Write>(
     alloc: Global,
     rank: u16,
     completion: &Completion,
     out: &mut W,
-) -> Result<(), SimulateError> {
-    write!(out, "{rank} ")?;
-    print_completed(alloc, completion, out)
+) -> Result<(), SimulateError>
+    ensures ok { OnOk result (Prints (W.contents out.old) (W.contents out.new) (completion_line rank completion.now ∷ [])) }
+    ensures err { IfErr result (λ e. CutsOff e (W.contents out.old) (W.contents out.new) (completion_line rank completion.now ∷ [])) }
+{
+    match completion {
+        Completion::Requests(answer) => print_answer(alloc, Some(rank), answer, out),
+        Completion::Collective(ending) => { Ok(print_told(Some(rank), &ending_text(ending), out)?) }
+    }
 }
 
-/// What a call answers.
-pub fn print_reply<W: Write>(
-    alloc: Global,
-    reply: &Reply,
-    out: &mut W,
-) -> Result<(), SimulateError> {
+/// What a call answers. Want of memory comes before anything is printed.
+pub fn print_reply<W: Write>(alloc: Global, reply: &Reply, out: &mut W) -> Result<(), SimulateError>
+    ensures ok { OnOk result (Prints (W.contents out.old) (W.contents out.new) (reply_line reply.now ∷ [])) }
+    ensures err { IfErr result (λ e. CutsOff e (W.contents out.old) (W.contents out.new) (reply_line reply.now ∷ [])) }
+{
     let text = match reply {
         Reply::Started(request) => answer_texts::Answer::Started(request.serial),
-        Reply::Done(answer) => return print_answer(alloc, answer, out),
+        Reply::Done(answer) => return print_answer(alloc, None, answer, out),
         Reply::Pending => answer_texts::Answer::Pending,
         Reply::Accepted => answer_texts::Answer::Done,
         Reply::Blocked => answer_texts::Answer::Blocked,
@@ -168,25 +223,37 @@ pub fn print_reply<W: Write>(
 }
 
 /// An event that is no call was taken.
-pub fn print_taken<W: Write>(out: &mut W) -> io::Result<()> {
+pub fn print_taken<W: Write>(out: &mut W) -> io::Result<()>
+    ensures { OnOk result (Prints (W.contents out.old) (W.contents out.new) (taken_line ∷ [])) }
+{
     print_text(&answer_texts::Answer::Taken, out)
 }
 
 /// A refusal.
-pub fn print_refusal<W: Write>(number: u8, out: &mut W) -> io::Result<()> {
+pub fn print_refusal<W: Write>(number: u8, out: &mut W) -> io::Result<()>
+    ensures { OnOk result (Prints (W.contents out.old) (W.contents out.new) (refusal_line number ∷ [])) }
+{
     print_text(&answer_texts::Answer::Refused(number), out)
 }
 
-/// The text of a datagram that was emitted, by its number.
-fn emission_of(number: usize, datagram: &Datagram<'_>) -> Emission {
-    let kind = match datagram.content {
+/// What a datagram carries, as it is told.
+fn kind_of(content: &Content<'_>) -> FrameKind
+    ensures { result ≡ kind_of_body (content_text content.now) }
+{
+    match content {
         Content::Frame(Frame::Eager(_)) => FrameKind::Eager,
         Content::Frame(Frame::RequestToSend(_)) => FrameKind::Rts,
         Content::Frame(Frame::ClearToSend(_)) => FrameKind::Cts,
         Content::Frame(Frame::Data(_)) => FrameKind::Data,
         Content::Ack(_) => FrameKind::Ack,
         Content::Reset => FrameKind::Reset,
-    };
+    }
+}
+
+/// The text of a datagram that was emitted, by its number.
+fn emission_of(number: usize, datagram: &Datagram<'_>) -> Emission
+    ensures { result ≡ emission_of number (datagram_text datagram.now) }
+{
     Emission {
         datagram: number,
         route: Route {
@@ -194,14 +261,16 @@ fn emission_of(number: usize, datagram: &Datagram<'_>) -> Emission {
             target: datagram.header.target,
         },
         load: Load {
-            kind,
+            kind: kind_of(&datagram.content),
             sequence: datagram.header.sequence,
         },
     }
 }
 
-/// A datagram that was emitted, by its number.
-pub fn print_datagram<W: Write>(number: usize, bytes: &[u8], out: &mut W) -> io::Result<()> {
+/// A datagram that was emitted, by its number. Of bytes that are none, nothing is printed.
+pub fn print_datagram<W: Write>(number: usize, bytes: &[u8], out: &mut W) -> io::Result<()>
+    ensures { OnOk result (Prints (W.contents out.old) (W.contents out.new) (datagram_lines number bytes.now)) }
+{
     let Ok(datagram) = datagram::read(bytes) else {
         return Ok(());
     };

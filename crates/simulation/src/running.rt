@@ -1,17 +1,16 @@
 //! Running a file of events.
 
-use crate::printing::{print_emitted, print_event};
+use crate::printing::{print_refused, print_stepped, print_told};
 use crate::ranks::Rank;
 use engine::Call;
 use event_files::{Line, Statement, parse};
-use event_lines::{SimulateError, print_position, print_refusal};
+use event_lines::{SimulateError, print_refusal};
 use fault_lines::Fault;
-use interpreter::{Asked, Heard, Told};
+use interpreter::{Asked, Heard};
 use statement_calls::Pending;
 use statements::{Action, ParseError};
 use std::alloc::{AllocError, Global};
 use std::collections::BTreeMap;
-use std::io;
 use std::io::Write;
 use world::{Event, Failed, Stepped, World};
 
@@ -49,15 +48,6 @@ fn is_silent(pending: &Pending) -> bool {
     )
 }
 
-/// What is told of the answers to questions that aren't printed by themselves.
-fn print_told<W: Write>(told: &Told, out: &mut W) -> io::Result<()> {
-    match told {
-        Told::Position(rank, size) => print_position(*rank, *size, out),
-        Told::Error(number) => print_refusal(*number, out),
-        _ => Ok(()),
-    }
-}
-
 /// The call that was handed in with an event, if it was one.
 fn call_of(event: Event) -> Option<Call> {
     match event {
@@ -84,30 +74,6 @@ impl Simulation {
     fn new_rank(&self, rank: u16) -> Rank {
         let own = if rank < self.size { Some(rank) } else { None };
         Rank::new(self.alloc, own)
-    }
-
-    /// What a step added is printed.
-    fn print_stepped<W: Write>(&self, stepped: Stepped, out: &mut W) -> Result<(), SimulateError> {
-        match self.world.history().last() {
-            Some(entry) => print_event(
-                self.alloc,
-                &self.world,
-                entry,
-                stepped.first,
-                stepped.count,
-                out,
-            ),
-            None => Ok(()),
-        }
-    }
-
-    /// What is printed of an event that was refused.
-    fn print_refused<W: Write>(&self, failed: &Failed, out: &mut W) -> io::Result<()> {
-        print_refusal(failed.refused.number(), out)?;
-        match failed.reset {
-            Some(number) => print_emitted(&self.world, number, 1, out),
-            None => Ok(()),
-        }
     }
 
     /// The rank's names take what the call that ran last answered, which was for this.
@@ -174,7 +140,7 @@ impl Simulation {
     ) -> Result<Option<Asking>, SimulateError> {
         let silent = is_silent(&pending);
         if !silent {
-            if let Err(e) = self.print_stepped(stepped, out) {
+            if let Err(e) = print_stepped(self.alloc, &self.world, stepped, out) {
                 drop(pending);
                 return Err(e);
             }
@@ -196,7 +162,7 @@ impl Simulation {
             drop(failed);
             return Err(SimulateError::OutOfMemory);
         }
-        if let Err(e) = self.print_refused(&failed, out) {
+        if let Err(e) = print_refused(&self.world, &failed, out) {
             drop(failed);
             return Err(SimulateError::from(e));
         }
@@ -245,7 +211,7 @@ impl Simulation {
     fn happens<W: Write>(&mut self, event: Event, out: &mut W) -> Result<bool, SimulateError> {
         match self.world.step(event) {
             Ok(stepped) => {
-                self.print_stepped(stepped, out)?;
+                print_stepped(self.alloc, &self.world, stepped, out)?;
                 if let Some((rank, heard)) = self.hear_completion()? {
                     if let Some(next) = self.follow(false, heard, out)? {
                         self.call(rank, next, out)?;
@@ -254,7 +220,7 @@ impl Simulation {
                 Ok(true)
             }
             Err(failed) => {
-                let printed = self.print_refused(&failed, out);
+                let printed = print_refused(&self.world, &failed, out);
                 drop(failed);
                 printed?;
                 Ok(false)
