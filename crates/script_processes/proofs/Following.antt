@@ -117,4 +117,4 @@ went new step d e = subst Goal (sym e) (step_plain step, untold_is (plain_state 
 pub runners_follow : RunnersFollow
 runners_follow old new reply step p t f (inl n) six =
     let w = went new step (next_by p.state p.last t) (after old new reply step p t f n) in record { does = w.0; untold = w.1; told = w.2 }
-runners_follow old new reply step p t f (inr is) six = absurd (six is)
+runners_follow old new reply step p t f (inr is) six = absurd (six is.0)
