@@ -244,6 +244,13 @@ impl Played {
         hear(alloc, &mut self.stage, completion)
     }
 
+    /// The runner of its script: how many lines are left to it, and whether it awaits an answer.
+    pub fn runner(&self) -> &ScriptRunner
+        ensures { result.now ≡ self.now.runner }
+    {
+        &self.runner
+    }
+
     /// How it stands.
     pub fn stage(&self) -> &Stage
         ensures { result.now ≡ self.now.stage }

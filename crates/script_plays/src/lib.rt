@@ -7,5 +7,5 @@ mod playing;
 
 pub use laws::{histories_are_of_schedules, players_stay_alike, plays_are_the_meaning};
 pub use moves::Move;
-pub use playing::play;
+pub use playing::{all_begin, make_move, play};
 pub use script_players::{Played, Stage};

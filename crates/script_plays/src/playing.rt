@@ -70,8 +70,8 @@ fn go(
     player.go_on(alloc, world, rank)
 }
 
-/// One move.
-fn make_move(
+/// One move. The only error is want of memory, and then the world and the players are left as they came to be so far.
+pub fn make_move(
     alloc: Global,
     world: &mut World,
     players: &mut Vec<Played>,
@@ -107,8 +107,8 @@ fn make_moves(
     Ok(())
 }
 
-/// The players of scripts, each at its start, by rank.
-fn all_begin(alloc: Global, scripts: Vec<Script>) -> Result<Vec<Played>, AllocError>
+/// The players of scripts, each at its start, by rank. The only error is want of memory.
+pub fn all_begin(alloc: Global, scripts: Vec<Script>) -> Result<Vec<Played>, AllocError>
     requires { length scripts.items ≤ most_ranks }
     ensures { IfOk result (λ players. players.items ≡ players_of 0 scripts.items) }
 {

@@ -1,0 +1,36 @@
+//! What is told on the standard error.
+
+use fault_lines::{explanation, line_at, script_fault};
+use std::alloc::Global;
+use std::str;
+
+/// Tells a refusal, with the line of the script that it is about.
+pub(crate) fn tell(rt: &impl Eprint, number: u8, line: Option<usize>) {
+    let _ = match line {
+        Some(line) => eprintln!(rt; "mpiexplore: refused {number} line {line}"),
+        None => eprintln!(rt; "mpiexplore: refused {number}"),
+    };
+}
+
+/// Tells that a file can't be read or written.
+pub(crate) fn tell_file(rt: &impl Eprint, number: u8, file: &str, what: &str) {
+    tell(rt, number, None);
+    let _ = eprintln!(rt; "mpiexplore: {file} can't be {what}");
+}
+
+/// Why the line of this number is no line of a script.
+fn faulty_line(alloc: Global, text: &[u8], number: usize) -> Option<Vec<u8>> {
+    let line = line_at(alloc, text, number).ok()??;
+    let fault = script_fault(alloc, line).ok()?;
+    explanation(alloc, b"mpiexplore", &fault, line).ok()
+}
+
+/// Tells that the line of this number is no line of a script, and why.
+pub(crate) fn tell_faulty<R: Eprint + AllocGlobal>(rt: &R, text: &[u8], number: usize) {
+    tell(rt, 51, Some(number));
+    if let Some(line) = faulty_line(rt.alloc(), text, number) {
+        if let Ok(told) = str::from_utf8(&line) {
+            let _ = eprintln!(rt; "{told}");
+        }
+    }
+}

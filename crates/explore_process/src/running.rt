@@ -1,0 +1,233 @@
+//! Running the program.
+
+use crate::exploring::{Explored, Progress, explore};
+use crate::faults::{tell, tell_faulty, tell_file};
+use crate::summary::summary_of;
+use crate::words::{Settings, explore_program, settings_in};
+use clap::error::ErrorKind as Mistake;
+use schedule_search::SearchError;
+use std::io::{ErrorKind, Write};
+use std::rt::{Env, Files};
+use std::time::{Clock, Instant};
+use std::{env, fs, io};
+
+/// Something was found, or the script is faulty or can't be read.
+const FOUND: u8 = 1;
+
+/// The words are wrong.
+const WORDS: u8 = 2;
+
+/// The output failed.
+const OUTPUT: u8 = 3;
+
+/// Memory was refused.
+const MEMORY: u8 = 6;
+
+/// After how many seconds it is told how far the search has come.
+const PATIENCE: u64 = 1;
+
+/// Who tells a terminal how far a search has come, about once a second.
+struct Teller<'a, R: Eprint + Clock> {
+    rt: &'a R,
+    start: Option<Instant>,
+    told: u64,
+}
+
+impl<'a, R: Eprint + Clock> Drop for Teller<'a, R> {
+    fn drop(self) {
+        let Self {
+            rt: _,
+            start: _,
+            told: _,
+        } = self;
+    }
+}
+
+impl<'a, R: Eprint + Clock> Progress for Teller<'a, R> {
+    fn tell(&mut self, plays: u64, results: usize) {
+        if plays % 64 != 0 {
+            return;
+        }
+        if let Some(start) = &self.start {
+            if let Ok(passed) = start.elapsed(self.rt) {
+                let seconds = passed.as_secs();
+                if seconds >= self.told.saturating_add(PATIENCE) {
+                    self.told = seconds;
+                    let _ = eprintln!(self.rt; "mpiexplore: {plays} plays, {results} different");
+                }
+            }
+        }
+    }
+}
+
+/// Writes the events of each result into the folder.
+fn write_results<R: Files + Eprint + AllocGlobal>(
+    rt: &R,
+    folder: &str,
+    explored: &Explored,
+) -> Result<(), u8> {
+    for place in 0..explored.results.len() {
+        if let Some((_, report)) = explored.results.get(place) {
+            let number = place.saturating_add(1);
+            let Ok(name) = format!(in rt.alloc(); "{folder}/result{number}.txt") else {
+                return Err(MEMORY);
+            };
+            if fs::write(rt, name.as_str(), report.events.as_slice()).is_err() {
+                tell_file(rt, 59, name.as_str(), "written");
+                return Err(OUTPUT);
+            }
+        }
+    }
+    Ok(())
+}
+
+fn print<R: Print>(rt: &R, text: &[u8]) -> Result<(), u8> {
+    let mut out = io::writer(rt);
+    match out.write_all(text) {
+        Ok(()) => Ok(()),
+        Err(_) => Err(OUTPUT),
+    }
+}
+
+/// Prints the events of one result alone.
+fn print_events<R: Print + Eprint>(rt: &R, explored: &Explored, number: u64) -> Result<(), u8> {
+    let count = explored.results.len();
+    let place = usize::try_from(number)
+        .unwrap_or(usize::MAX)
+        .wrapping_sub(1);
+    match explored.results.get(place) {
+        Some((_, report)) => print(rt, report.events.as_slice()),
+        None => {
+            let _ = eprintln!(rt; "mpiexplore: there is no result {number}, but {count}");
+            Err(WORDS)
+        }
+    }
+}
+
+fn print_found<R: Files + Print + Eprint + AllocGlobal>(
+    rt: &R,
+    settings: &Settings<'_>,
+    explored: &Explored,
+) -> Result<(), u8> {
+    if let Some(folder) = settings.folder {
+        write_results(rt, folder, explored)?;
+    }
+    if let Some(number) = settings.events {
+        return print_events(rt, explored, number);
+    }
+    match summary_of(rt.alloc(), settings, explored) {
+        Ok(text) => print(rt, text.as_slice()),
+        Err(_) => Err(MEMORY),
+    }
+}
+
+fn read_text<R: Files + Eprint + AllocGlobal>(
+    rt: &R,
+    settings: &Settings<'_>,
+) -> Result<Vec<u8>, u8> {
+    match fs::read(rt, settings.file) {
+        Ok(text) => Ok(text),
+        Err(error) => {
+            if error.kind() == ErrorKind::OutOfMemory {
+                return Err(MEMORY);
+            }
+            tell_file(rt, 59, settings.file, "read");
+            Err(FOUND)
+        }
+    }
+}
+
+fn explored_of<R: Eprint + AllocGlobal + Clock>(
+    rt: &R,
+    settings: &Settings<'_>,
+    text: &[u8],
+    tells: bool,
+) -> Result<Explored, u8> {
+    let start = if tells { Instant::now(rt).ok() } else { None };
+    let mut teller = Teller { rt, start, told: 0 };
+    match explore(rt.alloc(), text, settings, &mut teller) {
+        Ok(explored) => Ok(explored),
+        Err(SearchError::Line(line)) => {
+            tell_faulty(rt, text, line);
+            Err(FOUND)
+        }
+        Err(_) => Err(MEMORY),
+    }
+}
+
+/// Explores what these settings ask for, and answers the status.
+fn run_settings<R: Files + Print + Eprint + AllocGlobal + Clock>(
+    rt: &R,
+    settings: &Settings<'_>,
+    tells: bool,
+) -> Result<u8, u8> {
+    let text = read_text(rt, settings)?;
+    let explored = explored_of(rt, settings, &text, tells)?;
+    print_found(rt, settings, &explored)?;
+    Ok(if explored.is_well() { 0 } else { FOUND })
+}
+
+/// Tells that the words are wrong, or how the program is called where they ask for that.
+fn misused<R: Print + Eprint>(rt: &R, error: &clap::Error) -> u8 {
+    match error.kind() {
+        Mistake::OutOfMemory => MEMORY,
+        _ => {
+            if error.use_stderr() {
+                tell(rt, 64, None);
+            }
+            match error.print(rt) {
+                Ok(()) => { if error.use_stderr() { WORDS } else { 0 } }
+                Err(_) => OUTPUT,
+            }
+        }
+    }
+}
+
+/// Runs the program with these words, the first of which is its name, and answers its status. Where it `tells`, the
+/// standard error is told once a second how far the search has come.
+pub fn run_words<R: Files + Print + Eprint + AllocGlobal + Clock>(
+    rt: &R,
+    words: &[String],
+    tells: bool,
+) -> u8 {
+    let Ok(program) = explore_program(rt.alloc()) else {
+        return MEMORY;
+    };
+    let matches = match program.try_get_matches_from(words) {
+        Ok(matches) => matches,
+        Err(error) => return misused(rt, &error),
+    };
+    match settings_in(&matches) {
+        Some(settings) => match run_settings(rt, &settings, tells) {
+            Ok(status) => status,
+            Err(status) => {
+                if status == MEMORY {
+                    tell(rt, 14, None);
+                }
+                status
+            }
+        },
+        None => {
+            tell(rt, 64, None);
+            WORDS
+        }
+    }
+}
+
+/// Runs the program with the words of this process, and answers its status.
+pub fn run<R: Env + Files + Print + Eprint + AllocGlobal + Clock>(rt: &R, tells: bool) -> u8 {
+    let words = match env::args(rt) {
+        Ok(words) => words.collect::<Vec<String>>(rt.alloc()),
+        Err(error) => {
+            if error.kind() == ErrorKind::OutOfMemory {
+                return MEMORY;
+            }
+            tell(rt, 64, None);
+            return WORDS;
+        }
+    };
+    match words {
+        Ok(words) => run_words(rt, words.as_slice(), tells),
+        Err(_) => MEMORY,
+    }
+}

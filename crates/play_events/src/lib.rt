@@ -1,0 +1,9 @@
+//! What happened in a play: as a file of events that `mpisim` runs, and at which line of the script each call was made.
+#![tactic(auto)]
+
+mod account;
+mod lines;
+mod writing;
+
+pub use account::{Account, AccountError, CallAt, account_of, scripts_of};
+pub use lines::ScriptLines;

@@ -1,0 +1,209 @@
+//! Whom a rank waits for.
+
+use crate::all_communicators::Communicators;
+use crate::page::Page;
+use crate::words::{add_source, add_tag};
+use engine::{Call, Receive, Reply, Request, Send};
+use script_plays::{Played, Stage};
+use std::alloc::{AllocError, Global};
+use vocabulary::Source;
+use world::{Entry, Event};
+
+/// Whom a rank waits for, and for what.
+#[derive(Drop)]
+pub struct Waiting {
+    /// For what, in words.
+    pub words: Page,
+    /// The ranks in `world` without any of which it can't go on.
+    pub whom: Vec<u16>,
+}
+
+/// What a rank that waits knows.
+#[derive(Clone, Copy)]
+pub struct Waiter<'a> {
+    /// The allocator.
+    pub alloc: Global,
+    /// The rank.
+    pub rank: u16,
+    /// What has happened.
+    pub history: &'a [Entry],
+    /// The communicators.
+    pub communicators: &'a Communicators,
+}
+
+fn names(reply: &Option<Reply>, request: Request) -> bool {
+    match reply {
+        Some(Reply::Started(started)) => started.serial == request.serial,
+        Some(Reply::Matched(Some((Some(message), _)))) => message.serial == request.serial,
+        _ => false,
+    }
+}
+
+/// The call of this rank that gave this request.
+fn call_of(history: &[Entry], rank: u16, request: Request) -> Option<&Call> {
+    for entry in history {
+        if entry.endpoint.rank == rank && names(&entry.reply, request) {
+            if let Event::Call(_, call) = &entry.event {
+                return Some(call);
+            }
+        }
+    }
+    None
+}
+
+impl Waiter<'_> {
+    fn world_rank(self, comm: Option<usize>, member: u16) -> Option<u16> {
+        self.communicators
+            .held_by(self.rank, comm?)?
+            .world_rank(member)
+    }
+
+    /// Adds on which communicator ranks count, where that isn't `world`.
+    fn add_place(self, page: &mut Page, comm: Option<usize>) -> Result<(), AllocError> {
+        match comm {
+            Some(0) => Ok(()),
+            _ => page.add(" on its communicator"),
+        }
+    }
+
+    fn add_whom(
+        self,
+        whom: &mut Vec<u16>,
+        comm: Option<usize>,
+        source: Source,
+    ) -> Result<(), AllocError> {
+        if let Source::Rank(member) = source {
+            if let Some(rank) = self.world_rank(comm, member) {
+                whom.push(rank)?;
+            }
+        }
+        Ok(())
+    }
+
+    fn for_message(self, waiting: &mut Waiting, asked: &Receive) -> Result<(), AllocError> {
+        let words = &mut waiting.words;
+        words.add("a message of ")?;
+        add_source(words, asked.source)?;
+        words.add(" with ")?;
+        add_tag(words, asked.tag)?;
+        self.add_place(words, asked.comm)?;
+        self.add_whom(&mut waiting.whom, asked.comm, asked.source)
+    }
+
+    fn for_receive(self, waiting: &mut Waiting, sent: &Send) -> Result<(), AllocError> {
+        let words = &mut waiting.words;
+        add_source(words, sent.target)?;
+        words.add(" to receive its message with ")?;
+        add_tag(words, sent.tag)?;
+        self.add_place(words, sent.comm)?;
+        self.add_whom(&mut waiting.whom, sent.comm, sent.target)
+    }
+
+    fn for_request(self, waiting: &mut Waiting, request: Request) -> Result<(), AllocError> {
+        match call_of(self.history, self.rank, request) {
+            Some(Call::Irecv(asked)) => self.for_message(waiting, asked),
+            Some(Call::Isend(sent)) => self.for_receive(waiting, sent),
+            _ => waiting.words.add("the data of a message that it took out"),
+        }
+    }
+
+    /// For each of these requests; between two stands this word.
+    fn for_requests(
+        self,
+        waiting: &mut Waiting,
+        requests: &[Option<Request>],
+        between: &str,
+    ) -> Result<(), AllocError> {
+        for one in requests {
+            if let Some(request) = one {
+                if !waiting.words.is_empty() {
+                    waiting.words.add(between)?;
+                }
+                self.for_request(waiting, *request)?;
+            }
+        }
+        Ok(())
+    }
+
+    /// The members that have not entered the collective in which it is.
+    fn for_members(self, waiting: &mut Waiting) -> Result<(), AllocError> {
+        let Some(entered) = self.communicators.last_of(self.rank) else {
+            return Ok(());
+        };
+        let Some(group) = self.communicators.groups().get(entered.group) else {
+            return Ok(());
+        };
+        for member in group.members.as_slice() {
+            if self.communicators.count_of(*member, entered.group) <= entered.number {
+                if !waiting.words.is_empty() {
+                    waiting.words.add(" and ")?;
+                }
+                waiting.words.add_rank(*member)?;
+                waiting.whom.push(*member)?;
+            }
+        }
+        if waiting.words.is_empty() {
+            return waiting
+                .words
+                .add("what another member should send, which entered otherwise");
+        }
+        waiting.words.add(" to enter")
+    }
+
+    fn for_call(
+        self,
+        waiting: &mut Waiting,
+        call: &Call,
+        left: &[Option<Request>],
+    ) -> Result<(), AllocError> {
+        match call {
+            Call::Wait(Some(request)) => self.for_request(waiting, *request),
+            Call::Waitany(list) => {
+                self.for_requests(waiting, list.as_slice(), ", or ")?;
+                if waiting.whom.len() > 1 {
+                    waiting.whom.clear();
+                }
+                Ok(())
+            }
+            Call::Waitall(_) => self.for_requests(waiting, left, ", and "),
+            Call::Mrecv(Some(_), _) => waiting.words.add("the data of a message that it took out"),
+            Call::Enter(_, _) => self.for_members(waiting),
+            _ => Ok(()),
+        }
+    }
+}
+
+/// The requests of a call that waits for all of several.
+pub fn requests_in(call: &Call) -> &[Option<Request>] {
+    match call {
+        Call::Waitall(list) => list.as_slice(),
+        _ => &[],
+    }
+}
+
+/// Whether the blocked call of a rank changes nothing by itself, so that the play goes on without it as well.
+pub fn waits_alone(call: &Call) -> bool {
+    matches!(call, Call::Wait(_) | Call::Waitany(_) | Call::Waitall(_))
+}
+
+/// The blocked call of a rank.
+pub fn blocked_in(player: &Played) -> Option<&Call> {
+    match player.stage() {
+        Stage::Waits(call) => Some(call),
+        _ => None,
+    }
+}
+
+/// Whom a rank waits for whose call is blocked. Of a call that waits for all of several requests these are left.
+pub fn waiting_of(
+    waiter: Waiter<'_>,
+    call: &Call,
+    left: &[Option<Request>],
+) -> Result<Waiting, AllocError> {
+    let mut waiting = Waiting {
+        words: Page::new(waiter.alloc),
+        whom: Vec::new(waiter.alloc),
+    };
+    waiter.for_call(&mut waiting, call, left)?;
+    Ok(waiting)
+}
