@@ -4,7 +4,7 @@ usage: ./run                            two ranks play ping-pong
        ./run [-n N] [OPTION ..] SCRIPT  N ranks run a script; without -n as many as it names
        ./run FILE                       a file of events: its first line is 'world N'
        ./run --lines FILE               the same, each line with its answers
-       ./run --picture FILE             the same as a picture, a column a rank
+       ./run --picture FILE             the same as a picture in the terminal, a column a rank
        ./run build                      builds the programs, and runs nothing
        ./run --proved [..]              as above, by proved programs alone; proves them first
        ./run --help
@@ -15,13 +15,13 @@ options, as mpiexec has them:
        -job J          the job's number (one at random)
        -baseport P     the port of rank 0; the others have the ports behind it (free ones)
 
-Scripts are run by mpiexec and rank_main, files of events by mpisim. The proved programs are taken
+Scripts are run by mpiexec and rank_main, files of events by mpisim, and drawn by mpidraw. The proved programs are taken
 where `rt ci` or `./run --proved` has left them and no source has changed since. Else programs of
 the same sources are taken, of which nothing is proved: they are built once, in two to three minutes,
 and kept in out/unproved. RUN_PROGRAMS may name a folder whose programs are taken as they are.
 
-What `run` itself says stands on standard error behind 'run:'. The status is that of mpiexec or
-mpisim; 125 where `run` itself fails. Begin with docs/TUTORIAL.md.
+What `run` itself says stands on standard error behind 'run:'. The status is that of mpiexec,
+mpisim or mpidraw; 125 where `run` itself fails. Begin with docs/TUTORIAL.md.
 """
 
 import os
@@ -154,6 +154,8 @@ def command(request):
     if is_events(lines):
         if request.ranks or request.options:
             raise Fault("%s is a file of events, which takes no options: its first line says how many ranks there are" % request.file)
+        if request.view == "--picture":
+            return [short(find(["mpidraw"], request.is_proved)["mpidraw"]), "--text", short(request.file)]
         return [short(find(["mpisim"], request.is_proved)["mpisim"]), short(request.file)]
     if request.view:
         raise Fault("%s is no file of events" % request.file)
@@ -175,15 +177,13 @@ def command(request):
     return words + ["-n", str(ranks), short(found["rank_main"]), short(request.file)]
 
 
-def show(program, file, view):
+def show(program, file):
     """Shows a file of events with its answers; what a fault is, and the status, the program itself tells."""
     import answered
-    import picture
 
     ended = subprocess.run([program, file], stdin=subprocess.DEVNULL, stdout=subprocess.PIPE)
     if ended.stdout or not ended.returncode:
-        rows = picture.rows if view == "--picture" else answered.rows
-        for it in rows(program, file.read_bytes().decode("latin-1").split("\n")):
+        for it in answered.rows(program, file.read_bytes().decode("latin-1").split("\n")):
             print(it)
     return ended.returncode
 
@@ -208,8 +208,8 @@ def main(words):
         return 128 + signal.SIGINT
     say(shlex.join(chosen))
     program = chosen[0] if os.sep in chosen[0] else os.path.join(".", chosen[0])
-    if request.view:
-        return show(program, request.file, request.view)
+    if request.view == "--lines":
+        return show(program, request.file)
     signal.signal(signal.SIGTERM, signal.SIG_DFL)
     os.execv(program, chosen)
 

@@ -7,4 +7,4 @@ mod ranks;
 mod running;
 
 pub use event_lines::SimulateError;
-pub use running::{Stopped, simulate, simulate_or_tell};
+pub use running::{Simulation, Stopped, simulate, simulate_or_tell};

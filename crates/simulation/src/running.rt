@@ -14,9 +14,9 @@ use std::collections::BTreeMap;
 use std::io::Write;
 use world::{Event, Failed, Stepped, World};
 
-/// A world, and the names of its ranks' lines.
+/// A world that follows a file of events, and the names of its ranks' lines.
 #[derive(Drop)]
-struct Simulation {
+pub struct Simulation {
     alloc: Global,
     size: u16,
     world: World,
@@ -60,6 +60,30 @@ fn call_of(event: Event) -> Option<Call> {
 }
 
 impl Simulation {
+    /// A world of so many ranks in which nothing happened yet. Refused for want of memory, and for a number outside 1 to 1,024.
+    pub fn new(alloc: Global, size: u16) -> Result<Simulation, SimulateError> {
+        match World::new(alloc, size) {
+            Ok(world) => Ok(Simulation {
+                alloc,
+                size,
+                world,
+                ranks: BTreeMap::new(alloc),
+                lack: None,
+            }),
+            Err(_) => Err(SimulateError::OutOfMemory),
+        }
+    }
+
+    /// The world as it is now.
+    pub fn world(&self) -> &World {
+        &self.world
+    }
+
+    /// Why the line at which it stopped can't be followed, where it stopped at one.
+    pub fn take_lack(&mut self) -> Option<Fault> {
+        self.lack.take()
+    }
+
     /// Sees to it that a rank has names.
     fn begin(&mut self, rank: u16) -> Result<(), SimulateError> {
         if self.ranks.get(&rank).is_none() {
@@ -279,7 +303,8 @@ impl Simulation {
         Ok(())
     }
 
-    fn run<W: Write>(&mut self, line: Line, out: &mut W) -> Result<(), SimulateError> {
+    /// One line of a file of events, with what it prints.
+    pub fn run<W: Write>(&mut self, line: Line, out: &mut W) -> Result<(), SimulateError> {
         let number = line.number;
         let event = match line.statement {
             Statement::Rank(rank, action) => return self.act(rank, number, action, out),
@@ -327,26 +352,19 @@ pub fn simulate_or_tell<W: Write>(alloc: Global, text: &[u8], out: &mut W) -> Re
         Err(ParseError::Line(line)) => return Err(Stopped::by(SimulateError::Script(line))),
         Err(ParseError::OutOfMemory) => return Err(Stopped::by(SimulateError::OutOfMemory)),
     };
-    match World::new(alloc, file.size) {
-        Ok(world) => {
-            let mut simulation = Simulation {
-                alloc,
-                size: file.size,
-                world,
-                ranks: BTreeMap::new(alloc),
-                lack: None,
-            };
+    match Simulation::new(alloc, file.size) {
+        Ok(mut simulation) => {
             let ended = simulation.run_all(file.lines.into_vec(), out);
-            let fault = simulation.lack.take();
+            let fault = simulation.take_lack();
             drop(simulation);
             match ended {
                 Ok(()) => Ok(drop(fault)),
                 Err(error) => Err(Stopped { error, fault }),
             }
         }
-        Err(_) => {
+        Err(error) => {
             drop(file);
-            Err(Stopped::by(SimulateError::OutOfMemory))
+            Err(Stopped::by(error))
         }
     }
 }

@@ -1,0 +1,98 @@
+//! Draws a file of events as a sequence diagram.
+//!
+//! `mpidraw [--svg | --text] [--width W] FILE`. Status 0 where the file ran to its end; 1 with `mpidraw: refused N line L` on standard
+//! error where a line is faulty (51), and with `mpidraw: refused N` where the file can't be read (59) or for want of memory (14); 2
+//! where the words are wrong; 3 where the output fails. What ran before a line that can't be followed is drawn.
+#![tactic(auto)]
+
+mod telling;
+mod words;
+
+use crate::telling::{faulty, refused, unread};
+use crate::words::{Form, Settings, Words, words_of};
+use run_drawings::{Picture, svg_of, text_of};
+use run_recording::{Recording, record};
+use simulation::{SimulateError, Stopped};
+use std::alloc::{AllocError, Global};
+use std::io::{ErrorKind, Write};
+use std::process::ExitCode;
+use std::rt::{Env, Files};
+use std::{env, fs, io};
+
+/// The picture in the form that is asked for.
+fn drawing_of(alloc: Global, picture: &Picture, form: Form) -> Result<String, AllocError> {
+    match form {
+        Form::Svg => svg_of(alloc, picture),
+        Form::Text(width) => text_of(alloc, picture, width),
+    }
+}
+
+/// Says why the file was not drawn to its end, and answers the status.
+fn told_of(rt: &(impl Eprint + AllocGlobal), text: &[u8], stopped: Stopped) -> u8 {
+    match stopped.error {
+        SimulateError::Script(line) => faulty(rt, text, line, stopped.fault),
+        SimulateError::OutOfMemory => refused(rt, 14, None),
+        SimulateError::Output => 3,
+    }
+}
+
+/// Writes a drawing, and answers the status.
+fn write_drawing(rt: &(impl Print + Eprint), drawing: Result<String, AllocError>) -> u8 {
+    let Ok(drawing) = drawing else {
+        return refused(rt, 14, None);
+    };
+    match io::writer(rt).write_all(drawing.as_bytes()) {
+        Ok(()) => 0,
+        Err(_) => 3,
+    }
+}
+
+/// Writes what a file of events did, tells why it stopped, if it did, and answers the status.
+fn draw(
+    rt: &(impl Print + Eprint + AllocGlobal),
+    text: &[u8],
+    recording: Recording,
+    form: Form,
+) -> u8 {
+    let status = write_drawing(rt, drawing_of(rt.alloc(), &recording.picture, form));
+    match recording.stopped {
+        Some(stopped) if status == 0 => told_of(rt, text, stopped),
+        other => {
+            drop(other);
+            status
+        }
+    }
+}
+
+/// Draws the file that the settings name, and answers the status.
+fn run(rt: &(impl Files + Print + Eprint + AllocGlobal), settings: &Settings<'_>) -> u8 {
+    let text = match fs::read(rt, settings.file) {
+        Ok(text) => text,
+        Err(e) if e.kind() == ErrorKind::OutOfMemory => return refused(rt, 14, None),
+        Err(_) => return unread(rt, settings.file),
+    };
+    match record(rt.alloc(), &text) {
+        Ok(recording) => draw(rt, &text, recording, settings.form),
+        Err(stopped) => told_of(rt, &text, stopped),
+    }
+}
+
+/// Follows the words of the program, and answers the status.
+fn run_words(rt: &(impl Env + Files + Print + Eprint + AllocGlobal)) -> u8 {
+    let words = match env::args(rt) {
+        Ok(words) => words,
+        Err(e) if e.kind() == ErrorKind::OutOfMemory => return refused(rt, 14, None),
+        Err(_) => return refused(rt, 59, None),
+    };
+    let Ok(words) = words.collect::<Vec<String>>(rt.alloc()) else {
+        return refused(rt, 14, None);
+    };
+    match words_of(rt, &words) {
+        Words::Draw(settings) => run(rt, &settings),
+        Words::Over(status) => status,
+    }
+}
+
+fn main(rt: HostRuntime) -> ExitCode {
+    ExitCode::from(run_words(&rt))
+}

@@ -1,0 +1,50 @@
+//! What the program says on standard error.
+
+use fault_lines::{Fault, event_fault, explanation, line_at};
+use std::alloc::Global;
+use std::str;
+
+/// Says why nothing more runs, and answers the status.
+pub fn refused(rt: &impl Eprint, number: u8, line: Option<usize>) -> u8 {
+    let told = match line {
+        Some(line) => eprintln!(rt; "mpidraw: refused {number} line {line}"),
+        None => eprintln!(rt; "mpidraw: refused {number}"),
+    };
+    match told {
+        Ok(()) => 1,
+        Err(_) => 3,
+    }
+}
+
+/// Says that the file can't be read, and answers the status.
+pub fn unread(rt: &impl Eprint, name: &str) -> u8 {
+    let status = refused(rt, 59, None);
+    let _told = eprintln!(rt; "mpidraw: {name} can't be read");
+    status
+}
+
+/// Why the line of this number is faulty: as it was found when it was reached, or else since it is no line of a file of events.
+fn told_of(alloc: Global, text: &[u8], number: usize, fault: Option<Fault>) -> Option<Vec<u8>> {
+    let line = line_at(alloc, text, number).ok()?.unwrap_or(b"");
+    let fault = match fault {
+        Some(fault) => fault,
+        None => event_fault(alloc, line).ok()?,
+    };
+    explanation(alloc, b"mpidraw", &fault, line).ok()
+}
+
+/// Says at which line the file is faulty, and why, and answers the status.
+pub fn faulty(
+    rt: &(impl Eprint + AllocGlobal),
+    text: &[u8],
+    number: usize,
+    fault: Option<Fault>,
+) -> u8 {
+    let status = refused(rt, 51, Some(number));
+    if let Some(line) = told_of(rt.alloc(), text, number, fault) {
+        if let Ok(told) = str::from_utf8(&line) {
+            let _told = eprintln!(rt; "{told}");
+        }
+    }
+    status
+}

@@ -1,0 +1,103 @@
+//! The words of the program.
+
+use clap::{Arg, ArgAction, ArgMatches, Command, value_parser};
+use std::alloc::{AllocError, Global};
+
+/// How many characters a row has where the words don't say it.
+const USUAL_WIDTH: usize = 80;
+
+/// In which form a file is drawn.
+#[derive(Clone, Copy, Debug, PartialEq, Eq)]
+pub enum Form {
+    /// As SVG.
+    Svg,
+    /// In characters, with rows of so many.
+    Text(usize),
+}
+
+/// What the words ask for.
+#[derive(Clone, Copy, Debug)]
+pub struct Settings<'a> {
+    /// In which form to draw.
+    pub form: Form,
+    /// The name of the file.
+    pub file: &'a str,
+}
+
+/// What is to be done by the words.
+#[derive(Clone, Copy, Debug)]
+pub enum Words<'a> {
+    /// A file is to be drawn.
+    Draw(Settings<'a>),
+    /// Nothing: what there was to say is said, and this is the status.
+    Over(u8),
+}
+
+/// The options of the program.
+fn program<'a>(alloc: Global) -> Result<Command<'a>, AllocError> {
+    let svg = Arg::new(alloc, "svg")
+        .long("svg")
+        .action(ArgAction::SetTrue)
+        .help("Draw as SVG, for a browser (the default)")
+        .conflicts_with("text")?;
+    let text = Arg::new(alloc, "text")
+        .long("text")
+        .action(ArgAction::SetTrue)
+        .help("Draw in characters, for a terminal");
+    let width = Arg::new(alloc, "width")
+        .long("width")
+        .value_name("W")
+        .value_parser(value_parser!(u16).range(20..=10_000))
+        .help("How many characters a row has with --text, 20 to 10000; usually 80");
+    let file = Arg::new(alloc, "FILE")
+        .required(true)
+        .help("A file of events");
+    Command::new(alloc, "mpidraw")
+        .about("Draws what a file of events does, as a sequence diagram")
+        .arg(svg)?
+        .arg(text)?
+        .arg(width)?
+        .arg(file)
+}
+
+/// What the matches ask for.
+fn settings_in<'a>(matches: &ArgMatches<'a>) -> Option<Settings<'a>> {
+    let file = matches.get_str("FILE")?;
+    let width = match matches.get_one::<u16>("width") {
+        Some(width) => usize::from(width),
+        None => USUAL_WIDTH,
+    };
+    let form = if matches.get_flag("text") {
+        Form::Text(width)
+    } else {
+        Form::Svg
+    };
+    Some(Settings { form, file })
+}
+
+/// Says that memory is wanting, and answers the status.
+fn out_of_memory<'a>(rt: &impl Eprint) -> Words<'a> {
+    Words::Over(crate::telling::refused(rt, 14, None))
+}
+
+/// What the words ask for. Help is printed, and what is wrong is told.
+pub fn words_of<'a>(rt: &(impl Print + Eprint + AllocGlobal), words: &'a [String]) -> Words<'a> {
+    let Ok(program) = program(rt.alloc()) else {
+        return out_of_memory(rt);
+    };
+    match program.try_get_matches_from(words) {
+        Ok(matches) => match settings_in(&matches) {
+            Some(settings) => Words::Draw(settings),
+            None => Words::Over(2),
+        },
+        Err(error) => {
+            let told = error.print(rt);
+            let status = error.exit_code();
+            match (told, status) {
+                (Err(_), _) => Words::Over(3),
+                (Ok(()), 0) => Words::Over(0),
+                (Ok(()), _) => Words::Over(2),
+            }
+        }
+    }
+}

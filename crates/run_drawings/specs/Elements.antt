@@ -1,0 +1,85 @@
+-- The elements of an SVG, byte by byte.
+use Rattle.std.specs.Prelude.{ℕ, List, [], ◌++◌, codes}
+use Rattle.std.specs.List.{flat_map}
+use Rattle.std.specs.Fmt.{decimal}
+use Rattle.run_drawings.specs.Labels.{arrow_label_text, shortened}
+use Rattle.run_drawings.specs.declared.elements.Element.{Element}
+use Rattle.run_drawings.specs.declared.elements.Element.TheVariants as elements
+use Rattle.run_drawings.specs.declared.elements.Ink.{Ink}
+use Rattle.run_drawings.specs.declared.elements.Ink.TheVariants as inks
+use Rattle.run_drawings.specs.declared.elements.Label.{Label}
+use Rattle.run_drawings.specs.declared.elements.Label.TheVariants as labels
+use Rattle.run_drawings.specs.declared.elements.Side.{Side}
+use Rattle.run_drawings.specs.declared.elements.Side.TheVariants as sides
+use Rattle.run_drawings.specs.declared.elements.Stroke.{Stroke}
+use Rattle.run_drawings.specs.declared.elements.Text.{Text}
+use Rattle.run_drawings.specs.declared.layout.Point.{Point}
+
+-- `X,Y`
+abbrev pub point_text : Point → List ℕ
+point_text p = decimal p.x ++ codes "," ++ decimal p.y
+
+abbrev pub ink_class : Ink → List ℕ
+ink_class inks.Life = codes "life"
+ink_class inks.Blocked = codes "blocked"
+ink_class inks.Break = codes "break"
+ink_class inks.Event = codes "event"
+ink_class inks.Taken = codes "taken"
+ink_class inks.Refused = codes "refused"
+ink_class inks.Lost = codes "lost"
+
+-- a straight line
+abbrev pub stroke_text : Stroke → List ℕ
+stroke_text s =
+    codes "<path class=\"" ++ ink_class s.ink ++ codes "\" d=\"M" ++ point_text s.from ++ codes " L" ++ point_text s.to ++ codes "\"/>"
+
+-- how many bytes of a call or an answer are shown
+abbrev pub most_shown : ℕ
+most_shown = 64
+
+-- what stands behind an arrow
+abbrev pub answer_span : List ℕ → List ℕ
+answer_span answer = codes "<tspan class=\"answer\">&#8594; " ++ shortened answer most_shown ++ codes "</tspan>"
+
+abbrev pub label_text : Label → List ℕ
+label_text (labels.Rank rank) = codes "rank " ++ decimal rank
+label_text (labels.Call bytes) = shortened bytes.now most_shown
+label_text (labels.Answered call answer) = shortened call.now most_shown ++ codes " " ++ answer_span answer.now
+label_text (labels.Answer bytes) = answer_span bytes.now
+label_text (labels.Arrow arrow) = arrow_label_text arrow.number arrow.load arrow.is_resent
+label_text (labels.Refusal bytes) = shortened bytes.now most_shown
+
+abbrev pub label_class : Label → List ℕ
+label_class (labels.Rank rank) = codes "rank"
+label_class (labels.Call bytes) = codes "call"
+label_class (labels.Answered call answer) = codes "call"
+label_class (labels.Answer bytes) = codes "call"
+label_class (labels.Arrow arrow) = codes "datagram"
+label_class (labels.Refusal bytes) = codes "refusal"
+
+abbrev pub anchor : Side → List ℕ
+anchor sides.Right = codes "start"
+anchor sides.Left = codes "end"
+anchor sides.Middle = codes "middle"
+
+-- where a text stands
+abbrev pub stand_text : (at : Point) (side : Side) → List ℕ
+stand_text at side =
+    codes "x=\"" ++ decimal at.x ++ codes "\" y=\"" ++ decimal at.y ++ codes "\" text-anchor=\"" ++ anchor side ++ codes "\""
+
+abbrev pub text_text : Text → List ℕ
+text_text t =
+    codes "<text class=\"" ++ label_class t.label ++ codes "\" " ++ stand_text t.at t.side ++ codes ">" ++ label_text t.label ++ codes "</text>"
+
+abbrev pub element_text : Element → List ℕ
+element_text (elements.Stroke stroke) = stroke_text stroke
+element_text (elements.Text text) = text_text text
+
+-- a line for each element
+abbrev pub lines_text : List Element → List ℕ
+lines_text es = flat_map (λ e. element_text e ++ codes "\n") es
+
+-- the first line of a drawing: its width and its height
+abbrev pub opening_text : Point → List ℕ
+opening_text corner =
+    codes "<svg xmlns=\"http://www.w3.org/2000/svg\" width=\"" ++ decimal corner.x ++ codes "\" height=\"" ++ decimal corner.y ++ codes "\">"

@@ -1,0 +1,35 @@
+-- The texts that stand in a drawing, byte by byte.
+use Rattle.std.specs.Prelude.{ℕ, ◌==◌, ◌&&◌, nat_le, List, [], ◌∷◌, ◌++◌, length, take, codes, Bool, true, false, if◌then◌else◌}
+use Rattle.std.specs.List.{flat_map}
+use Rattle.std.specs.Fmt.{decimal}
+use Rattle.answer_texts.specs.Answers.{load_text}
+use Rattle.answer_texts.specs.declared.emissions.Load.{Load}
+
+-- a byte as it stands in an SVG: `&`, `<` and `>` by their names, and `?` for what isn't printable ASCII
+abbrev pub escaped_byte : ℕ → List ℕ
+escaped_byte byte =
+    if byte == 38 then codes "&amp;" else
+    if byte == 60 then codes "&lt;" else
+    if byte == 62 then codes "&gt;" else
+    if nat_le 32 byte && nat_le byte 126 then byte ∷ [] else codes "?"
+
+abbrev pub escaped : List ℕ → List ℕ
+escaped bytes = flat_map escaped_byte bytes
+
+-- the first bytes, and ` ..` where there are more
+abbrev pub shortened : (bytes : List ℕ) (most : ℕ) → List ℕ
+shortened bytes most = if nat_le (length bytes) most then escaped bytes else escaped (take most bytes) ++ codes " .."
+
+-- ` again` of a frame that went out before
+abbrev pub again_text : Bool → List ℕ
+again_text true = codes " again"
+again_text false = []
+
+-- `D: KIND SEQ`
+abbrev pub arrow_label_text : (number : ℕ) (load : Load) (is_resent : Bool) → List ℕ
+arrow_label_text number load is_resent = decimal number ++ codes ": " ++ load_text load ++ again_text is_resent
+
+-- `D`, and with what it was refused
+abbrev pub refusal_label_text : (number : ℕ) (answer : List ℕ) → List ℕ
+refusal_label_text number [] = decimal number
+refusal_label_text number (byte ∷ bytes) = decimal number ++ codes ": " ++ escaped (byte ∷ bytes)

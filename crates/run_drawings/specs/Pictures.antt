@@ -1,0 +1,31 @@
+-- What happens to the arrows of a picture.
+use Rattle.std.specs.Prelude.{◌≡◌, ℕ, List, [], ◌∷◌, ◌++◌, Some, slice_get, slice_set}
+use Rattle.answer_texts.specs.declared.emissions.Load.{Load}
+use Rattle.vocabulary.specs.declared.endpoint.Endpoint.{Endpoint}
+use Rattle.run_drawings.specs.declared.picture.Arrival.{Arrival}
+use Rattle.run_drawings.specs.declared.picture.Arrow.{Arrow}
+
+-- a datagram goes out in this row: its arrow is the next one, and it came nowhere yet
+pub record IsEmitted (source target : Endpoint) (load : Load) (row : ℕ) (old new : List Arrow) : Type 0 where
+  pub arrow : Arrow
+  pub added : new ≡ old ++ arrow ∷ []
+  pub from : arrow.source ≡ source
+  pub to : arrow.target ≡ target
+  pub carries : arrow.load ≡ load
+  pub begins : arrow.row ≡ row
+  pub comes : arrow.arrivals.items ≡ []
+
+-- an arrow as it was, but that the datagram came once more
+pub record HasComeAgain (arrival : Arrival) (old new : Arrow) : Type 0 where
+  pub from : new.source ≡ old.source
+  pub to : new.target ≡ old.target
+  pub carries : new.load ≡ old.load
+  pub resent : new.is_resent ≡ old.is_resent
+  pub begins : new.row ≡ old.row
+  pub comes : new.arrivals.items ≡ old.arrivals.items ++ arrival ∷ []
+
+-- a datagram comes: its arrow, if there is one of this number, has one more arrival behind the others; no other arrow changes
+pub record IsArrived (number : ℕ) (arrival : Arrival) (old new : List Arrow) : Type 0 where
+  pub one : (before : Arrow) → slice_get old number ≡ Some before →
+      (after : Arrow) × (new ≡ slice_set old number after) × HasComeAgain arrival before after
+  pub others : (n : ℕ) → (n ≡ number → ⊥) → slice_get new n ≡ slice_get old n

@@ -1,0 +1,238 @@
+//! A picture in characters.
+
+use crate::cells::{blanks, fill, push_row, put, put_text};
+use crate::columns::{Columns, Span};
+use crate::labels::{ArrowLabel, RefusalLabel};
+use crate::picture::{Arrow, Change, Delivery, Note, Picture, Row};
+use std::alloc::{AllocError, Global};
+
+/// The rows of a picture that are written so far.
+#[derive(Drop)]
+struct Writer {
+    alloc: Global,
+    columns: Columns,
+    /// Which ranks are blocked.
+    blocked: Vec<bool>,
+    out: String,
+}
+
+/// Whether a datagram comes in the row behind the one in which it was emitted, and is taken: both are one arrow then.
+fn is_direct(arrow: &Arrow) -> bool {
+    match arrow.arrivals.first() {
+        Some(arrival) => arrival.is_taken && arrival.row == arrow.row.saturating_add(1),
+        None => false,
+    }
+}
+
+/// A text, or its beginning and `..` where it is longer than that.
+fn put_shortened(row: &mut Vec<char>, place: usize, text: &[u8], most: usize) {
+    if text.len() <= most {
+        put_text(row, place, text);
+        return;
+    }
+    let (first, _) = text.split_at(most.saturating_sub(2).min(text.len()));
+    put_text(row, place, first);
+    put_text(row, place.saturating_add(first.len()), b"..");
+}
+
+/// The line of an arrow with its head.
+fn put_arrow(row: &mut Vec<char>, span: Span, is_right: bool, line: char, head: char) {
+    fill(row, span.first, span.end, line);
+    if span.len() > 0 {
+        put(row, span.tip(is_right), head);
+    }
+}
+
+/// Writes what an arrow stands for: on it where that leaves some of its line, else behind its right end, or before its left one.
+fn put_label(columns: Columns, row: &mut Vec<char>, span: Span, is_right: bool, text: &[u8]) {
+    let length = text.len();
+    if length.saturating_add(6) <= span.len() {
+        let place = if is_right {
+            span.first.saturating_add(3)
+        } else {
+            span.end.saturating_sub(length.saturating_add(3))
+        };
+        put(row, place.saturating_sub(1), ' ');
+        put_text(row, place, text);
+        put(row, place.saturating_add(length), ' ');
+    } else if span.end.saturating_add(length.saturating_add(2)) <= columns.width {
+        put_text(row, span.end.saturating_add(2), text);
+    } else {
+        put_text(
+            row,
+            span.first.saturating_sub(length.saturating_add(2)),
+            text,
+        );
+    }
+}
+
+/// A call and what it answered.
+fn note_text(alloc: Global, call: &[u8], answer: &[u8]) -> Result<Vec<u8>, AllocError> {
+    let mut text = Vec::from_slice(alloc, call)?;
+    if answer.is_empty() {
+        return Ok(text);
+    }
+    if !call.is_empty() {
+        text.extend_from_slice(b" ")?;
+    }
+    text.extend_from_slice(b"=> ")?;
+    text.extend_from_slice(answer)?;
+    Ok(text)
+}
+
+impl Writer {
+    fn new(alloc: Global, size: u16, width: usize) -> Result<Writer, AllocError> {
+        Ok(Writer {
+            alloc,
+            columns: Columns::of(size, width),
+            blocked: vec![in alloc; false; usize::from(size)]?,
+            out: String::new(alloc),
+        })
+    }
+
+    /// A row with nothing in it but the lines of life.
+    fn blank_row(&self) -> Result<Vec<char>, AllocError> {
+        let mut row = blanks(self.alloc, self.columns.width)?;
+        for (rank, is_blocked) in self.blocked.iter().enumerate() {
+            let line = if *is_blocked { '┃' } else { '│' };
+            put(&mut row, rank.saturating_mul(self.columns.column), line);
+        }
+        Ok(row)
+    }
+
+    fn push(&mut self, row: &[char]) -> Result<(), AllocError> {
+        push_row(&mut self.out, row)
+    }
+
+    /// The names of the ranks.
+    fn write_names(&mut self, size: u16) -> Result<(), AllocError> {
+        let mut row = blanks(self.alloc, self.columns.width)?;
+        for rank in 0..size {
+            let name = format!(in self.alloc; "rank {rank}")?;
+            put_text(&mut row, self.columns.place_of(rank), name.as_bytes());
+        }
+        self.push(&row)
+    }
+
+    /// Whether a rank is blocked is this now.
+    fn change(&mut self, note: &Note) {
+        if let Some(cell) = self.blocked.get_mut(usize::from(note.rank)) {
+            match note.change {
+                Change::Stays => {}
+                Change::Blocks => *cell = true,
+                Change::Resumes | Change::StartsAnew(_) => *cell = false,
+            }
+        }
+    }
+
+    /// Writes a text beside a rank's line of life, with a mark on the line where there is a mark of its own.
+    fn write_beside(
+        &mut self,
+        rank: u16,
+        text: &[u8],
+        own: Option<char>,
+    ) -> Result<(), AllocError> {
+        let mut row = self.blank_row()?;
+        let span = self.columns.beside(rank, text.len());
+        let place = self.columns.place_of(rank);
+        let side = if place < span.first { '├' } else { '┤' };
+        put(&mut row, place, own.unwrap_or(side));
+        put_shortened(&mut row, span.first, text, span.len());
+        self.push(&row)
+    }
+
+    /// Writes a note in one row, or in two where its call would fit to the right of the line, and its answer not behind it.
+    fn write_note(&mut self, note: &Note) -> Result<(), AllocError> {
+        self.change(note);
+        let own = match note.change {
+            Change::StartsAnew(_) => Some('╳'),
+            _ => None,
+        };
+        let whole = note_text(self.alloc, &note.call, &note.answer)?;
+        let room = self.columns.right_of(note.rank).len();
+        if whole.len() <= room || note.call.is_empty() || note.call.len() > room {
+            return self.write_beside(note.rank, &whole, own);
+        }
+        self.write_beside(note.rank, &note.call, own)?;
+        let answer = note_text(self.alloc, b"", &note.answer)?;
+        self.write_beside(note.rank, &answer, None)
+    }
+
+    fn write_emitted(&mut self, number: usize, arrow: &Arrow) -> Result<(), AllocError> {
+        let mut row = self.blank_row()?;
+        let (from, to) = (arrow.source.rank, arrow.target.rank);
+        let is_right = from < to;
+        let span = if arrow.arrivals.is_empty() {
+            self.columns.lost(from, to)
+        } else {
+            self.columns.departure(from, to, is_direct(arrow))
+        };
+        let head = match (arrow.arrivals.is_empty(), is_right) {
+            (true, _) => '×',
+            (false, true) => '►',
+            (false, false) => '◄',
+        };
+        put_arrow(&mut row, span, is_right, '─', head);
+        let label = ArrowLabel {
+            number,
+            load: arrow.load,
+            is_resent: arrow.is_resent,
+        };
+        let text = format!(in self.alloc; "{label}")?;
+        put_label(self.columns, &mut row, span, is_right, text.as_bytes());
+        self.push(&row)
+    }
+
+    fn write_delivered(&mut self, delivery: &Delivery, arrow: &Arrow) -> Result<(), AllocError> {
+        let mut row = self.blank_row()?;
+        let (from, to) = (arrow.source.rank, arrow.target.rank);
+        let is_right = from < to;
+        let span = self.columns.arrival(from, to);
+        let head = if is_right { '►' } else { '◄' };
+        put_arrow(&mut row, span, is_right, '┄', head);
+        let label = RefusalLabel {
+            number: delivery.datagram,
+            answer: &delivery.answer,
+        };
+        let text = format!(in self.alloc; "{label}")?;
+        put_label(self.columns, &mut row, span, is_right, text.as_bytes());
+        self.push(&row)
+    }
+
+    fn write_outside(&mut self, text: &[u8]) -> Result<(), AllocError> {
+        let mut row = self.blank_row()?;
+        let span = Span {
+            first: 2,
+            end: self.columns.width,
+        };
+        put_shortened(&mut row, span.first, text, span.len());
+        self.push(&row)
+    }
+
+    /// Writes the row at a place, but for the arrival that stands in the row before it.
+    fn write_row(&mut self, picture: &Picture, place: usize, row: &Row) -> Result<(), AllocError> {
+        match row {
+            Row::Told(note) => self.write_note(note),
+            Row::Emitted(number) => match picture.arrows.get(*number) {
+                Some(arrow) => self.write_emitted(*number, arrow),
+                None => Ok(()),
+            },
+            Row::Delivered(delivery) => match picture.arrows.get(delivery.datagram) {
+                Some(arrow) if is_direct(arrow) && place == arrow.row.saturating_add(1) => Ok(()),
+                Some(arrow) => self.write_delivered(delivery, arrow),
+                None => Ok(()),
+            },
+            Row::Outside(text) => self.write_outside(text),
+        }
+    }
+}
+
+/// A picture in rows of at most so many characters, as far as the ranks fit; a column has at least 10.
+pub fn text_of(alloc: Global, picture: &Picture, width: usize) -> Result<String, AllocError> {
+    let mut writer = Writer::new(alloc, picture.size, width)?;
+    writer.write_names(picture.size)?;
+    for (place, row) in picture.rows.iter().enumerate() {
+        writer.write_row(picture, place, row)?;
+    }
+    Ok(writer.out)
+}
