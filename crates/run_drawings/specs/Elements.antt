@@ -62,10 +62,13 @@ anchor sides.Right = codes "start"
 anchor sides.Left = codes "end"
 anchor sides.Middle = codes "middle"
 
+-- `x="X" y="Y"`
+abbrev pub coordinates_text : Point → List ℕ
+coordinates_text at = codes "x=\"" ++ decimal at.x ++ codes "\" y=\"" ++ decimal at.y ++ codes "\""
+
 -- where a text stands
 abbrev pub stand_text : (at : Point) (side : Side) → List ℕ
-stand_text at side =
-    codes "x=\"" ++ decimal at.x ++ codes "\" y=\"" ++ decimal at.y ++ codes "\" text-anchor=\"" ++ anchor side ++ codes "\""
+stand_text at side = coordinates_text at ++ codes " text-anchor=\"" ++ anchor side ++ codes "\""
 
 abbrev pub text_text : Text → List ℕ
 text_text t =

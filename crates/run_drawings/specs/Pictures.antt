@@ -1,5 +1,5 @@
 -- What happens to the arrows of a picture.
-use Rattle.std.specs.Prelude.{◌≡◌, ℕ, List, [], ◌∷◌, ◌++◌, Some, slice_get, slice_set}
+use Rattle.std.specs.Prelude.{◌≡◌, ◌≤◌, ℕ, List, [], ◌∷◌, ◌++◌, length, Some, slice_get, slice_set}
 use Rattle.answer_texts.specs.declared.emissions.Load.{Load}
 use Rattle.vocabulary.specs.declared.endpoint.Endpoint.{Endpoint}
 use Rattle.run_drawings.specs.declared.picture.Arrival.{Arrival}
@@ -24,8 +24,11 @@ pub record HasComeAgain (arrival : Arrival) (old new : Arrow) : Type 0 where
   pub begins : new.row ≡ old.row
   pub comes : new.arrivals.items ≡ old.arrivals.items ++ arrival ∷ []
 
--- a datagram comes: its arrow, if there is one of this number, has one more arrival behind the others; no other arrow changes
-pub record IsArrived (number : ℕ) (arrival : Arrival) (old new : List Arrow) : Type 0 where
-  pub one : (before : Arrow) → slice_get old number ≡ Some before →
-      (after : Arrow) × (new ≡ slice_set old number after) × HasComeAgain arrival before after
-  pub others : (n : ℕ) → (n ≡ number → ⊥) → slice_get new n ≡ slice_get old n
+-- a datagram comes
+pub data IsArrived (number : ℕ) (arrival : Arrival) (old new : List Arrow) : Type 0 where
+  -- there is an arrow of this number: it has one more arrival behind the others, and no other arrow changes
+  There :
+      (before after : Arrow) → slice_get old number ≡ Some before → HasComeAgain arrival before after →
+      new ≡ slice_set old number after → IsArrived number arrival old new
+  -- there is none
+  Nowhere : length old ≤ number → new ≡ old → IsArrived number arrival old new

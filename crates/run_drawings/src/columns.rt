@@ -132,14 +132,14 @@ impl Columns {
     pub fn beside(&self, rank: u16, length: usize) -> Span {
         let right = self.right_of(rank);
         let left = Span {
-            first: 0,
+            first: 2,
             end: self.place_of(rank).saturating_sub(1),
         };
         if length <= right.len() || left.len() <= right.len() {
             right
         } else {
             Span {
-                first: left.end.saturating_sub(length),
+                first: left.end.saturating_sub(length).max(left.first),
                 end: left.end,
             }
         }

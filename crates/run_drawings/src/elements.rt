@@ -178,6 +178,25 @@ pub(crate) struct Text<'a> {
     pub label: Label<'a>,
 }
 
+/// `x="X" y="Y"`: the attributes of a place.
+#[derive(Clone, Copy)]
+struct Coordinates {
+    at: Point,
+}
+
+impl fmt::Display for Coordinates {
+    ghost use Rattle.std.specs.Prelude.{Some};
+    ghost use Rattle.run_drawings.specs.Elements.{coordinates_text};
+
+    ghost output = { λ c. Some (coordinates_text c.at) };
+
+    fn fmt<W: fmt::Write>(&self, f: &mut fmt::Formatter<W>) -> fmt::Result {
+        let x = self.at.x;
+        let y = self.at.y;
+        write!(f, "x=\"{x}\" y=\"{y}\"")
+    }
+}
+
 /// The attributes of a text that say where it stands.
 #[derive(Clone, Copy)]
 struct Stand {
@@ -192,10 +211,9 @@ impl fmt::Display for Stand {
     ghost output = { λ s. Some (stand_text s.at s.side) };
 
     fn fmt<W: fmt::Write>(&self, f: &mut fmt::Formatter<W>) -> fmt::Result {
-        let x = self.at.x;
-        let y = self.at.y;
+        let coordinates = Coordinates { at: self.at };
         let anchor = self.side.anchor();
-        write!(f, "x=\"{x}\" y=\"{y}\" text-anchor=\"{anchor}\"")
+        write!(f, "{coordinates} text-anchor=\"{anchor}\"")
     }
 }
 

@@ -1,8 +1,10 @@
 //! What stands beside the lines of life of an SVG.
 
-ghost use Rattle.std.specs.Prelude.{◌≡◌, ◌++◌, OnOk};
-ghost use Rattle.run_drawings.specs.Elements.{label_text, lines_text, text_text};
-ghost use Rattle.run_drawings.specs.Notes.{note_label, note_lines, note_text};
+ghost use Rattle.std.specs.Prelude.{◌≡◌, codes};
+ghost use Rattle.run_drawings.specs.Elements.{label_class, label_text};
+ghost use Rattle.run_drawings.specs.Layout.{below, right_of};
+ghost use Rattle.run_drawings.specs.Notes.{mark, note_label};
+ghost use Rattle.run_drawings.specs.declared.elements.Side.TheVariants as sides;
 
 use crate::elements::{Element, Ink, Label, Side, Stroke, Text};
 use crate::layout::{Layout, Point};
@@ -11,7 +13,8 @@ use std::alloc::AllocError;
 
 /// The text of a note.
 fn label_of<'a>(note: &'a Note) -> Label<'a>
-    ensures { label_text result ≡ note_label note.now.call.items note.now.answer.items }
+    ensures text { label_text result ≡ note_label note.now.call.items note.now.answer.items }
+    ensures class { label_class result ≡ codes "call" }
 {
     if note.answer.is_empty() {
         Label::Call(&note.call)
@@ -24,7 +27,10 @@ fn label_of<'a>(note: &'a Note) -> Label<'a>
 
 /// The text of a note, to the right of its rank's line of life.
 fn text_of<'a>(here: Point, note: &'a Note) -> Text<'a>
-    ensures { text_text result ≡ note_text here note.now }
+    ensures side { result.side ≡ sides.Right }
+    ensures place { result.at ≡ below (right_of here 10) 4 }
+    ensures text { label_text result.label ≡ note_label note.now.call.items note.now.answer.items }
+    ensures class { label_class result.label ≡ codes "call" }
 {
     Text {
         side: Side::Right,
@@ -33,19 +39,24 @@ fn text_of<'a>(here: Point, note: &'a Note) -> Text<'a>
     }
 }
 
+/// The mark of a note, across its rank's line of life.
+fn mark_of(here: Point) -> Stroke
+    ensures { result ≡ mark here }
+{
+    Stroke {
+        ink: Ink::Event,
+        from: here.left(5),
+        to: here.right(5),
+    }
+}
+
 /// Adds a note.
 fn add_note<'a>(
     here: Point,
     note: &'a Note,
     elements: &mut Vec<Element<'a>>,
-) -> Result<(), AllocError>
-    ensures { OnOk result (lines_text elements.new.items ≡ lines_text elements.old.items ++ note_lines here note.now) }
-{
-    elements.push(Element::Stroke(Stroke {
-        ink: Ink::Event,
-        from: here.left(5),
-        to: here.right(5),
-    }))?;
+) -> Result<(), AllocError> {
+    elements.push(Element::Stroke(mark_of(here)))?;
     elements
         .push(Element::Text(text_of(here, note)))
         .map_err(AllocError::from)

@@ -1,7 +1,7 @@
 //! What a drawing shows.
 
 ghost use Rattle.std.specs.Prelude.{◌≡◌, ◌++◌, ◌∷◌, [], OnOk, OnErr, vec_len};
-ghost use Rattle.run_drawings.specs.Pictures.{IsArrived, IsEmitted};
+ghost use Rattle.run_drawings.specs.Pictures.{HasComeAgain, IsArrived, IsEmitted};
 ghost use Rattle.run_drawings.specs.declared.picture.Row.TheVariants as rows;
 
 use answer_texts::{FrameKind, Load};
@@ -108,13 +108,34 @@ impl Arrow {
     }
 }
 
+/// Adds where a datagram came behind where it came before.
+fn push_arrival(arrow: &mut Arrow, arrival: Arrival) -> Result<(), AllocError>
+    ensures { OnOk result (HasComeAgain arrival arrow.old arrow.new) }
+{
+    match arrow.arrivals.push(arrival) {
+        Ok(()) => Ok(()),
+        Err(failed) => Err(AllocError::from(failed)),
+    }
+}
+
+/// Adds an arrow behind the others.
+fn push_arrow(arrows: &mut Vec<Arrow>, arrow: Arrow) -> Result<(), AllocError>
+    ensures { OnOk result (arrows.new.items ≡ arrows.old.items ++ arrow ∷ []) }
+{
+    match arrows.push(arrow) {
+        Ok(()) => Ok(()),
+        Err(failed) => Err(AllocError::from(failed)),
+    }
+}
+
 /// Adds where a datagram came to its arrow, if there is one of this number.
 fn add_arrival(arrows: &mut Vec<Arrow>, number: usize, arrival: Arrival) -> Result<(), AllocError>
     ensures { OnOk result (IsArrived number arrival arrows.old.items arrows.new.items) }
 {
-    match arrows.get_mut(number) {
-        Some(arrow) => arrow.arrivals.push(arrival).map_err(AllocError::from),
-        None => Ok(()),
+    if number < arrows.len() {
+        push_arrival(&mut arrows[number], arrival)
+    } else {
+        Ok(())
     }
 }
 
@@ -187,7 +208,7 @@ impl Picture {
             row: self.rows.len(),
             arrivals: Vec::new(alloc),
         };
-        self.arrows.push(arrow).map_err(AllocError::from)?;
+        push_arrow(&mut self.arrows, arrow)?;
         push_row(&mut self.rows, Row::Emitted(number))
     }
 
