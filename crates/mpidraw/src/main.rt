@@ -1,8 +1,9 @@
 //! Draws a file of events as a sequence diagram.
 //!
-//! `mpidraw [--svg | --text] [--width W] FILE`. Status 0 where the file ran to its end; 1 with `mpidraw: refused N line L` on standard
-//! error where a line is faulty (51), and with `mpidraw: refused N` where the file can't be read (59) or for want of memory (14); 2
-//! where the words are wrong; 3 where the output fails. What ran before a line that can't be followed is drawn.
+//! `mpidraw [--svg | --text] [--width W] FILE`. Status 0 where the file ran to its end; 1 with `mpidraw: refused N line
+//! L` on standard error where a line is faulty (51), and with `mpidraw: refused N` where the file can't be read (59) or
+//! for want of memory (14); 2 where the words are wrong; 3 where the output fails. What ran before a line that can't be
+//! followed is drawn.
 #![tactic(auto)]
 
 mod telling;

@@ -1,4 +1,5 @@
-//! Draws the files of events that it is given one after the other, as SVG and in rows of 80 characters: worked rows as data.
+//! Draws the files of events that it is given one after the other, as SVG and in rows of 80 characters: worked rows as
+//! data.
 //!
 //! Status 0 where each file could be read, drawn and printed, else 1.
 #![tactic(auto)]

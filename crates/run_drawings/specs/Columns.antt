@@ -27,10 +27,14 @@ abbrev pub departure : Columns → (from to : ℕ) → (is_direct : Bool) → Sp
 departure c from to true = between c from to
 departure c from to false = without (between c from to) 3 (nat_lt from to)
 
+-- half as many places
+abbrev pub half : Span → ℕ
+half s = (s.end - s.first) / 2
+
 -- that of a lost datagram: without the half at its target
 abbrev pub lost : Columns → (from to : ℕ) → Span
-lost c from to = without (between c from to) (((between c from to).end - (between c from to).first) / 2) (nat_lt from to)
+lost c from to = without (between c from to) (half (between c from to)) (nat_lt from to)
 
 -- an arrow that comes: without the half at its source
 abbrev pub arrival : Columns → (from to : ℕ) → Span
-arrival c from to = without (between c from to) (((between c from to).end - (between c from to).first) / 2) (nat_lt to from)
+arrival c from to = without (between c from to) (half (between c from to)) (nat_lt to from)

@@ -31,7 +31,8 @@ ink_class inks.Lost = codes "lost"
 -- a straight line
 abbrev pub stroke_text : Stroke → List ℕ
 stroke_text s =
-    codes "<path class=\"" ++ ink_class s.ink ++ codes "\" d=\"M" ++ point_text s.from ++ codes " L" ++ point_text s.to ++ codes "\"/>"
+    codes "<path class=\"" ++ ink_class s.ink ++ codes "\" d=\"M" ++ point_text s.from ++ codes " L" ++
+    point_text s.to ++ codes "\"/>"
 
 -- how many bytes of a call or an answer are shown
 abbrev pub most_shown : ℕ
@@ -63,7 +64,7 @@ anchor sides.Left = codes "end"
 anchor sides.Middle = codes "middle"
 
 -- `x="X" y="Y"`
-abbrev pub coordinates_text : Point → List ℕ
+unfoldable pub coordinates_text : Point → List ℕ
 coordinates_text at = codes "x=\"" ++ decimal at.x ++ codes "\" y=\"" ++ decimal at.y ++ codes "\""
 
 -- where a text stands
@@ -72,7 +73,8 @@ stand_text at side = coordinates_text at ++ codes " text-anchor=\"" ++ anchor si
 
 abbrev pub text_text : Text → List ℕ
 text_text t =
-    codes "<text class=\"" ++ label_class t.label ++ codes "\" " ++ stand_text t.at t.side ++ codes ">" ++ label_text t.label ++ codes "</text>"
+    codes "<text class=\"" ++ label_class t.label ++ codes "\" " ++ stand_text t.at t.side ++ codes ">" ++
+    label_text t.label ++ codes "</text>"
 
 abbrev pub element_text : Element → List ℕ
 element_text (elements.Stroke stroke) = stroke_text stroke
@@ -85,4 +87,5 @@ lines_text es = flat_map (λ e. element_text e ++ codes "\n") es
 -- the first line of a drawing: its width and its height
 abbrev pub opening_text : Point → List ℕ
 opening_text corner =
-    codes "<svg xmlns=\"http://www.w3.org/2000/svg\" width=\"" ++ decimal corner.x ++ codes "\" height=\"" ++ decimal corner.y ++ codes "\">"
+    codes "<svg xmlns=\"http://www.w3.org/2000/svg\" width=\"" ++ decimal corner.x ++ codes "\" height=\"" ++
+    decimal corner.y ++ codes "\">"

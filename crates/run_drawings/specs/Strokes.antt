@@ -18,7 +18,8 @@ abbrev pub ink_of : (is_taken : Bool) → Ink
 ink_of true = inks.Taken
 ink_of false = inks.Refused
 
--- the arrow from where a datagram was emitted, at its source's line of life, to a place where it was delivered, at its target's
+-- the arrow from where a datagram was emitted, at its source's line of life, to a place where it was delivered, at its
+-- target's
 abbrev pub stroke_to : Layout → Arrow → Arrival → Stroke
 stroke_to l arrow arrival = record {
   ink = ink_of arrival.is_taken;

@@ -127,8 +127,8 @@ impl Columns {
         }
     }
 
-    /// The places beside a line of life for a text of this length: to the right of it, or to the left where only that has the room
-    /// or has more of it.
+    /// The places beside a line of life for a text of this length: to the right of it, or to the left where only that
+    /// has the room or has more of it.
     pub fn beside(&self, rank: u16, length: usize) -> Span {
         let right = self.right_of(rank);
         let left = Span {

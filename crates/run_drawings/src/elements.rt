@@ -190,6 +190,7 @@ impl fmt::Display for Coordinates {
 
     ghost output = { λ c. Some (coordinates_text c.at) };
 
+    #[tactic(auto, unfolding(crate::specs::Elements::coordinates_text))]
     fn fmt<W: fmt::Write>(&self, f: &mut fmt::Formatter<W>) -> fmt::Result {
         let x = self.at.x;
         let y = self.at.y;

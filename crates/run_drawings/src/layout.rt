@@ -151,7 +151,8 @@ impl Layout {
         }
     }
 
-    /// Where the arrow of a lost datagram ends: half a column away from its source's line of life, towards its target's.
+    /// Where the arrow of a lost datagram ends: half a column away from its source's line of life, towards its
+    /// target's.
     pub fn lost_end(&self, from: u16, to: u16, row: usize) -> Point
         ensures { result ≡ lost_end self.now from to row }
     {

@@ -1,4 +1,5 @@
-//! A run as a drawing: a line of life for each rank, an arrow for each way of a datagram, and what was called and answered beside them.
+//! A run as a drawing: a line of life for each rank, an arrow for each way of a datagram, and what was called and
+//! answered beside them.
 //!
 //! A picture is kept as data. Two writers lay it out: one as SVG, for a browser, and one in characters, for a terminal.
 #![tactic(auto)]

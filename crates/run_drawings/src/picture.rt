@@ -195,8 +195,10 @@ impl Picture {
         target: Endpoint,
         load: Load,
     ) -> Result<(), AllocError>
-        ensures row { OnOk result (self.new.rows.items ≡ self.old.rows.items ++ rows.Emitted (vec_len self.old.arrows) ∷ []) }
-        ensures arrow { OnOk result (IsEmitted source target load (vec_len self.old.rows) self.old.arrows.items self.new.arrows.items) }
+        ensures row { OnOk result
+            (self.new.rows.items ≡ self.old.rows.items ++ rows.Emitted (vec_len self.old.arrows) ∷ []) }
+        ensures arrow { OnOk result
+            (IsEmitted source target load (vec_len self.old.rows) self.old.arrows.items self.new.arrows.items) }
     {
         let is_resent = is_frame(load.kind) && self.has_frame(source, target, load.sequence);
         let number = self.arrows.len();

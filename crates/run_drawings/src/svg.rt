@@ -24,9 +24,12 @@ path{fill:none;stroke:#222}
 marker path{stroke-width:1.5}
 </style>
 <defs>
-<marker id=\"taken\" markerWidth=\"10\" markerHeight=\"8\" refX=\"10\" refY=\"4\" orient=\"auto\"><path d=\"M0,0 L10,4 L0,8\" style=\"fill:#1d4ed8;stroke:none\"/></marker>
-<marker id=\"refused\" markerWidth=\"10\" markerHeight=\"8\" refX=\"10\" refY=\"4\" orient=\"auto\"><path d=\"M0,0 L10,4 L0,8\" style=\"fill:#b91c1c;stroke:none\"/></marker>
-<marker id=\"lost\" markerWidth=\"12\" markerHeight=\"12\" refX=\"6\" refY=\"6\"><path d=\"M1,1 L11,11 M1,11 L11,1\" style=\"stroke:#b91c1c\"/></marker>
+<marker id=\"taken\" markerWidth=\"10\" markerHeight=\"8\" refX=\"10\" refY=\"4\" orient=\"auto\">
+<path d=\"M0,0 L10,4 L0,8\" style=\"fill:#1d4ed8;stroke:none\"/></marker>
+<marker id=\"refused\" markerWidth=\"10\" markerHeight=\"8\" refX=\"10\" refY=\"4\" orient=\"auto\">
+<path d=\"M0,0 L10,4 L0,8\" style=\"fill:#b91c1c;stroke:none\"/></marker>
+<marker id=\"lost\" markerWidth=\"12\" markerHeight=\"12\" refX=\"6\" refY=\"6\">
+<path d=\"M1,1 L11,11 M1,11 L11,1\" style=\"stroke:#b91c1c\"/></marker>
 </defs>
 <rect width=\"100%\" height=\"100%\" fill=\"#fff\"/>
 ";
@@ -78,7 +81,8 @@ fn write_elements(elements: &[Element<'_>], out: &mut String) -> Result<(), Allo
 
 /// A drawing with these elements, whose lower right corner is here.
 fn drawing_of(alloc: Global, corner: Point, elements: &[Element<'_>]) -> Result<String, AllocError>
-    ensures { IfOk result (λ s. string_bytes s ≡ opening_text corner ++ codes "\n" ++ STYLE.now ++ lines_text elements.now ++ codes "</svg>\n") }
+    ensures { IfOk result (λ s. string_bytes s ≡
+        opening_text corner ++ codes "\n" ++ STYLE.now ++ lines_text elements.now ++ codes "</svg>\n") }
 {
     let opening = Opening { corner };
     let mut out = String::new(alloc);

@@ -43,7 +43,8 @@ fn put_arrow(row: &mut Vec<char>, span: Span, is_right: bool, line: char, head: 
     }
 }
 
-/// Writes what an arrow stands for: on it where that leaves some of its line, else behind its right end, or before its left one.
+/// Writes what an arrow stands for: on it where that leaves some of its line, else behind its right end, or before its
+/// left one.
 fn put_label(columns: Columns, row: &mut Vec<char>, span: Span, is_right: bool, text: &[u8]) {
     let length = text.len();
     if length.saturating_add(6) <= span.len() {
@@ -141,7 +142,8 @@ impl Writer {
         self.push(&row)
     }
 
-    /// Writes a note in one row, or in two where its call would fit to the right of the line, and its answer not behind it.
+    /// Writes a note in one row, or in two where its call would fit to the right of the line, and its answer not behind
+    /// it.
     fn write_note(&mut self, note: &Note) -> Result<(), AllocError> {
         self.change(note);
         let own = match note.change {

@@ -3,7 +3,7 @@
 ghost use Rattle.std.specs.Prelude.{◌≡◌};
 ghost use Rattle.run_recording.specs.Kinds.{kind_of};
 
-use crate::printed::{Printed, kept, printed_in};
+use crate::printed::{Printed, behind_word, kept, printed_in};
 use crate::statement_lines::{Asked, asked_of};
 use answer_texts::{FrameKind, Load};
 use datagram::{Content, Frame};
@@ -53,14 +53,6 @@ fn blocks(entry: &Entry) -> bool {
     matches!(entry.reply, Some(Reply::Blocked))
 }
 
-/// The words of a line behind the first one.
-fn behind_rank(line: &[u8]) -> &[u8] {
-    match line.iter().position(|byte| *byte == b' ') {
-        Some(place) => line.get(place.saturating_add(1)..).unwrap_or(b""),
-        None => line,
-    }
-}
-
 /// The answer of an event, where it was refused.
 fn refusal_in<'a>(printed: Printed<'a>) -> &'a [u8] {
     if printed.answer == b"ok".as_slice() {
@@ -83,7 +75,7 @@ impl<'a> Follower<'a> {
         }
     }
 
-    /// Adds what a rank did, or what happened to it; of a rank that isn't there, apart from the lines of life.
+    /// Adds what a rank did, or what happened to it.
     fn tell(
         &mut self,
         rank: u16,
@@ -131,7 +123,7 @@ impl<'a> Follower<'a> {
             Change::Stays
         };
         let answer = if is_blocked { b"" } else { printed.answer };
-        self.tell(rank, behind_rank(self.line(number)), answer, change)
+        self.tell(rank, behind_word(self.line(number)), answer, change)
     }
 
     /// Adds that a datagram came, if there is one of this number.
@@ -284,8 +276,8 @@ fn followed(
 
 /// Runs a file of events, and keeps what happens.
 ///
-/// Nothing runs where the file is faulty, or where memory is wanting. Where a line can't be followed when it is reached, what ran
-/// before it is kept, and the recording says why it stopped.
+/// Nothing runs where the file is faulty, or where memory is wanting. Where a line can't be followed when it is
+/// reached, what ran before it is kept, and the recording says why it stopped.
 pub fn record(alloc: Global, text: &[u8]) -> Result<Recording, Stopped> {
     let Ok(texts) = text.split(|byte| *byte == b'\n').collect(alloc) else {
         return Err(stopped_by(SimulateError::OutOfMemory));

@@ -14,16 +14,25 @@ pub struct Printed<'a> {
     pub outcome: &'a [u8],
 }
 
-/// What stands behind the first space of a line.
-fn behind_space(line: &[u8]) -> &[u8] {
-    match line.iter().position(|byte| *byte == b' ') {
-        Some(place) => line.get(place.saturating_add(1)..).unwrap_or(b""),
-        None => line,
+/// A line from its first word on.
+fn from_word(line: &[u8]) -> &[u8] {
+    match line.iter().position(|byte| *byte != b' ') {
+        Some(place) => line.get(place..).unwrap_or(b""),
+        None => b"",
     }
 }
 
-/// What a line printed: its answer stands first, and the rank and the outcome of a blocked call last. What begins with `+` tells of a
-/// datagram.
+/// A line from its second word on.
+pub fn behind_word(line: &[u8]) -> &[u8] {
+    let line = from_word(line);
+    match line.iter().position(|byte| *byte == b' ') {
+        Some(place) => from_word(line.get(place..).unwrap_or(b"")),
+        None => b"",
+    }
+}
+
+/// What a line printed: its answer stands first, and the rank and the outcome of a blocked call last. What begins with
+/// `+` tells of a datagram.
 pub fn printed_in(printed: &[u8]) -> Printed<'_> {
     let mut found = Printed {
         answer: b"",
@@ -33,7 +42,7 @@ pub fn printed_in(printed: &[u8]) -> Printed<'_> {
         match line.first() {
             None | Some(b'+') => {}
             Some(_) if place == 0 => found.answer = line,
-            Some(_) => found.outcome = behind_space(line),
+            Some(_) => found.outcome = behind_word(line),
         }
     }
     found

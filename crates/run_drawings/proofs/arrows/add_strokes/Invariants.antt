@@ -5,4 +5,6 @@ use Rattle.run_drawings.proofs.arrows.add_strokes.Given as goal
 
 abbrev pub invariant-loop-arrival : goal.invariant-loop-arrival
 invariant-loop-arrival l =
-    l.elements.items ≡ l.initial.elements.items ++ map (λ arrival. elements.Stroke (stroke_to l.layout l.arrow arrival)) (take l.arrival-index l.arrow.arrivals.items)
+    l.elements.items ≡
+    l.initial.elements.items ++
+    map (λ arrival. elements.Stroke (stroke_to l.layout l.arrow arrival)) (take l.arrival-index l.arrow.arrivals.items)
