@@ -5,6 +5,8 @@
 #[cfg(test)]
 mod driving_tests;
 #[cfg(test)]
+mod fault_tests;
+#[cfg(test)]
 mod row_tests;
 #[cfg(test)]
 mod steps;

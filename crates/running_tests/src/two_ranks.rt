@@ -76,6 +76,10 @@ pub struct Pair {
     to_us: VecDeque<Bytes>,
     /// Whether what rank 1 sends comes.
     answers: bool,
+    /// Whether rank 0 was given an acknowledgement of its frame 0.
+    acknowledged: bool,
+    /// Whether it was given the frame 0 of rank 1.
+    came: bool,
     /// What rank 0 has printed, each line with its end.
     printed: Vec<u8>,
     /// How many calls there were.
@@ -96,6 +100,8 @@ pub fn new_pair(alloc: Global, text: &[u8], fails_at: u64, answers: bool) -> Opt
             told: Some(None),
             to_us: VecDeque::new(alloc),
             answers,
+            acknowledged: false,
+            came: false,
             printed: Vec::new(alloc),
             calls: 0,
             fails_at,
@@ -148,6 +154,11 @@ impl Pair {
         (self.calls, self.failures)
     }
 
+    /// Whether rank 0 was given an acknowledgement of its frame 0, and whether the frame 0 of rank 1.
+    pub fn given(&self) -> (bool, bool) {
+        (self.acknowledged, self.came)
+    }
+
     /// Whether rank 0 has printed these lines, each with its end, and no other.
     pub fn has_printed(&self, lines: &[u8]) -> bool {
         self.printed.as_slice() == lines
@@ -185,6 +196,17 @@ impl Pair {
             let step = self.rank.runner.next(reply);
             let told = told_after(&mut self.rank.engine, step);
             self.tell(told);
+        }
+    }
+
+    /// Rank 0 is given this datagram: byte 5 is its kind, and byte 31 the lowest one of its number.
+    fn note(&mut self, bytes: &[u8])
+        ensures { self.new.failures ≡ self.old.failures }
+    {
+        match (bytes.get(5), bytes.get(31)) {
+            (Some(1), Some(0)) => self.came = true,
+            (Some(2), Some(number)) if *number > 0 => self.acknowledged = true,
+            _ => {}
         }
     }
 
@@ -228,7 +250,10 @@ impl Transport for Pair {
         self.go_on();
         self.hand_over();
         match self.to_us.pop_front() {
-            Some(bytes) => Ok(Some(put(buffer, bytes.as_slice()))),
+            Some(bytes) => {
+                self.note(bytes.as_slice());
+                Ok(Some(put(buffer, bytes.as_slice())))
+            }
             None => Ok(None),
         }
     }
