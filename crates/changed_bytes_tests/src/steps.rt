@@ -1,7 +1,7 @@
 //! What a rank of two makes of bytes that come to it, as plain values.
 
 use datagram::Content;
-use engine::{Engine, Place, Refused};
+use engine::{Engine, Place, Refusal};
 use std::alloc::Global;
 use vocabulary::Endpoint;
 
@@ -26,7 +26,7 @@ pub(crate) enum Told {
 }
 
 /// A rank of two at its start, in job 1.
-fn rank_of_two(alloc: Global, rank: u16) -> Result<Engine, Refused> {
+fn rank_of_two(alloc: Global, rank: u16) -> Result<Engine, Refusal> {
     let place = Place {
         endpoint: Endpoint {
             rank,

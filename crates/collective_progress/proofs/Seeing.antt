@@ -6,9 +6,9 @@ use Rattle.std.proofs.lemmas.Bool.Decides.{eqb_tells}
 use Rattle.std.proofs.lemmas.List.{length-append, length-replicate, replicate_more, take_all, take_more, take_more_set}
 use Rattle.std.proofs.lemmas.List.Folds.{list_all_more, list_any-append}
 use Rattle.std.proofs.lemmas.Option.{slice_get_within}
-use Rattle.collective_notes.specs.Notes.{differs_in, found_in, have_entered, is_differing, is_entry, is_found, is_known, is_of, member_at, result_place, tells_entry, tells_result}
-use Rattle.collective_notes.specs.declared.entry.Inside.{Inside}
-use Rattle.collective_notes.specs.declared.note.Note.{Note}
+use Rattle.collective_messages.specs.Notes.{differs_in, found_in, have_entered, is_differing, is_entry, is_found, is_known, is_of, member_at, result_place, tells_entry, tells_result}
+use Rattle.collective_messages.specs.declared.entry.Inside.{Inside}
+use Rattle.collective_messages.specs.declared.note.Note.{Note}
 use Rattle.collective_progress.specs.Progress.{AreFirst, IsKept, IsOf, IsProgress, Seen, filled, filled_at, is_that, looked, or_here, slot, unseen}
 use Rattle.collective_progress.proofs.Places.{any_behind, any_grows, next, position_front, position_grows}
 use Rattle.vocabulary.specs.Endpoints.{is_same}

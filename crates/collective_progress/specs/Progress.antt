@@ -1,8 +1,8 @@
 -- What a rank keeps beside the notes of the collective that it is in, so that a message costs no look at them all.
 use Rattle.std.specs.Prelude.{◌≡◌, ◌≤◌, ◌+◌, ◌==◌, ◌&&◌, ◌||◌, ℕ, Bool, true, false, List, length, take, replicate, position, slice_get, slice_set, Option, Some, None, if◌then◌else◌}
-use Rattle.collective_notes.specs.Notes.{differs_in, found_in, have_entered, is_differing, is_found, is_of, member_at, result_place, tells_entry, tells_result}
-use Rattle.collective_notes.specs.declared.entry.Inside.{Inside}
-use Rattle.collective_notes.specs.declared.note.Note.{Note}
+use Rattle.collective_messages.specs.Notes.{differs_in, found_in, have_entered, is_differing, is_found, is_of, member_at, result_place, tells_entry, tells_result}
+use Rattle.collective_messages.specs.declared.entry.Inside.{Inside}
+use Rattle.collective_messages.specs.declared.note.Note.{Note}
 use Rattle.vocabulary.specs.declared.endpoint.Endpoint.{Endpoint}
 
 -- So many notes were looked at, the oldest; at the slot of each rank whose word is awaited, where the first note of its word stands; so

@@ -2,8 +2,20 @@
 //! say, with no look at them all.
 #![tactic(auto)]
 
-mod growing;
-mod judging;
+mod contributions;
+mod counts;
+mod fold;
+mod gather;
+mod judgement;
+mod operation;
 mod progress;
+mod rules;
+mod scatter;
 
+pub use contributions::{are_known, block_known, is_like};
+pub use fold::reduction_of;
+pub use gather::concatenation_of;
+pub use operation::op_of;
 pub use progress::Progress;
+pub use rules::{Rule, rule_broken};
+pub use scatter::block_at;

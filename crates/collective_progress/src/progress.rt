@@ -2,10 +2,10 @@
 
 ghost use Rattle.std.specs.Prelude.{◌≡◌, ◌<◌, ◌≤◌, ◌==◌, OnOk, find, length, replicate, position, slice_get, take, true, None, Some};
 ghost use Rattle.std.specs.Option.{option_copied};
-ghost use Rattle.collective_notes.specs.Notes.{differs_in, found_in, is_known, member_at, result_place, tells_entry, tells_result};
+ghost use Rattle.collective_messages.specs.Notes.{differs_in, found_in, is_known, member_at, result_place, tells_entry, tells_result};
 ghost use Rattle.collective_progress.specs.Progress.{IsProgress, is_that, slot, unseen};
 
-use collective_notes::{Entry, Inside, Note, differs_in, found_in, is_same};
+use collective_messages::{Entry, Inside, Note, differs_in, found_in, is_same};
 use std::alloc::{AllocError, Global};
 use std::marker::Model;
 use vocabulary::Endpoint;
@@ -190,7 +190,7 @@ impl Progress {
     }
 
     /// So many of those for whom the rank waits, from the first on, are known to have entered.
-    pub(crate) fn entered(&self) -> usize
+    pub(crate) fn entered_count(&self) -> usize
         ensures { result ≡ self.now.entered }
     {
         self.entered
@@ -268,7 +268,7 @@ impl Progress {
     }
 
     /// Whether a note speaks of a difference.
-    pub fn differs(&self, inside: &Inside, notes: &[Note]) -> bool
+    pub fn has_difference(&self, inside: &Inside, notes: &[Note]) -> bool
         requires { IsProgress inside.now notes.now self.now }
         ensures { result ≡ differs_in inside.now.context inside.now.number inside.now.entry notes.now }
     {
@@ -282,7 +282,7 @@ impl Progress {
     }
 
     /// Whether a note finds a difference in its record, and isn't only told of one.
-    pub fn found(&self, inside: &Inside, notes: &[Note]) -> bool
+    pub fn has_found_difference(&self, inside: &Inside, notes: &[Note]) -> bool
         requires { IsProgress inside.now notes.now self.now }
         ensures { result ≡ found_in inside.now.context inside.now.number inside.now.entry notes.now }
     {

@@ -2,7 +2,7 @@
 
 ghost use Rattle.std.specs.Prelude.{◌≡◌, ◌+◌, ◌≤◌, ◌++◌, [], length, IfOk};
 ghost use Rattle.vocabulary.specs.Limits.{send_limit};
-ghost use Rattle.collective_transfers.specs.Payloads.{cut_to, is_from, is_to, is_whole, takes, whole_of, with_piece};
+ghost use Rattle.collective_transfers.specs.Payloads.{cut_to, is_from, is_to, is_whole, is_next_piece, whole_of, with_piece};
 
 use rendezvous::is_next_piece;
 use std::alloc::Global;
@@ -156,8 +156,8 @@ impl ComingPayload {
     }
 
     /// Whether these bytes are the next piece: they stand where those that have come end, and are as many as are due.
-    pub fn takes(&self, offset: u32, bytes: &[u8]) -> bool
-        ensures { result ≡ takes self.now offset bytes.now }
+    pub fn is_next_piece(&self, offset: u32, bytes: &[u8]) -> bool
+        ensures { result ≡ is_next_piece self.now offset bytes.now }
     {
         is_next_piece(self.total, self.bytes.len(), offset, bytes)
     }
@@ -185,7 +185,7 @@ impl ComingPayload {
     }
 
     /// Of its bytes only so many are left.
-    fn cut(&mut self, count: usize)
+    fn truncate(&mut self, count: usize)
         ensures { self.new ≡ cut_to count self.old }
     {
         self.bytes.truncate(count);
@@ -240,7 +240,7 @@ impl WholePayload {
         ensures { result ≡ self.before }
     {
         let mut payload = self.payload;
-        payload.cut(self.came);
+        payload.truncate(self.came);
         payload
     }
 }

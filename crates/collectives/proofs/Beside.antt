@@ -1,7 +1,7 @@
 -- What is kept beside the notes of the present collective stays right.
 use Rattle.std.proofs.Common.{ℕ, Bool, true, false, List, [], ◌∷◌, Option, Some, None, if◌then◌else◌}
-use Rattle.collective_notes.specs.declared.entry.Inside.{Inside}
-use Rattle.collective_notes.specs.declared.note.Note.{Note}
+use Rattle.collective_messages.specs.declared.entry.Inside.{Inside}
+use Rattle.collective_messages.specs.declared.note.Note.{Note}
 use Rattle.collective_progress.specs.Progress.{IsKeptOf, Seen, unseen}
 use Rattle.collective_progress.proofs.Seeing.{kept_behind, told_kept, unseen_kept}
 use Rattle.collectives.specs.Calls.{is_ended, kept_with, present_met}

@@ -6,20 +6,28 @@
 ghost use Rattle.std.specs.Prelude.{◌≡◌, ◌<◌, ◌≤◌, ◌+◌, ◌^◌, ◌==◌, IfErr, IfOk, None, Some, [], if◌then◌else◌, vec_len, vec_capacity};
 ghost use Rattle.std.specs.Option.{option_copied};
 ghost use Rattle.collectives.specs.Calls.{entered, entry_rule, inside_in, inside_of, is_ended, kept_with, learned, lesson_ending, limit_at, most_collectives, present_met, with_note};
-ghost use Rattle.collective_notes.specs.Tallies.{count_in};
+ghost use Rattle.collective_messages.specs.Tallies.{count_in};
 ghost use Rattle.collectives.specs.State.{after_step, has_told, left, opening, told_in, was_left};
 ghost use Rattle.collective_steps.specs.Steps.{MeetsLimit, contexts_after, ending_of, is_waiting};
 
 use crate::limits::{has_former, is_limited, members_incarnation};
-use collective_notes::{Entry, Inside, Note, Refused, Tally, count_in, drop_notes, raise, role_of};
+use collective_messages::{Entry, Inside, Note, CollectiveRefusal, Tally, count_in, drop_notes, raise, role_of};
 use collective_progress::Progress;
-use collective_steps::{Ending, Outcome, Step};
+use collective_steps::{Ending, StepOutcome, Step};
 use context_agreement::{Communicator, Contexts};
 use std::alloc::Global;
 use std::marker::Model;
 use vocabulary::Endpoint;
 
 /// The collective that a rank is in, and what it was told of those that it has not left.
+///
+/// ```text
+///  outside ── enter ─► its own step decides, or the notes did before ──────────────► outside, with an ending
+///               └────► inside ── on_message: one more note; the verdict: ── stays ─► inside
+///                         │                                              └─ leaves ► outside, with an ending
+///                         └───── learn: a former incarnation is among its members ─► outside, with 11
+///  on_message while outside, or of a later collective: kept as a note
+/// ```
 #[derive(Drop)]
 pub struct Collective {
     pub(crate) alloc: Global,
@@ -53,7 +61,7 @@ pub struct RefusedEntry {
     /// What the rank would have entered with.
     pub entry: Entry,
     /// Why it was refused.
-    pub refused: Refused,
+    pub refused: CollectiveRefusal,
 }
 
 /// An entry that was made ready.
@@ -104,14 +112,14 @@ impl Collective {
     ///
     /// That a member is known at another incarnation (11) comes behind them, and before the limits (13): the caller, who knows
     /// the incarnations of all ranks, judges it.
-    pub fn fault_of(&self, contexts: &Contexts, place: usize) -> Option<Refused>
+    pub fn fault_of(&self, contexts: &Contexts, place: usize) -> Option<CollectiveRefusal>
         ensures { result ≡ entry_rule self.now.state contexts.now.state place }
     {
         if self.present.is_some() {
-            return Some(Refused::Blocked);
+            return Some(CollectiveRefusal::Blocked);
         }
         if contexts.communicator(place).is_none() {
-            return Some(Refused::NoCommunicator);
+            return Some(CollectiveRefusal::NoCommunicator);
         }
         None
     }
@@ -142,7 +150,7 @@ impl Collective {
         entry: Entry,
     ) -> Result<Inside, RefusedEntry>
         ensures ok { IfOk result (λ inside. inside ≡ inside_in self.now.state (Some communicator.now) place entry) }
-        ensures err { IfErr result (λ back. back.refused ≡ Refused.OutOfMemory) }
+        ensures err { IfErr result (λ back. back.refused ≡ CollectiveRefusal.OutOfMemory) }
         ensures handed { IfErr result (λ back. back.entry ≡ entry) }
     {
         let context = communicator.context.number();
@@ -164,7 +172,7 @@ impl Collective {
                 role,
                 told: false,
             }),
-            Err(_) => Err(lacking(entry)),
+            Err(_) => Err(out_of_memory(entry)),
         }
     }
 
@@ -177,12 +185,12 @@ impl Collective {
     ) -> Result<Inside, RefusedEntry>
         requires { entry_rule self.now.state contexts.now.state place ≡ None }
         ensures ok { IfOk result (λ inside. inside ≡ inside_of self.now.state contexts.now.state place entry) }
-        ensures err { IfErr result (λ back. back.refused ≡ Refused.OutOfMemory) }
+        ensures err { IfErr result (λ back. back.refused ≡ CollectiveRefusal.OutOfMemory) }
         ensures handed { IfErr result (λ back. back.entry ≡ entry) }
     {
         match contexts.communicator(place) {
             Some(communicator) => self.inside_in(communicator, place, entry),
-            None => Err(lacking(entry)),
+            None => Err(out_of_memory(entry)),
         }
     }
 
@@ -281,17 +289,17 @@ fn set_told(present: &mut Option<Inside>)
 }
 
 /// There is no memory for what a rank would have entered with.
-pub(crate) fn lacking(entry: Entry) -> RefusedEntry
-    ensures refused { result.refused ≡ Refused.OutOfMemory }
+pub(crate) fn out_of_memory(entry: Entry) -> RefusedEntry
+    ensures refused { result.refused ≡ CollectiveRefusal.OutOfMemory }
     ensures handed { result.entry ≡ entry }
 {
-    let refused = Refused::OutOfMemory;
+    let refused = CollectiveRefusal::OutOfMemory;
     RefusedEntry { entry, refused }
 }
 
 /// The collective that the rank is in once a lesson is learnt: a message is judged by it, since the lesson that it teaches comes
 /// first.
-pub(crate) fn met<'a>(
+pub(crate) fn after_lesson<'a>(
     present: &'a Option<Inside>,
     contexts: &Contexts,
     lesson: Option<Endpoint>,
@@ -343,24 +351,24 @@ pub(crate) fn keep(kept: &mut Vec<Note>, note: Option<Note>)
 }
 
 /// What a step that was made ready leaves of the communicators, and with what the collective ends by it.
-fn take_contexts(contexts: &mut Contexts, outcome: Outcome, drawn: u64) -> Option<Ending>
+fn take_contexts(contexts: &mut Contexts, outcome: StepOutcome, drawn: u64) -> Option<Ending>
     requires held { 0 < contexts.old.more }
     requires limits { MeetsLimit contexts.old.state (record { outcome = outcome; drawn = drawn; messages = [] }) → ⊥ }
     ensures contexts { contexts.new.state ≡ contexts_after contexts.old.state drawn outcome }
     ensures ending { result ≡ ending_of contexts.old.state outcome }
 {
     match outcome {
-        Outcome::Stays | Outcome::Waits => None,
-        Outcome::Breaks => Some(Ending::Mismatch),
-        Outcome::Leaves(block) => {
+        StepOutcome::Stays | StepOutcome::Waits => None,
+        StepOutcome::Breaks => Some(Ending::Mismatch),
+        StepOutcome::Leaves(block) => {
             contexts.draw(drawn);
             Some(Ending::Left(block))
         }
-        Outcome::GetsNull => {
+        StepOutcome::GetsNull => {
             contexts.draw(drawn);
             Some(Ending::Comm(None))
         }
-        Outcome::Gets(communicator) => {
+        StepOutcome::Gets(communicator) => {
             contexts.draw(drawn);
             Some(Ending::Comm(Some(contexts.install_reserved(communicator))))
         }

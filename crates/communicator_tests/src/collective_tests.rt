@@ -1,11 +1,11 @@
 //! What refuses an entry or a message, and what ends a collective from outside.
 
 use crate::ranks::{End, end_of};
-use collective_notes::{Address, Entry};
+use collective_messages::{Address, Entry};
 use collectives::Collective;
 use context_agreement::{Context, Contexts};
 use groups::Group;
-use payload::{Choice, Direction, NewGroup, Part, Payload, Record};
+use payload::{Choice, Direction, NewGroup, PayloadContent, Payload, Record};
 use std::alloc::Global;
 use vocabulary::Endpoint;
 
@@ -170,7 +170,7 @@ fn arrive(rank: &mut Rank, payload: Payload<'_>) -> Result<Option<End>, u8> {
 fn group_of(ranks: &[u8]) -> Payload<'_> {
     Payload {
         entered: Record::Split,
-        part: Part::NewGroup(NewGroup { context: 9, ranks }),
+        part: PayloadContent::NewGroup(NewGroup { context: 9, ranks }),
     }
 }
 
@@ -192,7 +192,7 @@ fn a_group_with_a_rank_twice_is_dropped(rt: HostRuntime) {
 fn all_have_entered() -> Payload<'static> {
     Payload {
         entered: Record::Barrier,
-        part: Part::Nothing(Direction::FromRoot),
+        part: PayloadContent::Nothing(Direction::FromRoot),
     }
 }
 
@@ -201,7 +201,7 @@ fn told_of_parts(rank: &mut Rank) -> (bool, [Result<Option<End>, u8>; 2]) {
     let inside = enter(rank, Entry::Barrier);
     let context = Payload {
         entered: Record::Barrier,
-        part: Part::Context(9),
+        part: PayloadContent::Context(9),
     };
     (
         inside,

@@ -2,12 +2,12 @@
 
 use crate::ranks::{End, Step, TURNED, arrive, end_of, enter, rank_of, split};
 use communicators::{Communicators, Entry};
-use payload::{Part, Payload, Record};
+use payload::{PayloadContent, Payload, Record};
 
 /// What a barrier of the rank alone and a copy of its communicator give, and whether it holds the copy.
 fn enter_alone(rank: &mut Communicators) -> ([Step; 2], bool) {
     let steps = [enter(rank, 1, Entry::Barrier), enter(rank, 1, Entry::Dup)];
-    (steps, !rank.lacks(Some(2)))
+    (steps, !rank.has_no_communicator(Some(2)))
 }
 
 #[test]
@@ -45,7 +45,7 @@ fn a_part_of_another_record_is_refused(rt: HostRuntime) {
     let mut rank = rank_of(rt.alloc(), 1, 2).expect(&rt, "a rank");
     let payload = Payload {
         entered: Record::Barrier,
-        part: Part::Context(9),
+        part: PayloadContent::Context(9),
     };
     let steps = [Ok((1, None)), Err(30)];
     assert_eq!(rt;

@@ -1,6 +1,6 @@
 //! Groups of communicators that several owners share.
 
-use shared_groups::{Members, shared, status_in};
+use communicator_members::{Members, share_group, status_in};
 use std::alloc::Global;
 use vocabulary::{Source, Status};
 
@@ -38,7 +38,7 @@ fn group(alloc: Global) -> Option<Members> {
 
 /// A status of rank 2 of world, and one with no source, as one more owner of the group is told.
 fn told(group: &Option<Members>) -> Option<[Status; 2]> {
-    let other = shared(group).ok()?;
+    let other = share_group(group).ok()?;
     Some([
         status_in(&other, status_of(Source::Rank(2))),
         status_in(&other, status_of(Source::Null)),

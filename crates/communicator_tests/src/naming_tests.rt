@@ -1,7 +1,7 @@
 //! Whom a call names, and what a rank is told of its communicators.
 
 use crate::ranks::{enter, rank_of, turn};
-use communicators::{Communicators, Comparison, Entry, Fact, Question, calls_are_routed};
+use communicators::{Communicators, CommunicatorComparison, Entry, FactRef, Question, calls_are_routed};
 use vocabulary::Source;
 
 /// The number of the context, whom the call names as a rank of world, and whether the group has just these ranks, where the route
@@ -50,7 +50,7 @@ fn calls_go_by_their_routes(rt: HostRuntime) {
 /// The number that answers a question about the communicator at a place.
 fn number(rank: &Communicators, place: usize, question: Question) -> Option<usize> {
     match rank.fact(Some(place), question) {
-        Some(Fact::Number(number)) => Some(number),
+        Some(FactRef::Number(number)) => Some(number),
         _ => None,
     }
 }
@@ -58,7 +58,7 @@ fn number(rank: &Communicators, place: usize, question: Question) -> Option<usiz
 /// Whether the communicator at a place is told to have just these ranks of world.
 fn has_ranks(rank: &Communicators, place: usize, ranks: &[u16]) -> bool {
     match rank.fact(Some(place), Question::Group) {
-        Some(Fact::Ranks(told)) => told == ranks,
+        Some(FactRef::Ranks(told)) => told == ranks,
         _ => false,
     }
 }
@@ -86,15 +86,15 @@ fn a_rank_knows_its_place_in_a_communicator(rt: HostRuntime) {
 }
 
 /// How the communicators at two places compare.
-fn compared(rank: &Communicators, place: usize, other: usize) -> Option<Comparison> {
+fn compared(rank: &Communicators, place: usize, other: usize) -> Option<CommunicatorComparison> {
     match rank.fact(Some(place), Question::Compare(Some(other))) {
-        Some(Fact::Compares(comparison)) => Some(comparison),
+        Some(FactRef::Compares(comparison)) => Some(comparison),
         _ => None,
     }
 }
 
 /// How world compares with itself, self with a copy, world with the communicator of ranks 1 and 0, and world with self.
-fn comparisons(rank: &mut Communicators) -> (bool, [Option<Comparison>; 4]) {
+fn comparisons(rank: &mut Communicators) -> (bool, [Option<CommunicatorComparison>; 4]) {
     let is_ready = turn(rank) && enter(rank, 1, Entry::Dup).is_ok();
     let answers = [
         compared(rank, 0, 0),
@@ -109,10 +109,10 @@ fn comparisons(rank: &mut Communicators) -> (bool, [Option<Comparison>; 4]) {
 fn communicators_are_compared(rt: HostRuntime) {
     let mut rank = rank_of(rt.alloc(), 1, 2).expect(&rt, "a rank");
     let answers = [
-        Some(Comparison::Ident),
-        Some(Comparison::Congruent),
-        Some(Comparison::Similar),
-        Some(Comparison::Unequal),
+        Some(CommunicatorComparison::Ident),
+        Some(CommunicatorComparison::Congruent),
+        Some(CommunicatorComparison::Similar),
+        Some(CommunicatorComparison::Unequal),
     ];
     assert_eq!(rt; comparisons(&mut rank), (true, answers));
 }

@@ -1,16 +1,16 @@
 //! The rules that a call breaks by its communicator.
 
 use crate::ranks::{enter, rank_of, turn};
-use communicators::{Communicators, Entry, Fault, Question};
+use communicators::{Communicators, Entry, CommunicatorFault, Question};
 use vocabulary::Source;
 
 /// Whether a communicator is missing at each of these places, and at none.
 fn lacking(rank: &Communicators) -> [bool; 4] {
     [
-        rank.lacks(Some(0)),
-        rank.lacks(Some(1)),
-        rank.lacks(Some(2)),
-        rank.lacks(None),
+        rank.has_no_communicator(Some(0)),
+        rank.has_no_communicator(Some(1)),
+        rank.has_no_communicator(Some(2)),
+        rank.has_no_communicator(None),
     ]
 }
 
@@ -71,13 +71,13 @@ fn a_replaced_member_counts_off_world_and_in_collectives(rt: HostRuntime) {
 }
 
 /// What a barrier on world breaks where rank 0 is known at this incarnation.
-fn barrier(rank: &Communicators, is_blocked: bool, incarnation: u16) -> Option<Fault> {
+fn barrier(rank: &Communicators, is_blocked: bool, incarnation: u16) -> Option<CommunicatorFault> {
     rank.fault_of_entry(is_blocked, &[incarnation, 0], Some(0), &Entry::Barrier)
 }
 
 /// What an entry breaks: blocked on requests, with no communicator, with a member that was replaced, and with none of these; and
 /// then in a collective.
-fn entries(rank: &mut Communicators) -> ([Option<Fault>; 4], bool, Option<Fault>) {
+fn entries(rank: &mut Communicators) -> ([Option<CommunicatorFault>; 4], bool, Option<CommunicatorFault>) {
     let faults = [
         barrier(rank, true, 1),
         rank.fault_of_entry(false, &[1, 0], Some(2), &Entry::Dup),
@@ -92,17 +92,17 @@ fn entries(rank: &mut Communicators) -> ([Option<Fault>; 4], bool, Option<Fault>
 fn entries_are_judged_in_order(rt: HostRuntime) {
     let mut rank = rank_of(rt.alloc(), 1, 2).expect(&rt, "a rank");
     let faults = [
-        Some(Fault::Blocked),
-        Some(Fault::NoCommunicator),
-        Some(Fault::Replaced),
+        Some(CommunicatorFault::Blocked),
+        Some(CommunicatorFault::NoCommunicator),
+        Some(CommunicatorFault::Replaced),
         None,
     ];
-    assert_eq!(rt; entries(&mut rank), (faults, true, Some(Fault::Blocked)));
+    assert_eq!(rt; entries(&mut rank), (faults, true, Some(CommunicatorFault::Blocked)));
 }
 
 /// What a question breaks: blocked on requests, with no communicator, compared with none, and with none of these; and then in a
 /// collective.
-fn questions(rank: &mut Communicators) -> ([Option<Fault>; 4], bool, Option<Fault>) {
+fn questions(rank: &mut Communicators) -> ([Option<CommunicatorFault>; 4], bool, Option<CommunicatorFault>) {
     let faults = [
         rank.fault_of_question(true, None, Question::Rank),
         rank.fault_of_question(false, None, Question::Size),
@@ -118,21 +118,21 @@ fn questions(rank: &mut Communicators) -> ([Option<Fault>; 4], bool, Option<Faul
 fn questions_are_judged_in_order(rt: HostRuntime) {
     let mut rank = rank_of(rt.alloc(), 1, 2).expect(&rt, "a rank");
     let faults = [
-        Some(Fault::Blocked),
-        Some(Fault::NoCommunicator),
-        Some(Fault::NoCommunicator),
+        Some(CommunicatorFault::Blocked),
+        Some(CommunicatorFault::NoCommunicator),
+        Some(CommunicatorFault::NoCommunicator),
         None,
     ];
-    assert_eq!(rt; questions(&mut rank), (faults, true, Some(Fault::Blocked)));
+    assert_eq!(rt; questions(&mut rank), (faults, true, Some(CommunicatorFault::Blocked)));
 }
 
 #[test]
 fn faults_have_numbers(rt: HostRuntime) {
     let numbers = [
-        Fault::Blocked.number(),
-        Fault::NoCommunicator.number(),
-        Fault::Replaced.number(),
-        Fault::Limit.number(),
+        CommunicatorFault::Blocked.number(),
+        CommunicatorFault::NoCommunicator.number(),
+        CommunicatorFault::Replaced.number(),
+        CommunicatorFault::Limit.number(),
     ];
     assert_eq!(rt; numbers, [6, 4, 11, 13]);
 }

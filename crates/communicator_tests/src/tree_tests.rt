@@ -3,7 +3,7 @@
 use crate::ranks::{End, Step, arrive_from, enter, rank_of};
 use communicators::{Block, Communicators, Entry};
 use datatypes::Buffer;
-use payload::{Direction, Elements, Operation, Part, Payload, Record, Rooted};
+use payload::{Direction, Elements, Operation, PayloadContent, Payload, Record, Rooted};
 use std::alloc::Global;
 use vocabulary::BasicType;
 
@@ -25,7 +25,7 @@ fn no_elements(alloc: Global) -> Option<Block> {
 fn barrier(way: Direction) -> Payload<'static> {
     Payload {
         entered: Record::Barrier,
-        part: Part::Nothing(way),
+        part: PayloadContent::Nothing(way),
     }
 }
 
@@ -33,14 +33,14 @@ fn barrier(way: Direction) -> Payload<'static> {
 fn elements(entered: Record, way: Direction) -> Payload<'static> {
     Payload {
         entered,
-        part: Part::Elements(way, &[]),
+        part: PayloadContent::Elements(way, &[]),
     }
 }
 
 /// The message of a rank that found a difference in a copy.
 const DIFFERENCE: Payload<'static> = Payload {
     entered: Record::Dup,
-    part: Part::RecordsDiffer,
+    part: PayloadContent::RecordsDiffer,
 };
 
 /// What entering on world gives, and what a message of another rank gives then.

@@ -6,7 +6,7 @@ use Rattle.std.proofs.lemmas.List.Kept.{AllPairs-cons}
 use Rattle.std.specs.List.{range_with_len}
 use Rattle.context_agreement.specs.declared.communicator.Communicator.{Communicator}
 use Rattle.context_agreement.specs.declared.context.Context.{Context}
-use Rattle.context_agreement.specs.declared.refused.Refused.TheVariants.{Limit, OutOfMemory}
+use Rattle.context_agreement.specs.declared.refusal.ContextRefusal.TheVariants.{Limit, OutOfMemory}
 use Rattle.context_agreement.specs.Communicators.{ContextsState, after_draw, coming_context, opening, world_and_self}
 use Rattle.context_agreement.specs.GivenOnce.{asked, installed, given, AreGivenOnce, IsRun, NoneTwice, NoneOfTwo, NoneOfTheFirst, DrawsAreAsked, asked_often, coming_from, final_state}
 

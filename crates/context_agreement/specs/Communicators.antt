@@ -4,8 +4,8 @@ use Rattle.std.specs.List.{range_with_len}
 use Rattle.context_agreement.specs.declared.context.Context.{Context}
 use Rattle.context_agreement.specs.declared.communicator.Communicator.{Communicator}
 use Rattle.context_agreement.specs.declared.communicator.NotInstalled.{NotInstalled}
-use Rattle.context_agreement.specs.declared.refused.Refused.{Refused}
-use Rattle.context_agreement.specs.declared.refused.Refused.TheVariants.{Limit, OutOfMemory}
+use Rattle.context_agreement.specs.declared.refusal.ContextRefusal.{ContextRefusal}
+use Rattle.context_agreement.specs.declared.refusal.ContextRefusal.TheVariants.{Limit, OutOfMemory}
 
 -- who gives the contexts, the serial of the next one, and the communicators in the order in which
 -- the rank got them
@@ -52,8 +52,8 @@ coming_context s further =
     record { rank = s.rank; incarnation = s.incarnation; serial = s.next_serial + further }
 
 -- the same, where as many contexts are left to give
-abbrev pub coming : ContextsState → (further : ℕ) → Option Context
-coming s further =
+abbrev pub next_context : ContextsState → (further : ℕ) → Option Context
+next_context s further =
     if nat_lt (s.next_serial + further) (2 ^ 32) then Some (coming_context s further) else None
 
 -- the state once so many contexts were given
@@ -61,7 +61,7 @@ abbrev pub after_draw : ContextsState → (count : ℕ) → ContextsState
 after_draw s count = record s { next_serial = s.next_serial + count }
 
 -- what a call for a context answers and leaves
-abbrev pub NextGives : ContextsState → Result Context Refused → ContextsState → Type 0
+abbrev pub NextGives : ContextsState → Result Context ContextRefusal → ContextsState → Type 0
 NextGives old (Ok context) new =
     (old.next_serial < 2 ^ 32)
     × (context ≡ next_context old)
@@ -75,7 +75,7 @@ after_install s communicator = record s { held = s.held ++ communicator ∷ [] }
 
 -- whether one more communicator may be refused like this: at the limit for that, and below it for
 -- want of memory
-abbrev pub MayRefuse : ContextsState → Refused → Type 0
+abbrev pub MayRefuse : ContextsState → ContextRefusal → Type 0
 MayRefuse s Limit = length s.held ≡ 4096
 MayRefuse s OutOfMemory = length s.held < 4096
 

@@ -2,13 +2,13 @@
 use Rattle.std.specs.Prelude.{◌≡◌, ◌≢◌, ℕ, zero, suc, ◌+◌, ◌^◌, ◌<◌, ◌≤◌, List, [], ◌∷◌, ◌++◌, Result, Ok, Err, All, AllPairs}
 use Rattle.context_agreement.specs.declared.context.Context.{Context}
 use Rattle.context_agreement.specs.declared.communicator.NotInstalled.{NotInstalled}
-use Rattle.context_agreement.specs.declared.refused.Refused.{Refused}
+use Rattle.context_agreement.specs.declared.refusal.ContextRefusal.{ContextRefusal}
 use Rattle.context_agreement.specs.Communicators.{ContextsState, NextGives, InstallGives, after_draw, coming_context, next_context, opening, world_and_self}
 
 -- a call that may change the state, with its answer: a context was asked for, or a communicator
 -- installed
 pub data Call : Type 0 where
-  asked : Result Context Refused → Call
+  asked : Result Context ContextRefusal → Call
   installed : Context → List ℕ → Result ℕ NotInstalled → Call
 
 -- what the call did

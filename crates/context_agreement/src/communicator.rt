@@ -1,7 +1,7 @@
 //! A communicator, as a rank holds it.
 
 use crate::context::Context;
-use crate::refused::Refused;
+use crate::refusal::ContextRefusal;
 use groups::Group;
 
 /// A communicator of a rank: its context, and its members in order (MPI 3.1, 6.2.3).
@@ -17,7 +17,7 @@ pub struct Communicator {
 #[derive(Drop)]
 pub struct NotInstalled {
     /// Why it was refused.
-    pub refused: Refused,
+    pub refused: ContextRefusal,
     /// The group, as it was handed in.
     pub group: Group,
 }

@@ -2,11 +2,11 @@
 
 ghost use Rattle.std.specs.Prelude.{◌≡◌, ◌<◌, ◌≤◌, ◌+◌, ◌^◌, ◌↔◌, position, find, length, slice_get, IsTrue, IfOk, OnOk, IsOkUnless};
 ghost use Rattle.std.specs.Option.{option_copied};
-ghost use Rattle.context_agreement.specs.Communicators.{opening, coming, NextGives, InstallGives, after_draw, after_install, is_same, place_of, group_of};
+ghost use Rattle.context_agreement.specs.Communicators.{opening, next_context, NextGives, InstallGives, after_draw, after_install, is_same, place_of, group_of};
 
 use crate::communicator::{Communicator, NotInstalled};
 use crate::context::Context;
-use crate::refused::Refused;
+use crate::refusal::ContextRefusal;
 use groups::Group;
 use std::alloc::Global;
 use std::marker::Model;
@@ -53,15 +53,15 @@ impl Model for Contexts {
 impl Contexts {
     /// The contexts of a rank at an incarnation, in a world of this many ranks: it holds `world` at
     /// place 0 and `self` at place 1.
-    pub fn new(alloc: Global, rank: u16, incarnation: u16, size: u16) -> Result<Self, Refused>
+    pub fn new(alloc: Global, rank: u16, incarnation: u16, size: u16) -> Result<Self, ContextRefusal>
         ensures ok { IfOk result (λ contexts. contexts.state ≡ opening rank incarnation size) }
-        ensures err { IsOkUnless result Refused.OutOfMemory }
+        ensures err { IsOkUnless result ContextRefusal.OutOfMemory }
     {
         let Ok(group) = Group::of_first_ranks(alloc, size) else {
-            return Err(Refused::OutOfMemory);
+            return Err(ContextRefusal::OutOfMemory);
         };
         let Ok(mut held) = Vec::with_capacity(alloc, 2) else {
-            return Err(Refused::OutOfMemory);
+            return Err(ContextRefusal::OutOfMemory);
         };
         let world = Communicator {
             context: Context::WORLD,
@@ -72,7 +72,7 @@ impl Contexts {
             group: Group::of_rank(alloc, rank),
         };
         if held.push(world).is_err() || held.push(own).is_err() {
-            return Err(Refused::OutOfMemory);
+            return Err(ContextRefusal::OutOfMemory);
         }
         Ok(Contexts {
             rank,
@@ -82,14 +82,14 @@ impl Contexts {
         })
     }
 
-    /// Gives a context that was never given before. `Refused::Limit` comes where no serial is left.
+    /// Gives a context that was never given before. `ContextRefusal::Limit` comes where no serial is left.
     /// It takes no memory.
-    pub fn next(&mut self) -> Result<Context, Refused>
+    pub fn next(&mut self) -> Result<Context, ContextRefusal>
         ensures exact { NextGives self.old.state result self.new.state }
         ensures more { self.new.more ≡ self.old.more }
     {
         if self.next_serial == END_OF_SERIALS {
-            return Err(Refused::Limit);
+            return Err(ContextRefusal::Limit);
         }
         let serial = self.next_serial as u32;
         self.next_serial += 1;
@@ -116,7 +116,7 @@ impl Contexts {
     }
 
     /// Takes a communicator in, behind those that the rank holds, and answers its place.
-    /// `Refused::Limit` comes where the rank holds as many as it may; a refusal hands the group
+    /// `ContextRefusal::Limit` comes where the rank holds as many as it may; a refusal hands the group
     /// back.
     pub fn install(&mut self, context: Context, group: Group) -> Result<usize, NotInstalled>
         ensures exact { InstallGives self.old.state context group result self.new.state }
@@ -124,32 +124,32 @@ impl Contexts {
         let place = self.held.len();
         if place == MOST_COMMUNICATORS {
             return Err(NotInstalled {
-                refused: Refused::Limit,
+                refused: ContextRefusal::Limit,
                 group,
             });
         }
         match self.held.push(Communicator { context, group }) {
             Ok(()) => Ok(place),
             Err(failed) => Err(NotInstalled {
-                refused: Refused::OutOfMemory,
+                refused: ContextRefusal::OutOfMemory,
                 group: failed.value.group,
             }),
         }
     }
 
     /// Makes room for one more communicator, or finds that there is no memory. Nothing else changes.
-    pub fn reserve(&mut self) -> Result<(), Refused>
+    pub fn reserve(&mut self) -> Result<(), ContextRefusal>
         ensures room { OnOk result (0 < self.new.more) }
         ensures kept { self.new.state ≡ self.old.state }
-        ensures err { IsOkUnless result Refused.OutOfMemory }
+        ensures err { IsOkUnless result ContextRefusal.OutOfMemory }
     {
-        self.held.reserve(1).map_err(|_| Refused::OutOfMemory)
+        self.held.reserve(1).map_err(|_| ContextRefusal::OutOfMemory)
     }
 
     /// The context that is given once `further` others are, where as many are left to give. It takes
     /// no memory.
-    pub fn coming(&self, further: u64) -> Option<Context>
-        ensures { result ≡ coming self.now.state further }
+    pub fn next_context(&self, further: u64) -> Option<Context>
+        ensures { result ≡ next_context self.now.state further }
     {
         if further >= self.serials_left() {
             return None;
@@ -161,7 +161,7 @@ impl Contexts {
         })
     }
 
-    /// Gives the next contexts, as many as `count`: those that `coming` shows from 0 on.
+    /// Gives the next contexts, as many as `count`: those that `next_context` shows from 0 on.
     pub fn draw(&mut self, count: u64)
         requires { self.old.state.next_serial + count ≤ 2 ^ 32 }
         ensures state { self.new.state ≡ after_draw self.old.state count }

@@ -4,15 +4,15 @@
 mod communicator;
 mod context;
 mod contexts;
-mod given_once;
-mod part;
-mod refused;
+mod laws;
+mod refusal;
 mod split;
+mod split_part;
 
 pub use communicator::{Communicator, NotInstalled};
 pub use context::{Context, contexts_have_their_own_numbers};
 pub use contexts::Contexts;
-pub use given_once::contexts_are_given_once;
-pub use part::Part;
-pub use refused::Refused;
+pub use laws::contexts_are_given_once;
+pub use split_part::SplitPart;
+pub use refusal::ContextRefusal;
 pub use split::{SplitRow, split_plan};

@@ -4,8 +4,8 @@ ghost use Rattle.std.specs.Prelude.{◌≡◌, ◌<◌, length, map, IfOk, IsOkU
 ghost use Rattle.std.specs.List.Sorted.{IsNonDecreasingBy};
 ghost use Rattle.context_agreement.specs.Splits.{IsSplitPlan, IsCut, IsRun, colour_number, full_order};
 
-use crate::part::Part;
-use crate::refused::Refused;
+use crate::split_part::SplitPart;
+use crate::refusal::ContextRefusal;
 use std::alloc::{AllocError, Global};
 
 /// What a member of a communicator that is split gives (MPI 3.1, 6.4.2). The fields stand in the
@@ -23,17 +23,17 @@ pub struct SplitRow {
 /// The communicators into which the members of a communicator are split: one for each colour, in
 /// rising order, its members in the order of their keys, and of their old ranks where keys are
 /// equal. A member without a colour is in none (MPI 3.1, 6.4.2).
-pub fn split_plan(alloc: Global, rows: &[SplitRow]) -> Result<Vec<Part>, Refused>
+pub fn split_plan(alloc: Global, rows: &[SplitRow]) -> Result<Vec<SplitPart>, ContextRefusal>
     ensures ok { IfOk result (λ plan. IsSplitPlan rows.now plan.items) }
-    ensures err { IsOkUnless result Refused.OutOfMemory }
+    ensures err { IsOkUnless result ContextRefusal.OutOfMemory }
 {
     let Ok(mut sorted) = Vec::from_slice(alloc, rows) else {
-        return Err(Refused::OutOfMemory);
+        return Err(ContextRefusal::OutOfMemory);
     };
     sort_rows(&mut sorted);
-    match cut(alloc, &sorted) {
+    match split_at_colours(alloc, &sorted) {
         Ok(plan) => Ok(plan),
-        Err(_) => Err(Refused::OutOfMemory),
+        Err(_) => Err(ContextRefusal::OutOfMemory),
     }
 }
 
@@ -46,7 +46,7 @@ fn sort_rows(rows: &mut Vec<SplitRow>)
 }
 
 /// Cuts rows that are sorted into the parts of their colours.
-fn cut(alloc: Global, sorted: &[SplitRow]) -> Result<Vec<Part>, AllocError>
+fn split_at_colours(alloc: Global, sorted: &[SplitRow]) -> Result<Vec<SplitPart>, AllocError>
     requires { IsNonDecreasingBy (λ row. colour_number row.colour) sorted.now }
     ensures { IfOk result (λ plan. IsCut sorted.now plan.items) }
 {
@@ -56,7 +56,7 @@ fn cut(alloc: Global, sorted: &[SplitRow]) -> Result<Vec<Part>, AllocError>
         let end = end_of_colour(sorted, start);
         if let Some(colour) = sorted[start].colour {
             let ranks = ranks_of(alloc, &sorted[start..end])?;
-            plan.push(Part { colour, ranks })?;
+            plan.push(SplitPart { colour, ranks })?;
         }
         start = end;
     }

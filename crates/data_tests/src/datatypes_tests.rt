@@ -2,7 +2,7 @@
 
 ghost use Rattle.std.specs.Prelude.{◌≡◌, ◌∷◌, [], IfOk};
 
-use datatypes::{Block, Buffer, Element, Layout, Refusal, number_of};
+use datatypes::{IndexedBlock, Buffer, Element, Layout, LayoutRefusal, number_of};
 use reductions::{Op, ReduceOp, accumulate, fold};
 use std::alloc::{AllocError, Global};
 use std::test::Fail;
@@ -40,7 +40,7 @@ fn holds(buffer: &Buffer, numbers: &[u64]) -> bool {
 }
 
 /// Whether a layout that was made has these offsets and this extent.
-fn has(made: Result<Layout, Refusal>, offsets: &[u32], extent: u32) -> bool {
+fn has(made: Result<Layout, LayoutRefusal>, offsets: &[u32], extent: u32) -> bool {
     match made {
         Ok(layout) => layout.offsets() == offsets && layout.extent() == extent,
         Err(_) => false,
@@ -59,11 +59,11 @@ fn vector(alloc: Global) -> Option<Layout> {
 /// Two elements from place 1 on, and one at place 5.
 fn indexed(alloc: Global) -> Option<Layout> {
     let blocks = [
-        Block {
+        IndexedBlock {
             length: 2,
             displacement: 1,
         },
-        Block {
+        IndexedBlock {
             length: 1,
             displacement: 5,
         },
@@ -229,7 +229,7 @@ fn operations_are_defined_on_their_types(rt: HostRuntime) -> Result<(), Fail> {
     let sum = Op::Sum.on(BasicType::Int8)?;
     assert!(rt; sum.basic() == BasicType::Int8);
     match Op::Land.on(BasicType::Byte) {
-        Err(refusal) => assert_eq!(rt; refusal, Refusal::NotDefined),
+        Err(refusal) => assert_eq!(rt; refusal, LayoutRefusal::NotDefined),
         Ok(_) => assert!(rt; false),
     }
     Ok(())
@@ -317,7 +317,7 @@ fn members_are_folded_in_the_order_of_their_ranks(rt: HostRuntime) {
 fn number_of_zeros(buffer: &mut Buffer, count: usize) -> Option<u8> {
     match buffer.push_copies(0, count) {
         Ok(()) => None,
-        Err(refused) => Some(Refusal::from(refused).number()),
+        Err(refused) => Some(LayoutRefusal::from(refused).number()),
     }
 }
 

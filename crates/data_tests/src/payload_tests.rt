@@ -1,7 +1,7 @@
 //! Payloads of collectives: worked bytes, read and written.
 
 use payload::{
-    Choice, Direction, Elements, NewGroup, Operation, Part, Payload, Record, Refused, Rooted,
+    Choice, Direction, Elements, NewGroup, Operation, PayloadContent, Payload, Record, PayloadRefusal, Rooted,
     read_payload, write_payload,
 };
 use std::alloc::Global;
@@ -43,7 +43,7 @@ const GROUP: [u8; 28] = [
 fn broadcast(bytes: &[u8]) -> Option<(Record, bool)> {
     let payload = read_payload(bytes).ok()?;
     match payload.part {
-        Part::Elements(Direction::FromRoot, bytes) => {
+        PayloadContent::Elements(Direction::FromRoot, bytes) => {
             Some((payload.entered, bytes == [1, 2, 255, 255].as_slice()))
         }
         _ => None,
@@ -65,7 +65,7 @@ fn a_broadcast_is_read(rt: HostRuntime) {
 /// What was asked for in a split.
 fn choice(bytes: &[u8]) -> Option<Choice> {
     match read_payload(bytes).ok()?.part {
-        Part::Choice(choice) => Some(choice),
+        PayloadContent::Choice(choice) => Some(choice),
         _ => None,
     }
 }
@@ -83,7 +83,7 @@ fn a_choice_is_read(rt: HostRuntime) {
 /// The context of a new group, how many members it has, and the ranks at the places 0 to 2.
 fn group(bytes: &[u8]) -> Option<(u64, usize, [Option<u16>; 3])> {
     match read_payload(bytes).ok()?.part {
-        Part::NewGroup(group) => {
+        PayloadContent::NewGroup(group) => {
             let ranks = [group.rank(0), group.rank(1), group.rank(2)];
             Some((group.context, group.len(), ranks))
         }
@@ -112,7 +112,7 @@ fn is_told(alloc: Global) -> Option<bool> {
     };
     let payload = Payload {
         entered: Record::Allreduce(Operation::Affine, elements),
-        part: Part::RecordsDiffer,
+        part: PayloadContent::RecordsDiffer,
     };
     let mut out = Vec::new(alloc);
     write_payload(&payload, &mut out).ok()?;
@@ -127,11 +127,11 @@ fn differing_records_are_told(rt: HostRuntime) {
 
 /// Whether a group of half a rank, and one that comes of a copy, may be written.
 fn fits() -> [bool; 3] {
-    let half = Part::NewGroup(NewGroup {
+    let half = PayloadContent::NewGroup(NewGroup {
         context: 1,
         ranks: &[0, 1, 2],
     });
-    let context = Part::Context(1);
+    let context = PayloadContent::Context(1);
     [
         Payload {
             entered: Record::Split,
@@ -154,5 +154,5 @@ fn fits() -> [bool; 3] {
 #[test]
 fn a_part_fits_its_record(rt: HostRuntime) {
     assert_eq!(rt; fits(), [false, false, true]);
-    assert_eq!(rt; Refused::OutOfMemory.number(), 14);
+    assert_eq!(rt; PayloadRefusal::OutOfMemory.number(), 14);
 }

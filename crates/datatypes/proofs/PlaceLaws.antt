@@ -11,7 +11,7 @@ use Rattle.datatypes.specs.Contents.{Contents, values_of, AreWhole}
 use Rattle.datatypes.specs.ContentLaws.{IsBytes-take, no_rest, values_of-append, values_of-take, values_of-drop}
 use Rattle.datatypes.proofs.BufferSteps.{AreWhole-append, AreWhole-drop, AreWhole-single, single_is, element_fits}
 use Rattle.vocabulary.specs.BasicTypes.{code_of}
-use Rattle.derived_types.specs.declared.refusal.Refusal.TheVariants.{WrongType, TooShort}
+use Rattle.derived_types.specs.declared.refusal.LayoutRefusal.TheVariants.{WrongType, TooShort}
 use Rattle.derived_types.specs.Layouts.{Shape, extent_of, moved, places, copies_at, has_repeats}
 use Rattle.datatypes.specs.Pieces.{piece_at}
 use Rattle.datatypes.specs.Transfers.{room_for, put_at, is_same_type, send_fault, receive_fault, unpack_fault, place_of, first_places, AreNear}

@@ -8,10 +8,10 @@ ghost use Rattle.datatypes.specs.Combinations.{combined_values, IsLike};
 ghost use Rattle.datatypes.specs.Contents.{values_of, bytes_of, AreWithin};
 
 use crate::bytes::{append_copies, append_number, number_at, put_number, put_over};
-use crate::combining::{PairOp, combine_bytes};
-use crate::gathering::gathered;
-use crate::placing::put_places;
-use derived_types::{Layout, Refusal};
+use crate::combination::{PairOp, combine_bytes};
+use crate::packing::pack_bytes;
+use crate::unpacking::put_places;
+use derived_types::{Layout, LayoutRefusal};
 use std::alloc::{AllocError, Global};
 use std::marker::Model;
 use vocabulary::BasicType;
@@ -149,13 +149,13 @@ impl Buffer {
     /// Why so many copies of the layout can't be sent from this buffer, where they can't: the basic
     /// types differ, or the buffer is too short.
     #[tactic(auto, unfolding(crate::specs::Transfers::send_fault))]
-    pub fn send_fault(&self, layout: &Layout, copies: u64) -> Option<Refusal>
+    pub fn send_fault(&self, layout: &Layout, copies: u64) -> Option<LayoutRefusal>
         ensures { result ≡ send_fault self.now layout.now copies }
     {
         if self.basic != layout.basic() {
-            Some(Refusal::WrongType)
+            Some(LayoutRefusal::WrongType)
         } else if layout.is_too_long(copies, self.len()) {
-            Some(Refusal::TooShort)
+            Some(LayoutRefusal::TooShort)
         } else {
             None
         }
@@ -164,11 +164,11 @@ impl Buffer {
     /// Why nothing can be received into this buffer by so many copies of the layout, where nothing
     /// can: the basic types differ, an offset occurs twice, or the buffer is too short.
     #[tactic(auto, unfolding(crate::specs::Transfers::send_fault, crate::specs::Transfers::receive_fault))]
-    pub fn receive_fault(&self, layout: &Layout, copies: u64) -> Option<Refusal>
+    pub fn receive_fault(&self, layout: &Layout, copies: u64) -> Option<LayoutRefusal>
         ensures { result ≡ receive_fault self.now layout.now copies }
     {
         if layout.has_repeats() {
-            Some(Refusal::WrongType)
+            Some(LayoutRefusal::WrongType)
         } else {
             self.send_fault(layout, copies)
         }
@@ -177,7 +177,7 @@ impl Buffer {
     /// The elements at the places of so many copies of the layout, in order (MPI 3.1, 4.1.11).
     ///
     /// Refused where the basic types differ, where this buffer is too short, and for want of memory.
-    pub fn pack(&self, alloc: Global, layout: &Layout, copies: u64) -> Result<Buffer, Refusal>
+    pub fn pack(&self, alloc: Global, layout: &Layout, copies: u64) -> Result<Buffer, LayoutRefusal>
         ensures { PackGives (send_fault self.now layout.now copies) self.now
             (places copies layout.now.offsets) result }
     {
@@ -185,7 +185,7 @@ impl Buffer {
             Some(refusal) => Err(refusal),
             None => match self.packed(alloc, layout, copies) {
                 Ok(packed) => Ok(packed),
-                Err(_) => Err(Refusal::OutOfMemory),
+                Err(_) => Err(LayoutRefusal::OutOfMemory),
             },
         }
     }
@@ -202,7 +202,7 @@ impl Buffer {
             }) }
     {
         let size = usize::from(self.basic.size());
-        let bytes = gathered(
+        let bytes = pack_bytes(
             alloc,
             self.bytes.as_slice(),
             size,
@@ -223,13 +223,13 @@ impl Buffer {
     /// Refused where the basic types differ, where an offset occurs twice, and where this buffer is
     /// too short; then it stays as it was.
     #[tactic(auto, unfolding(crate::specs::Transfers::unpack_fault))]
-    pub fn unpack(&mut self, message: &Buffer, layout: &Layout, copies: u64) -> Result<(), Refusal>
+    pub fn unpack(&mut self, message: &Buffer, layout: &Layout, copies: u64) -> Result<(), LayoutRefusal>
         requires { length message.now.values ≤ length (places copies layout.now.offsets) }
         ensures { UnpackGives (unpack_fault message.now self.old layout.now copies) self.old
             (places copies layout.now.offsets) message.now.values result self.new }
     {
         if message.basic != self.basic {
-            return Err(Refusal::WrongType);
+            return Err(LayoutRefusal::WrongType);
         }
         match self.receive_fault(layout, copies) {
             Some(refusal) => Err(refusal),

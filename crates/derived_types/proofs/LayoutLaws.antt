@@ -11,9 +11,9 @@ use Rattle.std.proofs.lemmas.List.{length-append, length-map, append-nil, append
 use Rattle.std.proofs.lemmas.List.Concat.{flat_map-append}
 use Rattle.std.proofs.lemmas.List.FromFn.{length-range_with_len, get_or-range_with_len}
 use Rattle.derived_types.specs.declared.span.Span.{Span}
-use Rattle.derived_types.specs.declared.refusal.Refusal.{Refusal}
-use Rattle.derived_types.specs.declared.refusal.Refusal.TheVariants.{Limit}
-use Rattle.derived_types.specs.declared.block.Block.{Block}
+use Rattle.derived_types.specs.declared.refusal.LayoutRefusal.{LayoutRefusal}
+use Rattle.derived_types.specs.declared.refusal.LayoutRefusal.TheVariants.{Limit}
+use Rattle.derived_types.specs.declared.block.IndexedBlock.{IndexedBlock}
 use Rattle.derived_types.specs.Spans.{span_of, copied_span, vector_span, joined_span, joined_near, is_far, unless_far, is_wide, judged_span, JudgesOffsets}
 use Rattle.derived_types.specs.Layouts.{highest_of, lowest_of, extent_of, moved, copies_at, vector_offsets, indexed_offsets, is_beyond, has_repeats, IsWithin}
 
@@ -297,7 +297,7 @@ judges_as xs true e = e
 judges_as xs false e = (e, refl)
 
 -- what is judged of the span holds of the offsets
-pub judges : (xs : List ℕ) (o : Option Span) (r : Result Span Refusal) → o ≡ unless_far (span_of xs) → r ≡ judged_span o → JudgesOffsets xs r
+pub judges : (xs : List ℕ) (o : Option Span) (r : Result Span LayoutRefusal) → o ≡ unless_far (span_of xs) → r ≡ judged_span o → JudgesOffsets xs r
 judges xs o r e f =
     subst (JudgesOffsets xs) (sym (f ∙ ap judged_span e ∙ judged-span_of xs)) (judges_as xs (is_beyond xs) refl)
 
@@ -350,23 +350,23 @@ pub indexed_offsets-none : (xs : List ℕ) → indexed_offsets [] xs ≡ []
 unfolding indexed_offsets
 indexed_offsets-none xs = refl
 
-pub indexed_offsets-more : (blocks : List Block) (b : Block) (xs : List ℕ) → indexed_offsets (blocks ++ b ∷ []) xs ≡ indexed_offsets blocks xs ++ copies_at b.displacement b.length xs
+pub indexed_offsets-more : (blocks : List IndexedBlock) (b : IndexedBlock) (xs : List ℕ) → indexed_offsets (blocks ++ b ∷ []) xs ≡ indexed_offsets blocks xs ++ copies_at b.displacement b.length xs
 unfolding indexed_offsets
 indexed_offsets-more blocks b xs =
-    let f : Block → List ℕ = λ k. copies_at k.displacement k.length xs in
+    let f : IndexedBlock → List ℕ = λ k. copies_at k.displacement k.length xs in
     flat_map-append f blocks (b ∷ []) ∙ ap (λ (t : List ℕ). flat_map f blocks ++ t) (append-nil (f b))
 
-pub block-le-indexed : (blocks : List Block) (i : ℕ) (d : Block) (xs : List ℕ) → i < length blocks
+pub block-le-indexed : (blocks : List IndexedBlock) (i : ℕ) (d : IndexedBlock) (xs : List ℕ) → i < length blocks
     → highest_of (copies_at (get_or blocks i d).displacement (get_or blocks i d).length xs) ≤ highest_of (indexed_offsets blocks xs)
 unfolding indexed_offsets
-block-le-indexed blocks i d xs lt = highest_of-flat_map (λ (k : Block). copies_at k.displacement k.length xs) blocks i d lt
+block-le-indexed blocks i d xs lt = highest_of-flat_map (λ (k : IndexedBlock). copies_at k.displacement k.length xs) blocks i d lt
 
-indexed_nil : (blocks : List Block) → indexed_offsets blocks [] ≡ []
+indexed_nil : (blocks : List IndexedBlock) → indexed_offsets blocks [] ≡ []
 unfolding indexed_offsets
 indexed_nil [] = refl
 indexed_nil (b ∷ bs) = ap (λ (t : List ℕ). t ++ indexed_offsets bs []) (copies_at-nil b.displacement b.length) ∙ indexed_nil bs
 
-pub some-indexed : (blocks : List Block) (xs : List ℕ) → 0 < length (indexed_offsets blocks xs) → 0 < length xs
+pub some-indexed : (blocks : List IndexedBlock) (xs : List ℕ) → 0 < length (indexed_offsets blocks xs) → 0 < length xs
 some-indexed blocks [] h = let e = ap length (indexed_nil blocks) in absurd (omega arith)
 some-indexed blocks (x ∷ xs) h = omega arith
 

@@ -4,9 +4,9 @@ use Rattle.std.specs.List.{flat_map, range_with_len}
 use Rattle.vocabulary.specs.declared.basic_type.BasicType.{BasicType}
 pub use Rattle.layouts.specs.Layouts.{Shape, highest_of, lowest_of, extent_of, moved, places, has_repeats}
 unfoldable pub use Rattle.layouts.specs.Layouts.{copies_at}
-use Rattle.derived_types.specs.declared.refusal.Refusal.{Refusal}
-use Rattle.derived_types.specs.declared.refusal.Refusal.TheVariants.{WrongType, TooShort, NotDefined, Limit, OutOfMemory}
-use Rattle.derived_types.specs.declared.block.Block.{Block}
+use Rattle.derived_types.specs.declared.refusal.LayoutRefusal.{LayoutRefusal}
+use Rattle.derived_types.specs.declared.refusal.LayoutRefusal.TheVariants.{WrongType, TooShort, NotDefined, Limit, OutOfMemory}
+use Rattle.derived_types.specs.declared.block.IndexedBlock.{IndexedBlock}
 
 -- count copies of the old layout, one after the other
 abbrev pub contiguous_offsets : ℕ → List ℕ → List ℕ
@@ -18,8 +18,8 @@ vector_offsets count blocklength stride offsets =
     flat_map (λ i. copies_at (i * stride) blocklength offsets) (range_with_len 0 count)
 
 -- blocks of so many copies, each from its own displacement on, which is counted in copies
-unfoldable pub indexed_offsets : List Block → List ℕ → List ℕ
-indexed_offsets blocks offsets = flat_map (λ (b : Block). copies_at b.displacement b.length offsets) blocks
+unfoldable pub indexed_offsets : List IndexedBlock → List ℕ → List ℕ
+indexed_offsets blocks offsets = flat_map (λ (b : IndexedBlock). copies_at b.displacement b.length offsets) blocks
 
 -- whether the offsets pass a limit: so many entries, the highest offset, the extent
 unfoldable pub is_beyond : List ℕ → Bool
@@ -40,7 +40,7 @@ pub record IsKept (offsets : List ℕ) (lowest highest : ℕ) (repeats : Bool) :
   pub within : IsWithin offsets
 
 -- what a constructor gives, of a layout with these offsets: it is refused where they pass a limit
-abbrev pub LayoutGives : BasicType → List ℕ → Result Shape Refusal → Type 0
+abbrev pub LayoutGives : BasicType → List ℕ → Result Shape LayoutRefusal → Type 0
 LayoutGives basic offsets (Ok layout) = (is_beyond offsets ≡ false) × (layout ≡ record { basic = basic; offsets = offsets })
 LayoutGives basic offsets (Err Limit) = is_beyond offsets ≡ true
 LayoutGives basic offsets (Err OutOfMemory) = is_beyond offsets ≡ false

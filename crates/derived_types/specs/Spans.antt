@@ -1,8 +1,8 @@
 -- How far the offsets of a layout reach, told without making them.
 use Rattle.std.specs.Prelude.{◌≡◌, true, false, ℕ, ◌+◌, ◌-◌, ◌*◌, ◌==◌, ◌||◌, nat_lt, min, max, Bool, List, length, Option, Some, None, Result, Ok, Err, if◌then◌else◌}
 use Rattle.derived_types.specs.declared.span.Span.{Span}
-use Rattle.derived_types.specs.declared.refusal.Refusal.{Refusal}
-use Rattle.derived_types.specs.declared.refusal.Refusal.TheVariants.{WrongType, TooShort, NotDefined, Limit, OutOfMemory}
+use Rattle.derived_types.specs.declared.refusal.LayoutRefusal.{LayoutRefusal}
+use Rattle.derived_types.specs.declared.refusal.LayoutRefusal.TheVariants.{WrongType, TooShort, NotDefined, Limit, OutOfMemory}
 use Rattle.derived_types.specs.Layouts.{highest_of, lowest_of, is_beyond}
 
 -- of no offset
@@ -67,12 +67,12 @@ abbrev pub is_wide : Span → Bool
 is_wide s = nat_lt 2147483647 (if s.entries == 0 then 0 else extent_of_span s)
 
 -- the span, where no limit is passed
-unfoldable pub judged_span : Option Span → Result Span Refusal
+unfoldable pub judged_span : Option Span → Result Span LayoutRefusal
 judged_span None = Err Limit
 judged_span (Some s) = if is_wide s then Err Limit else Ok s
 
 -- whether offsets pass a limit, and their span if they don't
-abbrev pub JudgesOffsets : List ℕ → Result Span Refusal → Type 0
+abbrev pub JudgesOffsets : List ℕ → Result Span LayoutRefusal → Type 0
 JudgesOffsets offsets (Ok s) = (is_beyond offsets ≡ false) × (s ≡ span_of offsets)
 JudgesOffsets offsets (Err Limit) = is_beyond offsets ≡ true
 JudgesOffsets offsets (Err OutOfMemory) = ⊥

@@ -5,10 +5,10 @@ ghost use Rattle.derived_types.specs.Layouts.{extent_of, places, contiguous_offs
 ghost use Rattle.layouts.specs.Buffers.{room_for};
 ghost use Rattle.derived_types.specs.Spans.{span_of, JudgesOffsets};
 
-use crate::block::Block;
-use crate::building::{append_blocks, append_copies, append_vector, occurs_twice};
-use crate::refusal::Refusal;
-use crate::span::{Span, judged};
+use crate::block::IndexedBlock;
+use crate::construction::{append_blocks, append_copies, append_vector, occurs_twice};
+use crate::refusal::LayoutRefusal;
+use crate::span::{Span, span_or_refusal};
 use std::alloc::{AllocError, Global};
 use std::marker::Model;
 use vocabulary::BasicType;
@@ -41,9 +41,9 @@ impl Layout {
     /// The layout of one element of the basic type.
     ///
     /// Refused for want of memory alone.
-    pub fn new(alloc: Global, basic: BasicType) -> Result<Layout, Refusal>
+    pub fn new(alloc: Global, basic: BasicType) -> Result<Layout, LayoutRefusal>
         ensures ok { IfOk result (λ layout. layout ≡ record { basic = basic; offsets = 0 ∷ [] }) }
-        ensures err { IfErr result (λ refusal. refusal ≡ Refusal.OutOfMemory) }
+        ensures err { IfErr result (λ refusal. refusal ≡ LayoutRefusal.OutOfMemory) }
     {
         let offsets = Vec::from_slice(alloc, &[0])?;
         Ok(Layout {
@@ -115,7 +115,7 @@ impl Layout {
     }
 
     /// The layout of these offsets, which have this span.
-    fn made(
+    fn with_span(
         alloc: Global,
         basic: BasicType,
         offsets: Vec<u32>,
@@ -138,7 +138,7 @@ impl Layout {
     /// So many copies of this layout, one after the other.
     ///
     /// Refused where a limit of layouts is passed, and for want of memory.
-    pub fn contiguous(&self, alloc: Global, count: u64) -> Result<Layout, Refusal>
+    pub fn contiguous(&self, alloc: Global, count: u64) -> Result<Layout, LayoutRefusal>
         ensures { LayoutGives self.now.basic (contiguous_offsets count self.now.offsets) result }
     {
         match self.judge_contiguous(count) {
@@ -147,10 +147,10 @@ impl Layout {
         }
     }
 
-    fn judge_contiguous(&self, count: u64) -> Result<Span, Refusal>
+    fn judge_contiguous(&self, count: u64) -> Result<Span, LayoutRefusal>
         ensures { JudgesOffsets (contiguous_offsets count self.now.offsets) result }
     {
-        judged(self.span().copies(0, count))
+        span_or_refusal(self.span().copies(0, count))
     }
 
     fn make_contiguous(&self, alloc: Global, count: u64, span: Span) -> Result<Layout, AllocError>
@@ -169,7 +169,7 @@ impl Layout {
             let extent = u64::from(self.extent());
             append_copies(&mut offsets, self.offsets.as_slice(), extent, 0, count)?;
         }
-        Layout::made(alloc, self.basic, offsets, span)
+        Layout::with_span(alloc, self.basic, offsets, span)
     }
 
     /// So many blocks of copies of this layout, `blocklength` copies in each; each block begins
@@ -182,7 +182,7 @@ impl Layout {
         count: u64,
         blocklength: u64,
         stride: u64,
-    ) -> Result<Layout, Refusal>
+    ) -> Result<Layout, LayoutRefusal>
         ensures { LayoutGives self.now.basic
             (vector_offsets count blocklength stride self.now.offsets) result }
     {
@@ -192,10 +192,10 @@ impl Layout {
         }
     }
 
-    fn judge_vector(&self, count: u64, blocklength: u64, stride: u64) -> Result<Span, Refusal>
+    fn judge_vector(&self, count: u64, blocklength: u64, stride: u64) -> Result<Span, LayoutRefusal>
         ensures { JudgesOffsets (vector_offsets count blocklength stride self.now.offsets) result }
     {
-        judged(self.span().vector(count, blocklength, stride))
+        span_or_refusal(self.span().vector(count, blocklength, stride))
     }
 
     fn make_vector(
@@ -222,14 +222,14 @@ impl Layout {
             let old = self.offsets.as_slice();
             append_vector(&mut offsets, old, extent, count, blocklength, stride)?;
         }
-        Layout::made(alloc, self.basic, offsets, span)
+        Layout::with_span(alloc, self.basic, offsets, span)
     }
 
     /// Blocks of copies of this layout, in order; each begins at its own displacement, which is
     /// counted in extents of this layout.
     ///
     /// Refused where a limit of layouts is passed, and for want of memory.
-    pub fn indexed(&self, alloc: Global, blocks: &[Block]) -> Result<Layout, Refusal>
+    pub fn indexed(&self, alloc: Global, blocks: &[IndexedBlock]) -> Result<Layout, LayoutRefusal>
         ensures { LayoutGives self.now.basic (indexed_offsets blocks.now self.now.offsets) result }
     {
         match self.judge_indexed(blocks) {
@@ -238,7 +238,7 @@ impl Layout {
         }
     }
 
-    fn judge_indexed(&self, blocks: &[Block]) -> Result<Span, Refusal>
+    fn judge_indexed(&self, blocks: &[IndexedBlock]) -> Result<Span, LayoutRefusal>
         ensures { JudgesOffsets (indexed_offsets blocks.now self.now.offsets) result }
     {
         let old = self.span();
@@ -246,13 +246,13 @@ impl Layout {
         for block in blocks {
             all = Span::join(all, old.copies(block.displacement, block.length));
         }
-        judged(all)
+        span_or_refusal(all)
     }
 
     fn make_indexed(
         &self,
         alloc: Global,
-        blocks: &[Block],
+        blocks: &[IndexedBlock],
         span: Span,
     ) -> Result<Layout, AllocError>
         requires span { span ≡ span_of (indexed_offsets blocks.now self.now.offsets) }
@@ -270,7 +270,7 @@ impl Layout {
             let extent = u64::from(self.extent());
             append_blocks(&mut offsets, self.offsets.as_slice(), extent, blocks)?;
         }
-        Layout::made(alloc, self.basic, offsets, span)
+        Layout::with_span(alloc, self.basic, offsets, span)
     }
 
     /// Whether a buffer of so many elements is too short for so many copies of this layout.
@@ -326,11 +326,11 @@ fn copies_in(elements: u64, entries: u64) -> Option<u64>
 }
 
 /// A layout that was made, or the refusal for want of memory.
-fn or_refused(made: Result<Layout, AllocError>) -> Result<Layout, Refusal>
-    ensures { MatchResult made (λ layout. result ≡ Ok layout) (λ _. result ≡ Err Refusal.OutOfMemory) }
+fn or_refused(made: Result<Layout, AllocError>) -> Result<Layout, LayoutRefusal>
+    ensures { MatchResult made (λ layout. result ≡ Ok layout) (λ _. result ≡ Err LayoutRefusal.OutOfMemory) }
 {
     match made {
         Ok(layout) => Ok(layout),
-        Err(_) => Err(Refusal::OutOfMemory),
+        Err(_) => Err(LayoutRefusal::OutOfMemory),
     }
 }

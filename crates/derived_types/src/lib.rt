@@ -3,11 +3,11 @@
 #![tactic(auto)]
 
 mod block;
-mod building;
+mod construction;
 mod layout;
 mod refusal;
 mod span;
 
-pub use block::Block;
+pub use block::IndexedBlock;
 pub use layout::Layout;
-pub use refusal::Refusal;
+pub use refusal::LayoutRefusal;

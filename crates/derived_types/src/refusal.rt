@@ -8,7 +8,7 @@ use thiserror::Error;
 
 /// Why a call was refused. The first rule in this order that is broken is the one that is named.
 #[derive(Clone, Copy, Debug, PartialEq, Eq, Error)]
-pub enum Refusal {
+pub enum LayoutRefusal {
     /// The basic types differ, or an offset occurs twice in a layout that is used to receive.
     #[error("the types do not fit")]
     WrongType,
@@ -26,28 +26,28 @@ pub enum Refusal {
     OutOfMemory,
 }
 
-impl Refusal {
+impl LayoutRefusal {
     /// The number that stands for this refusal.
     pub fn number(self) -> u8
         ensures { result ≡ number_of_refusal self }
     {
         match self {
-            Refusal::TooShort => 1,
-            Refusal::WrongType => 2,
-            Refusal::NotDefined => 9,
-            Refusal::Limit => 13,
-            Refusal::OutOfMemory => 14,
+            LayoutRefusal::TooShort => 1,
+            LayoutRefusal::WrongType => 2,
+            LayoutRefusal::NotDefined => 9,
+            LayoutRefusal::Limit => 13,
+            LayoutRefusal::OutOfMemory => 14,
         }
     }
 }
 
-impl From<AllocError> for Refusal {
+impl From<AllocError> for LayoutRefusal {
     ghost use Rattle.std.specs.Prelude.{◌≡◌};
-    ghost use Rattle.derived_types.specs.declared.refusal.Refusal.TheVariants.{OutOfMemory};
+    ghost use Rattle.derived_types.specs.declared.refusal.LayoutRefusal.TheVariants.{OutOfMemory};
 
     ghost from_gives = { λ _ refusal. refusal ≡ OutOfMemory };
 
-    fn from(_refused: AllocError) -> Refusal {
-        Refusal::OutOfMemory
+    fn from(_refused: AllocError) -> LayoutRefusal {
+        LayoutRefusal::OutOfMemory
     }
 }

@@ -3,7 +3,7 @@
 ghost use Rattle.std.specs.Prelude.{◌≡◌, ◌≤◌, ◌<◌, ◌+◌, ◌*◌, ◌^◌, nat_lt, if◌then◌else◌};
 ghost use Rattle.derived_types.specs.Spans.{copied_span, vector_span, joined_near, unless_far, judged_span};
 
-use crate::refusal::Refusal;
+use crate::refusal::LayoutRefusal;
 
 /// The most offsets that a layout may have.
 const MOST_ENTRIES: u64 = 1_048_576;
@@ -146,14 +146,14 @@ fn near_place(strides: u64, stride: u64, copies: u64, extent: u64, offset: u64) 
 
 /// The span of a layout, where no limit is passed.
 #[tactic(auto, unfolding(crate::specs::Spans::judged_span))]
-pub fn judged(span: Option<Span>) -> Result<Span, Refusal>
+pub fn span_or_refusal(span: Option<Span>) -> Result<Span, LayoutRefusal>
     ensures { result ≡ judged_span span }
 {
     match span {
-        None => Err(Refusal::Limit),
+        None => Err(LayoutRefusal::Limit),
         Some(span) => {
             if span.entries > 0 && span.highest.saturating_sub(span.lowest) >= FARTHEST {
-                Err(Refusal::Limit)
+                Err(LayoutRefusal::Limit)
             } else {
                 Ok(span)
             }

@@ -5,11 +5,11 @@ use Rattle.std.proofs.lemmas.List.{length-map}
 use Rattle.std.proofs.lemmas.List.Elements.{All-cons, All-nil}
 use Rattle.datagram.specs.Spelling.{RequestText}
 use Rattle.incarnation.specs.declared.place.Place.{Place}
-use Rattle.rank_calls.specs.Hearing.{bad_unless, data_frame, data_frames, framed}
-use Rattle.rank_calls.specs.Refusals.{IsRefusal}
-use Rattle.rank_calls.specs.declared.refused.Refused.{Refused}
-use Rattle.rank_calls.specs.declared.refused.Refused.TheVariants as refusals
-use Rattle.rank_core.proofs.Replies.{data_go}
+use Rattle.point_to_point_calls.specs.Hearing.{bad_unless, data_frame, data_frames, framed}
+use Rattle.point_to_point_calls.specs.Refusals.{IsRefusal}
+use Rattle.point_to_point_calls.specs.declared.refusal.Refusal.{Refusal}
+use Rattle.point_to_point_calls.specs.declared.refusal.Refusal.TheVariants as refusals
+use Rattle.point_to_point.proofs.Replies.{data_go}
 use Rattle.rendezvous.specs.Pieces.{pieces_of}
 use Rattle.rendezvous.specs.declared.piece.Piece.{Piece}
 use Rattle.sessions.specs.Events.{AreFor, CanSend, Sending, sendings}
@@ -20,8 +20,8 @@ use Rattle.vocabulary.specs.declared.mode.Mode.{Mode}
 use Rattle.vocabulary.specs.declared.mode.Mode.TheVariants.{Standard, Synchronous}
 use Rattle.engine.proofs.Replies.{can_send, data_are_for}
 use Rattle.engine.specs.Datagrams.{answer_to, data_sent}
-use Rattle.engine_parts.specs.Frames.{outgoing_of, sending_of}
-use Rattle.engine_parts.specs.Refusals.{first_fault}
+use Rattle.engine_calls.specs.Frames.{outgoing_of, sending_of}
+use Rattle.engine_calls.specs.Refusals.{first_fault}
 
 -- ---- the answer to an announcement
 
@@ -34,12 +34,12 @@ pub answer_goes : (p : Place) (h : HeardText) (t : RequestText) → h.source.ran
 answer_goes p h t there = All-cons (CanSend p) (answer_to h t) [] (record { there = there; fits = tt }) (All-nil (CanSend p))
 
 -- the rules come first
-next_fault : (b : Bool) (limit : Option Refused) → b ≡ true → limit ≡ first_fault (bad_unless b) limit
+next_fault : (b : Bool) (limit : Option Refusal) → b ≡ true → limit ≡ first_fault (bad_unless b) limit
 next_fault true limit is = refl
 next_fault false limit is = absurd cc
 
 -- no payload is of a synchronous send
-pub mode_fault : (mode : Mode) (b : Bool) (limit : Option Refused) → ((mode ≡ Synchronous) → ⊥) → b ≡ true →
+pub mode_fault : (mode : Mode) (b : Bool) (limit : Option Refusal) → ((mode ≡ Synchronous) → ⊥) → b ≡ true →
     limit ≡ first_fault (bad_unless (is_standard mode)) (first_fault (bad_unless b) limit)
 mode_fault Standard b limit other is = next_fault b limit is
 mode_fault Synchronous b limit other is = absurd (other refl)
@@ -76,15 +76,15 @@ none_for rank = record { each = tt; many = refl }
 
 -- ---- what becomes of it
 
-pub on_ok : {P : Type 0} (r : Result (Unit {0}) Refused) → P → OnOk r P
+pub on_ok : {P : Type 0} (r : Result (Unit {0}) Refusal) → P → OnOk r P
 on_ok (Ok x) p = p
 on_ok (Err e) p = tt
 
 -- where no limit is met, only memory was wanting
-pub memory_wanting : (o : Option Refused) (r : Result (Unit {0}) Refused) → o ≡ None → IfErr r (λ e. e ≡ refusals.OutOfMemory) → IfErr r (IsRefusal o)
+pub memory_wanting : (o : Option Refusal) (r : Result (Unit {0}) Refusal) → o ≡ None → IfErr r (λ e. e ≡ refusals.OutOfMemory) → IfErr r (IsRefusal o)
 memory_wanting o (Ok x) none is = tt
-memory_wanting o (Err e) none is = subst (λ (l : Option Refused). IsRefusal l e) (sym none) is
+memory_wanting o (Err e) none is = subst (λ (l : Option Refusal). IsRefusal l e) (sym none) is
 
 -- a limit that is met is the refusal
-pub limit_met : (o : Option Refused) (e : Refused) → o ≡ Some e → IsRefusal o e
-limit_met o e is = subst (λ (l : Option Refused). IsRefusal l e) (sym is) refl
+pub limit_met : (o : Option Refusal) (e : Refusal) → o ≡ Some e → IsRefusal o e
+limit_met o e is = subst (λ (l : Option Refusal). IsRefusal l e) (sym is) refl

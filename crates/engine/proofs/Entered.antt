@@ -1,45 +1,45 @@
 -- What entering a collective gives.
 use Rattle.std.proofs.Common.{◌≡◌, ℕ, Option, Some, None, refl, sym, ap, subst, ◌∙◌, inl, inr}
-use Rattle.collective_notes.specs.declared.entry.Entry.{Entry}
+use Rattle.collective_messages.specs.declared.entry.Entry.{Entry}
 use Rattle.collective_transfers.specs.State as payloads
 use Rattle.collectives.specs.State.{State}
 use Rattle.collective_steps.specs.declared.step.Ending.{Ending}
 use Rattle.context_agreement.specs.Communicators.{ContextsState}
-use Rattle.rank_calls.specs.declared.refused.Refused.{Refused}
-use Rattle.rank_calls.specs.declared.refused.Refused.TheVariants as refusals
-use Rattle.rank_core.specs.CoreState.{CoreState}
+use Rattle.point_to_point_calls.specs.declared.refusal.Refusal.{Refusal}
+use Rattle.point_to_point_calls.specs.declared.refusal.Refusal.TheVariants as refusals
+use Rattle.point_to_point.specs.CoreState.{CoreState}
 use Rattle.sessions.specs.SessionsState.{SessionsState}
-use Rattle.engine_parts.specs.Calls.{EnteringGives, IsEntered, IsRefused, LacksRoom, WhyRefused, reply_on_entry}
-use Rattle.engine_parts.specs.EngineState.{EngineState}
+use Rattle.engine_calls.specs.Calls.{EnteringGives, IsEntered, IsRefused, LacksRoom, WhyRefused, reply_on_entry}
+use Rattle.engine_calls.specs.EngineState.{EngineState}
 use Rattle.engine.specs.Entering.{Goes, WhyNot}
-use Rattle.engine_parts.specs.Faults.{fault_of}
-use Rattle.engine_parts.specs.declared.call.Call.{Call}
-use Rattle.engine_parts.specs.declared.call.Call.TheVariants as calls
-use Rattle.engine_parts.specs.declared.reply.Reply.{Reply}
-use Rattle.engine_parts.specs.declared.reply.Reply.TheVariants as replies
+use Rattle.engine_calls.specs.Faults.{fault_of}
+use Rattle.engine_calls.specs.declared.call.Call.{Call}
+use Rattle.engine_calls.specs.declared.call.Call.TheVariants as calls
+use Rattle.engine_calls.specs.declared.reply.Reply.{Reply}
+use Rattle.engine_calls.specs.declared.reply.Reply.TheVariants as replies
 
 -- the engine with another core, other groups, payloads and sessions
 abbrev pub moved : EngineState → State → ContextsState → CoreState → payloads.State → SessionsState → EngineState
 moved e t k d q links = record { core = d; groups = record { collective = t; contexts = k }; ended = e.ended; payloads = q; sessions = links }
 
 -- a rule or limit refuses a call
-pub refused_by : (e : EngineState) (call : Call) (why : Refused) → fault_of e call ≡ Some why → IsRefused e call why call e
+pub refused_by : (e : EngineState) (call : Call) (why : Refusal) → fault_of e call ≡ Some why → IsRefused e call why call e
 refused_by e call why fault = record {
   handed = refl;
   unchanged = refl;
-  reason = subst (λ (f : Option Refused). WhyRefused f e call why) (sym fault) refl;
+  reason = subst (λ (f : Option Refusal). WhyRefused f e call why) (sym fault) refl;
 }
 
 -- where there is none, want of room does
-pub refused_for : (e new : EngineState) (call : Call) (why : Refused) → fault_of e call ≡ None → new ≡ e → LacksRoom e call why → IsRefused e call why call new
+pub refused_for : (e new : EngineState) (call : Call) (why : Refusal) → fault_of e call ≡ None → new ≡ e → LacksRoom e call why → IsRefused e call why call new
 refused_for e new call why free same lacks = record {
   handed = refl;
   unchanged = same;
-  reason = subst (λ (f : Option Refused). WhyRefused f e call why) (sym free) lacks;
+  reason = subst (λ (f : Option Refusal). WhyRefused f e call why) (sym free) lacks;
 }
 
 -- why a rank doesn't enter
-pub lacks_room : (e : EngineState) (place : ℕ) (x : Entry) (why : Refused) → WhyNot e.groups.collective e.groups.contexts e.core.transfers.numbers e.sessions place x why →
+pub lacks_room : (e : EngineState) (place : ℕ) (x : Entry) (why : Refusal) → WhyNot e.groups.collective e.groups.contexts e.core.transfers.numbers e.sessions place x why →
     LacksRoom e (calls.Enter (Some place) x) why
 lacks_room e place x refusals.OutOfMemory not = inl refl
 lacks_room e place x refusals.Limit not = inr (refl, (not.step, not.prepared, not.limit))
@@ -103,7 +103,7 @@ entered_at e now new t k d q links comm place x ending r reply same named back i
     (subst (λ (s : EngineState). EnteringGives e (Some place) x (reply_on_entry ending) s) (sym moves) (entered e t k d q links place x ending allowed goes)))) free
 
 -- or it is refused, and what was handed in comes back
-pub stays_out : (e now new : EngineState) (comm : Option ℕ) (place : ℕ) (x y : Entry) (why : Refused) (reply : Reply) → e ≡ now → comm ≡ Some place →
+pub stays_out : (e now new : EngineState) (comm : Option ℕ) (place : ℕ) (x y : Entry) (why : Refusal) (reply : Reply) → e ≡ now → comm ≡ Some place →
     reply ≡ replies.Refused why (calls.Enter (Some place) y) → y ≡ x → fault_of now (calls.Enter comm x) ≡ None →
     WhyNot e.groups.collective e.groups.contexts e.core.transfers.numbers e.sessions place x why → new ≡ e → EnteringGives now comm x reply new
 stays_out e now new comm place x y why reply same named back handed free not stays =

@@ -5,7 +5,7 @@ use Rattle.std.proofs.lemmas.List.{get_or-set_same}
 use Rattle.std.specs.Prelude.{IfErr, OnErr, OnOk, slice_index}
 use Rattle.vocabulary.specs.declared.endpoint.Endpoint.{Endpoint}
 use Rattle.datagram.specs.declared.datagram.Header.{Header}
-use Rattle.datagram.specs.declared.refused.Refused as reading
+use Rattle.datagram.specs.declared.refusal.DatagramRefusal as reading
 use Rattle.collective_transfers.specs.Payloads.{Whole}
 use Rattle.collective_steps.specs.declared.step.Ending.{Ending}
 use Rattle.collective_transfers.specs.State as payloads
@@ -14,22 +14,22 @@ use Rattle.datagram.specs.Spelling.{BodyText, DataText, EagerText, FrameBody, Ac
 use Rattle.datagram.specs.Reading.{datagram_of}
 use Rattle.incarnation.specs.declared.judgement.Judgement.{Judgement}
 use Rattle.incarnation.specs.declared.judgement.Judgement.TheVariants.{Current, Learn}
-use Rattle.incarnation.specs.declared.refused.Refused as judging
-use Rattle.incarnation.specs.declared.refused.Refused.TheVariants as judgings
+use Rattle.incarnation.specs.declared.refusal.IncarnationRefusal as judging
+use Rattle.incarnation.specs.declared.refusal.IncarnationRefusal.TheVariants as judgings
 use Rattle.incarnation.specs.Judging.{judgement}
-use Rattle.rank_calls.specs.declared.refused.Refused.{Refused}
-use Rattle.rank_calls.specs.declared.refused.Refused.TheVariants as refusals
-use Rattle.rank_core.specs.CoreState.{CoreState}
-use Rattle.sessions.specs.declared.refused.Refused as lower
-use Rattle.sessions.specs.declared.refused.Refused.TheVariants as lowers
+use Rattle.point_to_point_calls.specs.declared.refusal.Refusal.{Refusal}
+use Rattle.point_to_point_calls.specs.declared.refusal.Refusal.TheVariants as refusals
+use Rattle.point_to_point.specs.CoreState.{CoreState}
+use Rattle.sessions.specs.declared.refusal.SessionRefusal as lower
+use Rattle.sessions.specs.declared.refusal.SessionRefusal.TheVariants as lowers
 use Rattle.sessions.specs.declared.heard.Unheard.{Unheard}
 use Rattle.sessions.specs.Peers.{peer_at}
 use Rattle.sessions.specs.SessionsState.{SessionsState, knowledge}
 use Rattle.sessions.specs.Heard.{WordText, HeardText, heard_by, heard_in, heard_of, said, session_met, stale, word_of}
 use Rattle.sessions.specs.Events as links
 use Rattle.sessions.specs.Events.{Sending, TurnedAway, after_send, after_sends, taught_known}
-use Rattle.engine_parts.specs.EngineState.{EngineState, GroupsState}
-use Rattle.engine_parts.specs.Refusals.{of_sessions}
+use Rattle.engine_calls.specs.EngineState.{EngineState, GroupsState}
+use Rattle.engine_calls.specs.Refusals.{of_sessions}
 use Rattle.engine.specs.Datagrams.{
   DatagramGives,
   HeardGives,
@@ -56,7 +56,7 @@ use Rattle.engine.specs.Datagrams.{
   says_nothing,
   whole_in,
 }
-use Rattle.engine_parts.specs.Frames.{step_sendings}
+use Rattle.engine_calls.specs.Frames.{step_sendings}
 
 -- ---- at which incarnation the source is known then
 
@@ -79,7 +79,7 @@ abbrev Knows : Result HeardText Unheard → SessionsState → Endpoint → Type 
 Knows (Ok h) s source = slice_index (taught_known h.lesson s.known h.source) source.rank ≡ source.incarnation
 Knows (Err u) s source = Unit {0}
 
-said_knows : (w : Result WordText lower.Refused) (s : SessionsState) (source : Endpoint) (lesson : Bool) →
+said_knows : (w : Result WordText lower.SessionRefusal) (s : SessionsState) (source : Endpoint) (lesson : Bool) →
     slice_index (taught_known lesson s.known source) source.rank ≡ source.incarnation → Knows (said source lesson w) s source
 said_knows (Ok w) s source lesson is = is
 said_knows (Err e) s source lesson is = tt
@@ -95,7 +95,7 @@ stale_knows (AckBody held) s source = tt
 stale_knows (FrameBody f) s source = tt
 stale_knows ResetBody s source = tt
 
-judged_knows : (j : Result Judgement judging.Refused) (s : SessionsState) (d : DatagramText) (bytes : List ℕ) → length s.known ≡ s.place.size →
+judged_knows : (j : Result Judgement judging.IncarnationRefusal) (s : SessionsState) (d : DatagramText) (bytes : List ℕ) → length s.known ≡ s.place.size →
     judgement (knowledge s) d.header ≡ j → Knows (heard_by j s d bytes) s d.header.source
 judged_knows (Ok Current) s d bytes each is =
     said_knows (word_of (session_met false (peer_at s.peers d.header.source.rank)) d.header.sequence d.body bytes) s d.header.source false (is_current s d.header is)
@@ -141,14 +141,14 @@ pub known_carried : (old new : SessionsState) (h : HeardText) → IsCarried old 
 known_carried old new h goes = ap (λ (s : SessionsState). s.known) goes.carried ∙ known_sends (links.after_heard old (Some h)) goes.frames
 
 -- the source of what was taken in is known at the incarnation in its header
-pub heard_is_known : (old new : EngineState) (bytes : List ℕ) (h : HeardText) (result : Result (Unit {0}) Refused) →
+pub heard_is_known : (old new : EngineState) (bytes : List ℕ) (h : HeardText) (result : Result (Unit {0}) Refusal) →
     length old.sessions.known ≡ old.sessions.place.size → heard_of old.sessions bytes ≡ Ok h →
     OnOk result (new.sessions.known ≡ taught_known h.lesson old.sessions.known h.source) → OnOk result (SourceIsKnown new bytes)
 unfolding heard_of
 heard_is_known old new bytes h (Err e) each heard known = tt
 heard_is_known old new bytes h (Ok x) each heard known = λ d is.
     let by : heard_by (judgement (knowledge old.sessions) d.header) old.sessions d bytes ≡ Ok h =
-    sym (ap (λ (r : Result DatagramText reading.Refused). heard_in old.sessions r bytes) is) ∙ heard in
+    sym (ap (λ (r : Result DatagramText reading.DatagramRefusal). heard_in old.sessions r bytes) is) ∙ heard in
     ap (λ (ks : List ℕ). slice_index ks d.header.source.rank) known
     ∙ subst (λ (r : Result HeardText Unheard). Knows r old.sessions d.header.source) by
     (judged_knows (judgement (knowledge old.sessions) d.header) old.sessions d bytes each refl)
@@ -156,7 +156,7 @@ heard_is_known old new bytes h (Ok x) each heard known = λ d is.
 -- ---- what a refusal leaves
 
 -- it changes nothing
-left_as_it_was : (r : Refused) (old new : EngineState) → new ≡ old → RefusedDatagramLeaves (Err r) old new
+left_as_it_was : (r : Refusal) (old new : EngineState) → new ≡ old → RefusedDatagramLeaves (Err r) old new
 left_as_it_was refusals.Count old new is = is
 left_as_it_was refusals.WrongType old new is = is
 left_as_it_was refusals.Tag old new is = is
@@ -182,7 +182,7 @@ left_as_it_was refusals.OutOfWindow old new is = is
 left_as_it_was refusals.ClockBack old new is = is
 
 -- a reset goes out with 29 alone
-abbrev ResetTells : Option Endpoint → lower.Refused → Type 0
+abbrev ResetTells : Option Endpoint → lower.SessionRefusal → Type 0
 ResetTells None e = Unit {0}
 ResetTells (Some source) e = e ≡ lowers.StaleTarget
 
@@ -190,7 +190,7 @@ abbrev ResetsTell : Result HeardText Unheard → Type 0
 ResetsTell (Ok h) = Unit {0}
 ResetsTell (Err u) = ResetTells u.reset u.refused
 
-said_tells : (w : Result WordText lower.Refused) (source : Endpoint) (lesson : Bool) → ResetsTell (said source lesson w)
+said_tells : (w : Result WordText lower.SessionRefusal) (source : Endpoint) (lesson : Bool) → ResetsTell (said source lesson w)
 said_tells (Ok w) source lesson = tt
 said_tells (Err e) source lesson = tt
 
@@ -199,7 +199,7 @@ stale_tells (AckBody held) source = refl
 stale_tells (FrameBody f) source = refl
 stale_tells ResetBody source = tt
 
-judged_tells : (j : Result Judgement judging.Refused) (s : SessionsState) (d : DatagramText) (bytes : List ℕ) → ResetsTell (heard_by j s d bytes)
+judged_tells : (j : Result Judgement judging.IncarnationRefusal) (s : SessionsState) (d : DatagramText) (bytes : List ℕ) → ResetsTell (heard_by j s d bytes)
 judged_tells (Ok Current) s d bytes =
     said_tells (word_of (session_met false (peer_at s.peers d.header.source.rank)) d.header.sequence d.body bytes) d.header.source false
 judged_tells (Ok (Learn i)) s d bytes =
@@ -211,7 +211,7 @@ judged_tells (Err judgings.ForeignJob) s d bytes = tt
 judged_tells (Err judgings.NotForMe) s d bytes = tt
 judged_tells (Err judgings.StaleSource) s d bytes = tt
 
-read_tells : (text : Result DatagramText reading.Refused) (s : SessionsState) (bytes : List ℕ) → ResetsTell (heard_in s text bytes)
+read_tells : (text : Result DatagramText reading.DatagramRefusal) (s : SessionsState) (bytes : List ℕ) → ResetsTell (heard_in s text bytes)
 read_tells (Err e) s bytes = tt
 read_tells (Ok d) s bytes = judged_tells (judgement (knowledge s) d.header) s d bytes
 
@@ -234,19 +234,19 @@ with_reset_leaves old new out is sessions =
     is ∙ ap (λ (s : SessionsState). record old { sessions = s })
     (sessions ∙ ap (λ (s : SessionsState). record old.sessions { out = s.out }) (sym sessions))
 
-turned_away_leaves : (old new : EngineState) (reset : Option Endpoint) (refused e : lower.Refused) → ResetTells reset refused →
+turned_away_leaves : (old new : EngineState) (reset : Option Endpoint) (refused e : lower.SessionRefusal) → ResetTells reset refused →
     IsElsewhere old new → TurnedAway reset refused old.sessions e new.sessions → RefusedDatagramLeaves (Err (of_sessions e)) old new
 turned_away_leaves old new None refused e tells is away = left_as_it_was (of_sessions e) old new (kept old new is away.1)
 turned_away_leaves old new (Some source) refused e tells is (inl away) =
-    subst (λ (r : lower.Refused). RefusedDatagramLeaves (Err (of_sessions r)) old new) (sym (away.0 ∙ tells)) (with_reset_leaves old new _ is away.1)
+    subst (λ (r : lower.SessionRefusal). RefusedDatagramLeaves (Err (of_sessions r)) old new) (sym (away.0 ∙ tells)) (with_reset_leaves old new _ is away.1)
 turned_away_leaves old new (Some source) refused e tells is (inr away) = left_as_it_was (of_sessions e) old new (kept old new is away.1)
 
 -- what is heard and refused changes nothing
-piece_leaves : (due : Bool) (w : Option Whole) (old new : EngineState) (h : HeardText) (t : DataText) (e : Refused) → PieceGivesBy due w old h t (Err e) new → new ≡ old
+piece_leaves : (due : Bool) (w : Option Whole) (old new : EngineState) (h : HeardText) (t : DataText) (e : Refusal) → PieceGivesBy due w old h t (Err e) new → new ≡ old
 piece_leaves true w old new h t e gives = gives.1
 piece_leaves false w old new h t e gives = gives.1
 
-pub unheard_leaves : (n : Option NoticeText) (old new : EngineState) (h : HeardText) (e : Refused) → HeardGivesBy n old h (Err e) new → new ≡ old
+pub unheard_leaves : (n : Option NoticeText) (old new : EngineState) (h : HeardText) (e : Refusal) → HeardGivesBy n old h (Err e) new → new ≡ old
 unheard_leaves None old new h e gives = gives.2
 unheard_leaves (Some (OfMessage t)) old new h e gives = gives.1
 unheard_leaves (Some (OfAnnouncement t)) old new h e gives = gives.1
@@ -254,16 +254,16 @@ unheard_leaves (Some (OfAnswer t)) old new h e gives = gives.1
 unheard_leaves (Some (OfPiece t)) old new h e gives =
     piece_leaves (is_due old.payloads h.source.rank t.transfer t.offset t.bytes) (whole_with old.payloads h.source.rank t.transfer t.bytes) old new h t e gives
 
-hearing_leaves : (heard : Result HeardText Unheard) (old new : EngineState) (result : Result (Unit {0}) Refused) → ResetsTell heard →
+hearing_leaves : (heard : Result HeardText Unheard) (old new : EngineState) (result : Result (Unit {0}) Refusal) → ResetsTell heard →
     HearingGives heard old result new → RefusedDatagramLeaves result old new
 hearing_leaves (Ok h) old new (Ok x) tells gives = tt
 hearing_leaves (Ok h) old new (Err e) tells gives = left_as_it_was e old new (unheard_leaves (notice_in h.lesson old.payloads h.source.rank h.word) old new h e gives)
 hearing_leaves (Err u) old new result tells gives =
-    subst (λ (r : Result (Unit {0}) Refused). RefusedDatagramLeaves r old new) (sym gives.1)
+    subst (λ (r : Result (Unit {0}) Refusal). RefusedDatagramLeaves r old new) (sym gives.1)
     (turned_away_leaves old new u.reset u.refused gives.0 tells gives.2 gives.3)
 
 -- what a datagram gives says what its refusal leaves
-pub refusal_leaves : (old new : EngineState) (bytes : List ℕ) (result : Result (Unit {0}) Refused) → DatagramGives old bytes result new →
+pub refusal_leaves : (old new : EngineState) (bytes : List ℕ) (result : Result (Unit {0}) Refusal) → DatagramGives old bytes result new →
     RefusedDatagramLeaves result old new
 refusal_leaves old new bytes result gives = hearing_leaves (heard_of old.sessions bytes) old new result (bytes_tell bytes old.sessions) gives
 
@@ -274,7 +274,7 @@ pub taken_unless : (nothing : Bool) (old : EngineState) (h : HeardText) (new : E
 taken_unless true old h new something taken = absurd cc
 taken_unless false old h new something taken = taken
 
-pub hearing_is : (h : HeardText) (old new : EngineState) (r : Result (Unit {0}) Refused) → OnOk r (IsTakenInUnless (says_nothing h.lesson h.word) old h new) →
+pub hearing_is : (h : HeardText) (old new : EngineState) (r : Result (Unit {0}) Refusal) → OnOk r (IsTakenInUnless (says_nothing h.lesson h.word) old h new) →
     IfErr r (λ e. HeardGives old h (Err e) new) → HearingGives (Ok h) old r new
 hearing_is h old new (Ok x) taken refused = taken
 hearing_is h old new (Err e) taken refused = refused
@@ -282,7 +282,7 @@ hearing_is h old new (Err e) taken refused = refused
 -- ---- turning away
 
 -- all but the sessions stays as it is
-pub turned_away : (e : EngineState) (t : SessionsState) (u : Unheard) (why : lower.Refused) → TurnedAway u.reset u.refused e.sessions why t →
+pub turned_away : (e : EngineState) (t : SessionsState) (u : Unheard) (why : lower.SessionRefusal) → TurnedAway u.reset u.refused e.sessions why t →
     HearingGives (Err u) e (Err (of_sessions why)) (record e { sessions = t })
 turned_away e t u why away = (why, refl, refl, away)
 
@@ -293,7 +293,7 @@ abbrev pub parts_of : CoreState → GroupsState → Option Ending → payloads.S
 parts_of c g ended p s = record { core = c; groups = g; ended = ended; payloads = p; sessions = s }
 
 -- why a message isn't taken says nothing of what is kept, nor of the payloads
-pub for_any : (c : CoreState) (g : GroupsState) (a b : Option Ending) (p q : payloads.State) (s : SessionsState) (h : HeardText) (w : Whole) (e : Refused) →
+pub for_any : (c : CoreState) (g : GroupsState) (a b : Option Ending) (p q : payloads.State) (s : SessionsState) (h : HeardText) (w : Whole) (e : Refusal) →
     WhyUnnoticed (parts_of c g a p s) h w e → WhyUnnoticed (parts_of c g b q s) h w e
 for_any c g a b p q s h w refusals.BadFrame why = why
 for_any c g a b p q s h w refusals.Limit why = why
@@ -331,7 +331,7 @@ same_parts c d g k o p q s x core collective contexts kept links = λ i. record 
 }
 
 -- a message of a collective that is refused
-pub message_refused : {A : Type 0} (r : Result A Refused) (n : Option NoticeText) (h : HeardText) (t : EagerText) (w : Whole) (c d : CoreState)
+pub message_refused : {A : Type 0} (r : Result A Refusal) (n : Option NoticeText) (h : HeardText) (t : EagerText) (w : Whole) (c d : CoreState)
     (g k : GroupsState) (p q : payloads.State) (s x : SessionsState) → n ≡ Some (OfMessage t) → w ≡ whole_in t →
     IfErr r (WhyUnnoticed (parts_of c g None p s) h w) → OnErr r (d ≡ c) → OnErr r (k.collective ≡ g.collective) → OnErr r (k.contexts ≡ g.contexts) →
     OnErr r (q ≡ p) → OnErr r (x ≡ s) →
@@ -345,19 +345,19 @@ message_refused (Err e) n h t w c d g k p q s x is says why core collective cont
 
 -- why data aren't taken says nothing of what is kept
 data_for_any : (due : Bool) (v : Option Whole) (c : CoreState) (g : GroupsState) (a b : Option Ending) (p : payloads.State) (s : SessionsState) (h : HeardText)
-    (e : Refused) → WhyNoPieceBy due v (parts_of c g a p s) h e → WhyNoPieceBy due v (parts_of c g b p s) h e
+    (e : Refusal) → WhyNoPieceBy due v (parts_of c g a p s) h e → WhyNoPieceBy due v (parts_of c g b p s) h e
 data_for_any false v c g a b p s h e why = why
 data_for_any true None c g a b p s h e why = why
 data_for_any true (Some w) c g a b p s h e why = for_any c g a b p p s h w e why
 
 -- data that are refused
-not_taken : (due : Bool) (v : Option Whole) (old new : EngineState) (h : HeardText) (t : DataText) (e : Refused) → WhyNoPieceBy due v old h e → new ≡ old →
+not_taken : (due : Bool) (v : Option Whole) (old new : EngineState) (h : HeardText) (t : DataText) (e : Refusal) → WhyNoPieceBy due v old h e → new ≡ old →
     PieceGivesBy due v old h t (Err e) new
 not_taken true v old new h t e why same = (why, same)
 not_taken false v old new h t e why same = (why, same)
 
 -- the same of a payload that comes
-pub piece_refused : {A : Type 0} (r : Result A Refused) (n : Option NoticeText) (h : HeardText) (t : DataText) (c d : CoreState) (g k : GroupsState)
+pub piece_refused : {A : Type 0} (r : Result A Refusal) (n : Option NoticeText) (h : HeardText) (t : DataText) (c d : CoreState) (g k : GroupsState)
     (p q : payloads.State) (s x : SessionsState) → n ≡ Some (OfPiece t) → IfErr r (WhyNoPiece (parts_of c g None p s) h t) → OnErr r (d ≡ c) →
     OnErr r (k.collective ≡ g.collective) → OnErr r (k.contexts ≡ g.contexts) → OnErr r (q ≡ p) → OnErr r (x ≡ s) →
     IfErr r (λ e. (before : Option Ending) → HeardGivesBy n (parts_of c g before p s) h (Err e) (parts_of d k before q x))

@@ -6,15 +6,15 @@ use Rattle.collective_transfers.specs.Payloads.{Whole}
 use Rattle.collective_transfers.specs.State as payloads
 use Rattle.collective_transfers.specs.State.{after_announcing, is_due, whole_with}
 use Rattle.datagram.specs.Spelling.{DataText}
-use Rattle.rank_calls.specs.declared.refused.Refused.{Refused}
-use Rattle.rank_core.specs.CoreState.{CoreState}
+use Rattle.point_to_point_calls.specs.declared.refusal.Refusal.{Refusal}
+use Rattle.point_to_point.specs.CoreState.{CoreState}
 use Rattle.sessions.specs.Heard.{HeardText}
 use Rattle.sessions.specs.SessionsState.{SessionsState}
 use Rattle.vocabulary.specs.declared.endpoint.Endpoint.{Endpoint}
 use Rattle.engine.proofs.Hearing.{for_any, parts_of}
 use Rattle.engine.specs.Datagrams.{IsNoticed, PieceGives, PieceGivesBy, WhyNoPiece, WhyNoPieceBy, WhyUnnoticed, lesson_in, numbers_met, payloads_grown, payloads_met}
-use Rattle.engine_parts.specs.EngineState.{EngineState, GroupsState, or_before}
-use Rattle.engine_parts.specs.Frames.{step_payloads}
+use Rattle.engine_calls.specs.EngineState.{EngineState, GroupsState, or_before}
+use Rattle.engine_calls.specs.Frames.{step_payloads}
 
 -- with no lesson there is nobody who teaches
 no_lesson : (h : HeardText) → h.lesson ≡ false → lesson_in h ≡ None
@@ -40,7 +40,7 @@ noticed_beside c g o p q s h w new on is = record {
 }
 
 -- the message is taken in, and its payload comes no more
-pub last_taken : (r : Result (Option Ending) Refused) (c d : CoreState) (g k : GroupsState) (p q x : payloads.State) (s y : SessionsState) (h : HeardText) (t : DataText)
+pub last_taken : (r : Result (Option Ending) Refusal) (c d : CoreState) (g k : GroupsState) (p q x : payloads.State) (s y : SessionsState) (h : HeardText) (t : DataText)
     (w : Whole) → is_due p h.source.rank t.transfer t.offset t.bytes ≡ true → Some w ≡ whole_with p h.source.rank t.transfer t.bytes →
     q ≡ payloads_grown (parts_of c g None p s) h t → h.lesson ≡ false →
     IfOk r (λ ending. (before : Option Ending) → IsNoticed (parts_of c g before q s) (payloads_met q (lesson_in h)) h w (parts_of d k (or_before ending before) x y)) →
@@ -54,7 +54,7 @@ last_taken (Ok ending) c d g k p q x s y h t w due whole grown on gives = λ bef
     (subst (λ (z : payloads.State). IsNoticed old z h w new) grown (noticed_beside c g before q p s h w new on (gives before))))
 
 -- or it is refused, as the message is
-pub last_refused : {A : Type 0} (r : Result A Refused) (c : CoreState) (g : GroupsState) (p q : payloads.State) (s : SessionsState) (h : HeardText) (t : DataText) (w : Whole) →
+pub last_refused : {A : Type 0} (r : Result A Refusal) (c : CoreState) (g : GroupsState) (p q : payloads.State) (s : SessionsState) (h : HeardText) (t : DataText) (w : Whole) →
     is_due p h.source.rank t.transfer t.offset t.bytes ≡ true → Some w ≡ whole_with p h.source.rank t.transfer t.bytes →
     IfErr r (WhyUnnoticed (parts_of c g None q s) h w) → IfErr r (WhyNoPiece (parts_of c g None p s) h t)
 last_refused (Ok a) c g p q s h t w due whole why = tt
@@ -64,6 +64,6 @@ last_refused (Err e) c g p q s h t w due whole why =
     (subst (λ (o : Option Whole). WhyNoPieceBy true o old h e) whole (for_any c g None None q p s h w e why))
 
 -- then all payloads are as they were
-pub put_back : {A : Type 0} (r : Result A Refused) (p q x : payloads.State) → q ≡ p → OnErr r (x ≡ q) → OnErr r (x ≡ p)
+pub put_back : {A : Type 0} (r : Result A Refusal) (p q x : payloads.State) → q ≡ p → OnErr r (x ≡ q) → OnErr r (x ≡ p)
 put_back (Ok a) p q x back stays = tt
 put_back (Err e) p q x back stays = stays ∙ back

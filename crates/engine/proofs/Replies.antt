@@ -12,25 +12,25 @@ use Rattle.datagram.specs.declared.kinds.Clearance.TheVariants.{Send, Drop}
 use Rattle.datagram.specs.Spelling.{ClearFrame, DataFrame, EagerFrame, FrameText, RequestFrame, RequestText}
 use Rattle.incarnation.specs.declared.place.Place.{Place}
 use Rattle.match_queues.specs.Arrivals.{arrival_at}
-use Rattle.match_queues.specs.declared.envelope.Receive.{Receive}
+use Rattle.match_queues.specs.declared.envelope.PostedReceive.{PostedReceive}
 use Rattle.match_queues.specs.State.{receive_at, receive_for}
 use Rattle.rendezvous.specs.declared.offer.Offer.{Offer}
 use Rattle.rendezvous.specs.Pieces.{pieces_of}
 use Rattle.rendezvous.specs.State.{offered}
-use Rattle.requests.specs.declared.table.Entry.{Entry}
-use Rattle.rank_core.specs.CoreState.{CoreState}
-use Rattle.rank_calls.specs.declared.sending.Addressed.{Addressed}
-use Rattle.rank_calls.specs.Frames.{FrameFor, addressed_text, as_list}
-use Rattle.rank_calls.specs.Hearing.{CanGo, announced_of, data_frames, wanted_frames}
-use Rattle.rank_core.specs.Hearing.{called_for, news_frames, taught}
-use Rattle.rank_calls.specs.Receiving.{answer_on_arrival}
+use Rattle.requests.specs.declared.table.TableEntry.{TableEntry}
+use Rattle.point_to_point.specs.CoreState.{CoreState}
+use Rattle.point_to_point_calls.specs.declared.sends.Addressed.{Addressed}
+use Rattle.point_to_point_calls.specs.Frames.{FrameFor, addressed_text, as_list}
+use Rattle.point_to_point_calls.specs.Hearing.{CanGo, announced_of, data_frames, wanted_frames}
+use Rattle.point_to_point.specs.Arrivals.{called_for, news_frames, after_lesson}
+use Rattle.point_to_point_calls.specs.Receiving.{answer_on_arrival}
 use Rattle.sessions.specs.declared.heard.Outgoing.{Outgoing}
-use Rattle.sessions.specs.declared.refused.Refused as lower
-use Rattle.sessions.specs.declared.refused.Refused.TheVariants as lowers
+use Rattle.sessions.specs.declared.refusal.SessionRefusal as lower
+use Rattle.sessions.specs.declared.refusal.SessionRefusal.TheVariants as lowers
 use Rattle.sessions.specs.Refusals as lowest
 use Rattle.sessions.specs.Events.{AreFor, CanSend, Sending, sendings}
 use Rattle.sessions.specs.Heard.{HeardText}
-use Rattle.engine_parts.specs.Frames.{outgoing_of, sending_of}
+use Rattle.engine_calls.specs.Frames.{outgoing_of, sending_of}
 use Rattle.engine.specs.Datagrams.{frame_in, news_of, replies}
 
 -- ---- to whom they go
@@ -48,7 +48,7 @@ wanted_are_for rank Drop o = tt
 wanted_are_for rank Send None = tt
 wanted_are_for rank Send (Some o) = data_are_for rank o.transfer (pieces_of (bytes_of (size_of o.elements.basic) o.elements.values))
 
-answer_is_for : (slots : List (Option Entry)) (r : Option Receive) (s : Endpoint) (t : RequestText) →
+answer_is_for : (slots : List (Option TableEntry)) (r : Option PostedReceive) (s : Endpoint) (t : RequestText) →
     AreFramesFor s.rank (as_list (answer_on_arrival slots (arrival_at r (announced_of s t))))
 unfolding announced_of
 answer_is_for slots None s t = tt
@@ -67,7 +67,7 @@ pub replies_are_for : (c : CoreState) (h : HeardText) (count : ℕ) → count �
     AreFor h.source.rank count (replies c h)
 replies_are_for c h count is =
     record {
-      each = called_are_for (taught h.lesson c h.source) h.source (frame_in h.word);
+      each = called_are_for (after_lesson h.lesson c h.source) h.source (frame_in h.word);
       many = length-map (news_frames c (news_of h)) sending_of ∙ sym is;
     }
 
@@ -99,6 +99,6 @@ outgoing_can_go c place h os says same go =
 -- ---- what becomes of it
 
 -- where there is no limit, only memory was wanting
-pub only_memory : (l : Option lower.Refused) (e : lower.Refused) → l ≡ None → lowest.IsRefusal l e → e ≡ lowers.OutOfMemory
+pub only_memory : (l : Option lower.SessionRefusal) (e : lower.SessionRefusal) → l ≡ None → lowest.IsRefusal l e → e ≡ lowers.OutOfMemory
 only_memory None e is refused = refused
 only_memory (Some f) e is refused = absurd cc

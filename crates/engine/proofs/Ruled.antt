@@ -2,29 +2,29 @@
 use Rattle.std.proofs.Common.{◌≡◌, ℕ, ◌==◌, ◌||◌, Bool, true, false, cond, if◌then◌else◌, is_some, List, Option, Some, None, refl, sym, ap, subst, ◌∙◌}
 use Rattle.std.specs.Prelude.{is_none, option_map}
 use Rattle.std.specs.Option.{option_or}
-use Rattle.collective_blocks.specs.Rules.{number_of_rule}
-use Rattle.collective_blocks.specs.declared.rules.Rule.{Rule}
-use Rattle.collective_blocks.specs.declared.rules.Rule.TheVariants as rules
-use Rattle.collective_notes.specs.declared.entry.Entry.{Entry}
+use Rattle.collective_progress.specs.Rules.{number_of_rule}
+use Rattle.collective_progress.specs.declared.rules.Rule.{Rule}
+use Rattle.collective_progress.specs.declared.rules.Rule.TheVariants as rules
+use Rattle.collective_messages.specs.declared.entry.Entry.{Entry}
 use Rattle.communicators.proofs.Judging.{entry_judged, question_judged}
 use Rattle.communicators.specs.Members.{call_of, held_in}
 use Rattle.communicators.specs.Questions.{question_of}
 use Rattle.communicators.specs.Rules.{Allows, EntriesAreAllowed, known_by, limit_in, no_requests, number_of_fault, or_limited, rule_in}
-use Rattle.communicators.specs.declared.fault.Fault.{Fault}
-use Rattle.communicators.specs.declared.fault.Fault.TheVariants as faults
+use Rattle.communicators.specs.declared.fault.CommunicatorFault.{CommunicatorFault}
+use Rattle.communicators.specs.declared.fault.CommunicatorFault.TheVariants as faults
 use Rattle.communicators.specs.declared.question.Question.{Question}
 use Rattle.perfect_groups.specs.Calls.{Enter, Inquire, held_at}
 use Rattle.perfect_groups.specs.Faults.{asks_of_none, fault_by, has_replaced, is_within}
 use Rattle.perfect_groups.specs.Membership.{Membership}
-use Rattle.rank_calls.specs.declared.refused.Refused.{Refused}
-use Rattle.rank_calls.specs.declared.refused.Refused.TheVariants as refusals
-use Rattle.engine_parts.specs.EngineState.{EngineState, member_of}
-use Rattle.engine_parts.specs.Faults.{broken, fault_of, is_busy}
-use Rattle.engine_parts.specs.Refusals.{first_fault, of_entry_rule, of_rule}
-use Rattle.engine_parts.specs.declared.call.Call.TheVariants as calls
+use Rattle.point_to_point_calls.specs.declared.refusal.Refusal.{Refusal}
+use Rattle.point_to_point_calls.specs.declared.refusal.Refusal.TheVariants as refusals
+use Rattle.engine_calls.specs.EngineState.{EngineState, member_of}
+use Rattle.engine_calls.specs.Faults.{broken, fault_of, is_busy}
+use Rattle.engine_calls.specs.Refusals.{first_fault, of_entry_rule, of_rule}
+use Rattle.engine_calls.specs.declared.call.Call.TheVariants as calls
 
 -- the refusal with a number
-abbrev refusal_of : ℕ → Refused
+abbrev refusal_of : ℕ → Refusal
 refusal_of n =
     if n == 6 then refusals.Request else
     (if n == 4 then refusals.Communicator else
@@ -34,7 +34,7 @@ refusal_of n =
     (if n == 9 then refusals.Operation else
     (if n == 11 then refusals.Replaced else refusals.Limit))))))
 
-by_number : (o : Option Fault) → option_map of_rule o ≡ option_map refusal_of (option_map number_of_fault o)
+by_number : (o : Option CommunicatorFault) → option_map of_rule o ≡ option_map refusal_of (option_map number_of_fault o)
 by_number None = refl
 by_number (Some faults.Blocked) = refl
 by_number (Some faults.NoCommunicator) = refl
@@ -52,7 +52,7 @@ abbrev number_by : (b n : Bool) → Option Rule → (r : Bool) → Option ℕ
 number_by b n o r = cond b (Some 6) (cond n (Some 4) (option_or (option_map number_of_rule o) (cond r (Some 11) None)))
 
 -- and as the engine answers it, where a limit comes last
-abbrev fault_in : (b n : Bool) → Option Rule → (r l : Bool) → Option Refused
+abbrev fault_in : (b n : Bool) → Option Rule → (r l : Bool) → Option Refusal
 fault_in b n o r l =
     first_fault (broken b refusals.Request)
     (first_fault (broken n refusals.Communicator)
@@ -69,7 +69,7 @@ in_order false false None true l = refl
 in_order false false None false true = refl
 in_order false false None false false = refl
 
-pub entry_ruled : (e : EngineState) (b : Bool) (known : List ℕ) (comm : Option ℕ) (x : Entry) (o : Option Fault) → b ≡ is_some e.core.blocked →
+pub entry_ruled : (e : EngineState) (b : Bool) (known : List ℕ) (comm : Option ℕ) (x : Entry) (o : Option CommunicatorFault) → b ≡ is_some e.core.blocked →
     known ≡ e.sessions.known →
     option_map number_of_fault o
     ≡ or_limited
@@ -119,7 +119,7 @@ in_turn true n = refl
 in_turn false true = refl
 in_turn false false = refl
 
-pub question_ruled : (e : EngineState) (b : Bool) (comm : Option ℕ) (q : Question) (o : Option Fault) → b ≡ is_some e.core.blocked →
+pub question_ruled : (e : EngineState) (b : Bool) (comm : Option ℕ) (q : Question) (o : Option CommunicatorFault) → b ≡ is_some e.core.blocked →
     ((known : ℕ → ℕ) → option_map number_of_fault o
     ≡ fault_by (b || is_within (member_of e.groups).present) no_requests e.groups.collective.own known (member_of e.groups) (Inquire comm (question_of q))) →
     option_map of_rule o ≡ fault_of e (calls.Ask comm q)

@@ -1,15 +1,15 @@
 -- What taking a message of a collective gives.
 use Rattle.std.proofs.Common.{◌≡◌, List, Option, Some, None, Ok, refl, sym, ap, subst, ◌∙◌, inl, inr}
-use Rattle.collective_notes.specs.Arrivals.{ArrivalGives}
-use Rattle.collective_notes.specs.declared.note.Note.{Note}
-use Rattle.collective_notes.specs.declared.address.Address.{Address}
-use Rattle.collective_notes.specs.declared.refused.Refused as noted
-use Rattle.collective_notes.specs.declared.refused.Refused.TheVariants as notes
-use Rattle.collective_notes.specs.declared.message.Message.{Message}
+use Rattle.collective_messages.specs.Arrivals.{ArrivalGives}
+use Rattle.collective_messages.specs.declared.note.Note.{Note}
+use Rattle.collective_messages.specs.declared.address.Address.{Address}
+use Rattle.collective_messages.specs.declared.refusal.CollectiveRefusal as noted
+use Rattle.collective_messages.specs.declared.refusal.CollectiveRefusal.TheVariants as notes
+use Rattle.collective_messages.specs.declared.message.CollectiveMessage.{CollectiveMessage}
 use Rattle.collective_transfers.specs.Payloads.{Announced, Whole}
 use Rattle.collective_transfers.specs.State as payloads
 use Rattle.collective_transfers.specs.State.{after_announcing}
-use Rattle.collectives.specs.Calls.{IsReady, MessageRefused, met, with_note}
+use Rattle.collectives.specs.Calls.{IsReady, MessageRefused, after_lesson, with_note}
 use Rattle.collectives.specs.State.{State, after_step}
 use Rattle.collective_steps.specs.Steps.{contexts_after, ending_of}
 use Rattle.collectives.specs.declared.collective.ReadyMessage.{ReadyMessage}
@@ -17,20 +17,20 @@ use Rattle.collective_steps.specs.declared.step.Ending.{Ending}
 use Rattle.context_agreement.specs.Communicators.{ContextsState}
 use Rattle.payload.specs.Reading.{payload_of}
 use Rattle.payload.specs.Spelling.{PartFits, PayloadText}
-use Rattle.rank_calls.specs.declared.refused.Refused.{Refused}
-use Rattle.rank_calls.specs.declared.refused.Refused.TheVariants as refusals
-use Rattle.rank_core.specs.CoreState.{CoreState, with_numbers}
-use Rattle.rank_core.specs.Hearing.{after_news}
+use Rattle.point_to_point_calls.specs.declared.refusal.Refusal.{Refusal}
+use Rattle.point_to_point_calls.specs.declared.refusal.Refusal.TheVariants as refusals
+use Rattle.point_to_point.specs.CoreState.{CoreState, with_numbers}
+use Rattle.point_to_point.specs.Arrivals.{after_news}
 use Rattle.rendezvous.specs.declared.transfers.Numbers.{Numbers}
 use Rattle.sessions.specs.Events.{after_event}
 use Rattle.sessions.specs.Heard.{HeardText}
 use Rattle.sessions.specs.SessionsState.{SessionsState}
 use Rattle.vocabulary.specs.declared.endpoint.Endpoint.{Endpoint}
 use Rattle.engine.specs.Datagrams.{IsNoticed, IsTold, WhyUnnoticed, address_of, ended_by, lesson_alone, lesson_in, met_by, numbers_met, payloads_met}
-use Rattle.engine_parts.specs.EngineState.{EngineState, or_before}
-use Rattle.engine_parts.specs.Frames.{AreWhole, step_limit, step_numbers, step_payloads, step_sendings}
-use Rattle.engine_parts.specs.Refusals.{of_collectives}
-use Rattle.engine_parts.specs.Steps.{StepStops, ending_met}
+use Rattle.engine_calls.specs.EngineState.{EngineState, or_before}
+use Rattle.engine_calls.specs.Frames.{AreWhole, step_limit, step_numbers, step_payloads, step_sendings}
+use Rattle.engine_calls.specs.Refusals.{of_collectives}
+use Rattle.engine_calls.specs.Steps.{StepStops, ending_met}
 
 -- of three endings, the first that there is
 first_of_three : (a b c : Option Ending) → or_before (or_before a b) c ≡ or_before a (or_before b c)
@@ -42,7 +42,7 @@ pub record IsTakenIn (old : EngineState) (lesson : Option Endpoint) (ready : Rea
     (replaced left ending : Option Ending) : Type 0 where
   pub kept : s1 ≡ old.groups.collective
   pub held : k1 ≡ old.groups.contexts
-  pub learnt : s2 ≡ met s1 k1 lesson
+  pub learnt : s2 ≡ after_lesson s1 k1 lesson
   pub same : k2 ≡ k1
   pub replaces : replaced ≡ ending_met s1 k1 lesson
   pub taken : s3 ≡ after_step (with_note s2 ready.note) ready.step.outcome
@@ -51,7 +51,7 @@ pub record IsTakenIn (old : EngineState) (lesson : Option Endpoint) (ready : Rea
   pub ends : ending ≡ or_before left replaced
 
 -- what becomes of the core, the numbers of transfers and the payloads, and what is sent
-pub record IsCounted (core : CoreState) (before : payloads.State) (s : SessionsState) (h : HeardText) (ms : List Message) (c d e : CoreState) (ns n2 : List Numbers)
+pub record IsCounted (core : CoreState) (before : payloads.State) (s : SessionsState) (h : HeardText) (ms : List CollectiveMessage) (c d e : CoreState) (ns n2 : List Numbers)
     (ps : List Announced) (q0 q1 q2 : payloads.State) (links : SessionsState) : Type 0 where
   pub kept : c ≡ core
   pub taken : d ≡ after_news c (lesson_alone h)
@@ -67,7 +67,7 @@ pub record IsCounted (core : CoreState) (before : payloads.State) (s : SessionsS
   pub added : q2 ≡ after_announcing q1 ps
 
 -- so the others are told
-pub told : (core : CoreState) (before : payloads.State) (s : SessionsState) (h : HeardText) (ms : List Message) (c d e : CoreState) (ns n2 : List Numbers)
+pub told : (core : CoreState) (before : payloads.State) (s : SessionsState) (h : HeardText) (ms : List CollectiveMessage) (c d e : CoreState) (ns n2 : List Numbers)
     (ps : List Announced) (q0 q1 q2 : payloads.State) (links : SessionsState) → IsCounted core before s h ms c d e ns n2 ps q0 q1 q2 links →
     IsTold core before s h ms e q2 links
 told core before s h ms c d e ns n2 ps q0 q1 q2 links count =
@@ -85,21 +85,21 @@ told core before s h ms c d e ns n2 ps q0 q1 q2 links count =
     }
 
 -- for want of memory any step is stopped
-pub memory_stops : (limit : Option Refused) (e : Refused) → e ≡ refusals.OutOfMemory → StepStops limit e
-memory_stops limit e is = subst (λ (r : Refused). StepStops limit r) (sym is) tt
+pub memory_stops : (limit : Option Refusal) (e : Refusal) → e ≡ refusals.OutOfMemory → StepStops limit e
+memory_stops limit e is = subst (λ (r : Refusal). StepStops limit r) (sym is) tt
 
 pub noticed : (old : EngineState) (h : HeardText) (w : Whole) (lesson : Option Endpoint) (p : PayloadText) (ready : ReadyMessage)
     (s1 s2 s3 : State) (k1 k2 k3 : ContextsState) (replaced left ending : Option Ending) (c : CoreState) (q : payloads.State) (links : SessionsState) →
     lesson ≡ lesson_in h → payload_of w.bytes ≡ Some p →
-    IsReady (met old.groups.collective old.groups.contexts lesson) old.groups.contexts (address_of h.source w) p ready →
+    IsReady (after_lesson old.groups.collective old.groups.contexts lesson) old.groups.contexts (address_of h.source w) p ready →
     IsTold old.core old.payloads old.sessions h ready.step.messages c q links → IsTakenIn old lesson ready s1 s2 s3 k1 k2 k3 replaced left ending →
     IsNoticed old (payloads_met old.payloads (lesson_in h)) h w
     (record { core = c; groups = record { collective = s3; contexts = k3 }; ended = or_before ending old.ended; payloads = q; sessions = links })
 noticed old h w lesson p ready s1 s2 s3 k1 k2 k3 replaced left ending c q links taught read is told take =
     let same : k2 ≡ old.groups.contexts = take.same ∙ take.held in
     let learnt : s2 ≡ met_by old h =
-    take.learnt ∙ ap (λ (s : State). met s k1 lesson) take.kept ∙ ap (λ (k : ContextsState). met old.groups.collective k lesson) take.held
-    ∙ ap (met old.groups.collective old.groups.contexts) taught in
+    take.learnt ∙ ap (λ (s : State). after_lesson s k1 lesson) take.kept ∙ ap (λ (k : ContextsState). after_lesson old.groups.collective k lesson) take.held
+    ∙ ap (after_lesson old.groups.collective old.groups.contexts) taught in
     let replaces : replaced ≡ ended_by old.groups (lesson_in h) =
     take.replaces ∙ ap (λ (s : State). ending_met s k1 lesson) take.kept ∙ ap (λ (k : ContextsState). ending_met old.groups.collective k lesson) take.held
     ∙ ap (ended_by old.groups) taught in
@@ -108,7 +108,7 @@ noticed old h w lesson p ready s1 s2 s3 k1 k2 k3 replaced left ending c q links 
       payload = p;
       read = read;
       ready = ready;
-      is_ready = subst (λ (l : Option Endpoint). IsReady (met old.groups.collective old.groups.contexts l) old.groups.contexts (address_of h.source w) p ready) taught is;
+      is_ready = subst (λ (l : Option Endpoint). IsReady (after_lesson old.groups.collective old.groups.contexts l) old.groups.contexts (address_of h.source w) p ready) taught is;
       whole = told.whole;
       goes = told.goes;
       core = told.core;
@@ -124,13 +124,13 @@ noticed old h w lesson p ready s1 s2 s3 k1 k2 k3 replaced left ending c q links 
 -- ---- why it isn't taken
 
 -- it can't be made ready
-pub unready : (old : EngineState) (h : HeardText) (w : Whole) (lesson : Option Endpoint) (p : PayloadText) (why : noted.Refused) → lesson ≡ lesson_in h →
-    payload_of w.bytes ≡ Some p → MessageRefused (met old.groups.collective old.groups.contexts lesson) old.groups.contexts (address_of h.source w) p why →
+pub unready : (old : EngineState) (h : HeardText) (w : Whole) (lesson : Option Endpoint) (p : PayloadText) (why : noted.CollectiveRefusal) → lesson ≡ lesson_in h →
+    payload_of w.bytes ≡ Some p → MessageRefused (after_lesson old.groups.collective old.groups.contexts lesson) old.groups.contexts (address_of h.source w) p why →
     WhyUnnoticed old h w (of_collectives why)
 unready old h w lesson p why taught read is =
-    go why (subst (λ (l : Option Endpoint). MessageRefused (met old.groups.collective old.groups.contexts l) old.groups.contexts (address_of h.source w) p why) taught is)
+    go why (subst (λ (l : Option Endpoint). MessageRefused (after_lesson old.groups.collective old.groups.contexts l) old.groups.contexts (address_of h.source w) p why) taught is)
   where
-    go : (r : noted.Refused) → MessageRefused (met_by old h) old.groups.contexts (address_of h.source w) p r → WhyUnnoticed old h w (of_collectives r)
+    go : (r : noted.CollectiveRefusal) → MessageRefused (met_by old h) old.groups.contexts (address_of h.source w) p r → WhyUnnoticed old h w (of_collectives r)
     go notes.BadFrame m = inr (p, read, m)
     go notes.Limit m = (p, read, inl m)
     go notes.OutOfMemory m = (p, read, m)
@@ -147,14 +147,14 @@ ready_fits : (s : State) (k : ContextsState) (a : Address) (p : PayloadText) (re
 ready_fits s k a p ready is = arrival_fits a p is.0 is.1
 
 -- its step is stopped
-pub stopped : (old : EngineState) (h : HeardText) (w : Whole) (lesson : Option Endpoint) (p : PayloadText) (ready : ReadyMessage) (why : Refused) → lesson ≡ lesson_in h →
-    payload_of w.bytes ≡ Some p → IsReady (met old.groups.collective old.groups.contexts lesson) old.groups.contexts (address_of h.source w) p ready →
+pub stopped : (old : EngineState) (h : HeardText) (w : Whole) (lesson : Option Endpoint) (p : PayloadText) (ready : ReadyMessage) (why : Refusal) → lesson ≡ lesson_in h →
+    payload_of w.bytes ≡ Some p → IsReady (after_lesson old.groups.collective old.groups.contexts lesson) old.groups.contexts (address_of h.source w) p ready →
     StepStops (step_limit old.sessions (numbers_met old.core h) (Some h) ready.step.messages) why → WhyUnnoticed old h w why
 stopped old h w lesson p ready why taught read is stops =
     go why stops
-    (subst (λ (l : Option Endpoint). IsReady (met old.groups.collective old.groups.contexts l) old.groups.contexts (address_of h.source w) p ready) taught is)
+    (subst (λ (l : Option Endpoint). IsReady (after_lesson old.groups.collective old.groups.contexts l) old.groups.contexts (address_of h.source w) p ready) taught is)
   where
-    go : (r : Refused) → StepStops (step_limit old.sessions (numbers_met old.core h) (Some h) ready.step.messages) r → IsReady (met_by old h) old.groups.contexts (address_of h.source w) p ready →
+    go : (r : Refusal) → StepStops (step_limit old.sessions (numbers_met old.core h) (Some h) ready.step.messages) r → IsReady (met_by old h) old.groups.contexts (address_of h.source w) p ready →
         WhyUnnoticed old h w r
     go refusals.OutOfMemory s i = (p, read, ready_fits (met_by old h) old.groups.contexts (address_of h.source w) p ready i)
     go refusals.Limit s i = (p, read, inr (ready, i, s))

@@ -5,7 +5,7 @@ use Rattle.std.proofs.lemmas.List.{length-append, length-drop, length-take}
 use Rattle.std.proofs.lemmas.List.Sorted.{length_permutation}
 use Rattle.std.specs.Option.{is_some}
 use Rattle.vocabulary.specs.declared.endpoint.Endpoint.{Endpoint}
-use Rattle.datagram.specs.declared.refused.Refused as reading
+use Rattle.datagram.specs.declared.refusal.DatagramRefusal as reading
 use Rattle.datagram.specs.Spelling.{AckBody, BodyText, DatagramText, FrameBody, FrameText, ResetBody}
 use Rattle.datagram.specs.Reading.{datagram_of}
 use Rattle.reliable_link.specs.ReceiverState.{ReceiverState, advanced, discarded}
@@ -14,8 +14,8 @@ use Rattle.sessions.specs.SessionsState.{SessionsState}
 use Rattle.sessions.specs.Peers.{peer_at}
 use Rattle.sessions.specs.Spellings.{ack_of}
 use Rattle.datagram.specs.declared.frame.Frame.{Frame}
-use Rattle.sessions.specs.declared.heard.Word.{Word}
-use Rattle.sessions.specs.declared.heard.Word.TheVariants as words
+use Rattle.sessions.specs.declared.heard.LinkEvent.{LinkEvent}
+use Rattle.sessions.specs.declared.heard.LinkEvent.TheVariants as words
 use Rattle.sessions.specs.Heard.{CanHear, Follows, Hands, HeardText, WordText, session_met, word_text}
 use Rattle.sessions.specs.Events.{Sending, after_event, after_heard, after_send, after_sends, answer_in, event_limit, next_bytes, out_on_accept, taught_known}
 use Rattle.sessions.specs.Following.{turn_of, turn_of_body, turn_read}
@@ -24,9 +24,9 @@ use Rattle.sessions.specs.Windows.{StaysWithin, room}
 use Rattle.sessions.proofs.Amounts.{place_after}
 use Rattle.sessions.proofs.Meeting.{peer_there}
 use Rattle.sessions.proofs.Windows.{room_set}
-use Rattle.rank_calls.specs.declared.refused.Refused.{Refused}
-use Rattle.rank_calls.specs.declared.refused.Refused.TheVariants as refusals
-use Rattle.engine_parts.specs.EngineState.{EngineState}
+use Rattle.point_to_point_calls.specs.declared.refusal.Refusal.{Refusal}
+use Rattle.point_to_point_calls.specs.declared.refusal.Refusal.TheVariants as refusals
+use Rattle.engine_calls.specs.EngineState.{EngineState}
 use Rattle.engine.specs.Datagrams.{FollowGives, FollowedBy, HasFollowed, HeardGives, TurnGives, acknowledged, notice_in, turn_from, without_next}
 use Rattle.engine.specs.Following.{FollowEnds, StaysFor, TurnEnds}
 use Rattle.engine.proofs.Hearing.{IsCarried, carried_by, known_carried, unheard_leaves}
@@ -50,7 +50,7 @@ of_body source (FrameBody f) h e = record { frame = f; is = sym (ap (or_else h) 
 of_body source (AckBody held) h e = absurd (grind (arith, common_steps, e))
 of_body source ResetBody h e = absurd (grind (arith, common_steps, e))
 
-of_read : (source : Endpoint) (r : Result DatagramText reading.Refused) (h : HeardText) → Some h ≡ turn_read source r → IsTurnOf source h
+of_read : (source : Endpoint) (r : Result DatagramText reading.DatagramRefusal) (h : HeardText) → Some h ≡ turn_read source r → IsTurnOf source h
 of_read source (Ok d) h e = of_body source d.body h e
 of_read source (Err w) h e = absurd (grind (arith, common_steps, e))
 
@@ -205,13 +205,13 @@ arranged_within from old new arranged =
 -- ---- so many turns
 
 -- nothing follows where nothing is held
-pub nothing_held : (why : Option Refused) (turns at : ℕ) (source : Endpoint) (old : EngineState) → 0 < turns → turn_from old source ≡ None →
+pub nothing_held : (why : Option Refusal) (turns at : ℕ) (source : Endpoint) (old : EngineState) → 0 < turns → turn_from old source ≡ None →
     FollowEnds why turns at source old old
 nothing_held why zero at source old some is = absurd (omega (arith, some))
 nothing_held why (suc k) at source old some is = rw is refl
 
 -- whatever is held may stay for want of memory or a limit
-pub stays : (why : Option Refused) (turns at : ℕ) (source : Endpoint) (old new : EngineState) → 0 < turns → StaysFor why → new ≡ old →
+pub stays : (why : Option Refusal) (turns at : ℕ) (source : Endpoint) (old new : EngineState) → 0 < turns → StaysFor why → new ≡ old →
     FollowEnds why turns at source old new
 stays why zero at source old new some for same = absurd (omega (arith, some))
 stays why (suc k) at source old new some for same = go (turn_from old source)
@@ -240,7 +240,7 @@ refused (suc k) at source old mid new h some is gives gone =
     )))
 
 -- a turn that is taken in, and the rest
-pub taken : (why : Option Refused) (turns at : ℕ) (source : Endpoint) (old mid new : EngineState) (h : HeardText) → 0 < turns →
+pub taken : (why : Option Refusal) (turns at : ℕ) (source : Endpoint) (old mid new : EngineState) (h : HeardText) → 0 < turns →
     turn_from old source ≡ Some (Some h) → HeardGives old h (Ok tt) mid → FollowEnds why (turns - 1) at source (acknowledged at source mid) new →
     FollowEnds why turns at source old new
 taken why zero at source old mid new h some is gives rest = absurd (omega (arith, some))
@@ -249,7 +249,7 @@ taken why (suc k) at source old mid new h some is gives rest =
     rw is (inl (mid, gives, subst (λ (n : ℕ). FollowEnds why n at source (acknowledged at source mid) new) back rest))
 
 -- the reason is forgotten
-forget_turn : (why : Option Refused) (k at : ℕ) (source : Endpoint) (old new : EngineState) (t : Option (Option HeardText)) →
+forget_turn : (why : Option Refusal) (k at : ℕ) (source : Endpoint) (old new : EngineState) (t : Option (Option HeardText)) →
     ((e : EngineState) → FollowEnds why k at source e new → FollowGives k at source e new) →
     TurnEnds t why at source (FollowEnds why k at source) old new → TurnGives t at source (FollowGives k at source) old new
 forget_turn why k at source old new None rest ends = ends
@@ -259,7 +259,7 @@ forget_turn why k at source old new (Some (Some h)) rest (inl ends) = inl (ends.
 forget_turn why k at source old new (Some (Some h)) rest (inr (inl ends)) = inr (inl (ends.1, ends.2))
 forget_turn why k at source old new (Some (Some h)) rest (inr (inr ends)) = inr (inr ends.1)
 
-pub forget : (why : Option Refused) (turns at : ℕ) (source : Endpoint) (old new : EngineState) → FollowEnds why turns at source old new →
+pub forget : (why : Option Refusal) (turns at : ℕ) (source : Endpoint) (old new : EngineState) → FollowEnds why turns at source old new →
     FollowGives turns at source old new
 forget why zero at source old new ends = ends.1
 forget why (suc k) at source old new ends =
@@ -268,7 +268,7 @@ forget why (suc k) at source old new ends =
 -- ---- behind what is heard
 
 -- nothing follows another word
-pub follows_none : (w : Word) (at : ℕ) (source : Endpoint) (e : EngineState) → ((f : Frame) → w ≡ words.Hands f → ⊥) → FollowedBy (word_text w) at source e e
+pub follows_none : (w : LinkEvent) (at : ℕ) (source : Endpoint) (e : EngineState) → ((f : Frame) → w ≡ words.Hands f → ⊥) → FollowedBy (word_text w) at source e e
 follows_none (words.Acknowledges n held) at source e other = refl
 follows_none words.Repeats at source e other = refl
 follows_none (words.Hands f) at source e other = absurd (other f refl)

@@ -1,6 +1,6 @@
 -- Which calls stand apart from those that are made most.
-use Rattle.engine_parts.specs.declared.call.Call.{Call}
-use Rattle.engine_parts.specs.declared.call.Call.TheVariants as calls
+use Rattle.engine_calls.specs.declared.call.Call.{Call}
+use Rattle.engine_calls.specs.declared.call.Call.TheVariants as calls
 
 -- neither a send, a receive nor a wait for one request
 abbrev pub IsOther : Call → Type 0

@@ -1,12 +1,12 @@
 -- What a datagram does to the engine: what is heard in it, all of its parts take in.
 use Rattle.std.specs.Prelude.{◌≡◌, ◌⊎◌, ℕ, zero, suc, Bool, true, false, is_some, length, List, [], ◌∷◌, Option, Some, None, option_map, Result, Ok, Err, if◌then◌else◌, map, slice_index}
-use Rattle.collective_notes.specs.declared.address.Address.{Address}
-use Rattle.collective_notes.specs.declared.message.Message.{Message}
-use Rattle.collective_notes.specs.declared.refused.Refused.TheVariants as notes
+use Rattle.collective_messages.specs.declared.address.Address.{Address}
+use Rattle.collective_messages.specs.declared.message.CollectiveMessage.{CollectiveMessage}
+use Rattle.collective_messages.specs.declared.refusal.CollectiveRefusal.TheVariants as notes
 use Rattle.collective_transfers.specs.Payloads.{Announced, Coming, Whole}
 use Rattle.collective_transfers.specs.State as payloads
 use Rattle.collective_transfers.specs.State.{after_announcing, after_answer, after_begin, after_data, after_drop, announced_to, coming_from, is_due, whole_with}
-use Rattle.collectives.specs.Calls.{IsReady, MessageRefused, met, with_note}
+use Rattle.collectives.specs.Calls.{IsReady, MessageRefused, after_lesson, with_note}
 use Rattle.collectives.specs.State.{State, after_step}
 use Rattle.collective_steps.specs.Steps.{contexts_after, ending_of}
 use Rattle.collectives.specs.declared.collective.ReadyMessage.{ReadyMessage}
@@ -19,13 +19,13 @@ use Rattle.datagram.specs.declared.kinds.Plane.{Plane}
 use Rattle.datagram.specs.declared.kinds.Plane.TheVariants as planes
 use Rattle.payload.specs.Reading.{payload_of}
 use Rattle.payload.specs.Spelling.{PartFits, PayloadText}
-use Rattle.rank_calls.specs.Hearing.{NewsText, bad_unless, data_frames, transfers_met}
-use Rattle.rank_calls.specs.Refusals.{IsRefusal}
-use Rattle.rank_calls.specs.declared.refused.Refused.{Refused}
-use Rattle.rank_calls.specs.declared.refused.Refused.TheVariants as refusals
-use Rattle.rank_core.specs.CoreState.{CoreState, with_numbers}
-use Rattle.rank_core.specs.Hearing.{after_news, news_fault, news_frames}
-use Rattle.rank_core.specs.Waiting.{woken}
+use Rattle.point_to_point_calls.specs.Hearing.{NewsText, bad_unless, data_frames, transfers_met}
+use Rattle.point_to_point_calls.specs.Refusals.{IsRefusal}
+use Rattle.point_to_point_calls.specs.declared.refusal.Refusal.{Refusal}
+use Rattle.point_to_point_calls.specs.declared.refusal.Refusal.TheVariants as refusals
+use Rattle.point_to_point.specs.CoreState.{CoreState, with_numbers}
+use Rattle.point_to_point.specs.Arrivals.{after_news, news_fault, news_frames}
+use Rattle.point_to_point.specs.Waiting.{after_wake}
 use Rattle.rendezvous.specs.Pieces.{pieces_of}
 use Rattle.rendezvous.specs.State.{is_next, with_announced}
 use Rattle.rendezvous.specs.declared.transfers.Numbers.{Numbers}
@@ -35,16 +35,16 @@ use Rattle.sessions.specs.Following.{acknowledged_at, ready_from, turn_of, witho
 use Rattle.sessions.specs.Heard.{Acknowledges, Follows, Hands, HeardText, Holds, Nothing, Repeats, WordText, heard_of}
 use Rattle.sessions.specs.SessionsState.{SessionsState}
 use Rattle.sessions.specs.declared.heard.Unheard.{Unheard}
-use Rattle.sessions.specs.declared.refused.Refused as lower
+use Rattle.sessions.specs.declared.refusal.SessionRefusal as lower
 use Rattle.vocabulary.specs.Modes.{is_standard}
 use Rattle.vocabulary.specs.declared.endpoint.Endpoint.{Endpoint}
-use Rattle.engine.specs.declared.notices.Received.{Received}
-use Rattle.engine.specs.declared.noticing.Notice.{Notice}
-use Rattle.engine.specs.declared.noticing.Notice.TheVariants as notices
-use Rattle.engine_parts.specs.EngineState.{EngineState, GroupsState, or_before}
-use Rattle.engine_parts.specs.Frames.{AreWhole, sending_of, step_limit, step_numbers, step_payloads, step_sendings}
-use Rattle.engine_parts.specs.Refusals.{fault_of_sessions, first_fault, of_sessions}
-use Rattle.engine_parts.specs.Steps.{ending_met}
+use Rattle.engine.specs.declared.notices.ReceivedPayload.{ReceivedPayload}
+use Rattle.engine.specs.declared.notice_kinds.Notice.{Notice}
+use Rattle.engine.specs.declared.notice_kinds.Notice.TheVariants as notices
+use Rattle.engine_calls.specs.EngineState.{EngineState, GroupsState, or_before}
+use Rattle.engine_calls.specs.Frames.{AreWhole, sending_of, step_limit, step_numbers, step_payloads, step_sendings}
+use Rattle.engine_calls.specs.Refusals.{fault_of_sessions, first_fault, of_sessions}
+use Rattle.engine_calls.specs.Steps.{ending_met}
 
 -- WHAT IS HEARD
 
@@ -74,19 +74,19 @@ says_nothing false Nothing = true
 -- ---- what is to be held
 
 -- the payload of a collective's message has the form of one
-abbrev pub form_fault : Plane → List ℕ → Option Refused
+abbrev pub form_fault : Plane → List ℕ → Option Refusal
 form_fault planes.PointToPoint bytes = None
 form_fault planes.Collective bytes = bad_unless (is_some (payload_of bytes))
 
 -- the rule that a frame breaks before its turn: that form alone. All else is judged when its turn comes
-abbrev pub early_fault : FrameText → Option Refused
+abbrev pub early_fault : FrameText → Option Refusal
 early_fault (EagerFrame t) = form_fault t.plane t.elements
 early_fault (RequestFrame t) = None
 early_fault (ClearFrame t) = None
 early_fault (DataFrame t) = None
 
 -- the same of a word: only what is to be held comes before its turn
-abbrev pub hold_fault : WordText → Option Refused
+abbrev pub hold_fault : WordText → Option Refusal
 hold_fault (Acknowledges n held) = None
 hold_fault Repeats = None
 hold_fault (Hands f) = None
@@ -101,7 +101,7 @@ abbrev pub replies : CoreState → HeardText → List Sending
 replies c h = map sending_of (news_frames c (news_of h))
 
 -- the first rule or limit that it meets: the rules of a frame first
-abbrev pub heard_fault : EngineState → HeardText → Option Refused
+abbrev pub heard_fault : EngineState → HeardText → Option Refusal
 heard_fault e h =
     first_fault (hold_fault h.word)
     (first_fault (news_fault e.core (news_of h)) (fault_of_sessions (event_limit e.sessions (Some h) (replies e.core h))))
@@ -112,7 +112,7 @@ lesson_in h = if h.lesson then Some h.source else None
 
 -- the communicators and the collective of the rank, once the lesson is learnt, if there is one
 abbrev pub groups_met : GroupsState → Option Endpoint → GroupsState
-groups_met g lesson = record g { collective = met g.collective g.contexts lesson }
+groups_met g lesson = record g { collective = after_lesson g.collective g.contexts lesson }
 
 -- with what the present collective ends by the lesson, where it does
 abbrev pub ended_by : GroupsState → Option Endpoint → Option Ending
@@ -135,7 +135,7 @@ after_heard e h = record {
 
 -- What is heard is taken in by all parts; or a rule, a limit or want of memory refused it, and nothing changes. What says
 -- nothing new isn't refused
-abbrev pub NewsGives : EngineState → HeardText → Result (Unit {0}) Refused → EngineState → Type 0
+abbrev pub NewsGives : EngineState → HeardText → Result (Unit {0}) Refusal → EngineState → Type 0
 NewsGives old h (Ok x) new = (heard_fault old h ≡ None) × (new ≡ after_heard old h)
 NewsGives old h (Err e) new = (says_nothing h.lesson h.word ≡ false) × IsRefusal (heard_fault old h) e × (new ≡ old)
 
@@ -155,7 +155,7 @@ lesson_alone h = record { source = h.source; lesson = h.lesson; frame = None }
 
 -- what the rank keeps of collectives once it learnt the lesson, if there is one
 abbrev pub met_by : EngineState → HeardText → State
-met_by e h = met e.groups.collective e.groups.contexts (lesson_in h)
+met_by e h = after_lesson e.groups.collective e.groups.contexts (lesson_in h)
 
 -- the numbers of the sessions' transfers then: with a lesson those of its session start anew
 abbrev pub numbers_met : CoreState → HeardText → List Numbers
@@ -163,7 +163,7 @@ numbers_met c h = (transfers_met h.lesson c.transfers h.source.rank).numbers
 
 -- What is heard is taken in without its frame, and the others are told by these messages: each can go, they are sent or announced,
 -- and the payloads of those that are announced are kept behind the others
-pub record IsTold (c : CoreState) (p : payloads.State) (s : SessionsState) (h : HeardText) (ms : List Message) (c2 : CoreState) (p2 : payloads.State) (s2 : SessionsState) : Type 0 where
+pub record IsTold (c : CoreState) (p : payloads.State) (s : SessionsState) (h : HeardText) (ms : List CollectiveMessage) (c2 : CoreState) (p2 : payloads.State) (s2 : SessionsState) : Type 0 where
   pub whole : AreWhole ms
   pub goes : step_limit s (numbers_met c h) (Some h) ms ≡ None
   pub core : c2 ≡ with_numbers (after_news c (lesson_alone h)) (step_numbers (numbers_met c h) ms)
@@ -195,7 +195,7 @@ IsStepStopped old h w p =
 
 -- Why a message of a collective is refused: it can't be read, or what it carries doesn't fit its record (30); what the rank would
 -- then get can't be held or given, or a frame can't go (13); or, where its part fits, for want of memory
-abbrev pub WhyUnnoticed : EngineState → HeardText → Whole → Refused → Type 0
+abbrev pub WhyUnnoticed : EngineState → HeardText → Whole → Refusal → Type 0
 WhyUnnoticed old h w refusals.BadFrame =
     (payload_of w.bytes ≡ None)
     ⊎ ((p : PayloadText) × (payload_of w.bytes ≡ Some p)
@@ -207,7 +207,7 @@ WhyUnnoticed old h w refusals.OutOfMemory = (p : PayloadText) × (payload_of w.b
 WhyUnnoticed old h w _ = ⊥
 
 -- a message of a collective is taken in, or refused with nothing changed
-abbrev pub NoticeGives : EngineState → HeardText → EagerText → Result (Unit {0}) Refused → EngineState → Type 0
+abbrev pub NoticeGives : EngineState → HeardText → EagerText → Result (Unit {0}) Refusal → EngineState → Type 0
 NoticeGives old h t (Ok x) new = IsNoticed old (payloads_met old.payloads (lesson_in h)) h (whole_in t) new
 NoticeGives old h t (Err e) new = WhyUnnoticed old h (whole_in t) e × (new ≡ old)
 
@@ -223,7 +223,7 @@ coming_by h t = record { source = h.source.rank; transfer = t.transfer; context 
 
 -- the first rule or limit that it meets: 30 where it is of a synchronous send, which no payload is, or its number isn't the next one
 -- of its session, and 13
-abbrev pub announcement_fault : CoreState → SessionsState → HeardText → RequestText → Option Refused
+abbrev pub announcement_fault : CoreState → SessionsState → HeardText → RequestText → Option Refusal
 announcement_fault c s h t =
     first_fault (bad_unless (is_standard t.mode))
     (first_fault (bad_unless (is_next (numbers_met c h) h.source.rank t.transfer))
@@ -240,7 +240,7 @@ after_announcement e h t = record {
 }
 
 -- so it is, or a rule, a limit or want of memory refused it, and nothing changed
-abbrev pub AnnouncementGives : EngineState → HeardText → RequestText → Result (Unit {0}) Refused → EngineState → Type 0
+abbrev pub AnnouncementGives : EngineState → HeardText → RequestText → Result (Unit {0}) Refusal → EngineState → Type 0
 AnnouncementGives old h t (Ok x) new = (announcement_fault old.core old.sessions h t ≡ None) × (new ≡ after_announcement old h t)
 AnnouncementGives old h t (Err e) new = IsRefusal (announcement_fault old.core old.sessions h t) e × (new ≡ old)
 
@@ -260,12 +260,12 @@ abbrev pub data_for : payloads.State → HeardText → ClearText → List Sendin
 data_for p h t = data_of h.source.rank t.transfer (announced_to p h.source.rank t.transfer)
 
 -- a payload of a collective is always wanted: an answer that says otherwise is refused (our own)
-abbrev pub unwanted : Clearance → Option Refused
+abbrev pub unwanted : Clearance → Option Refusal
 unwanted Send = None
 unwanted Drop = Some refusals.BadFrame
 
 -- the first rule or limit that an answer meets: 30, 13
-abbrev pub answer_fault : payloads.State → SessionsState → HeardText → ClearText → Option Refused
+abbrev pub answer_fault : payloads.State → SessionsState → HeardText → ClearText → Option Refusal
 answer_fault p s h t = first_fault (unwanted t.clearance) (fault_of_sessions (event_limit s (Some h) (data_for p h t)))
 
 -- the data go out, and the payload isn't kept any more
@@ -276,7 +276,7 @@ after_answered e h t = record e {
 }
 
 -- so it is, or a rule, a limit or want of memory refused it, and nothing changed
-abbrev pub AnswerGives : EngineState → HeardText → ClearText → Result (Unit {0}) Refused → EngineState → Type 0
+abbrev pub AnswerGives : EngineState → HeardText → ClearText → Result (Unit {0}) Refusal → EngineState → Type 0
 AnswerGives old h t (Ok x) new = (answer_fault old.payloads old.sessions h t ≡ None) × (new ≡ after_answered old h t)
 AnswerGives old h t (Err e) new = IsRefusal (answer_fault old.payloads old.sessions h t) e × (new ≡ old)
 
@@ -295,29 +295,29 @@ IsPieceTaken None old h t new =
 IsPieceTaken (Some w) old h t new = IsNoticed old (payloads_grown old h t) h w new
 
 -- why a piece that is due is refused: for a limit or want of memory; with the last one as the message is, as if it stood in a frame
-abbrev pub WhyNotTaken : Option Whole → EngineState → HeardText → Refused → Type 0
+abbrev pub WhyNotTaken : Option Whole → EngineState → HeardText → Refusal → Type 0
 WhyNotTaken None old h e = IsRefusal (fault_of_sessions (event_limit old.sessions (Some h) [])) e
 WhyNotTaken (Some w) old h e = WhyUnnoticed old h w e
 
 -- why data are refused, which are due or not: others are refused with 30
-abbrev pub WhyNoPieceBy : (due : Bool) → Option Whole → EngineState → HeardText → Refused → Type 0
+abbrev pub WhyNoPieceBy : (due : Bool) → Option Whole → EngineState → HeardText → Refusal → Type 0
 WhyNoPieceBy true w old h e = WhyNotTaken w old h e
 WhyNoPieceBy false w old h e = e ≡ refusals.BadFrame
 
--- the same of data of a payload
-abbrev pub WhyNoPiece : EngineState → HeardText → DataText → Refused → Type 0
+-- whether data of a payload are taken
+abbrev pub WhyNoPiece : EngineState → HeardText → DataText → Refusal → Type 0
 WhyNoPiece old h t e =
     WhyNoPieceBy (is_due old.payloads h.source.rank t.transfer t.offset t.bytes) (whole_with old.payloads h.source.rank t.transfer t.bytes) old h e
 
 -- where they are due, they are taken in, or refused with nothing changed
-abbrev pub PieceGivesBy : (due : Bool) → Option Whole → EngineState → HeardText → DataText → Result (Unit {0}) Refused → EngineState → Type 0
+abbrev pub PieceGivesBy : (due : Bool) → Option Whole → EngineState → HeardText → DataText → Result (Unit {0}) Refusal → EngineState → Type 0
 PieceGivesBy true w old h t (Ok x) new = IsPieceTaken w old h t new
 PieceGivesBy true w old h t (Err e) new = WhyNoPieceBy true w old h e × (new ≡ old)
 PieceGivesBy false w old h t (Ok x) new = ⊥
 PieceGivesBy false w old h t (Err e) new = WhyNoPieceBy false w old h e × (new ≡ old)
 
 -- data of a payload that comes are taken in, or refused with nothing changed
-abbrev pub PieceGives : EngineState → HeardText → DataText → Result (Unit {0}) Refused → EngineState → Type 0
+abbrev pub PieceGives : EngineState → HeardText → DataText → Result (Unit {0}) Refusal → EngineState → Type 0
 PieceGives old h t result new =
     PieceGivesBy (is_due old.payloads h.source.rank t.transfer t.offset t.bytes) (whole_with old.payloads h.source.rank t.transfer t.bytes) old h t result new
 
@@ -331,9 +331,9 @@ pub data NoticeText : Type 0 where
   OfPiece : DataText → NoticeText
 
 -- the message of a collective that stands in an eager frame, if it is one
-abbrev pub notice_on : Plane → EagerText → Option NoticeText
-notice_on planes.PointToPoint t = None
-notice_on planes.Collective t = Some (OfMessage t)
+abbrev pub notice_of_message : Plane → EagerText → Option NoticeText
+notice_of_message planes.PointToPoint t = None
+notice_of_message planes.Collective t = Some (OfMessage t)
 
 -- the payload of a collective that is announced, if it is one
 abbrev pub announcement_on : Plane → RequestText → Option NoticeText
@@ -345,14 +345,14 @@ abbrev pub is_to_collective : (lesson : Bool) → payloads.State → (rank trans
 is_to_collective true p rank transfer = false
 is_to_collective false p rank transfer = is_some (announced_to p rank transfer)
 
--- the same of a transfer from the rank
+-- whether the transfer from the rank that has this number is of a collective
 abbrev pub is_from_collective : (lesson : Bool) → payloads.State → (rank transfer : ℕ) → Bool
 is_from_collective true p rank transfer = false
 is_from_collective false p rank transfer = is_some (coming_from p rank transfer)
 
 -- what of a frame concerns a collective. Answers and data say nothing of it: the number of their transfer tells
 abbrev pub notice_of_frame : (lesson : Bool) → payloads.State → (rank : ℕ) → FrameText → Option NoticeText
-notice_of_frame lesson p rank (EagerFrame t) = notice_on t.plane t
+notice_of_frame lesson p rank (EagerFrame t) = notice_of_message t.plane t
 notice_of_frame lesson p rank (RequestFrame t) = announcement_on t.plane t
 notice_of_frame lesson p rank (ClearFrame t) = if is_to_collective lesson p rank t.transfer then Some (OfAnswer t) else None
 notice_of_frame lesson p rank (DataFrame t) = if is_from_collective lesson p rank t.transfer then Some (OfPiece t) else None
@@ -367,7 +367,7 @@ notice_in lesson p rank (Follows f) = notice_of_frame lesson p rank f
 notice_in lesson p rank Nothing = None
 
 -- the payload that a value of the program holds
-abbrev pub received : Received → Whole
+abbrev pub received : ReceivedPayload → Whole
 received r = record { context = r.context; number = r.number; bytes = r.bytes.now }
 
 -- what a value of the program says
@@ -378,7 +378,7 @@ notice_text (notices.Answer a) = OfAnswer (clear_text a)
 notice_text (notices.Piece p) = OfPiece (data_text p)
 
 -- what is heard concerns a collective, or is anything else
-abbrev pub HeardGivesBy : Option NoticeText → EngineState → HeardText → Result (Unit {0}) Refused → EngineState → Type 0
+abbrev pub HeardGivesBy : Option NoticeText → EngineState → HeardText → Result (Unit {0}) Refusal → EngineState → Type 0
 HeardGivesBy None old h result new = NewsGives old h result new
 HeardGivesBy (Some (OfMessage t)) old h result new = NoticeGives old h t result new
 HeardGivesBy (Some (OfAnnouncement t)) old h result new = AnnouncementGives old h t result new
@@ -386,7 +386,7 @@ HeardGivesBy (Some (OfAnswer t)) old h result new = AnswerGives old h t result n
 HeardGivesBy (Some (OfPiece t)) old h result new = PieceGives old h t result new
 
 -- what is heard is taken in or refused
-abbrev pub HeardGives : EngineState → HeardText → Result (Unit {0}) Refused → EngineState → Type 0
+abbrev pub HeardGives : EngineState → HeardText → Result (Unit {0}) Refusal → EngineState → Type 0
 HeardGives old h result new = HeardGivesBy (notice_in h.lesson old.payloads h.source.rank h.word) old h result new
 
 -- WHAT FOLLOWS
@@ -437,7 +437,7 @@ FollowedBy Nothing at source old new = new ≡ old
 
 -- the blocked call is answered, if its answer is ready by now
 abbrev pub woken_engine : EngineState → EngineState
-woken_engine e = record e { core = woken e.core }
+woken_engine e = record e { core = after_wake e.core }
 
 -- What is heard is taken in, then the frames that were held behind it, and at the end of all that the blocked call is answered. The
 -- acknowledgement, where there is one, stands first of what goes out
@@ -456,24 +456,24 @@ IsTakenInUnless false old h new = IsTakenIn old h new
 -- WHAT ISN'T HEARD
 
 -- it is refused as the sessions turn it away, with a reset or without, and leaves the core as it was
-abbrev pub TurnedAwayGives : EngineState → Unheard → Result (Unit {0}) Refused → EngineState → Type 0
+abbrev pub TurnedAwayGives : EngineState → Unheard → Result (Unit {0}) Refusal → EngineState → Type 0
 TurnedAwayGives old u result new =
-    (e : lower.Refused) × (result ≡ Err (of_sessions e)) × (new ≡ record old { sessions = new.sessions }) × TurnedAway u.reset u.refused old.sessions e new.sessions
+    (e : lower.SessionRefusal) × (result ≡ Err (of_sessions e)) × (new ≡ record old { sessions = new.sessions }) × TurnedAway u.reset u.refused old.sessions e new.sessions
 
 -- ALL OF IT
 
 -- by what was heard, or why nothing was
-abbrev pub HearingGives : Result HeardText Unheard → EngineState → Result (Unit {0}) Refused → EngineState → Type 0
+abbrev pub HearingGives : Result HeardText Unheard → EngineState → Result (Unit {0}) Refusal → EngineState → Type 0
 HearingGives (Ok h) old (Ok x) new = IsTakenInUnless (says_nothing h.lesson h.word) old h new
 HearingGives (Ok h) old (Err e) new = HeardGives old h (Err e) new
 HearingGives (Err u) old result new = TurnedAwayGives old u result new
 
 -- The datagram is read, judged by both of its endpoints and by the link, and then taken in, with what follows, or turned away.
-abbrev pub DatagramGives : EngineState → List ℕ → Result (Unit {0}) Refused → EngineState → Type 0
+abbrev pub DatagramGives : EngineState → List ℕ → Result (Unit {0}) Refusal → EngineState → Type 0
 DatagramGives old bytes result new = HearingGives (heard_of old.sessions bytes) old result new
 
 -- a refusal changes nothing, but for the reset that goes out with a refusal of what was meant for a former incarnation
-abbrev pub RefusedDatagramLeaves : Result (Unit {0}) Refused → EngineState → EngineState → Type 0
+abbrev pub RefusedDatagramLeaves : Result (Unit {0}) Refusal → EngineState → EngineState → Type 0
 RefusedDatagramLeaves (Ok x) old new = Unit {0}
 RefusedDatagramLeaves (Err refusals.StaleTarget) old new = new ≡ record old { sessions = record old.sessions { out = new.sessions.out } }
 RefusedDatagramLeaves (Err e) old new = new ≡ old

@@ -1,6 +1,6 @@
 -- Entering a collective of the communicator at a place: what that gives, and why it doesn't.
 use Rattle.std.specs.Prelude.{◌≡◌, ◌⊎◌, ℕ, List, Option, Some, None, Ok}
-use Rattle.collective_notes.specs.declared.entry.Entry.{Entry}
+use Rattle.collective_messages.specs.declared.entry.Entry.{Entry}
 use Rattle.collective_transfers.specs.State as payloads
 use Rattle.collective_transfers.specs.State.{after_announcing}
 use Rattle.collectives.specs.Calls.{EntryGives, inside_of}
@@ -9,13 +9,13 @@ use Rattle.collective_steps.specs.Steps.{IsPreparedEntry, Prepared}
 use Rattle.collective_steps.specs.Steps as steps
 use Rattle.collective_steps.specs.declared.step.Ending.{Ending}
 use Rattle.context_agreement.specs.Communicators.{ContextsState}
-use Rattle.rank_calls.specs.declared.refused.Refused.{Refused}
-use Rattle.rank_calls.specs.declared.refused.Refused.TheVariants as refusals
-use Rattle.rank_core.specs.CoreState.{CoreState, with_numbers}
+use Rattle.point_to_point_calls.specs.declared.refusal.Refusal.{Refusal}
+use Rattle.point_to_point_calls.specs.declared.refusal.Refusal.TheVariants as refusals
+use Rattle.point_to_point.specs.CoreState.{CoreState, with_numbers}
 use Rattle.rendezvous.specs.declared.transfers.Numbers.{Numbers}
 use Rattle.sessions.specs.Events.{after_event}
 use Rattle.sessions.specs.SessionsState.{SessionsState}
-use Rattle.engine_parts.specs.Frames.{AreWhole, step_limit, step_numbers, step_payloads, step_sendings}
+use Rattle.engine_calls.specs.Frames.{AreWhole, step_limit, step_numbers, step_payloads, step_sendings}
 
 -- the rank has entered, does of itself what follows, and the others are told; what is announced by it is counted by the core, and
 -- kept
@@ -36,7 +36,7 @@ pub record IsLimited (s : State) (h : ContextsState) (ns : List Numbers) (links 
   pub limit : steps.MeetsLimit h step ⊎ (step_limit links ns None step.messages ≡ Some refusals.Limit)
 
 -- why it doesn't enter: for that, or for want of memory
-abbrev pub WhyNot : State → ContextsState → List Numbers → SessionsState → (place : ℕ) → Entry → Refused → Type 0
+abbrev pub WhyNot : State → ContextsState → List Numbers → SessionsState → (place : ℕ) → Entry → Refusal → Type 0
 WhyNot s h ns links place x refusals.OutOfMemory = Unit {0}
 WhyNot s h ns links place x refusals.Limit = IsLimited s h ns links place x
 WhyNot s h ns links place x _ = ⊥

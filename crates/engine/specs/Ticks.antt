@@ -1,13 +1,13 @@
 -- What a tick does to the engine: to its sessions alone.
 use Rattle.std.specs.Prelude.{◌≡◌, ℕ, Option, None, Result, Ok, Err}
-use Rattle.rank_calls.specs.declared.refused.Refused.{Refused}
-use Rattle.rank_calls.specs.Refusals.{IsRefusal}
+use Rattle.point_to_point_calls.specs.declared.refusal.Refusal.{Refusal}
+use Rattle.point_to_point_calls.specs.Refusals.{IsRefusal}
 use Rattle.sessions.specs.Ticks as lower
-use Rattle.engine_parts.specs.EngineState.{EngineState}
-use Rattle.engine_parts.specs.Refusals.{fault_of_sessions}
+use Rattle.engine_calls.specs.EngineState.{EngineState}
+use Rattle.engine_calls.specs.Refusals.{fault_of_sessions}
 
 -- the clock never goes back
-abbrev pub clock_fault : EngineState → ℕ → Option Refused
+abbrev pub clock_fault : EngineState → ℕ → Option Refusal
 clock_fault e now = fault_of_sessions (lower.clock_fault e.sessions.clock now)
 
 -- the frames that are due go out again
@@ -15,6 +15,6 @@ abbrev pub after_tick : EngineState → ℕ → EngineState
 after_tick e now = record e { sessions = lower.after_tick e.sessions now }
 
 -- a tick does this, unless the clock would go back, or else for want of memory; a refusal changes nothing
-abbrev pub TickGives : EngineState → ℕ → Result (Unit {0}) Refused → EngineState → Type 0
+abbrev pub TickGives : EngineState → ℕ → Result (Unit {0}) Refusal → EngineState → Type 0
 TickGives old now (Ok x) new = (clock_fault old now ≡ None) × (new ≡ after_tick old now)
 TickGives old now (Err e) new = (new ≡ old) × IsRefusal (clock_fault old now) e

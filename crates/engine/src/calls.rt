@@ -1,39 +1,39 @@
 //! How an engine answers calls.
 
 ghost use Rattle.std.specs.Prelude.{◌≡◌, ◌≤◌, ◌+◌, ◌*◌, length, None};
-ghost use Rattle.engine_parts.specs.Asks.{AskGives, CanAskBy, IsOnRequests, call_named};
+ghost use Rattle.engine_calls.specs.Asks.{AskGives, CanAskBy, IsOnRequests, call_of_core};
 ghost use Rattle.engine.specs.Answering.{IsOther};
-ghost use Rattle.engine_parts.specs.Calls.{CallGives, CoreGives, RefusedLeaves};
-ghost use Rattle.engine_parts.specs.Faults.{fault_of};
-ghost use Rattle.engine_parts.specs.declared.call.Call as engine_calls;
-ghost use Rattle.engine_parts.specs.declared.call.Call.TheVariants as calls;
+ghost use Rattle.engine_calls.specs.Calls.{CallGives, CoreGives, RefusedLeaves};
+ghost use Rattle.engine_calls.specs.Faults.{fault_of};
+ghost use Rattle.engine_calls.specs.declared.call.Call as engine_calls;
+ghost use Rattle.engine_calls.specs.declared.call.Call.TheVariants as calls;
 ghost use Rattle.vocabulary.specs.declared.envelope.Source.TheVariants.{Null};
 
 use crate::engine::Engine;
-use engine_parts::{
-    Asked, Call, Judged, Probe, Receive, Reply, Send, answer_unless_refused, ask_for_message,
-    ask_on_requests, ask_to_probe, ask_to_receive, ask_to_send, judgement,
+use engine_calls::{
+    RoutedCall, Call, JudgedCall, Probe, Receive, Reply, Send, answer_unless_refused, ask_for_message,
+    ask_on_requests, ask_to_probe, ask_to_receive, ask_to_send, judge,
 };
-use rank_core::Handed;
+use point_to_point::HandedBack;
 use requests::{Region, Request};
 
 impl Engine {
     /// What the core is to be asked by a send, unless it is refused by now.
-    fn asked_by_send(&self, send: Send) -> Result<Asked, Handed<Call>>
+    fn asked_by_send(&self, send: Send) -> Result<RoutedCall, HandedBack<Call>>
         ensures { AskGives self.now (calls.Isend send) result }
     {
         ask_to_send(&self.core, &self.communicators, &self.sessions, send)
     }
 
     /// What the core is to be asked by a receive, unless it is refused by now.
-    fn asked_by_receive(&self, receive: Receive) -> Result<Asked, Handed<Call>>
+    fn asked_by_receive(&self, receive: Receive) -> Result<RoutedCall, HandedBack<Call>>
         ensures { AskGives self.now (calls.Irecv receive) result }
     {
         ask_to_receive(&self.core, &self.communicators, &self.sessions, receive)
     }
 
     /// What the core is to be asked by a matching probe, unless it is refused by now.
-    fn asked_by_probe(&self, probe: Probe) -> Result<Asked, Handed<Call>>
+    fn asked_by_probe(&self, probe: Probe) -> Result<RoutedCall, HandedBack<Call>>
         ensures { AskGives self.now (calls.Improbe probe) result }
     {
         ask_to_probe(&self.core, &self.communicators, &self.sessions, probe)
@@ -44,7 +44,7 @@ impl Engine {
         &self,
         message: Option<Request>,
         into: Region,
-    ) -> Result<Asked, Handed<Call>>
+    ) -> Result<RoutedCall, HandedBack<Call>>
         ensures { AskGives self.now (calls.Mrecv message into) result }
     {
         ask_for_message(
@@ -57,16 +57,16 @@ impl Engine {
     }
 
     /// What the core is to be asked by a call on requests, unless it is refused by now.
-    fn asked_on_requests(&self, call: rank_core::Call) -> Result<Asked, Handed<Call>>
+    fn asked_on_requests(&self, call: point_to_point::CoreCall) -> Result<RoutedCall, HandedBack<Call>>
         requires { IsOnRequests call }
-        ensures { AskGives self.now (call_named None Null call) result }
+        ensures { AskGives self.now (call_of_core None Null call) result }
     {
         ask_on_requests(&self.core, &self.communicators, call)
     }
 
     /// Answers a call by which the core is asked this, unless it was refused.
-    #[tactic(auto, using(engine_parts::proofs::Asks::can_ask))]
-    fn reply_to(&mut self, asked: Result<Asked, Handed<Call>>) -> Reply
+    #[tactic(auto, using(engine_calls::proofs::Asks::can_ask))]
+    fn reply_to(&mut self, asked: Result<RoutedCall, HandedBack<Call>>) -> Reply
         requires { CanAskBy self.old.core self.old.groups self.old.sessions asked }
         ensures exact { (call : engine_calls.Call) → AskGives self.old call asked → CoreGives self.old call result self.new }
         ensures few { length self.new.sessions.out ≤ length self.old.sessions.out + 1 }
@@ -131,9 +131,9 @@ impl Engine {
     }
 
     /// Answers a call on requests.
-    fn call_on_requests(&mut self, call: rank_core::Call) -> Reply
+    fn call_on_requests(&mut self, call: point_to_point::CoreCall) -> Reply
         requires { IsOnRequests call }
-        ensures exact { CoreGives self.old (call_named None Null call) result self.new }
+        ensures exact { CoreGives self.old (call_of_core None Null call) result self.new }
         ensures unchanged { RefusedLeaves result self.old self.new }
         ensures few { length self.new.sessions.out ≤ length self.old.sessions.out + 1 }
         ensures placed { self.new.sessions.place ≡ self.old.sessions.place }
@@ -144,52 +144,52 @@ impl Engine {
     }
 
     /// The first rule or limit of a call on requests.
-    #[tactic(auto, using(engine_parts::proofs::Asks::judged_fault, engine_parts::proofs::Asks::judged_back))]
-    fn judge_on_requests(&self, call: rank_core::Call) -> Judged
+    #[tactic(auto, using(engine_calls::proofs::Asks::judged_fault, engine_calls::proofs::Asks::judged_back))]
+    fn judge_on_requests(&self, call: point_to_point::CoreCall) -> JudgedCall
         requires { IsOnRequests call }
-        ensures fault { result.fault ≡ fault_of self.now (call_named None Null call) }
-        ensures back { result.call ≡ call_named None Null call }
+        ensures fault { result.fault ≡ fault_of self.now (call_of_core None Null call) }
+        ensures back { result.call ≡ call_of_core None Null call }
     {
-        judgement(self.asked_on_requests(call))
+        judge(self.asked_on_requests(call))
     }
 
     /// The first rule or limit that a call would be refused by now, of 6, 4, 2, 1, 3, 5, 7, 9, 11 and 13: see `call`; and the call as it
     /// was handed in. It takes no memory; a call that meets none is refused for want of memory (14), and a collective also where
     /// what the rank then does of itself meets a limit (13).
-    #[tactic(auto, using(engine_parts::proofs::Asks::judged_fault, engine_parts::proofs::Asks::judged_back))]
-    pub fn judge(&self, call: Call) -> Judged
+    #[tactic(auto, using(engine_calls::proofs::Asks::judged_fault, engine_calls::proofs::Asks::judged_back))]
+    pub fn judge(&self, call: Call) -> JudgedCall
         ensures fault { result.fault ≡ fault_of self.now call }
         ensures back { result.call ≡ call }
     {
         match call {
-            Call::Isend(send) => judgement(self.asked_by_send(send)),
-            Call::Irecv(receive) => judgement(self.asked_by_receive(receive)),
-            Call::Wait(request) => self.judge_on_requests(rank_core::Call::Wait(request)),
-            Call::Test(request) => self.judge_on_requests(rank_core::Call::Test(request)),
-            Call::Waitany(list) => self.judge_on_requests(rank_core::Call::Waitany(list)),
-            Call::Waitall(list) => self.judge_on_requests(rank_core::Call::Waitall(list)),
-            Call::Cancel(request) => self.judge_on_requests(rank_core::Call::Cancel(request)),
-            Call::Enter(comm, entry) => Judged {
+            Call::Isend(send) => judge(self.asked_by_send(send)),
+            Call::Irecv(receive) => judge(self.asked_by_receive(receive)),
+            Call::Wait(request) => self.judge_on_requests(point_to_point::CoreCall::Wait(request)),
+            Call::Test(request) => self.judge_on_requests(point_to_point::CoreCall::Test(request)),
+            Call::Waitany(list) => self.judge_on_requests(point_to_point::CoreCall::Waitany(list)),
+            Call::Waitall(list) => self.judge_on_requests(point_to_point::CoreCall::Waitall(list)),
+            Call::Cancel(request) => self.judge_on_requests(point_to_point::CoreCall::Cancel(request)),
+            Call::Enter(comm, entry) => JudgedCall {
                 fault: self.fault_of_entry(comm, &entry),
                 call: Call::Enter(comm, entry),
             },
-            Call::Ask(comm, question) => Judged {
+            Call::Ask(comm, question) => JudgedCall {
                 fault: self.fault_of_question(comm, question),
                 call: Call::Ask(comm, question),
             },
-            Call::Iprobe(probe) => Judged {
+            Call::Iprobe(probe) => JudgedCall {
                 fault: self.fault_of_probe(probe),
                 call: Call::Iprobe(probe),
             },
-            Call::Improbe(probe) => judgement(self.asked_by_probe(probe)),
-            Call::Mrecv(message, into) => judgement(self.asked_for_message(message, into)),
+            Call::Improbe(probe) => judge(self.asked_by_probe(probe)),
+            Call::Mrecv(message, into) => judge(self.asked_for_message(message, into)),
         }
     }
 
     /// Answers a call that is neither a send, a receive nor a wait for one request.
     // These stand apart, since a function pays at its entry for the locals of all its cases.
     #[inline(never)]
-    #[tactic(auto, using(engine_parts::proofs::Answering::few_by_one))]
+    #[tactic(auto, using(engine_calls::proofs::Answering::few_by_one))]
     fn answer_other(&mut self, call: Call) -> Reply
         requires { IsOther call }
         ensures exact { CallGives self.old call result self.new }
@@ -201,10 +201,10 @@ impl Engine {
         // The place shows that the job has a rank at least.
         let _place = self.sessions.place();
         match call {
-            Call::Test(request) => self.call_on_requests(rank_core::Call::Test(request)),
-            Call::Waitany(list) => self.call_on_requests(rank_core::Call::Waitany(list)),
-            Call::Waitall(list) => self.call_on_requests(rank_core::Call::Waitall(list)),
-            Call::Cancel(request) => self.call_on_requests(rank_core::Call::Cancel(request)),
+            Call::Test(request) => self.call_on_requests(point_to_point::CoreCall::Test(request)),
+            Call::Waitany(list) => self.call_on_requests(point_to_point::CoreCall::Waitany(list)),
+            Call::Waitall(list) => self.call_on_requests(point_to_point::CoreCall::Waitall(list)),
+            Call::Cancel(request) => self.call_on_requests(point_to_point::CoreCall::Cancel(request)),
             Call::Enter(comm, entry) => self.enter(comm, entry),
             Call::Ask(comm, question) => self.ask(comm, question),
             Call::Iprobe(probe) => self.iprobe(probe),
@@ -239,7 +239,7 @@ impl Engine {
     /// rank emits nothing. A probe tells what such a receive would take now and changes nothing (3.8.1); a matching probe takes
     /// that message out, so that no receive finds it (3.8.2), and tells its sender nothing. The receive of that message answers
     /// its sender, and is over where its data are there, or is waited for (3.8.3).
-    #[tactic(auto, using(engine_parts::proofs::Answering::few_by_one))]
+    #[tactic(auto, using(engine_calls::proofs::Answering::few_by_one))]
     pub fn call(&mut self, call: Call) -> Reply
         ensures exact { CallGives self.old call result self.new }
         ensures unchanged { RefusedLeaves result self.old self.new }
@@ -252,7 +252,7 @@ impl Engine {
         match call {
             Call::Isend(send) => self.isend(send),
             Call::Irecv(receive) => self.irecv(receive),
-            Call::Wait(request) => self.call_on_requests(rank_core::Call::Wait(request)),
+            Call::Wait(request) => self.call_on_requests(point_to_point::CoreCall::Wait(request)),
             other => self.answer_other(other),
         }
     }

@@ -3,43 +3,43 @@
 ghost use Rattle.std.specs.Prelude.{◌≡◌, ◌≤◌, ◌<◌, ◌+◌, ◌*◌, length, map, IfErr, IfOk, None, Ok, Err, OnErr, OnOk, Option, Some};
 ghost use Rattle.collective_steps.specs.declared.step.Ending.{Ending};
 ghost use Rattle.datagram.specs.Spelling.{eager_text};
-ghost use Rattle.rank_calls.specs.Hearing.{frame_option, news_text};
-ghost use Rattle.rank_core.specs.Hearing.{CanTake, news_fault};
+ghost use Rattle.point_to_point_calls.specs.Hearing.{frame_option, news_text};
+ghost use Rattle.point_to_point.specs.Arrivals.{CanTake, news_fault};
 ghost use Rattle.sessions.specs.Windows.{StaysWithin};
 ghost use Rattle.sessions.specs.Heard.{heard_text, word_text, CanHear, WordFits};
 ghost use Rattle.sessions.specs.Events.{after_event, event_limit};
-ghost use Rattle.engine_parts.specs.EngineState.{or_before};
-ghost use Rattle.engine_parts.specs.Frames.{outgoing_of};
-ghost use Rattle.engine_parts.specs.Refusals.{fault_of_sessions};
-ghost use Rattle.engine_parts.specs.Steps.{engine_held};
+ghost use Rattle.engine_calls.specs.EngineState.{or_before};
+ghost use Rattle.engine_calls.specs.Frames.{outgoing_of};
+ghost use Rattle.engine_calls.specs.Refusals.{fault_of_sessions};
+ghost use Rattle.engine_calls.specs.Steps.{engine_held};
 ghost use Rattle.engine.specs.Datagrams.{DatagramGives, HeardGives, NewsGives, SourceIsKnown, RefusedDatagramLeaves, form_fault, frame_in, hold_fault, news_of, received, replies, says_nothing, whole_in};
 
-use crate::announcing::{take_announcement, take_answer};
-use crate::coming::take_piece;
+use crate::outgoing_payloads::{take_announcement, take_answer};
+use crate::incoming_payloads::take_piece;
 use crate::engine::Engine;
-use crate::notices::{Received, forget, learn, lesson_in, or_before, take_message};
-use crate::noticing::{Notice, notice_in};
+use crate::notices::{ReceivedPayload, forget, learn, lesson_in, ending_or, take_message};
+use crate::notice_kinds::{Notice, notice_in};
 use collective_transfers::CollectiveTransfers;
 use collectives::Ending;
 use communicators::Communicators;
 use datagram::{Eager, Frame, Plane};
-use engine_parts::of_sessions;
+use engine_calls::of_sessions;
 use payload::read_payload;
-use rank_core::{Addressed, Core, News, Ready, Refused};
-use sessions::{Heard, Outgoing, Sessions, Word};
+use point_to_point::{Addressed, Core, News, PreparedNews, Refusal};
+use sessions::{Heard, Outgoing, Sessions, LinkEvent};
 use std::alloc::Global;
 
 /// The frame that is handed up, if one is.
-fn frame_in<'a>(word: Word<'a>) -> Option<Frame<'a>>
+fn frame_in<'a>(word: LinkEvent<'a>) -> Option<Frame<'a>>
     ensures { frame_option result ≡ frame_in (word_text word.entry) }
 {
     match word {
-        Word::Hands(frame) => Some(frame),
-        Word::Follows(frame) => Some(frame),
-        Word::Acknowledges(..) => None,
-        Word::Repeats => None,
-        Word::Holds(_) => None,
-        Word::Nothing => None,
+        LinkEvent::Hands(frame) => Some(frame),
+        LinkEvent::Follows(frame) => Some(frame),
+        LinkEvent::Acknowledges(..) => None,
+        LinkEvent::Repeats => None,
+        LinkEvent::Holds(_) => None,
+        LinkEvent::Nothing => None,
     }
 }
 
@@ -51,45 +51,45 @@ pub(crate) fn says_nothing(heard: Heard<'_>) -> bool
         return false;
     }
     match heard.word {
-        Word::Nothing => true,
-        Word::Hands(_) => false,
-        Word::Acknowledges(..) => false,
-        Word::Repeats => false,
-        Word::Holds(_) => false,
-        Word::Follows(_) => false,
+        LinkEvent::Nothing => true,
+        LinkEvent::Hands(_) => false,
+        LinkEvent::Acknowledges(..) => false,
+        LinkEvent::Repeats => false,
+        LinkEvent::Holds(_) => false,
+        LinkEvent::Follows(_) => false,
     }
 }
 
 /// The fault of a payload by its form: that of a collective's message has one (30).
-fn form_fault(message: Eager<'_>) -> Option<Refused>
+fn form_fault(message: Eager<'_>) -> Option<Refusal>
     ensures { result ≡ form_fault message.entry.plane message.entry.elements.now }
 {
     match message.plane {
         Plane::PointToPoint => None,
         Plane::Collective => match read_payload(message.elements) {
             Ok(_) => None,
-            Err(_) => Some(Refused::BadFrame),
+            Err(_) => Some(Refusal::BadFrame),
         },
     }
 }
 
 /// The rule that a word breaks by the frame that is to be held: the form of a collective's message (30). All else of it is judged
 /// when its turn comes.
-fn hold_fault(word: Word<'_>) -> Option<Refused>
+fn hold_fault(word: LinkEvent<'_>) -> Option<Refusal>
     ensures { result ≡ hold_fault (word_text word.entry) }
 {
     match word {
-        Word::Holds(early) => match early.frame {
+        LinkEvent::Holds(early) => match early.frame {
             Frame::Eager(message) => form_fault(message),
             Frame::RequestToSend(_) => None,
             Frame::ClearToSend(_) => None,
             Frame::Data(_) => None,
         },
-        Word::Acknowledges(..) => None,
-        Word::Repeats => None,
-        Word::Hands(_) => None,
-        Word::Follows(_) => None,
-        Word::Nothing => None,
+        LinkEvent::Acknowledges(..) => None,
+        LinkEvent::Repeats => None,
+        LinkEvent::Hands(_) => None,
+        LinkEvent::Follows(_) => None,
+        LinkEvent::Nothing => None,
     }
 }
 
@@ -105,9 +105,9 @@ fn news_of<'a>(heard: Heard<'a>) -> News<'a>
 }
 
 /// Frames of a core, as the sessions take them; or want of memory.
-fn outgoing_of<'a>(alloc: Global, frames: &[Addressed<'a>]) -> Result<Vec<Outgoing<'a>>, Refused>
+fn outgoing_of<'a>(alloc: Global, frames: &[Addressed<'a>]) -> Result<Vec<Outgoing<'a>>, Refusal>
     ensures ok { IfOk result (λ outgoing. outgoing.items ≡ map outgoing_of frames.now) }
-    ensures err { IfErr result (λ e. e ≡ Refused.OutOfMemory) }
+    ensures err { IfErr result (λ e. e ≡ Refusal.OutOfMemory) }
 {
     match frames
         .iter()
@@ -118,7 +118,7 @@ fn outgoing_of<'a>(alloc: Global, frames: &[Addressed<'a>]) -> Result<Vec<Outgoi
         .collect(alloc)
     {
         Ok(outgoing) => Ok(outgoing),
-        Err(_) => Err(Refused::OutOfMemory),
+        Err(_) => Err(Refusal::OutOfMemory),
     }
 }
 
@@ -128,8 +128,8 @@ fn carry_out(
     core: &Core,
     sessions: &mut Sessions,
     heard: Heard<'_>,
-    ready: &Ready,
-) -> Result<(), Refused>
+    ready: &PreparedNews,
+) -> Result<(), Refusal>
     requires can { CanHear sessions.old (Some (heard_text heard)) }
     requires place { core.now.state.place ≡ sessions.old.place }
     requires allowed { news_fault core.now.state (news_of (heard_text heard)) ≡ None }
@@ -137,7 +137,7 @@ fn carry_out(
     requires limit { event_limit sessions.old (Some (heard_text heard)) (replies core.now.state (heard_text heard)) ≡ None }
     ensures ok { OnOk result (sessions.new ≡ after_event sessions.old (Some (heard_text heard.entry)) (replies core.now.state (heard_text heard.entry))) }
     ensures unchanged { OnErr result (sessions.new ≡ sessions.old) }
-    ensures err { IfErr result (λ e. e ≡ Refused.OutOfMemory) }
+    ensures err { IfErr result (λ e. e ≡ Refusal.OutOfMemory) }
     ensures within { OnOk result (StaysWithin (Some (heard_text heard.entry)) sessions.old sessions.new) }
     ensures placed { sessions.new.place ≡ sessions.old.place }
 {
@@ -150,7 +150,7 @@ fn carry_out(
 }
 
 /// The limit that what is heard meets: of its own number, or of the frames that the core calls for. It takes no memory.
-fn limit_of_heard(core: &Core, sessions: &Sessions, heard: Heard<'_>) -> Option<Refused>
+fn limit_of_heard(core: &Core, sessions: &Sessions, heard: Heard<'_>) -> Option<Refusal>
     requires { CanHear sessions.now (Some (heard_text heard)) }
     ensures { result ≡ fault_of_sessions
         (event_limit sessions.now (Some (heard_text heard.entry)) (replies core.now.state (heard_text heard.entry))) }
@@ -170,7 +170,7 @@ fn take_news(
     payloads: &mut CollectiveTransfers,
     sessions: &mut Sessions,
     heard: Heard<'_>,
-) -> Result<Option<Ending>, Refused>
+) -> Result<Option<Ending>, Refusal>
     requires can { CanHear sessions.old (Some (heard_text heard)) }
     requires fits { WordFits (word_text heard.word) }
     requires place { core.old.state.place ≡ sessions.old.place }
@@ -204,10 +204,10 @@ fn take_news(
 }
 
 /// The payload of a collective that stands in a frame.
-fn received_in(message: Eager<'_>) -> Received<'_>
+fn received_in(message: Eager<'_>) -> ReceivedPayload<'_>
     ensures { received result ≡ whole_in (eager_text message.entry) }
 {
-    Received {
+    ReceivedPayload {
         context: message.context,
         number: message.tag,
         bytes: message.elements,
@@ -222,7 +222,7 @@ fn hear(
     payloads: &mut CollectiveTransfers,
     sessions: &mut Sessions,
     heard: Heard<'_>,
-) -> Result<Option<Ending>, Refused>
+) -> Result<Option<Ending>, Refusal>
     requires can { CanHear sessions.old (Some (heard_text heard)) }
     requires fits { WordFits (word_text heard.word) }
     requires there { heard.source.rank < sessions.old.place.size }
@@ -276,7 +276,7 @@ fn hear(
 impl Engine {
     /// Takes in what is heard, or refuses it. With what a collective ends by it is kept until that is handed out. No blocked call
     /// is answered yet.
-    pub(crate) fn take_heard(&mut self, heard: Heard<'_>) -> Result<(), Refused>
+    pub(crate) fn take_heard(&mut self, heard: Heard<'_>) -> Result<(), Refusal>
         requires can { CanHear self.old.sessions (Some (heard_text heard)) }
         requires fits { WordFits (word_text heard.word) }
         requires there { heard.source.rank < self.old.sessions.place.size }
@@ -294,7 +294,7 @@ impl Engine {
             heard,
         )?;
         let before = self.ended.take();
-        self.ended = or_before(ending, before);
+        self.ended = ending_or(ending, before);
         Ok(())
     }
 
@@ -336,7 +336,7 @@ impl Engine {
     /// what came of those of which some data came; and a collective that the rank is in with a former one among its members
     /// ends with 11. A reset that teaches nothing changes nothing. MPI 3.1 has no restarts of a rank: these rules are this
     /// project's own. What is not refused leaves its source known at the incarnation in its header.
-    pub fn on_datagram(&mut self, bytes: &[u8]) -> Result<(), Refused>
+    pub fn on_datagram(&mut self, bytes: &[u8]) -> Result<(), Refusal>
         ensures exact { DatagramGives self.old bytes.now result self.new }
         ensures known { OnOk result (SourceIsKnown self.new bytes.now) }
         ensures unchanged { RefusedDatagramLeaves result self.old self.new }
@@ -348,7 +348,7 @@ impl Engine {
         let _place = self.sessions.place();
         match self.sessions.judge(bytes) {
             Ok(heard) => self.take_in(heard),
-            Err(unheard) => Err(of_sessions(self.sessions.turn_away(unheard))),
+            Err(unheard) => Err(of_sessions(self.sessions.refuse(unheard))),
         }
     }
 }

@@ -1,20 +1,20 @@
 //! The engine of one rank.
 
 ghost use Rattle.std.specs.Prelude.{◌≡◌, ◌≤◌, ◌+◌, ◌*◌, ◌↔◌, length, All, IsTrue, IfOk, OnOk, OnErr, None, IfErr};
-ghost use Rattle.rank_calls.specs.Refusals.{IsRefusal};
+ghost use Rattle.point_to_point_calls.specs.Refusals.{IsRefusal};
 ghost use Rattle.sessions.specs.Peers.{IsIdlePeer};
 ghost use Rattle.sessions.specs.SessionsState.{SessionGives};
 ghost use Rattle.engine.specs.Places.{place_fault};
-ghost use Rattle.engine_parts.specs.EngineState.{completion_by, completion_of, opening, without_completion, without_out};
+ghost use Rattle.engine_calls.specs.EngineState.{completion_by, completion_of, opening, without_completion, without_out};
 ghost use Rattle.engine.specs.Ticks.{TickGives};
 
 use collective_transfers::CollectiveTransfers;
 use collectives::Ending;
 use communicators::Communicators;
 use datagram::Bytes;
-use engine_parts::{Completion, of_collectives, of_sessions};
+use engine_calls::{Completion, of_collectives, of_sessions};
 use incarnation::Place;
-use rank_core::{Core, Refused};
+use point_to_point::{Core, Refusal};
 use requests::Answer;
 use sessions::{Session, Sessions};
 use std::alloc::Global;
@@ -39,7 +39,7 @@ pub struct Engine {
 
 impl Model for Engine {
     ghost use Rattle.std.specs.Prelude.{◌≡◌};
-    ghost use Rattle.engine_parts.specs.EngineState.{EngineState};
+    ghost use Rattle.engine_calls.specs.EngineState.{EngineState};
 
     ghost Value = { EngineState };
 
@@ -70,7 +70,7 @@ impl Engine {
     /// begun, and every other rank is known at incarnation 0.
     ///
     /// Refused with 5 where the rank is not below the size, with 13 where the size is above 1,024, and with 14.
-    pub fn new(alloc: Global, place: Place) -> Result<Engine, Refused>
+    pub fn new(alloc: Global, place: Place) -> Result<Engine, Refusal>
         ensures opening { IfOk result (λ e. e ≡ opening place) }
         ensures placed { OnOk result (place_fault place ≡ None) }
         ensures refused { IfErr result (λ e. IsRefusal (place_fault place) e) }
@@ -104,7 +104,7 @@ impl Engine {
     /// The clock says `now`, in milliseconds: what was last sent 20 ms or more before is sent again.
     ///
     /// Refused with 41 exactly where `now` is below the last tick, and with 14. A refusal changes nothing.
-    pub fn tick(&mut self, now: u64) -> Result<(), Refused>
+    pub fn tick(&mut self, now: u64) -> Result<(), Refusal>
         ensures exact { TickGives self.old now result self.new }
         ensures unchanged { OnErr result (self.new ≡ self.old) }
         ensures few { length self.new.sessions.out ≤ length self.old.sessions.out + 64 * self.old.sessions.place.size }

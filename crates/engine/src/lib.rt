@@ -15,26 +15,26 @@
 //! comes then, and one acknowledgement tells of all. The blocked call is answered once, at the end of that.
 #![tactic(auto)]
 
-mod announcing;
-mod asking;
 mod calls;
-mod coming;
+mod collective_entry;
 mod datagrams;
 mod engine;
-mod entering;
-mod following;
+mod held_frames;
+mod incoming_payloads;
+mod notice_kinds;
 mod notices;
-mod noticing;
-mod probing;
+mod outgoing_payloads;
+mod probes;
+mod questions;
 
 pub use collectives::Ending;
-pub use communicators::{Block, Comparison, Entry, Question};
+pub use communicators::{Block, CommunicatorComparison, Entry, Question};
 pub use datatypes::{Buffer, Layout};
 pub use engine::Engine;
-pub use engine_parts::{Call, Completion, Fact, Judged, Probe, Receive, Reply, Send};
+pub use engine_calls::{Call, Completion, Fact, JudgedCall, Probe, Receive, Reply, Send};
 pub use incarnation::Place;
 pub use payload::{Choice, Elements, Operation, Rooted};
-pub use rank_core::{Handed, Refused};
+pub use point_to_point::{HandedBack, Refusal};
 pub use requests::{Answer, Outcome, Outcomes, Places, Region, Request, RequestList};
 pub use sessions::{MOST_RANKS, Peer, Session};
 pub use vocabulary::{Mode, Source, Status};

@@ -1,25 +1,25 @@
 //! How a rank takes in messages of collectives, and lessons that end one.
 
 ghost use Rattle.std.specs.Prelude.{◌≡◌, ◌≤◌, All, length, IfErr, IfOk, None, OnErr, OnOk, Option, Some};
-ghost use Rattle.collective_notes.specs.Messages.{IsFitting};
-ghost use Rattle.collectives.specs.Calls.{met};
+ghost use Rattle.collective_messages.specs.Messages.{IsFitting};
+ghost use Rattle.collectives.specs.Calls.{after_lesson};
 ghost use Rattle.collective_steps.specs.declared.step.Ending.{Ending};
 ghost use Rattle.payload.specs.Reading.{payload_of};
 ghost use Rattle.payload.specs.Spelling.{payload_text};
 ghost use Rattle.sessions.specs.Windows.{StaysWithin};
 ghost use Rattle.sessions.specs.Heard.{CanHear, heard_text};
 ghost use Rattle.engine.specs.Datagrams.{IsNoticed, IsTold, WhyUnnoticed, lesson_in, numbers_met, payloads_met, received};
-ghost use Rattle.engine_parts.specs.EngineState.{or_before};
-ghost use Rattle.engine_parts.specs.Frames.{step_limit};
-ghost use Rattle.engine_parts.specs.Steps.{StepStops, ending_met, engine_held};
+ghost use Rattle.engine_calls.specs.EngineState.{or_before};
+ghost use Rattle.engine_calls.specs.Frames.{step_limit};
+ghost use Rattle.engine_calls.specs.Steps.{StepStops, ending_met, engine_held};
 
-use collective_notes::{Address, Message};
+use collective_messages::{Address, CollectiveMessage};
 use collective_transfers::CollectiveTransfers;
 use collectives::Ending;
 use communicators::Communicators;
-use engine_parts::{of_collectives, send_step};
+use engine_calls::{of_collectives, send_step};
 use payload::{Payload, read_payload};
-use rank_core::{Core, News, Refused};
+use point_to_point::{Core, News, Refusal};
 use rendezvous::{Numbers, start_anew};
 use sessions::{Heard, Sessions};
 use std::alloc::Global;
@@ -38,7 +38,7 @@ pub(crate) fn lesson_in(heard: Heard<'_>) -> Option<Endpoint>
 
 /// The communicators learn the lesson, if there is one; a collective that has a former incarnation among its members ends.
 pub(crate) fn learn(communicators: &mut Communicators, lesson: Option<Endpoint>) -> Option<Ending>
-    ensures collective { communicators.new.collective.state ≡ met communicators.old.collective.state communicators.old.contexts.state lesson }
+    ensures collective { communicators.new.collective.state ≡ after_lesson communicators.old.collective.state communicators.old.contexts.state lesson }
     ensures notes { communicators.new.collective.more_notes ≡ communicators.old.collective.more_notes }
     ensures contexts { communicators.new.contexts ≡ communicators.old.contexts }
     ensures ending { result ≡ ending_met communicators.old.collective.state communicators.old.contexts.state lesson }
@@ -61,10 +61,10 @@ pub(crate) fn forget(payloads: &mut CollectiveTransfers, lesson: Option<Endpoint
 }
 
 /// The numbers of the sessions' transfers, copied, once a lesson is learnt, if there is one; or want of memory (14).
-pub(crate) fn numbers_met(core: &Core, heard: Heard<'_>) -> Result<Vec<Numbers>, Refused>
+pub(crate) fn numbers_met(core: &Core, heard: Heard<'_>) -> Result<Vec<Numbers>, Refusal>
     ensures ok { IfOk result (λ numbers. numbers.items ≡ numbers_met core.now.state (heard_text heard.entry)) }
     ensures width { IfOk result (λ numbers. length numbers.items ≡ core.now.state.place.size) }
-    ensures err { IfErr result (λ e. e ≡ Refused.OutOfMemory) }
+    ensures err { IfErr result (λ e. e ≡ Refusal.OutOfMemory) }
 {
     let mut numbers = core.numbers()?;
     if !heard.lesson {
@@ -75,7 +75,7 @@ pub(crate) fn numbers_met(core: &Core, heard: Heard<'_>) -> Result<Vec<Numbers>,
 }
 
 /// An ending, or one that came before.
-pub(crate) fn or_before(ending: Option<Ending>, before: Option<Ending>) -> Option<Ending>
+pub(crate) fn ending_or(ending: Option<Ending>, before: Option<Ending>) -> Option<Ending>
     ensures { result ≡ or_before ending before }
 {
     match ending {
@@ -85,19 +85,19 @@ pub(crate) fn or_before(ending: Option<Ending>, before: Option<Ending>) -> Optio
 }
 
 /// What the bytes of a message say (30).
-fn read(bytes: &[u8]) -> Result<Payload<'_>, Refused>
+fn read(bytes: &[u8]) -> Result<Payload<'_>, Refusal>
     ensures ok { IfOk result (λ p. payload_of bytes.now ≡ Some (payload_text p)) }
-    ensures err { IfErr result (λ e. (e ≡ Refused.BadFrame) × (payload_of bytes.now ≡ None)) }
+    ensures err { IfErr result (λ e. (e ≡ Refusal.BadFrame) × (payload_of bytes.now ≡ None)) }
 {
     match read_payload(bytes) {
         Ok(payload) => Ok(payload),
-        Err(_) => Err(Refused::BadFrame),
+        Err(_) => Err(Refusal::BadFrame),
     }
 }
 
 /// A payload of a collective that has come, in a frame or in pieces.
 #[derive(Clone, Copy)]
-pub struct Received<'a> {
+pub struct ReceivedPayload<'a> {
     /// The context of the communicator.
     pub context: u64,
     /// The number of the collective on the communicator.
@@ -108,14 +108,14 @@ pub struct Received<'a> {
 
 /// The core, the payloads and the sessions take in what is heard, without its frame, and the others are told by these messages;
 /// those that are too long for a frame are announced and kept. Refused is 13 and 14; then nothing changes.
-fn tell(
+fn carry_out_notices(
     alloc: Global,
     core: &mut Core,
     payloads: &mut CollectiveTransfers,
     sessions: &mut Sessions,
     heard: Heard<'_>,
-    messages: &[Message],
-) -> Result<(), Refused>
+    messages: &[CollectiveMessage],
+) -> Result<(), Refusal>
     requires can { CanHear sessions.old (Some (heard_text heard)) }
     requires fits { All IsFitting messages.now }
     ensures ok { OnOk result (IsTold core.old.state payloads.old.state sessions.old (heard_text heard.entry) messages.now core.new.state payloads.new.state sessions.new) }
@@ -160,8 +160,8 @@ pub(crate) fn take_message(
     payloads: &mut CollectiveTransfers,
     sessions: &mut Sessions,
     heard: Heard<'_>,
-    message: Received<'_>,
-) -> Result<Option<Ending>, Refused>
+    message: ReceivedPayload<'_>,
+) -> Result<Option<Ending>, Refusal>
     requires can { CanHear sessions.old (Some (heard_text heard)) }
     ensures ok { IfOk result (λ ending. (before : Option Ending) → IsNoticed (engine_held core.old communicators.old before payloads.old.state sessions.old)
         (payloads_met payloads.old.state (lesson_in (heard_text heard.entry)))
@@ -188,11 +188,11 @@ pub(crate) fn take_message(
         Ok(ready) => ready,
         Err(refused) => return Err(of_collectives(refused)),
     };
-    match tell(alloc, core, payloads, sessions, heard, ready.messages()) {
+    match carry_out_notices(alloc, core, payloads, sessions, heard, ready.messages()) {
         Ok(()) => {
             let replaced = learn(communicators, lesson);
             let left = communicators.on_message(ready);
-            Ok(or_before(left, replaced))
+            Ok(ending_or(left, replaced))
         }
         Err(refused) => {
             drop(ready);

@@ -3,7 +3,7 @@
 
 use crate::steps::{copies, deliver, rank_of_two, two_ranks};
 use datatypes::Buffer;
-use engine::{Call, Completion, Engine, Layout, Probe, Receive, Refused, Reply, Send};
+use engine::{Call, Completion, Engine, Layout, Probe, Receive, Refusal, Reply, Send};
 use requests::{Answer, Outcome, Places, Region, Request};
 use std::alloc::Global;
 use vocabulary::{BasicType, Mode, Source, Status};
@@ -458,11 +458,11 @@ const PAYLOAD: [u8; 56] = [
 /// How the announcement is refused, how many datagrams go out by it, and the same of one as of a standard send.
 fn announce_twice(engine: &mut Engine) -> Option<(Option<u8>, usize, Option<u8>, usize)> {
     let _datagram = datagram::read(&PAYLOAD).ok()?;
-    let refused = engine.on_datagram(&PAYLOAD).err().map(Refused::number);
+    let refused = engine.on_datagram(&PAYLOAD).err().map(Refusal::number);
     let nothing = engine.take_out();
     let mut standard = PAYLOAD;
     standard[35] = 0;
-    let taken = engine.on_datagram(&standard).err().map(Refused::number);
+    let taken = engine.on_datagram(&standard).err().map(Refusal::number);
     let answers = engine.take_out();
     Some((refused, nothing.len(), taken, answers.len()))
 }

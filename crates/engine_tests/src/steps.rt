@@ -2,7 +2,7 @@
 //! owns memory is dropped in generic code, since each drop in place is followed anew.
 
 use datatypes::Buffer;
-use engine::{Block, Call, Ending, Engine, Entry, Place, Refused, Reply};
+use engine::{Block, Call, Ending, Engine, Entry, Place, Refusal, Reply};
 use std::alloc::Global;
 use vocabulary::{BasicType, Endpoint};
 
@@ -24,7 +24,7 @@ pub(crate) enum Told {
 }
 
 /// A rank of two at an incarnation.
-pub(crate) fn rank_of_two(alloc: Global, rank: u16, incarnation: u16) -> Result<Engine, Refused> {
+pub(crate) fn rank_of_two(alloc: Global, rank: u16, incarnation: u16) -> Result<Engine, Refusal> {
     let place = Place {
         endpoint: Endpoint { rank, incarnation },
         size: 2,

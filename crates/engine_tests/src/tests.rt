@@ -3,7 +3,7 @@
 
 use crate::steps::{copies, deliver, rank_of_two, two_ranks};
 use datatypes::Buffer;
-use engine::{Call, Completion, Engine, Receive, Refused, Reply, Send, Session};
+use engine::{Call, Completion, Engine, Receive, Refusal, Reply, Send, Session};
 use requests::{Answer, Outcome, Region, Request};
 use std::alloc::Global;
 use vocabulary::{BasicType, Mode, Source};
@@ -164,7 +164,7 @@ fn go_back(engine: &mut Engine) -> (u16, bool, bool, Option<u8>) {
     let rank = engine.place().endpoint.rank;
     let clean = is_clean(engine.session(0));
     let ticked = engine.tick(20).is_ok();
-    let back = engine.tick(19).err().map(Refused::number);
+    let back = engine.tick(19).err().map(Refusal::number);
     (rank, clean, ticked, back)
 }
 
@@ -221,14 +221,14 @@ fn a_rank_has_65536_requests_at_one_time(rt: HostRuntime) {
 #[test]
 fn numbers_of_refusals(rt: HostRuntime) {
     for (refused, number) in [
-        (Refused::Rank, 5),
-        (Refused::of_datagram(datagram::Refused::Short), 21),
-        (Refused::StaleSource, 28),
-        (Refused::StaleTarget, 29),
+        (Refusal::Rank, 5),
+        (Refusal::of_datagram(datagram::DatagramRefusal::Short), 21),
+        (Refusal::StaleSource, 28),
+        (Refusal::StaleTarget, 29),
     ] {
         assert_eq!(rt; refused.number(), number);
     }
-    assert_eq!(rt; rank_of_two(rt.alloc(), 2, 0).err(), Some(Refused::Rank));
+    assert_eq!(rt; rank_of_two(rt.alloc(), 2, 0).err(), Some(Refusal::Rank));
 }
 
 /// Rank 0 announces a message of 1,025 bytes with tag 3 to rank 1 as transfer 1, in frame 0 of job 1.
@@ -252,7 +252,7 @@ const PART: [u8; 45] = [
 /// How an engine refuses bytes that spell a datagram.
 fn number_of_unheard(engine: &mut Engine, bytes: &[u8]) -> Option<u8> {
     let _datagram = datagram::read(bytes).ok()?;
-    engine.on_datagram(bytes).err().map(Refused::number)
+    engine.on_datagram(bytes).err().map(Refusal::number)
 }
 
 /// How an announcement under another number than the next, an answer to no transfer and data of none are refused.

@@ -1,30 +1,30 @@
 -- Files of events: reading and the grammar agree.
 use Rattle.std.proofs.Common.{◌≡◌, ℕ, ◌+◌, List, [], ◌∷◌, Option, Some, None, Result, Ok, Err, refl, sym, ap, subst, ◌∙◌, inl, inr}
-use Rattle.line_words.specs.declared.fault.ParseError.{ParseError}
-use Rattle.line_words.specs.declared.fault.ParseError.TheVariants as errors
-use Rattle.line_words.specs.Grammar.{Word}
-use Rattle.line_words.specs.Lines.{lines_of, line_of, numbered, lines_from}
-use Rattle.line_words.specs.Results.{GivesLines}
-use Rattle.line_words.specs.Texts.{LineSays}
-use Rattle.line_words.proofs.WordLaws.{bind_ok, made}
-use Rattle.line_words.proofs.LineLaws.{Agree, line_skipped, line_said, line_again, line_faulty, lines_take, lines_again, lines_fault}
-use Rattle.event_files.specs.declared.file.Statement.{Statement}
-use Rattle.event_files.specs.declared.file.Line.{Line}
+use Rattle.tokens.specs.declared.fault.ParseError.{ParseError}
+use Rattle.tokens.specs.declared.fault.ParseError.TheVariants as errors
+use Rattle.tokens.specs.Grammar.{Word}
+use Rattle.tokens.specs.Lines.{lines_of, line_of, numbered, lines_from}
+use Rattle.tokens.specs.Results.{GivesLines}
+use Rattle.tokens.specs.Texts.{LineSays}
+use Rattle.tokens.proofs.WordLaws.{bind_ok, made}
+use Rattle.tokens.proofs.LineLaws.{Agree, line_skipped, line_said, line_again, line_faulty, lines_take, lines_again, lines_fault}
+use Rattle.event_files.specs.declared.file.EventStatement.{EventStatement}
+use Rattle.event_files.specs.declared.file.EventLine.{EventLine}
 use Rattle.event_files.specs.declared.file.EventFile.{EventFile}
 use Rattle.event_files.specs.Reading.{statement_of, size_of, line_read}
 use Rattle.event_files.specs.Files.{Says, SaysSize, FileSays, IsFirstFaultOfFile, Answers, IsAnsweredBy}
 use Rattle.event_files.specs.Starts.{with_size, started, file_from}
 use Rattle.event_files.proofs.EventLaws.{statement_takes, statement_again, size_takes, size_again}
 
-abbrev pub read_line : ℕ → Statement → Line
+abbrev pub read_line : ℕ → EventStatement → EventLine
 read_line number statement = record { number = number; statement = statement }
 
-line_takes : (number : ℕ) (words : List Word) (line : Line) → line_read number words ≡ Some line → Says number words line
+line_takes : (number : ℕ) (words : List Word) (line : EventLine) → line_read number words ≡ Some line → Says number words line
 line_takes number words line e =
     let p = bind_ok (statement_of words) (λ asked. Some (read_line number asked)) line e in
     made (Says number words) (read_line number p.0) line (statement_takes words p.0 p.1, refl) p.2
 
-line_is : (number : ℕ) (words : List Word) (line : Line) → Says number words line → line_read number words ≡ Some line
+line_is : (number : ℕ) (words : List Word) (line : EventLine) → Says number words line → line_read number words ≡ Some line
 line_is number words line h =
     let t : statement_of words ≡ Some line.statement = statement_again words line.statement h.0 in
     rw t (ap (λ (n : ℕ). Some (read_line n line.statement)) (sym h.1))
@@ -34,11 +34,11 @@ agree = record { takes = line_takes; again = line_is }
 
 -- ---- the start
 
-with_size_ok : (size : ℕ) (behind : Result (List Line) ℕ) (file : EventFile) → with_size size behind ≡ Ok file → (size ≡ file.size) × (behind ≡ Ok file.lines)
+with_size_ok : (size : ℕ) (behind : Result (List EventLine) ℕ) (file : EventFile) → with_size size behind ≡ Ok file → (size ≡ file.size) × (behind ≡ Ok file.lines)
 with_size_ok size (Ok lines) file e = (cc, cc)
 with_size_ok size (Err n) file e = absurd cc
 
-with_size_err : (size : ℕ) (behind : Result (List Line) ℕ) (k : ℕ) → with_size size behind ≡ Err k → behind ≡ Err k
+with_size_err : (size : ℕ) (behind : Result (List EventLine) ℕ) (k : ℕ) → with_size size behind ≡ Err k → behind ≡ Err k
 with_size_err size (Ok lines) k e = absurd cc
 with_size_err size (Err n) k e = cc
 

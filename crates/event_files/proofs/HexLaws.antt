@@ -3,11 +3,11 @@ use Rattle.std.proofs.Common.{◌≡◌, ℕ, zero, suc, ◌+◌, ◌-◌, ◌*�
 use Rattle.std.specs.Prelude.{◌&&◌}
 use Rattle.std.proofs.lemmas.Bool.{leb-true, le-leb}
 use Rattle.std.proofs.lemmas.List.{append-nil, at_drop_more, at_drop_all}
-use Rattle.line_words.specs.declared.fault.LineError.{LineError}
-use Rattle.line_words.specs.declared.fault.LineError.TheVariants as errors
-use Rattle.line_words.specs.Grammar.{Word}
-use Rattle.line_words.specs.Results.{◌>>=◌, Fails}
-use Rattle.line_words.proofs.WordLaws.{bind_ok, made, pick, and_true, no_test}
+use Rattle.tokens.specs.declared.fault.LineError.{LineError}
+use Rattle.tokens.specs.declared.fault.LineError.TheVariants as errors
+use Rattle.tokens.specs.Grammar.{Word}
+use Rattle.tokens.specs.Results.{◌>>=◌, Fails}
+use Rattle.tokens.proofs.WordLaws.{bind_ok, made, pick, and_true, no_test}
 use Rattle.event_files.specs.Grammar.{IsDigit, AreBytes}
 use Rattle.event_files.specs.Reading.{digit_of, bytes_of}
 

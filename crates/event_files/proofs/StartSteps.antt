@@ -1,15 +1,15 @@
 -- The lines before `world N`, as a loop reads them.
 use Rattle.std.proofs.Common.{◌≡◌, ℕ, zero, suc, ◌+◌, ◌<◌, ◌≤◌, List, [], ◌∷◌, ◌++◌, length, get_or, drop, Option, Some, None, Err, refl, sym, ap, subst, ◌∙◌, arith}
 use Rattle.std.specs.Borrow.{Bor}
-use Rattle.line_words.specs.declared.fault.LineError.{LineError}
-use Rattle.line_words.specs.declared.fault.LineError.TheVariants as errors
-use Rattle.line_words.specs.Results.{Fails}
-use Rattle.line_words.specs.Lines.{line_of, with_front, lines_from}
-use Rattle.line_words.proofs.LineSteps.{no_lines, line_made, line_faulty, line_skipped, line_read as takes_line}
+use Rattle.tokens.specs.declared.fault.LineError.{LineError}
+use Rattle.tokens.specs.declared.fault.LineError.TheVariants as errors
+use Rattle.tokens.specs.Results.{Fails}
+use Rattle.tokens.specs.Lines.{line_of, with_front, lines_from}
+use Rattle.tokens.proofs.LineSteps.{no_lines, line_made, line_faulty, line_skipped, line_read as takes_line}
 use Rattle.std.proofs.lemmas.List.{at_drop_more}
-use Rattle.line_words.proofs.Lists.{shown, shown_all}
-use Rattle.event_files.specs.declared.file.Line.{Line}
-use Rattle.event_files.specs.declared.file.Statement.{Statement}
+use Rattle.tokens.proofs.Lists.{shown, shown_all}
+use Rattle.event_files.specs.declared.file.EventLine.{EventLine}
+use Rattle.event_files.specs.declared.file.EventStatement.{EventStatement}
 use Rattle.event_files.proofs.FileLaws.{read_line}
 use Rattle.event_files.specs.Reading.{statement_of, size_of, line_read}
 use Rattle.event_files.specs.Starts.{with_size, file_from}
@@ -66,24 +66,24 @@ has_no_start items i le most so_far =
 
 -- ---- the lines behind it
 
-pub begins : (from : ℕ) (items : List (Bor (List ℕ))) (read : List Line) → read ≡ [] → with_front read (lines_from line_read (from + 1) (shown (drop from items))) ≡ lines_from line_read (from + 1) (drop from (shown items))
+pub begins : (from : ℕ) (items : List (Bor (List ℕ))) (read : List EventLine) → read ≡ [] → with_front read (lines_from line_read (from + 1) (shown (drop from items))) ≡ lines_from line_read (from + 1) (drop from (shown items))
 begins from items read none =
-    ap (λ (ls : List Line). with_front ls (lines_from line_read (from + 1) (shown (drop from items)))) none
+    ap (λ (ls : List EventLine). with_front ls (lines_from line_read (from + 1) (shown (drop from items)))) none
     ∙ no_lines (lines_from line_read (from + 1) (shown (drop from items))) ∙ ap (lines_from line_read (from + 1)) (sym (drop_shown from items))
 
-pub is_faulty_line : (front : List Line) (number : ℕ) (line : List ℕ) (rest : List (List ℕ)) (e : LineError) → e ≡ errors.Faulty → Fails e (line_of statement_of line) → with_front front (lines_from line_read number (line ∷ rest)) ≡ Err number
+pub is_faulty_line : (front : List EventLine) (number : ℕ) (line : List ℕ) (rest : List (List ℕ)) (e : LineError) → e ≡ errors.Faulty → Fails e (line_of statement_of line) → with_front front (lines_from line_read number (line ∷ rest)) ≡ Err number
 is_faulty_line front number line rest error which fails =
     let e : line_of statement_of line ≡ None = subst (λ (f : LineError). Fails f (line_of statement_of line)) which fails in
     line_faulty line_read front number line rest errors.Faulty refl (line_made statement_of (read_line number) line None e)
 
-pub is_skipped_line : (front : List Line) (number : ℕ) (line : List ℕ) (rest : List (List ℕ)) (item : Option Statement) → item ≡ None → line_of statement_of line ≡ Some item
+pub is_skipped_line : (front : List EventLine) (number : ℕ) (line : List ℕ) (rest : List (List ℕ)) (item : Option EventStatement) → item ≡ None → line_of statement_of line ≡ Some item
     → with_front front (lines_from line_read (number + 1) rest) ≡ with_front front (lines_from line_read number (line ∷ rest))
 is_skipped_line front number line rest item none e =
-    let skipped : line_of statement_of line ≡ Some None = e ∙ ap (λ (o : Option Statement). Some o) none in
+    let skipped : line_of statement_of line ≡ Some None = e ∙ ap (λ (o : Option EventStatement). Some o) none in
     line_skipped line_read front number line rest None refl (line_made statement_of (read_line number) line (Some None) skipped)
 
-pub is_read_line : (front : List Line) (number : ℕ) (line : List ℕ) (rest : List (List ℕ)) (item : Option Statement) (statement : Statement) → item ≡ Some statement → line_of statement_of line ≡ Some item
+pub is_read_line : (front : List EventLine) (number : ℕ) (line : List ℕ) (rest : List (List ℕ)) (item : Option EventStatement) (statement : EventStatement) → item ≡ Some statement → line_of statement_of line ≡ Some item
     → with_front (front ++ read_line number statement ∷ []) (lines_from line_read (number + 1) rest) ≡ with_front front (lines_from line_read number (line ∷ rest))
 is_read_line front number line rest item statement which e =
-    let found : line_of statement_of line ≡ Some (Some statement) = e ∙ ap (λ (o : Option Statement). Some o) which in
+    let found : line_of statement_of line ≡ Some (Some statement) = e ∙ ap (λ (o : Option EventStatement). Some o) which in
     takes_line line_read front number line (read_line number statement) rest (line_made statement_of (read_line number) line (Some (Some statement)) found)

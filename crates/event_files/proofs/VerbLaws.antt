@@ -2,13 +2,13 @@
 use Rattle.std.proofs.Common.{◌≡◌, ℕ, false, Some, None, refl}
 use Rattle.std.specs.Prelude.{codes}
 use Rattle.std.specs.Str.{bytes_eq}
-use Rattle.line_words.specs.Grammar.{Word, IsNumeral}
-use Rattle.line_words.proofs.WordLaws.{Yields, step, yielded, same_word, no_letters}
-use Rattle.event_files.specs.declared.verb.Verb.{Verb}
-use Rattle.event_files.specs.declared.verb.Verb.TheVariants as verbs
+use Rattle.tokens.specs.Grammar.{Word, IsNumeral}
+use Rattle.tokens.proofs.WordLaws.{Yields, step, yielded, same_word, no_letters}
+use Rattle.event_files.specs.declared.verb.EventVerb.{EventVerb}
+use Rattle.event_files.specs.declared.verb.EventVerb.TheVariants as verbs
 use Rattle.event_files.specs.Reading.{verb_of}
 
-abbrev pub verb_word : Verb → Word
+abbrev pub verb_word : EventVerb → Word
 verb_word verbs.Deliver = codes "deliver"
 verb_word verbs.Tick = codes "tick"
 verb_word verbs.Stray = codes "stray"
@@ -17,16 +17,16 @@ verb_word verbs.Restart = codes "restart"
 verbs_are : (word : Word) → Yields (verb_of word) (λ verb. word ≡ verb_word verb)
 unfolding verb_of
 verbs_are word =
-    let P : Verb → Type 0 = λ verb. word ≡ verb_word verb in
+    let P : EventVerb → Type 0 = λ verb. word ≡ verb_word verb in
     step P (bytes_eq word (codes "deliver")) _ _ (same_word word (codes "deliver"))
     (step P (bytes_eq word (codes "tick")) _ _ (same_word word (codes "tick"))
     (step P (bytes_eq word (codes "stray")) _ _ (same_word word (codes "stray"))
     (step P (bytes_eq word (codes "restart")) _ _ (same_word word (codes "restart")) tt)))
 
-pub verb_takes : (word : Word) (verb : Verb) → verb_of word ≡ Some verb → word ≡ verb_word verb
+pub verb_takes : (word : Word) (verb : EventVerb) → verb_of word ≡ Some verb → word ≡ verb_word verb
 verb_takes word verb e = yielded (λ verb. word ≡ verb_word verb) (verb_of word) verb (verbs_are word) e
 
-pub verb_again : (verb : Verb) → verb_of (verb_word verb) ≡ Some verb
+pub verb_again : (verb : EventVerb) → verb_of (verb_word verb) ≡ Some verb
 unfolding verb_of
 verb_again verbs.Deliver = refl
 verb_again verbs.Tick = refl

@@ -1,16 +1,16 @@
 -- What a file of events says: `world N`, and behind it the lines that ask for something, each with its number.
 use Rattle.std.specs.Prelude.{◌≡◌, ◌⊎◌, ℕ, ◌+◌, List, [], ◌∷◌, Result, Ok, Err}
-use Rattle.line_words.specs.declared.fault.ParseError.{ParseError}
-use Rattle.line_words.specs.declared.fault.ParseError.TheVariants as errors
-use Rattle.line_words.specs.Grammar.{Word}
-use Rattle.line_words.specs.Lines.{lines_of}
-use Rattle.line_words.specs.Texts.{LineSays, LinesSay, IsFaulty, IsFirstFault}
-use Rattle.event_files.specs.declared.file.Line.{Line}
+use Rattle.tokens.specs.declared.fault.ParseError.{ParseError}
+use Rattle.tokens.specs.declared.fault.ParseError.TheVariants as errors
+use Rattle.tokens.specs.Grammar.{Word}
+use Rattle.tokens.specs.Lines.{lines_of}
+use Rattle.tokens.specs.Texts.{LineSays, LinesSay, IsFaulty, IsFirstFault}
+use Rattle.event_files.specs.declared.file.EventLine.{EventLine}
 use Rattle.event_files.specs.declared.file.EventFile.{EventFile}
 use Rattle.event_files.specs.Grammar.{SpellsStatement, IsWorld}
 
 -- the words of the line of this number say this line
-abbrev pub Says : ℕ → List Word → Line → Type 0
+abbrev pub Says : ℕ → List Word → EventLine → Type 0
 Says number words line = SpellsStatement words line.statement × (line.number ≡ number)
 
 -- the words of a line, whatever its number, say how many ranks the world has

@@ -1,9 +1,9 @@
 -- The grammar of files of events: which words ask for what.
 use Rattle.std.specs.Prelude.{◌≡◌, ◌⊎◌, ℕ, ◌+◌, ◌*◌, ◌<◌, ◌≤◌, List, [], ◌∷◌, codes}
 use Rattle.statements.specs.Grammar.{Spells}
-use Rattle.line_words.specs.Grammar.{Word, IsNumeral, IsCapped}
-use Rattle.event_files.specs.declared.file.Statement.{Statement}
-use Rattle.event_files.specs.declared.file.Statement.TheVariants as statements
+use Rattle.tokens.specs.Grammar.{Word, IsNumeral, IsCapped}
+use Rattle.event_files.specs.declared.file.EventStatement.{EventStatement}
+use Rattle.event_files.specs.declared.file.EventStatement.TheVariants as statements
 
 -- a lower-case hexadecimal digit, and its value
 abbrev pub IsDigit : ℕ → ℕ → Type 0
@@ -18,7 +18,7 @@ AreBytes (a ∷ b ∷ word) [] = ⊥
 AreBytes (a ∷ b ∷ word) (x ∷ xs) = (high low : ℕ) × IsDigit a high × IsDigit b low × (x ≡ 16 * high + low) × AreBytes word xs
 
 -- what the words of a line ask for
-abbrev pub SpellsStatement : List Word → Statement → Type 0
+abbrev pub SpellsStatement : List Word → EventStatement → Type 0
 SpellsStatement words (statements.Rank rank action) = (number : Word) × (rest : List Word) × (words ≡ number ∷ rest) × IsCapped 65535 number rank × Spells rest action
 SpellsStatement words (statements.Deliver datagram) = (number : Word) × (words ≡ codes "deliver" ∷ number ∷ []) × IsCapped 18446744073709551615 number datagram
 SpellsStatement words (statements.Tick rank now) =

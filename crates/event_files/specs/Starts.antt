@@ -1,20 +1,20 @@
 -- Reading a file of events: its start, and what stands behind it.
 use Rattle.std.specs.Prelude.{◌≡◌, ℕ, ◌+◌, ◌≤◌, List, [], ◌∷◌, length, drop, Option, Some, None, Result, Ok, Err}
-use Rattle.line_words.specs.declared.fault.ParseError.{ParseError}
-use Rattle.line_words.specs.Lines.{line_of, lines_from}
-use Rattle.line_words.specs.Results.{LineFails}
-use Rattle.event_files.specs.declared.file.Line.{Line}
+use Rattle.tokens.specs.declared.fault.ParseError.{ParseError}
+use Rattle.tokens.specs.Lines.{line_of, lines_from}
+use Rattle.tokens.specs.Results.{LineFails}
+use Rattle.event_files.specs.declared.file.EventLine.{EventLine}
 use Rattle.event_files.specs.declared.file.EventFile.{EventFile}
 use Rattle.event_files.specs.Reading.{size_of, line_read}
 
 -- a file of so many ranks and the lines that are read behind `world N`
-abbrev pub with_size : ℕ → Result (List Line) ℕ → Result EventFile ℕ
+abbrev pub with_size : ℕ → Result (List EventLine) ℕ → Result EventFile ℕ
 with_size size (Ok lines) = Ok (record { size = size; lines = lines })
 with_size size (Err number) = Err number
 
 -- what a line of this number gives, where none before it was `world N`: what the lines behind it give, or those behind it
 -- as lines that ask for something
-abbrev pub started : ℕ → Option (Option ℕ) → Result EventFile ℕ → Result (List Line) ℕ → Result EventFile ℕ
+abbrev pub started : ℕ → Option (Option ℕ) → Result EventFile ℕ → Result (List EventLine) ℕ → Result EventFile ℕ
 started number None later behind = Err number
 started number (Some None) later behind = later
 started number (Some (Some size)) later behind = with_size size behind

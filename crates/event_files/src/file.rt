@@ -10,7 +10,7 @@ use std::marker::Model;
 /// What a line asks for. The ranks that it names may be beyond the world's; a rank that 16 bits don't hold stands as the
 /// greatest number that they hold.
 #[derive(Drop)]
-pub enum Statement {
+pub enum EventStatement {
     /// `R ..`: a rank does something.
     Rank(u16, Action),
     /// `deliver D`: the datagram of this number is delivered. A number that 64 bits don't hold stands as the greatest that
@@ -26,54 +26,54 @@ pub enum Statement {
 
 /// A line that isn't skipped, and asks for something.
 #[derive(Drop)]
-pub struct Line {
+pub struct EventLine {
     /// The number of the line; the first line is 1, and skipped ones count.
     pub number: usize,
     /// What the line asks for.
-    pub statement: Statement,
+    pub statement: EventStatement,
 }
 
 /// Lines, in order. Contracts see them as a list.
 #[derive(Drop)]
-pub struct Lines {
-    items: Vec<Line>,
+pub struct EventLines {
+    items: Vec<EventLine>,
 }
 
-impl Model for Lines {
+impl Model for EventLines {
     ghost use Rattle.std.specs.Prelude.{List};
-    ghost use Rattle.event_files.specs.declared.file.Line.{Line};
+    ghost use Rattle.event_files.specs.declared.file.EventLine.{EventLine};
 
-    ghost Value = { List Line };
+    ghost Value = { List EventLine };
 
     ghost view = { λ l. l.items.items };
 }
 
-impl Lines {
+impl EventLines {
     /// No lines. It takes no memory.
-    pub(crate) fn new(alloc: Global) -> Lines
+    pub(crate) fn new(alloc: Global) -> EventLines
         ensures { result ≡ [] }
     {
-        Lines {
+        EventLines {
             items: Vec::new(alloc),
         }
     }
 
     /// Adds a line at the end.
-    pub(crate) fn push(&mut self, line: Line) -> Result<(), AllocFailed<Line>>
+    pub(crate) fn push(&mut self, line: EventLine) -> Result<(), AllocFailed<EventLine>>
         ensures { OnOk result (self.new ≡ self.old ++ line ∷ []) }
     {
         self.items.push(line)
     }
 
     /// The lines, in order.
-    pub fn as_slice(&self) -> &[Line]
+    pub fn as_slice(&self) -> &[EventLine]
         ensures { result.now ≡ self.now }
     {
         self.items.as_slice()
     }
 
     /// The lines, in order, each of which can be moved out.
-    pub fn into_vec(self) -> Vec<Line>
+    pub fn into_vec(self) -> Vec<EventLine>
         ensures { result.items ≡ self }
     {
         self.items
@@ -86,5 +86,5 @@ pub struct EventFile {
     /// How many ranks the world has: 1 to 1,024.
     pub size: u16,
     /// The lines behind `world N` that aren't skipped.
-    pub lines: Lines,
+    pub lines: EventLines,
 }

@@ -1,11 +1,11 @@
 //! Bytes in hexadecimal digits.
 
 ghost use Rattle.std.specs.Prelude.{◌≡◌, ◌<◌, IfSome, IfOk};
-ghost use Rattle.line_words.specs.Results.{Gives};
+ghost use Rattle.tokens.specs.Results.{Gives};
 ghost use Rattle.event_files.specs.Reading.{digit_of, bytes_of};
 
 use datagram::Bytes;
-use line_words::{LineError, required};
+use tokens::{LineError, require};
 use std::alloc::Global;
 
 /// The value of a lower-case hexadecimal digit.
@@ -43,5 +43,5 @@ fn required_digit(byte: u8) -> Result<u8, LineError>
     ensures value { Gives (λ x. x) result (digit_of byte) }
     ensures within { IfOk result (λ value. value < 16) }
 {
-    required(digit_of(byte))
+    require(digit_of(byte))
 }

@@ -9,11 +9,11 @@ mod parsing;
 mod reading;
 mod verb;
 
-pub use file::{EventFile, Line, Lines, Statement};
-pub use line_words::{Name, ParseError};
+pub use file::{EventFile, EventLine, EventLines, EventStatement};
+pub use tokens::{Name, ParseError};
 pub use parsing::parse;
 pub use statements::{
-    Action, Blocks, Broadcasting, BufferLine, Communicator, Gathering, LayoutForm, LayoutLine,
-    OldLayout, Operation, Receiving, Reducing, ReducingToAll, Requested, RequestedList, Scattering,
-    Sending, Splitting, Stripes, Through,
+    Action, Blocks, Broadcasting, BufferLine, CommunicatorName, Gathering, LayoutForm, LayoutLine,
+    OldLayout, Operation, Receiving, Reducing, ReducingToAll, RequestName, RequestNames, Scattering,
+    Sending, Splitting, Stripes, LayoutClause,
 };

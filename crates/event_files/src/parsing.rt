@@ -1,21 +1,21 @@
 //! Reading a file of events.
 
 ghost use Rattle.std.specs.Prelude.{◌≡◌, ◌≤◌, ◌+◌, ◌∷◌, List, ℕ, length, drop, map, OnOk, IfErr};
-ghost use Rattle.line_words.specs.Lines.{line_of, lines_from, with_front, lines_of};
-ghost use Rattle.line_words.specs.Results.{Gives, GivesLines, LineFails};
+ghost use Rattle.tokens.specs.Lines.{line_of, lines_from, with_front, lines_of};
+ghost use Rattle.tokens.specs.Results.{Gives, GivesLines, LineFails};
 ghost use Rattle.event_files.specs.Reading.{statement_of, size_of, line_read};
 ghost use Rattle.event_files.specs.Files.{Answers, IsAnsweredBy, FileSays};
 ghost use Rattle.event_files.specs.Starts.{file_from, StartGives};
 ghost use Rattle.event_files.specs.declared.file.EventFile.{EventFile};
 
-use crate::file::{EventFile, Line, Lines, Statement};
+use crate::file::{EventFile, EventLine, EventLines, EventStatement};
 use crate::reading::{size_of, statement_of};
-use line_words::{LineError, ParseError, lines_of, said_in};
+use tokens::{LineError, ParseError, lines_of, said_in};
 use std::alloc::Global;
 
 /// What a line asks for, if it isn't skipped.
-#[tactic(auto, unfolding(line_words::specs::Lines::line_of))]
-fn statement_in(alloc: Global, line: &[u8]) -> Result<Option<Statement>, LineError>
+#[tactic(auto, unfolding(tokens::specs::Lines::line_of))]
+fn statement_in(alloc: Global, line: &[u8]) -> Result<Option<EventStatement>, LineError>
     ensures { Gives (λ x. x) result (line_of statement_of line.now) }
 {
     match said_in(alloc, line)? {
@@ -25,7 +25,7 @@ fn statement_in(alloc: Global, line: &[u8]) -> Result<Option<Statement>, LineErr
 }
 
 /// How many ranks a line asks for, if it isn't skipped.
-#[tactic(auto, unfolding(line_words::specs::Lines::line_of))]
+#[tactic(auto, unfolding(tokens::specs::Lines::line_of))]
 fn size_in(alloc: Global, line: &[u8]) -> Result<Option<u16>, LineError>
     ensures { Gives (λ x. x) result (line_of size_of line.now) }
 {
@@ -51,7 +51,7 @@ fn start_of(alloc: Global, lines: &[&[u8]]) -> Result<(u16, usize), ParseError>
 }
 
 /// Takes one more line.
-fn take_line(alloc: Global, lines: &mut Lines, number: usize, line: &[u8]) -> Result<(), ParseError>
+fn take_line(alloc: Global, lines: &mut EventLines, number: usize, line: &[u8]) -> Result<(), ParseError>
     ensures ok { OnOk result ((rest : List (List ℕ)) →
         with_front lines.new (lines_from line_read (number + 1) rest) ≡ with_front lines.old (lines_from line_read number (line.now ∷ rest))) }
     ensures err { IfErr result (λ e. (rest : List (List ℕ)) → LineFails e (with_front lines.old (lines_from line_read number (line.now ∷ rest)))) }
@@ -61,18 +61,18 @@ fn take_line(alloc: Global, lines: &mut Lines, number: usize, line: &[u8]) -> Re
         Err(LineError::OutOfMemory) => Err(ParseError::OutOfMemory),
         Ok(None) => Ok(()),
         Ok(Some(statement)) => {
-            lines.push(Line { number, statement })?;
+            lines.push(EventLine { number, statement })?;
             Ok(())
         }
     }
 }
 
 /// What the lines from this place on ask for.
-fn lines_behind(alloc: Global, lines: &[&[u8]], from: usize) -> Result<Lines, ParseError>
+fn lines_behind(alloc: Global, lines: &[&[u8]], from: usize) -> Result<EventLines, ParseError>
     requires { from ≤ length lines.now }
     ensures { GivesLines (λ x. x) result (lines_from line_read (from + 1) (drop from (map (λ line. line.now) lines.now))) }
 {
-    let mut read = Lines::new(alloc);
+    let mut read = EventLines::new(alloc);
     for place in from..lines.len() {
         take_line(alloc, &mut read, place + 1, lines[place])?;
     }

@@ -1,94 +1,94 @@
 //! What a line asks for, by its words.
 
 ghost use Rattle.std.specs.Prelude.{◌≡◌, ◌≤◌, IfOk};
-ghost use Rattle.line_words.specs.Results.{Gives};
+ghost use Rattle.tokens.specs.Results.{Gives};
 ghost use Rattle.event_files.specs.Reading.{delivery_of, tick_of, stray_of, restart_of, act_of, statement_of, size_of};
 
-use crate::file::Statement;
+use crate::file::EventStatement;
 use crate::hexadecimal::bytes_of;
-use crate::verb::{Verb, verb_of};
-use line_words::{LineError, Word, ended, first, is, number_or, number_up_to, rank_of, required};
+use crate::verb::{EventVerb, verb_of};
+use tokens::{LineError, Token, end_of_line, first, is, number_or, number_up_to, rank_of, require};
 use statements::action_of;
 use std::alloc::Global;
 
 /// `D`
 #[tactic(auto, unfolding(crate::specs::Reading::delivery_of))]
-fn delivery_of(words: &[Word]) -> Result<Statement, LineError>
+fn delivery_of(words: &[Token]) -> Result<EventStatement, LineError>
     ensures { Gives (λ x. x) result (delivery_of words.now) }
 {
     let (datagram, rest) = first(words)?;
-    ended(rest)?;
-    let datagram = required(number_or(datagram, u64::MAX))?;
-    Ok(Statement::Deliver(datagram as usize))
+    end_of_line(rest)?;
+    let datagram = require(number_or(datagram, u64::MAX))?;
+    Ok(EventStatement::Deliver(datagram as usize))
 }
 
 /// `R NOW`
 #[tactic(auto, unfolding(crate::specs::Reading::tick_of))]
-fn tick_of(words: &[Word]) -> Result<Statement, LineError>
+fn tick_of(words: &[Token]) -> Result<EventStatement, LineError>
     ensures { Gives (λ x. x) result (tick_of words.now) }
 {
     let (rank, rest) = first(words)?;
     let (now, rest) = first(rest)?;
-    ended(rest)?;
+    end_of_line(rest)?;
     let rank = rank_of(rank)?;
-    let now = required(number_up_to(now, u64::MAX))?;
-    Ok(Statement::Tick(rank, now))
+    let now = require(number_up_to(now, u64::MAX))?;
+    Ok(EventStatement::Tick(rank, now))
 }
 
 /// `R HEX`
 #[tactic(auto, unfolding(crate::specs::Reading::stray_of))]
-fn stray_of(alloc: Global, words: &[Word]) -> Result<Statement, LineError>
+fn stray_of(alloc: Global, words: &[Token]) -> Result<EventStatement, LineError>
     ensures { Gives (λ x. x) result (stray_of words.now) }
 {
     let (rank, rest) = first(words)?;
     let (bytes, rest) = first(rest)?;
-    ended(rest)?;
+    end_of_line(rest)?;
     let rank = rank_of(rank)?;
-    Ok(Statement::Stray(rank, bytes_of(alloc, bytes)?))
+    Ok(EventStatement::Stray(rank, bytes_of(alloc, bytes)?))
 }
 
 /// `R`
 #[tactic(auto, unfolding(crate::specs::Reading::restart_of))]
-fn restart_of(words: &[Word]) -> Result<Statement, LineError>
+fn restart_of(words: &[Token]) -> Result<EventStatement, LineError>
     ensures { Gives (λ x. x) result (restart_of words.now) }
 {
     let (rank, rest) = first(words)?;
-    ended(rest)?;
-    Ok(Statement::Restart(rank_of(rank)?))
+    end_of_line(rest)?;
+    Ok(EventStatement::Restart(rank_of(rank)?))
 }
 
 /// What the rank of this word does.
 #[tactic(auto, unfolding(crate::specs::Reading::act_of))]
-fn act_of(alloc: Global, rank: &[u8], words: &[Word]) -> Result<Statement, LineError>
+fn act_of(alloc: Global, rank: &[u8], words: &[Token]) -> Result<EventStatement, LineError>
     ensures { Gives (λ x. x) result (act_of rank.now words.now) }
 {
     let rank = rank_of(rank)?;
-    Ok(Statement::Rank(rank, action_of(alloc, words)?))
+    Ok(EventStatement::Rank(rank, action_of(alloc, words)?))
 }
 
 /// What a line asks for, by its words.
 #[tactic(auto, unfolding(crate::specs::Reading::statement_of))]
-pub(crate) fn statement_of(alloc: Global, words: &[Word]) -> Result<Statement, LineError>
+pub(crate) fn statement_of(alloc: Global, words: &[Token]) -> Result<EventStatement, LineError>
     ensures { Gives (λ x. x) result (statement_of words.now) }
 {
     let (word, rest) = first(words)?;
     match verb_of(word) {
         None => act_of(alloc, word, rest),
-        Some(Verb::Deliver) => delivery_of(rest),
-        Some(Verb::Tick) => tick_of(rest),
-        Some(Verb::Stray) => stray_of(alloc, rest),
-        Some(Verb::Restart) => restart_of(rest),
+        Some(EventVerb::Deliver) => delivery_of(rest),
+        Some(EventVerb::Tick) => tick_of(rest),
+        Some(EventVerb::Stray) => stray_of(alloc, rest),
+        Some(EventVerb::Restart) => restart_of(rest),
     }
 }
 
 /// `world N`: how many ranks the world has.
 #[tactic(auto, unfolding(crate::specs::Reading::size_of))]
-pub(crate) fn size_of(words: &[Word]) -> Result<u16, LineError>
+pub(crate) fn size_of(words: &[Token]) -> Result<u16, LineError>
     ensures { Gives (λ x. x) result (size_of words.now) }
 {
     let (verb, rest) = first(words)?;
     let (size, rest) = first(rest)?;
-    ended(rest)?;
+    end_of_line(rest)?;
     if !is(verb, b"world") {
         return Err(LineError::Faulty);
     }

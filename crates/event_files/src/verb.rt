@@ -3,11 +3,11 @@
 ghost use Rattle.std.specs.Prelude.{◌≡◌};
 ghost use Rattle.event_files.specs.Reading.{verb_of};
 
-use line_words::is;
+use tokens::is;
 
 /// The event that a line asks for, by its first word.
 #[derive(Clone, Copy)]
-pub(crate) enum Verb {
+pub(crate) enum EventVerb {
     /// `deliver`
     Deliver,
     /// `tick`
@@ -20,17 +20,17 @@ pub(crate) enum Verb {
 
 /// The event that the first word asks for, if it is no rank.
 #[tactic(auto, unfolding(crate::specs::Reading::verb_of))]
-pub(crate) fn verb_of(word: &[u8]) -> Option<Verb>
+pub(crate) fn verb_of(word: &[u8]) -> Option<EventVerb>
     ensures { result ≡ verb_of word.now }
 {
     if is(word, b"deliver") {
-        Some(Verb::Deliver)
+        Some(EventVerb::Deliver)
     } else if is(word, b"tick") {
-        Some(Verb::Tick)
+        Some(EventVerb::Tick)
     } else if is(word, b"stray") {
-        Some(Verb::Stray)
+        Some(EventVerb::Stray)
     } else if is(word, b"restart") {
-        Some(Verb::Restart)
+        Some(EventVerb::Restart)
     } else {
         None
     }

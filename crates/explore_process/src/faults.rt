@@ -1,6 +1,6 @@
 //! What is told on the standard error.
 
-use fault_lines::{explanation, line_at, script_fault};
+use line_diagnostics::{explanation, line_at, script_fault};
 use std::alloc::Global;
 use std::str;
 

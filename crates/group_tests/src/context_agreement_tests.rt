@@ -1,6 +1,6 @@
 //! The worked contexts and splits, and each call with ample memory.
 
-use context_agreement::{Communicator, Context, Contexts, Part, SplitRow, split_plan};
+use context_agreement::{Communicator, Context, Contexts, SplitPart, SplitRow, split_plan};
 use groups::Group;
 use std::alloc::Global;
 
@@ -117,7 +117,7 @@ fn communicators_have_places_in_order(rt: HostRuntime) {
 
 /// The number of the context that is given once so many others are.
 fn coming(contexts: &Contexts, further: u64) -> Option<u64> {
-    match contexts.coming(further) {
+    match contexts.next_context(further) {
         Some(context) => Some(context.number()),
         None => None,
     }
@@ -204,7 +204,7 @@ fn is_planned(alloc: Global, rows: &[SplitRow], parts: &[(u32, &[u16])]) -> bool
     }
 }
 
-fn is_part(both: (&Part, &(u32, &[u16]))) -> bool {
+fn is_part(both: (&SplitPart, &(u32, &[u16]))) -> bool {
     let (part, wanted) = both;
     part.colour() == wanted.0 && part.ranks() == wanted.1
 }

@@ -1,6 +1,6 @@
 //! The worked groups, and each call with ample memory.
 
-use groups::{Comparison, Group, Refused};
+use groups::{GroupComparison, Group, GroupRefusal};
 use std::alloc::Global;
 use std::process::Abort;
 
@@ -10,7 +10,7 @@ fn group(rt: &impl Abort, alloc: Global, ranks: &[u16]) -> Group {
 }
 
 /// Whether a group that was made holds just these ranks, in this order.
-fn has(made: Result<Group, Refused>, ranks: &[u16]) -> bool {
+fn has(made: Result<Group, GroupRefusal>, ranks: &[u16]) -> bool {
     match made {
         Ok(group) => group.ranks() == ranks,
         Err(_) => false,
@@ -18,7 +18,7 @@ fn has(made: Result<Group, Refused>, ranks: &[u16]) -> bool {
 }
 
 /// The number with which a group was refused.
-fn number(made: Result<Group, Refused>) -> Option<u8> {
+fn number(made: Result<Group, GroupRefusal>) -> Option<u8> {
     match made {
         Ok(_) => None,
         Err(refused) => Some(refused.number()),
@@ -59,7 +59,7 @@ fn ranks_are_translated(rt: HostRuntime) {
 }
 
 /// How a group of these ranks compares with another.
-fn compared(rt: &impl Abort, alloc: Global, a: &Group, ranks: &[u16]) -> Comparison {
+fn compared(rt: &impl Abort, alloc: Global, a: &Group, ranks: &[u16]) -> GroupComparison {
     a.compare(&group(rt, alloc, ranks))
 }
 
@@ -73,7 +73,7 @@ fn groups_are_compared(rt: HostRuntime) {
     ];
     assert_eq!(rt;
         answers,
-        [Comparison::Ident, Comparison::Similar, Comparison::Unequal]
+        [GroupComparison::Ident, GroupComparison::Similar, GroupComparison::Unequal]
     );
 }
 
@@ -141,7 +141,7 @@ fn groups_are_read(rt: HostRuntime) {
 }
 
 /// How many members there are once all stand behind one of them, and how that compares.
-fn turned(last: &Group, world: &Group) -> Option<(usize, Comparison)> {
+fn turned(last: &Group, world: &Group) -> Option<(usize, GroupComparison)> {
     match last.union(world) {
         Ok(turned) => Some((turned.len(), turned.compare(world))),
         Err(_) => None,
@@ -152,5 +152,5 @@ fn turned(last: &Group, world: &Group) -> Option<(usize, Comparison)> {
 fn a_thousand_members_need_an_allocation(rt: HostRuntime) {
     let world = Group::of_first_ranks(rt.alloc(), 1024).expect(&rt, "a group");
     let last = Group::of_rank(rt.alloc(), 1023);
-    assert_eq!(rt; turned(&last, &world), Some((1024, Comparison::Similar)));
+    assert_eq!(rt; turned(&last, &world), Some((1024, GroupComparison::Similar)));
 }

@@ -2,7 +2,7 @@
 
 /// How two groups compare (MPI 3.1, 6.3.1).
 #[derive(Clone, Copy, Debug, PartialEq, Eq)]
-pub enum Comparison {
+pub enum GroupComparison {
     /// The same members in the same order.
     Ident,
     /// The same members in another order.

@@ -6,11 +6,11 @@ ghost use Rattle.groups.specs.Comparisons.{ComparesAs};
 ghost use Rattle.groups.specs.Groups.{HasNoRepeats, is_member, union_of, intersection_of, difference_of, members_at, members_elsewhere, position_of, translation};
 ghost use Rattle.groups.specs.Makings.{MakesGroup, SelectsGroup};
 
-use crate::comparison::Comparison;
+use crate::comparison::GroupComparison;
 use crate::distinct::has_no_repeats;
-use crate::refused::Refused;
+use crate::refusal::GroupRefusal;
 use crate::selection::{
-    INLINE, appended, at_positions, count, elsewhere, first_fault, first_ranks, holds_all,
+    INLINE, append_selected, at_positions, count, other_positions, first_fault, first_ranks, holds_all,
     is_among, place_of,
 };
 use smallvec::SmallVec;
@@ -37,16 +37,16 @@ impl Model for Group {
 
 impl Group {
     /// The group of these world ranks, in this order. A rank that is repeated is
-    /// `Refused::Repeated`.
-    pub fn from_ranks(alloc: Global, ranks: &[u16]) -> Result<Self, Refused>
+    /// `GroupRefusal::Repeated`.
+    pub fn from_ranks(alloc: Global, ranks: &[u16]) -> Result<Self, GroupRefusal>
         ensures exact { MakesGroup ranks.now result }
     {
         if !has_no_repeats(ranks) {
-            return Err(Refused::Repeated);
+            return Err(GroupRefusal::Repeated);
         }
         match SmallVec::from_slice(alloc, ranks) {
             Ok(members) => Ok(Group { members }),
-            Err(_) => Err(Refused::OutOfMemory),
+            Err(_) => Err(GroupRefusal::OutOfMemory),
         }
     }
 
@@ -60,24 +60,24 @@ impl Group {
     }
 
     /// The group of the first `size` world ranks in order, as that of the `world` communicator.
-    pub fn of_first_ranks(alloc: Global, size: u16) -> Result<Self, Refused>
+    pub fn of_first_ranks(alloc: Global, size: u16) -> Result<Self, GroupRefusal>
         ensures ok { IfOk result (λ group. group ≡ range_with_len 0 size) }
-        ensures err { IsOkUnless result Refused.OutOfMemory }
+        ensures err { IsOkUnless result GroupRefusal.OutOfMemory }
     {
         match first_ranks(alloc, size) {
             Ok(members) => Ok(Group { members }),
-            Err(_) => Err(Refused::OutOfMemory),
+            Err(_) => Err(GroupRefusal::OutOfMemory),
         }
     }
 
     /// The same group once more.
-    pub fn try_clone(&self) -> Result<Self, Refused>
+    pub fn try_clone(&self) -> Result<Self, GroupRefusal>
         ensures ok { IfOk result (λ group. group ≡ self.now) }
-        ensures err { IsOkUnless result Refused.OutOfMemory }
+        ensures err { IsOkUnless result GroupRefusal.OutOfMemory }
     {
         match SmallVec::from_slice(*self.members.allocator(), self.ranks()) {
             Ok(members) => Ok(Group { members }),
-            Err(_) => Err(Refused::OutOfMemory),
+            Err(_) => Err(GroupRefusal::OutOfMemory),
         }
     }
 
@@ -127,9 +127,9 @@ impl Group {
 
     /// The group of the members at these positions, in the order of the positions (MPI 3.1, 6.3.2).
     ///
-    /// A position that isn't there is `Refused::NoSuchPosition`, and comes first; a position that
-    /// is repeated is `Refused::Repeated`.
-    pub fn incl(&self, positions: &[u16]) -> Result<Self, Refused>
+    /// A position that isn't there is `GroupRefusal::NoSuchPosition`, and comes first; a position that
+    /// is repeated is `GroupRefusal::Repeated`.
+    pub fn incl(&self, positions: &[u16]) -> Result<Self, GroupRefusal>
         ensures exact { SelectsGroup self.now positions.now
             (members_at self.now positions.now) result }
     {
@@ -139,13 +139,13 @@ impl Group {
         }
         match at_positions(*self.members.allocator(), ranks, positions) {
             Ok(members) => Ok(Group { members }),
-            Err(_) => Err(Refused::OutOfMemory),
+            Err(_) => Err(GroupRefusal::OutOfMemory),
         }
     }
 
     /// The group of the members at all other positions, in the group's order (MPI 3.1, 6.3.2). It
     /// is refused as `incl` is.
-    pub fn excl(&self, positions: &[u16]) -> Result<Self, Refused>
+    pub fn excl(&self, positions: &[u16]) -> Result<Self, GroupRefusal>
         ensures exact { SelectsGroup self.now positions.now
             (members_elsewhere self.now positions.now) result }
     {
@@ -153,49 +153,49 @@ impl Group {
         if let Some(fault) = first_fault(positions, ranks.len()) {
             return Err(fault);
         }
-        match elsewhere(*self.members.allocator(), ranks, positions) {
+        match other_positions(*self.members.allocator(), ranks, positions) {
             Ok(members) => Ok(Group { members }),
-            Err(_) => Err(Refused::OutOfMemory),
+            Err(_) => Err(GroupRefusal::OutOfMemory),
         }
     }
 
     /// This group's members, then those of the other group that aren't in this one (MPI 3.1,
     /// 6.3.2).
-    pub fn union(&self, other: &Group) -> Result<Self, Refused>
+    pub fn union(&self, other: &Group) -> Result<Self, GroupRefusal>
         ensures ok { IfOk result (λ group. group ≡ union_of self.now other.now) }
-        ensures err { IsOkUnless result Refused.OutOfMemory }
+        ensures err { IsOkUnless result GroupRefusal.OutOfMemory }
     {
         let first = self.ranks();
         let second = other.ranks();
-        match appended(*self.members.allocator(), first, second, first, false) {
+        match append_selected(*self.members.allocator(), first, second, first, false) {
             Ok(members) => Ok(Group { members }),
-            Err(_) => Err(Refused::OutOfMemory),
+            Err(_) => Err(GroupRefusal::OutOfMemory),
         }
     }
 
     /// This group's members that are in the other group, in this group's order (MPI 3.1, 6.3.2).
-    pub fn intersection(&self, other: &Group) -> Result<Self, Refused>
+    pub fn intersection(&self, other: &Group) -> Result<Self, GroupRefusal>
         ensures ok { IfOk result (λ group. group ≡ intersection_of self.now other.now) }
-        ensures err { IsOkUnless result Refused.OutOfMemory }
+        ensures err { IsOkUnless result GroupRefusal.OutOfMemory }
     {
         let first = self.ranks();
         let second = other.ranks();
-        match appended(*self.members.allocator(), &[], first, second, true) {
+        match append_selected(*self.members.allocator(), &[], first, second, true) {
             Ok(members) => Ok(Group { members }),
-            Err(_) => Err(Refused::OutOfMemory),
+            Err(_) => Err(GroupRefusal::OutOfMemory),
         }
     }
 
     /// This group's members that aren't in the other group, in this group's order (MPI 3.1, 6.3.2).
-    pub fn difference(&self, other: &Group) -> Result<Self, Refused>
+    pub fn difference(&self, other: &Group) -> Result<Self, GroupRefusal>
         ensures ok { IfOk result (λ group. group ≡ difference_of self.now other.now) }
-        ensures err { IsOkUnless result Refused.OutOfMemory }
+        ensures err { IsOkUnless result GroupRefusal.OutOfMemory }
     {
         let first = self.ranks();
         let second = other.ranks();
-        match appended(*self.members.allocator(), &[], first, second, false) {
+        match append_selected(*self.members.allocator(), &[], first, second, false) {
             Ok(members) => Ok(Group { members }),
-            Err(_) => Err(Refused::OutOfMemory),
+            Err(_) => Err(GroupRefusal::OutOfMemory),
         }
     }
 
@@ -212,18 +212,18 @@ impl Group {
 
     /// How this group compares with another (MPI 3.1, 6.3.1). It takes no memory, and one pass over
     /// each.
-    pub fn compare(&self, other: &Group) -> Comparison
+    pub fn compare(&self, other: &Group) -> GroupComparison
         ensures { ComparesAs self.now other.now result }
     {
         let first = self.ranks();
         let second = other.ranks();
         if first == second {
-            return Comparison::Ident;
+            return GroupComparison::Ident;
         }
         if first.len() == second.len() && holds_all(first, second) {
-            Comparison::Similar
+            GroupComparison::Similar
         } else {
-            Comparison::Unequal
+            GroupComparison::Unequal
         }
     }
 }

@@ -5,9 +5,9 @@ mod comparison;
 mod distinct;
 mod group;
 mod rank_set;
-mod refused;
+mod refusal;
 mod selection;
 
-pub use comparison::Comparison;
+pub use comparison::GroupComparison;
 pub use group::Group;
-pub use refused::Refused;
+pub use refusal::GroupRefusal;

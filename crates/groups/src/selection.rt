@@ -7,7 +7,7 @@ ghost use Rattle.groups.specs.Makings.{IsFirstFault, passes};
 
 use crate::distinct::has_no_repeats;
 use crate::rank_set::RankSet;
-use crate::refused::Refused;
+use crate::refusal::GroupRefusal;
 use smallvec::SmallVec;
 use std::alloc::{AllocError, Global};
 
@@ -15,7 +15,7 @@ use std::alloc::{AllocError, Global};
 pub(crate) const INLINE: usize = 16;
 
 /// The first thing that is wrong with these positions in a group of this many members.
-pub(crate) fn first_fault(positions: &[u16], len: usize) -> Option<Refused>
+pub(crate) fn first_fault(positions: &[u16], len: usize) -> Option<GroupRefusal>
     ensures { MatchOption result (All (λ p. p < len) positions.now × HasNoRepeats positions.now)
         (IsFirstFault len positions.now) }
 {
@@ -23,10 +23,10 @@ pub(crate) fn first_fault(positions: &[u16], len: usize) -> Option<Refused>
         .iter()
         .all(|position| usize::from(*position) < len)
     {
-        return Some(Refused::NoSuchPosition);
+        return Some(GroupRefusal::NoSuchPosition);
     }
     if !has_no_repeats(positions) {
-        return Some(Refused::Repeated);
+        return Some(GroupRefusal::Repeated);
     }
     None
 }
@@ -48,7 +48,7 @@ pub(crate) fn at_positions(
 }
 
 /// The ranks at all other positions, in their order.
-pub(crate) fn elsewhere(
+pub(crate) fn other_positions(
     alloc: Global,
     ranks: &[u16],
     positions: &[u16],
@@ -68,7 +68,7 @@ pub(crate) fn elsewhere(
 
 /// The first ranks, and then those of the second that are among the given ones, or that aren't, as
 /// is wanted.
-pub(crate) fn appended(
+pub(crate) fn append_selected(
     alloc: Global,
     first: &[u16],
     second: &[u16],

@@ -4,7 +4,7 @@ use Rattle.std.proofs.lemmas.Grind.{common_steps}
 use Rattle.std.proofs.lemmas.List.{get_or-set_same}
 use Rattle.std.specs.Prelude.{slice_index, slice_set}
 use Rattle.datagram.specs.declared.datagram.Header.{Header}
-use Rattle.incarnation.specs.declared.refused.Refused.TheVariants.{StaleSource}
+use Rattle.incarnation.specs.declared.refusal.IncarnationRefusal.TheVariants.{StaleSource}
 use Rattle.incarnation.specs.declared.judgement.Judgement.TheVariants.{Current, Learn}
 use Rattle.incarnation.specs.Knowing.{Knowledge, known_at, after_learn}
 use Rattle.incarnation.specs.Judging.{judgement}

@@ -2,8 +2,8 @@
 use Rattle.std.specs.Prelude.{◌≡◌, ◌≢◌, ℕ, ◌<◌, ◌≤◌, Bool, false, nat_lt, nat_le, ◌==◌, Result, Ok, Err, if◌then◌else◌}
 use Rattle.datagram.specs.declared.datagram.Header.{Header}
 use Rattle.incarnation.specs.declared.place.Place.{Place}
-use Rattle.incarnation.specs.declared.refused.Refused.{Refused}
-use Rattle.incarnation.specs.declared.refused.Refused.TheVariants.{Limit, OutOfMemory, ForeignJob, NotForMe, StaleSource, StaleTarget}
+use Rattle.incarnation.specs.declared.refusal.IncarnationRefusal.{IncarnationRefusal}
+use Rattle.incarnation.specs.declared.refusal.IncarnationRefusal.TheVariants.{Limit, OutOfMemory, ForeignJob, NotForMe, StaleSource, StaleTarget}
 use Rattle.incarnation.specs.declared.judgement.Judgement.{Judgement}
 use Rattle.incarnation.specs.declared.judgement.Judgement.TheVariants.{Current, Learn}
 use Rattle.incarnation.specs.Knowing.{Knowledge, known_at}
@@ -27,7 +27,7 @@ pub record IsMeantForMe (place : Place) (h : Header) : Type 0 where
 
 -- what is answered, and when. A refusal comes only where no earlier one does: the job first, then
 -- the ranks and an incarnation that has not begun, then a former source, then a former target.
-abbrev pub JudgeGives : Knowledge → Header → Result Judgement Refused → Type 0
+abbrev pub JudgeGives : Knowledge → Header → Result Judgement IncarnationRefusal → Type 0
 JudgeGives k h (Ok Current) =
     IsMeantForMe k.place h × (h.source.incarnation ≡ known_at k h.source.rank)
 JudgeGives k h (Ok (Learn incarnation)) =
@@ -51,7 +51,7 @@ JudgeGives k h (Err OutOfMemory) = ⊥
 -- ---- the same as a function
 
 -- a refusal, unless the test holds
-abbrev pub guard : {A : Type 0} → Bool → Refused → Result A Refused → Result A Refused
+abbrev pub guard : {A : Type 0} → Bool → IncarnationRefusal → Result A IncarnationRefusal → Result A IncarnationRefusal
 guard test refused next = if test then next else Err refused
 
 -- whether the rank is another one of the job
@@ -59,7 +59,7 @@ abbrev pub is_other : Place → ℕ → Bool
 is_other place rank = if rank == place.endpoint.rank then false else nat_lt rank place.size
 
 -- the first rule that is broken, or else what the source's incarnation says
-unfoldable pub judgement : Knowledge → Header → Result Judgement Refused
+unfoldable pub judgement : Knowledge → Header → Result Judgement IncarnationRefusal
 judgement k h =
     guard (h.job == k.place.job) ForeignJob
     (guard (h.target.rank == k.place.endpoint.rank) NotForMe

@@ -1,7 +1,7 @@
 -- What holds however much is learnt: laws over whole lists of learns.
 use Rattle.std.specs.Prelude.{◌≡◌, ℕ, ◌≤◌, List, [], ◌∷◌, length, Ok, Err}
 use Rattle.datagram.specs.declared.datagram.Header.{Header}
-use Rattle.incarnation.specs.declared.refused.Refused.TheVariants.{StaleSource}
+use Rattle.incarnation.specs.declared.refusal.IncarnationRefusal.TheVariants.{StaleSource}
 use Rattle.incarnation.specs.declared.judgement.Judgement.{Judgement}
 use Rattle.incarnation.specs.declared.judgement.Judgement.TheVariants.{Current, Learn}
 use Rattle.incarnation.specs.Knowing.{Knowledge, known_at, after_learn}

@@ -1,10 +1,10 @@
 -- The number of each refusal.
 use Rattle.std.specs.Prelude.{ℕ}
-use Rattle.incarnation.specs.declared.refused.Refused.{Refused}
-use Rattle.incarnation.specs.declared.refused.Refused.TheVariants.{Limit, OutOfMemory, ForeignJob, NotForMe, StaleSource, StaleTarget}
+use Rattle.incarnation.specs.declared.refusal.IncarnationRefusal.{IncarnationRefusal}
+use Rattle.incarnation.specs.declared.refusal.IncarnationRefusal.TheVariants.{Limit, OutOfMemory, ForeignJob, NotForMe, StaleSource, StaleTarget}
 
 -- the number that a call answers
-abbrev pub number_of_refusal : Refused → ℕ
+abbrev pub number_of_refusal : IncarnationRefusal → ℕ
 number_of_refusal Limit = 13
 number_of_refusal OutOfMemory = 14
 number_of_refusal ForeignJob = 26

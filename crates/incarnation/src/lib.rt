@@ -6,11 +6,11 @@ mod laws;
 mod next;
 mod peers;
 mod place;
-mod refused;
+mod refusal;
 
 pub use judgement::Judgement;
 pub use laws::{known_never_falls, stale_sources_stay_stale, what_is_handled_is_known};
 pub use next::next_incarnation;
 pub use peers::Peers;
 pub use place::Place;
-pub use refused::Refused;
+pub use refusal::IncarnationRefusal;

@@ -6,13 +6,20 @@ ghost use Rattle.incarnation.specs.Judging.{JudgeGives, judgement};
 
 use crate::judgement::Judgement;
 use crate::place::Place;
-use crate::refused::Refused;
+use crate::refusal::IncarnationRefusal;
 use datagram::Header;
 use std::alloc::Global;
 use std::marker::Model;
 
 /// The place of a process, and the incarnation at which it knows each rank of its job. Contracts
 /// see it as a `Knowledge`.
+///
+/// ```text
+///  a rank known at I: judge of a header from I ───────► current
+///                     judge of one from above I ──────► a lesson ── learn ─► known at that one
+///                     judge of one from below I ──────► refused (28)
+///  what is known never falls
+/// ```
 #[derive(Drop)]
 pub struct Peers {
     place: Place,
@@ -35,17 +42,17 @@ impl Model for Peers {
 impl Peers {
     /// What a process knows when it starts: itself at its own incarnation, and every other rank at
     /// incarnation 0. The only error is want of memory.
-    pub fn new(alloc: Global, place: Place) -> Result<Self, Refused>
+    pub fn new(alloc: Global, place: Place) -> Result<Self, IncarnationRefusal>
         requires { place.endpoint.rank < place.size }
         ensures ok { IfOk result (λ peers. peers ≡ opening place) }
         ensures own { IfOk result (λ peers.
             known_at peers place.endpoint.rank ≡ place.endpoint.incarnation) }
         ensures others { IfOk result (λ peers. (other : ℕ) → other < place.size
             → other ≢ place.endpoint.rank → known_at peers other ≡ 0) }
-        ensures err { IsOkUnless result Refused.OutOfMemory }
+        ensures err { IsOkUnless result IncarnationRefusal.OutOfMemory }
     {
         let Ok(mut known) = vec![in alloc; 0u16; place.size as usize] else {
-            return Err(Refused::OutOfMemory);
+            return Err(IncarnationRefusal::OutOfMemory);
         };
         known[place.endpoint.rank as usize] = place.endpoint.incarnation;
         Ok(Peers { place, known })
@@ -79,7 +86,7 @@ impl Peers {
     /// job), 28 (from a former incarnation of the source), 29 (for a former incarnation of this
     /// rank). It changes nothing, and takes no memory.
     #[tactic(auto, unfolding(crate::specs::Judging::judgement))]
-    pub fn judge(&self, header: Header) -> Result<Judgement, Refused>
+    pub fn judge(&self, header: Header) -> Result<Judgement, IncarnationRefusal>
         ensures rule { JudgeGives self.now header result }
         ensures exact { result ≡ judgement self.now header }
     {
@@ -87,21 +94,21 @@ impl Peers {
         let source = header.source;
         let target = header.target;
         if header.job != self.place.job {
-            return Err(Refused::ForeignJob);
+            return Err(IncarnationRefusal::ForeignJob);
         }
         let is_for_rank = (target.rank == own.rank)
             & (target.incarnation <= own.incarnation)
             & (source.rank != own.rank)
             & (source.rank < self.place.size);
         if !is_for_rank {
-            return Err(Refused::NotForMe);
+            return Err(IncarnationRefusal::NotForMe);
         }
         let known = self.known[source.rank as usize];
         if source.incarnation < known {
-            return Err(Refused::StaleSource);
+            return Err(IncarnationRefusal::StaleSource);
         }
         if target.incarnation < own.incarnation {
-            return Err(Refused::StaleTarget);
+            return Err(IncarnationRefusal::StaleTarget);
         }
         if source.incarnation > known {
             return Ok(Judgement::Learn(source.incarnation));

@@ -2,15 +2,15 @@
 use Rattle.std.proofs.Common.{◌≡◌, ℕ, Bool, true, false, List, Option, Some, None, refl, sym, ap, ◌∙◌}
 use Rattle.datatypes.specs.Contents.{Contents}
 use Rattle.requests.specs.declared.region.Places.{Places}
-use Rattle.collective_notes.specs.declared.entry.Entry.{Entry}
-use Rattle.engine_parts.specs.declared.call.Call.{Call}
+use Rattle.collective_messages.specs.declared.entry.Entry.{Entry}
+use Rattle.engine_calls.specs.declared.call.Call.{Call}
 use Rattle.vocabulary.specs.declared.mode.Mode.{Mode}
 use Rattle.statements.specs.declared.action.Receiving.{Receiving}
 use Rattle.statements.specs.declared.action.Sending.{Sending}
 use Rattle.statements.specs.declared.collective_line.Scattering.{Scattering}
-use Rattle.statement_calls.specs.Entries.{entry_with}
-use Rattle.statement_calls.specs.declared.awaited.Pending.{Pending}
-use Rattle.statement_calls.specs.declared.awaited.Pending.TheVariants as pendings
+use Rattle.script_calls.specs.Entries.{entry_with}
+use Rattle.script_calls.specs.declared.pending.Pending.{Pending}
+use Rattle.script_calls.specs.declared.pending.Pending.TheVariants as pendings
 use Rattle.interpreter.specs.Acting.{Acts, asked_by, block_for, faulty, hands_in, hands_in_to, LendsFor, receives_into, scatter_call, scatters_from, send_call, sends_from}
 use Rattle.interpreter.specs.NamesState.{NamesState}
 

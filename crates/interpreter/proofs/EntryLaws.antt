@@ -3,8 +3,8 @@ use Rattle.std.proofs.Common.{◌≡◌, ℕ, List, Option, Some, None, sym, ◌
 use Rattle.std.specs.Prelude.{option_and_then, IfSome, IfNone}
 use Rattle.std.specs.Option.{option_flatten}
 use Rattle.datatypes.specs.Contents.{Contents}
-use Rattle.name_tables.specs.Tables.{Entry, value_at, with_value}
-use Rattle.name_tables.proofs.TableLaws.{set_same}
+use Rattle.script_calls.specs.Tables.{Entry, value_at, with_value}
+use Rattle.script_calls.proofs.TableLaws.{set_same}
 use Rattle.interpreter.specs.NamesState.{NamesState}
 use Rattle.interpreter.specs.Acting.{LendGives}
 

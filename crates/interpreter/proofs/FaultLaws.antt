@@ -4,31 +4,31 @@ use Rattle.std.specs.Prelude.{is_some, option_and_then, option_map, if◌then◌
 use Rattle.datatypes.specs.Contents.{Contents}
 use Rattle.vocabulary.specs.declared.mode.Mode.{Mode}
 use Rattle.vocabulary.specs.declared.mode.Mode.TheVariants as modes
-use Rattle.collective_notes.specs.declared.entry.Entry.{Entry}
-use Rattle.collective_notes.specs.declared.entry.Entry.TheVariants as entries
-use Rattle.engine_parts.specs.declared.call.Call.TheVariants as calls
-use Rattle.fault_lines.specs.declared.fault.Fault.{Fault}
-use Rattle.fault_lines.specs.Lacks.{lack_of_action, lacks_block, lacks_buffer, lacks_communicator, lacks_layout, lacks_old, lacks_place, lacks_places, lacks_request, lacks_requests, lacks_set, lacks_setting, lacks_slot, lent_slot, or_else, unset_unless}
+use Rattle.collective_messages.specs.declared.entry.Entry.{Entry}
+use Rattle.collective_messages.specs.declared.entry.Entry.TheVariants as entries
+use Rattle.engine_calls.specs.declared.call.Call.TheVariants as calls
+use Rattle.line_diagnostics.specs.declared.fault.LineFault.{LineFault}
+use Rattle.line_diagnostics.specs.Lacks.{lack_of_action, lacks_block, lacks_buffer, lacks_communicator, lacks_layout, lacks_old, lacks_place, lacks_places, lacks_request, lacks_requests, lacks_set, lacks_setting, lacks_slot, lent_slot, or_else, unset_unless}
 use Rattle.requests.specs.declared.region.Places.{Places}
 use Rattle.requests.specs.declared.region.Places.TheVariants as places
 use Rattle.requests.specs.declared.table.Request.{Request}
-use Rattle.statement_calls.specs.declared.awaited.Held.{Held}
-use Rattle.statement_calls.specs.declared.awaited.NamedMessage.{NamedMessage}
-use Rattle.statement_calls.specs.declared.awaited.NamedMessage.TheVariants as messages
-use Rattle.statement_calls.specs.declared.awaited.Pending.{Pending}
-use Rattle.statement_calls.specs.declared.awaited.Pending.TheVariants as pendings
-use Rattle.statement_calls.specs.declared.awaited.Seat.{Seat}
-use Rattle.statement_calls.specs.Entries.{entry_with, split_by}
+use Rattle.script_calls.specs.declared.pending.NamedRequest.{NamedRequest}
+use Rattle.script_calls.specs.declared.pending.NamedMessage.{NamedMessage}
+use Rattle.script_calls.specs.declared.pending.NamedMessage.TheVariants as messages
+use Rattle.script_calls.specs.declared.pending.Pending.{Pending}
+use Rattle.script_calls.specs.declared.pending.Pending.TheVariants as pendings
+use Rattle.script_calls.specs.declared.pending.NamedCommunicator.{NamedCommunicator}
+use Rattle.script_calls.specs.Entries.{entry_with, split_by}
 use Rattle.statements.specs.declared.action.Action.{Action}
 use Rattle.statements.specs.declared.action.Action.TheVariants as actions
-use Rattle.statements.specs.declared.action.Communicator.{Communicator}
-use Rattle.statements.specs.declared.action.Communicator.TheVariants as communicators
+use Rattle.statements.specs.declared.action.CommunicatorName.{CommunicatorName}
+use Rattle.statements.specs.declared.action.CommunicatorName.TheVariants as communicators
 use Rattle.statements.specs.declared.action.Landing.{Landing}
 use Rattle.statements.specs.declared.action.Receiving.{Receiving}
-use Rattle.statements.specs.declared.action.Requested.{Requested}
-use Rattle.statements.specs.declared.action.Requested.TheVariants as requested
+use Rattle.statements.specs.declared.action.RequestName.{RequestName}
+use Rattle.statements.specs.declared.action.RequestName.TheVariants as requested
 use Rattle.statements.specs.declared.action.Sending.{Sending}
-use Rattle.statements.specs.declared.action.Through.{Through}
+use Rattle.statements.specs.declared.action.LayoutClause.{LayoutClause}
 use Rattle.statements.specs.declared.layout_line.OldLayout.{OldLayout}
 use Rattle.statements.specs.declared.layout_line.OldLayout.TheVariants as olds
 use Rattle.derived_types.specs.Layouts.{is_beyond}
@@ -36,7 +36,7 @@ use Rattle.layouts.specs.Layouts.{Shape}
 use Rattle.statements.specs.Meanings.{offsets_made}
 use Rattle.statements.specs.declared.layout_line.LayoutLine.{LayoutLine}
 use Rattle.statements.specs.declared.action.BufferLine.{BufferLine}
-use Rattle.name_tables.specs.Tables.{value_at}
+use Rattle.script_calls.specs.Tables.{value_at}
 use Rattle.interpreter.specs.Acting.{Acts, acts_on, asks_group, asks_rank, blocks_named, cancels_for, changes, compares, faulty, hands_in, hands_in_to, is_lent_at_root, looks, makes, old_layout, places_named, receives_by, receives_ended, receives_into, receives_taken, receives_to_wait, request_named, requests_named, scatters_from, searches, sends_from, sends_to_wait, sets_layout_of, sets_layout_unless, tests_for, waits_for, waits_for_all, waits_for_several}
 use Rattle.interpreter.specs.Faults.{FaultyWhere, is_faulty}
 use Rattle.interpreter.specs.NamesState.{NamesState, here, holdings, is_lent, is_lent_slot, is_root, message_at, place_named, slot_of, with_buffer}
@@ -44,14 +44,14 @@ use Rattle.interpreter.specs.NamesState.{NamesState, here, holdings, is_lent, is
 -- ---- what is looked for, and the fault where it isn't there
 
 -- there is a fault where nothing was found
-abbrev pub Matches : {A : Type 0} → Option Fault → Option A → Type 0
+abbrev pub Matches : {A : Type 0} → Option LineFault → Option A → Type 0
 Matches None None = ⊥
 Matches None (Some found) = Unit {0}
 Matches (Some fault) None = Unit {0}
 Matches (Some fault) (Some found) = ⊥
 
 -- there is a fault where this is so
-abbrev pub Tells : Option Fault → Bool → Type 0
+abbrev pub Tells : Option LineFault → Bool → Type 0
 Tells None false = Unit {0}
 Tells None true = ⊥
 Tells (Some fault) false = ⊥
@@ -61,17 +61,17 @@ set_matches : {A : Type 0} (found : Option A) (name : List ℕ) → Matches (uns
 set_matches None name = tt
 set_matches (Some x) name = tt
 
-mapped_matches : {A B : Type 0} (view : A → B) (fault : Option Fault) (found : Option A) → Matches fault found → Matches fault (option_map view found)
+mapped_matches : {A B : Type 0} (view : A → B) (fault : Option LineFault) (found : Option A) → Matches fault found → Matches fault (option_map view found)
 mapped_matches view None None m = m
 mapped_matches view None (Some x) m = tt
 mapped_matches view (Some f) None m = tt
 mapped_matches view (Some f) (Some x) m = m
 
-communicator_matches : (s : NamesState) (c : Communicator) → Matches (lacks_communicator (holdings s) c) (place_named s c)
+communicator_matches : (s : NamesState) (c : CommunicatorName) → Matches (lacks_communicator (holdings s) c) (place_named s c)
 communicator_matches s communicators.World = tt
 communicator_matches s communicators.Own = tt
 communicator_matches s (communicators.Named name) =
-    mapped_matches (λ (held : Option Seat). option_map (λ (seat : Seat). seat.place) held)
+    mapped_matches (λ (held : Option NamedCommunicator). option_map (λ (seat : NamedCommunicator). seat.place) held)
     (unset_unless (is_some (value_at s.communicators name)) name) (value_at s.communicators name) (set_matches (value_at s.communicators name) name)
 
 slot_matches : (slot : Option (Option Contents)) (name : List ℕ) → Matches (lacks_slot (slot_of slot) name) (option_and_then (λ (b : Option Contents). b) slot)
@@ -89,26 +89,26 @@ old_matches : (s : NamesState) (old : OldLayout) → Matches (lacks_old (holding
 old_matches s (olds.Basic basic) = tt
 old_matches s (olds.Named name) = layout_matches s name
 
-places_match : (s : NamesState) (through : Option Through) → Matches (lacks_places (holdings s) through) (places_named s through)
+places_match : (s : NamesState) (through : Option LayoutClause) → Matches (lacks_places (holdings s) through) (places_named s through)
 places_match s None = tt
 places_match s (Some through) =
     mapped_matches (λ (layout : Shape). places.Copies layout through.copies) (lacks_layout (holdings s) through.layout)
     (value_at s.layouts through.layout) (layout_matches s through.layout)
 
-request_matches : (s : NamesState) (r : Requested) → Matches (lacks_request (holdings s) r) (request_named s r)
+request_matches : (s : NamesState) (r : RequestName) → Matches (lacks_request (holdings s) r) (request_named s r)
 request_matches s requested.Null = tt
 request_matches s (requested.Named name) =
-    mapped_matches (λ (held : Held). held.request) (unset_unless (is_some (value_at s.requests name)) name) (value_at s.requests name)
+    mapped_matches (λ (held : NamedRequest). held.request) (unset_unless (is_some (value_at s.requests name)) name) (value_at s.requests name)
     (set_matches (value_at s.requests name) name)
 
-both_match : (f g : Option Fault) (one : Option (Option Request)) (rest : Option (List (Option Request))) → Matches f one → Matches g rest →
+both_match : (f g : Option LineFault) (one : Option (Option Request)) (rest : Option (List (Option Request))) → Matches f one → Matches g rest →
     Matches (or_else f g) (option_and_then (λ (r : Option Request). option_map (λ (rs : List (Option Request)). r ∷ rs) rest) one)
 both_match None g None rest m n = absurd m
 both_match (Some f) g None rest m n = tt
 both_match (Some f) g (Some r) rest m n = absurd m
 both_match None g (Some r) rest m n = mapped_matches (λ (rs : List (Option Request)). r ∷ rs) g rest n
 
-requests_match : (s : NamesState) (rs : List Requested) → Matches (lacks_requests (holdings s) rs) (requests_named s rs)
+requests_match : (s : NamesState) (rs : List RequestName) → Matches (lacks_requests (holdings s) rs) (requests_named s rs)
 requests_match s [] = tt
 requests_match s (r ∷ rs) =
     both_match (lacks_request (holdings s) r) (lacks_requests (holdings s) rs) (request_named s r) (requests_named s rs)
@@ -134,14 +134,14 @@ blocks_match s true (Some name) =
 
 -- ---- what a line asks for, where something isn't there
 
-one_faults : {A : Type 0} (s : NamesState) (act : Option A → Acts) (found : Option A) (f : Option Fault) → Matches f found →
+one_faults : {A : Type 0} (s : NamesState) (act : Option A → Acts) (found : Option A) (f : Option LineFault) → Matches f found →
     act None ≡ faulty s → ((x : A) → is_faulty (act (Some x)).0 ≡ false) → FaultyWhere f (act found) s
 one_faults s act None None m none some = absurd m
 one_faults s act None (Some f) m none some = none
 one_faults s act (Some x) None m none some = some x
 one_faults s act (Some x) (Some f) m none some = absurd m
 
-two_fault : {A B : Type 0} (s : NamesState) (act : Option A → Option B → Acts) (one : Option A) (two : Option B) (f g : Option Fault) →
+two_fault : {A B : Type 0} (s : NamesState) (act : Option A → Option B → Acts) (one : Option A) (two : Option B) (f g : Option LineFault) →
     Matches f one → Matches g two → ((b : Option B) → act None b ≡ faulty s) → ((a : A) → act (Some a) None ≡ faulty s) →
     ((a : A) (b : B) → is_faulty (act (Some a) (Some b)).0 ≡ false) → FaultyWhere (or_else f g) (act one two) s
 two_fault s act None two None g m n first second all = absurd m
@@ -150,7 +150,7 @@ two_fault s act (Some a) two (Some f) g m n first second all = absurd m
 two_fault s act (Some a) two None g m n first second all = one_faults s (act (Some a)) two g n (second a) (all a)
 
 three_fault : {A B C : Type 0} (s : NamesState) (act : Option A → Option B → Option C → Acts) (one : Option A) (two : Option B)
-    (three : Option C) (f g h : Option Fault) → Matches f one → Matches g two → Matches h three →
+    (three : Option C) (f g h : Option LineFault) → Matches f one → Matches g two → Matches h three →
     ((b : Option B) (c : Option C) → act None b c ≡ faulty s) → ((a : A) (c : Option C) → act (Some a) None c ≡ faulty s) →
     ((a : A) (b : B) → act (Some a) (Some b) None ≡ faulty s) →
     ((a : A) (b : B) (c : C) → is_faulty (act (Some a) (Some b) (Some c)).0 ≡ false) →
@@ -167,7 +167,7 @@ handed_goes_on comm name (Some entry) s = refl
 
 -- a collective that hands a block in
 hands_faults : (s : NamesState) (comm : Option (Option ℕ)) (lent : Bool) (name : Option (List ℕ)) (block : Option Contents)
-    (entry : Contents → Entry) (f g h : Option Fault) → Matches f comm → Tells g lent → Matches h block →
+    (entry : Contents → Entry) (f g h : Option LineFault) → Matches f comm → Tells g lent → Matches h block →
     FaultyWhere (or_else f (or_else g h)) (hands_in comm lent name block entry s) s
 hands_faults s None lent name block entry None g h m n o = absurd m
 hands_faults s None lent name block entry (Some f) g h m n o = refl
@@ -183,7 +183,7 @@ hands_faults s (Some comm) false name (Some block) entry None None None m n o = 
 abbrev set_by : NamesState → BufferLine → Bool → Acts
 set_by s line lent = if lent then faulty s else changes (with_buffer s line.name (Some line.value))
 
-set_faults : (s : NamesState) (line : BufferLine) (f : Option Fault) (lent : Bool) → Tells f lent → FaultyWhere f (set_by s line lent) s
+set_faults : (s : NamesState) (line : BufferLine) (f : Option LineFault) (lent : Bool) → Tells f lent → FaultyWhere f (set_by s line lent) s
 set_faults s line None true t = absurd t
 set_faults s line (Some f) true t = refl
 set_faults s line None false t = refl
@@ -221,20 +221,20 @@ receive_faults pending x s =
     (communicator_matches s x.communicator) (places_match s x.through) (buffer_matches s x.buffer)
     (λ b c. refl) (λ a c. refl) (λ a b. refl) (λ a b c. refl)
 
-ended_faults : (s : NamesState) (buffer : Option Contents) (f : Option Fault) → Matches f buffer → FaultyWhere f (receives_ended buffer, s) s
+ended_faults : (s : NamesState) (buffer : Option Contents) (f : Option LineFault) → Matches f buffer → FaultyWhere f (receives_ended buffer, s) s
 ended_faults s None None m = absurd m
 ended_faults s None (Some f) m = refl
 ended_faults s (Some buffer) None m = refl
 ended_faults s (Some buffer) (Some f) m = absurd m
 
-taken_faults : (message : Option Request) (named : Places) (name buffer : List ℕ) (s : NamesState) (contents : Option Contents) (f : Option Fault) →
+taken_faults : (message : Option Request) (named : Places) (name buffer : List ℕ) (s : NamesState) (contents : Option Contents) (f : Option LineFault) →
     Matches f contents → FaultyWhere f (receives_taken message named name buffer contents s) s
 taken_faults message named name buffer s None None m = absurd m
 taken_faults message named name buffer s None (Some f) m = refl
 taken_faults message named name buffer s (Some contents) None m = refl
 taken_faults message named name buffer s (Some contents) (Some f) m = absurd m
 
-message_by : (name : List ℕ) (x : Landing) (s : NamesState) (message : Option NamedMessage) (named : Option Places) (f g : Option Fault) →
+message_by : (name : List ℕ) (x : Landing) (s : NamesState) (message : Option NamedMessage) (named : Option Places) (f g : Option LineFault) →
     Matches f message → Matches g named → FaultyWhere (or_else f (or_else g (lacks_buffer (holdings s) x.buffer))) (receives_by name x message named s) s
 message_by name x s None named None g m n = absurd m
 message_by name x s None named (Some f) g m n = refl

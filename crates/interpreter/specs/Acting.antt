@@ -10,20 +10,20 @@ use Rattle.requests.specs.declared.region.Places.TheVariants as places
 use Rattle.requests.specs.declared.table.Request.{Request}
 use Rattle.vocabulary.specs.declared.mode.Mode.{Mode}
 use Rattle.vocabulary.specs.declared.mode.Mode.TheVariants as modes
-use Rattle.collective_notes.specs.declared.entry.Entry.{Entry}
-use Rattle.collective_notes.specs.declared.entry.Entry.TheVariants as entries
+use Rattle.collective_messages.specs.declared.entry.Entry.{Entry}
+use Rattle.collective_messages.specs.declared.entry.Entry.TheVariants as entries
 use Rattle.communicators.specs.declared.question.Question.TheVariants as questions
-use Rattle.engine_parts.specs.declared.call.Call.{Call}
-use Rattle.engine_parts.specs.declared.call.Call.TheVariants as calls
-use Rattle.engine_parts.specs.declared.call.Probe.{Probe}
+use Rattle.engine_calls.specs.declared.call.Call.{Call}
+use Rattle.engine_calls.specs.declared.call.Call.TheVariants as calls
+use Rattle.engine_calls.specs.declared.call.Probe.{Probe}
 use Rattle.statements.specs.declared.action.Action.{Action}
 use Rattle.statements.specs.declared.action.Action.TheVariants as actions
 use Rattle.statements.specs.declared.action.BufferLine.{BufferLine}
 use Rattle.statements.specs.Meanings.{offsets_made}
 use Rattle.statements.specs.declared.action.Landing.{Landing}
 use Rattle.statements.specs.declared.action.Probing.{Probing}
-use Rattle.statements.specs.declared.action.Requested.{Requested}
-use Rattle.statements.specs.declared.action.Requested.TheVariants as requested
+use Rattle.statements.specs.declared.action.RequestName.{RequestName}
+use Rattle.statements.specs.declared.action.RequestName.TheVariants as requested
 use Rattle.statements.specs.declared.action.Receiving.{Receiving}
 use Rattle.statements.specs.declared.action.Sending.{Sending}
 use Rattle.statements.specs.declared.collective_line.Broadcasting.{Broadcasting}
@@ -31,23 +31,23 @@ use Rattle.statements.specs.declared.collective_line.Gathering.{Gathering}
 use Rattle.statements.specs.declared.collective_line.Scattering.{Scattering}
 use Rattle.statements.specs.declared.collective_line.Reducing.{Reducing}
 use Rattle.statements.specs.declared.collective_line.ReducingToAll.{ReducingToAll}
-use Rattle.statements.specs.declared.action.Through.{Through}
+use Rattle.statements.specs.declared.action.LayoutClause.{LayoutClause}
 use Rattle.statements.specs.declared.layout_line.LayoutLine.{LayoutLine}
 use Rattle.statements.specs.declared.layout_line.OldLayout.{OldLayout}
 use Rattle.statements.specs.declared.layout_line.OldLayout.TheVariants as olds
-use Rattle.statement_calls.specs.declared.awaited.NamedMessage.{NamedMessage}
-use Rattle.statement_calls.specs.declared.awaited.NamedMessage.TheVariants as messages
-use Rattle.statement_calls.specs.declared.awaited.Pending.{Pending}
-use Rattle.statement_calls.specs.declared.awaited.Pending.TheVariants as pendings
-use Rattle.statement_calls.specs.Entries.{elements_like, entry_with, split_by}
-use Rattle.interpreter.specs.declared.steps.Asked.{Asked}
-use Rattle.interpreter.specs.declared.steps.Asked.TheVariants as askeds
+use Rattle.script_calls.specs.declared.pending.NamedMessage.{NamedMessage}
+use Rattle.script_calls.specs.declared.pending.NamedMessage.TheVariants as messages
+use Rattle.script_calls.specs.declared.pending.Pending.{Pending}
+use Rattle.script_calls.specs.declared.pending.Pending.TheVariants as pendings
+use Rattle.script_calls.specs.Entries.{elements_like, entry_with, split_by}
+use Rattle.interpreter.specs.declared.steps.StatementCall.{StatementCall}
+use Rattle.interpreter.specs.declared.steps.StatementCall.TheVariants as askeds
 use Rattle.interpreter.specs.NamesState.{NamesState, here, is_lent, is_root, message_at, place_named, request_at, with_buffer, with_layout}
-use Rattle.name_tables.specs.Tables.{value_at}
+use Rattle.script_calls.specs.Tables.{value_at}
 
 -- what a statement asks for, and what the names then stand for
 abbrev pub Acts : Type 0
-Acts = Asked × NamesState
+Acts = StatementCall × NamesState
 
 -- a name isn't set or a buffer is lent: nothing has changed
 abbrev pub faulty : NamesState → Acts
@@ -66,7 +66,7 @@ abbrev pub asks : Call → Pending → NamesState → Acts
 asks call pending s = (askeds.Call call pending, s)
 
 -- the engine is called, if there is a call
-abbrev pub asked_by : Option Call → Pending → Asked
+abbrev pub asked_by : Option Call → Pending → StatementCall
 asked_by None pending = askeds.Faulty
 asked_by (Some call) pending = askeds.Call call pending
 
@@ -98,7 +98,7 @@ abbrev pub sets_layout : LayoutLine → NamesState → Acts
 sets_layout line s = sets_layout_of line (old_layout s line.made_of) s
 
 -- the places that a send or a receive names: all of the buffer, or so many copies of a layout, if that is set
-abbrev pub places_named : NamesState → Option Through → Option Places
+abbrev pub places_named : NamesState → Option LayoutClause → Option Places
 places_named s None = Some places.All
 places_named s (Some through) = option_map (λ layout. places.Copies layout through.copies) (value_at s.layouts through.layout)
 
@@ -166,7 +166,7 @@ searches name x None s = faulty s
 searches name x (Some comm) s = asks (calls.Improbe (probe_in comm x)) (pendings.Searching name) s
 
 -- the receive of a message that was received before: it is refused, if its buffer is here
-abbrev pub receives_ended : Option Contents → Asked
+abbrev pub receives_ended : Option Contents → StatementCall
 receives_ended None = askeds.Faulty
 receives_ended (Some buffer) = askeds.Refused 6
 
@@ -189,17 +189,17 @@ receives_message name x s = receives_by name x (message_at s name) (places_named
 -- ---- requests
 
 -- the request that a line names, which may be null, if it is set
-abbrev pub request_named : NamesState → Requested → Option (Option Request)
+abbrev pub request_named : NamesState → RequestName → Option (Option Request)
 request_named s requested.Null = Some None
 request_named s (requested.Named name) = request_at s name
 
 -- a wait for a request
-abbrev pub waits_for : Requested → Option (Option Request) → NamesState → Acts
+abbrev pub waits_for : RequestName → Option (Option Request) → NamesState → Acts
 waits_for r None s = faulty s
 waits_for r (Some request) s = asks (calls.Wait request) (pendings.Waiting r) s
 
 -- a test of a request
-abbrev pub tests_for : Requested → Option (Option Request) → NamesState → Acts
+abbrev pub tests_for : RequestName → Option (Option Request) → NamesState → Acts
 tests_for r None s = faulty s
 tests_for r (Some request) s = asks (calls.Test request) (pendings.Waiting r) s
 
@@ -209,7 +209,7 @@ cancels_for None s = faulty s
 cancels_for (Some request) s = asks (calls.Cancel request) pendings.Nothing s
 
 -- the requests that a line names, if each is set
-abbrev pub requests_named : NamesState → List Requested → Option (List (Option Request))
+abbrev pub requests_named : NamesState → List RequestName → Option (List (Option Request))
 requests_named s [] = Some []
 requests_named s (r ∷ rs) =
     option_and_then (λ request. option_map (λ rest. request ∷ rest) (requests_named s rs)) (request_named s r)
@@ -221,11 +221,11 @@ AreListed (Some requests) None = ⊥
 AreListed (Some requests) (Some listed) = listed.items ≡ requests
 
 -- the same as a list
-abbrev pub listed_named : NamesState → List Requested → Option (List (Option Request))
+abbrev pub listed_named : NamesState → List RequestName → Option (List (Option Request))
 listed_named s rs = requests_named s rs
 
 -- a wait for any or for all of several
-abbrev pub waits_for_several : (List (Option Request) → Call) → List Requested → Option (List (Option Request)) → NamesState → Acts
+abbrev pub waits_for_several : (List (Option Request) → Call) → List RequestName → Option (List (Option Request)) → NamesState → Acts
 waits_for_several call rs None s = faulty s
 waits_for_several call rs (Some requests) s = asks (call requests) (pendings.WaitingForSeveral rs) s
 

@@ -1,19 +1,19 @@
 -- Where a statement is faulty.
 use Rattle.std.specs.Prelude.{◌≡◌, Bool, true, false, Option, Some, None}
-use Rattle.fault_lines.specs.declared.fault.Fault.{Fault}
-use Rattle.interpreter.specs.declared.steps.Asked.{Asked}
-use Rattle.interpreter.specs.declared.steps.Asked.TheVariants as askeds
+use Rattle.line_diagnostics.specs.declared.fault.LineFault.{LineFault}
+use Rattle.interpreter.specs.declared.steps.StatementCall.{StatementCall}
+use Rattle.interpreter.specs.declared.steps.StatementCall.TheVariants as askeds
 use Rattle.interpreter.specs.Acting.{Acts, faulty}
 use Rattle.interpreter.specs.NamesState.{NamesState}
 
 -- whether a statement can't be followed
-abbrev pub is_faulty : Asked → Bool
+abbrev pub is_faulty : StatementCall → Bool
 is_faulty askeds.Nothing = false
 is_faulty (askeds.Call call pending) = false
 is_faulty (askeds.Refused number) = false
 is_faulty askeds.Faulty = true
 
 -- a statement is faulty exactly where there is a fault, and then changes nothing
-abbrev pub FaultyWhere : Option Fault → Acts → NamesState → Type 0
+abbrev pub FaultyWhere : Option LineFault → Acts → NamesState → Type 0
 FaultyWhere None acted s = is_faulty acted.0 ≡ false
 FaultyWhere (Some fault) acted s = acted ≡ faulty s

@@ -7,34 +7,34 @@ use Rattle.requests.specs.declared.answer.Answer.TheVariants as answers
 use Rattle.requests.specs.declared.outcome.Outcome.{Outcome}
 use Rattle.requests.specs.declared.outcome.Outcome.TheVariants as outcomes
 use Rattle.requests.specs.declared.table.Request.{Request}
-use Rattle.rank_calls.specs.Refusals.{number_of_refusal}
-use Rattle.rank_calls.specs.declared.refused.Refused.{Refused}
+use Rattle.point_to_point_calls.specs.Refusals.{number_of_refusal}
+use Rattle.point_to_point_calls.specs.declared.refusal.Refusal.{Refusal}
 use Rattle.collective_steps.specs.declared.step.Ending.{Ending}
 use Rattle.collective_steps.specs.declared.step.Ending.TheVariants as endings
 use Rattle.communicators.specs.declared.question.Question.TheVariants as questions
-use Rattle.engine_parts.specs.declared.call.Call.{Call}
-use Rattle.engine_parts.specs.declared.call.Call.TheVariants as calls
-use Rattle.engine_parts.specs.declared.reply.Fact.{Fact}
-use Rattle.engine_parts.specs.declared.reply.Fact.TheVariants as facts
-use Rattle.engine_parts.specs.declared.reply.Reply.{Reply}
-use Rattle.engine_parts.specs.declared.reply.Reply.TheVariants as replies
-use Rattle.statements.specs.declared.action.Requested.{Requested}
-use Rattle.statements.specs.declared.action.Requested.TheVariants as requested
-use Rattle.statement_calls.specs.declared.awaited.NamedMessage.TheVariants as messages
-use Rattle.statement_calls.specs.declared.awaited.Pending.{Pending}
-use Rattle.statement_calls.specs.declared.awaited.Pending.TheVariants as pendings
-use Rattle.statement_calls.specs.Awaited.{null}
-use Rattle.statement_calls.specs.Told.{error_of, status_after}
-use Rattle.interpreter.specs.declared.steps.Heard.{Heard}
-use Rattle.interpreter.specs.declared.steps.Heard.TheVariants as heards
+use Rattle.engine_calls.specs.declared.call.Call.{Call}
+use Rattle.engine_calls.specs.declared.call.Call.TheVariants as calls
+use Rattle.engine_calls.specs.declared.reply.Fact.{Fact}
+use Rattle.engine_calls.specs.declared.reply.Fact.TheVariants as facts
+use Rattle.engine_calls.specs.declared.reply.Reply.{Reply}
+use Rattle.engine_calls.specs.declared.reply.Reply.TheVariants as replies
+use Rattle.statements.specs.declared.action.RequestName.{RequestName}
+use Rattle.statements.specs.declared.action.RequestName.TheVariants as requested
+use Rattle.script_calls.specs.declared.pending.NamedMessage.TheVariants as messages
+use Rattle.script_calls.specs.declared.pending.Pending.{Pending}
+use Rattle.script_calls.specs.declared.pending.Pending.TheVariants as pendings
+use Rattle.script_calls.specs.Awaited.{null}
+use Rattle.script_calls.specs.Told.{error_of, status_after}
+use Rattle.interpreter.specs.declared.steps.AnswerEffect.{AnswerEffect}
+use Rattle.interpreter.specs.declared.steps.AnswerEffect.TheVariants as heards
 use Rattle.interpreter.specs.declared.steps.Told.{Told}
 use Rattle.interpreter.specs.declared.steps.Told.TheVariants as tolds
 use Rattle.interpreter.specs.NamesState.{NamesState, given_back, with_communicator, with_message, with_request}
-use Rattle.name_tables.specs.Tables.{value_at}
+use Rattle.script_calls.specs.Tables.{value_at}
 
 -- what is made of an answer, and what the names then stand for
 abbrev pub Hears : Type 0
-Hears = Heard × NamesState
+Hears = AnswerEffect × NamesState
 
 -- nothing but a change of names
 abbrev pub goes_on : NamesState → Hears
@@ -102,7 +102,7 @@ taken_back pending (calls.Enter comm entry) s = s
 taken_back pending (calls.Ask comm question) s = s
 
 -- its number is told, and nothing is set
-abbrev pub refuses_call : Pending → Refused → Call → NamesState → Hears
+abbrev pub refuses_call : Pending → Refusal → Call → NamesState → Hears
 refuses_call pending refused call s = tells (tolds.Error (number_of_refusal refused)) (taken_back pending call s)
 
 -- ---- probes
@@ -151,12 +151,12 @@ returned name (outcomes.Cancelled buffer) s = given_back s name buffer
 returned name outcomes.Empty s = s
 
 -- an error is told, if there is one
-abbrev pub error_told : Option ℕ → Heard
+abbrev pub error_told : Option ℕ → AnswerEffect
 error_told None = heards.Nothing
 error_told (Some number) = heards.Told (tolds.Error number)
 
 -- several are told, if there are any
-abbrev pub errors_told : List ℕ → Heard
+abbrev pub errors_told : List ℕ → AnswerEffect
 errors_told [] = heards.Nothing
 errors_told (number ∷ numbers) = heards.Told (tolds.Errors (number ∷ numbers))
 
@@ -165,7 +165,7 @@ abbrev pub ends_with : Option (List ℕ) → Outcome → NamesState → Hears
 ends_with name outcome s = (error_told (error_of outcome), record (returned name outcome s) { last = status_after s.last outcome })
 
 -- a request's name is null after its outcome
-abbrev pub ends_requested : Requested → Outcome → NamesState → Hears
+abbrev pub ends_requested : RequestName → Outcome → NamesState → Hears
 ends_requested requested.Null outcome s = ends_with None outcome s
 ends_requested (requested.Named name) outcome s = ends_with (held_buffer s name) outcome (with_request s name null)
 
@@ -191,12 +191,12 @@ ends_one (pendings.AskingSize rank) outcome s = goes_on s
 ends_one pendings.Oversized outcome s = goes_on s
 
 -- what is left once a request of this name has ended so
-abbrev pub ended_named : Requested → Outcome → NamesState → NamesState
+abbrev pub ended_named : RequestName → Outcome → NamesState → NamesState
 ended_named requested.Null outcome s = s
 ended_named (requested.Named name) outcome s = returned (held_buffer s name) outcome (with_request s name null)
 
 -- the outcome of one of several operations
-abbrev pub ends_named_one : Option Requested → Outcome → NamesState → Hears
+abbrev pub ends_named_one : Option RequestName → Outcome → NamesState → Hears
 ends_named_one None outcome s = goes_on s
 ends_named_one (Some r) outcome s = (error_told (error_of outcome), ended_named r outcome s)
 
@@ -222,7 +222,7 @@ with_error None numbers = numbers
 with_error (Some number) numbers = number ∷ numbers
 
 -- the errors with which several requests have ended, in order, and what is left then
-abbrev pub ended_each : List Requested → List Outcome → NamesState → List ℕ × NamesState
+abbrev pub ended_each : List RequestName → List Outcome → NamesState → List ℕ × NamesState
 ended_each [] os s = ([], s)
 ended_each (r ∷ rs) [] s = ([], s)
 ended_each (r ∷ rs) (o ∷ os) s =
@@ -233,8 +233,8 @@ abbrev pub behind : List ℕ → List ℕ × NamesState → List ℕ × NamesSta
 behind errors ended = (errors ++ ended.0, ended.1)
 
 -- one more has ended so: whatever the others do, errors and names come out as if it had not yet
-abbrev pub EndsNext : List ℕ → Requested → Outcome → NamesState → List ℕ → NamesState → Type 0
-EndsNext errors r o s errors' s' = (rs : List Requested) → (os : List Outcome) →
+abbrev pub EndsNext : List ℕ → RequestName → Outcome → NamesState → List ℕ → NamesState → Type 0
+EndsNext errors r o s errors' s' = (rs : List RequestName) → (os : List Outcome) →
     behind errors' (ended_each rs os s') ≡ behind errors (ended_each (r ∷ rs) (o ∷ os) s)
 
 -- the outcomes of all of several

@@ -4,16 +4,16 @@ use Rattle.vocabulary.specs.declared.envelope.Status.{Status}
 use Rattle.layouts.specs.Layouts.{Shape}
 use Rattle.datatypes.specs.Contents.{Contents}
 use Rattle.requests.specs.declared.table.Request.{Request}
-use Rattle.statements.specs.declared.action.Communicator.{Communicator}
-use Rattle.statements.specs.declared.action.Communicator.TheVariants as communicators
-use Rattle.statement_calls.specs.declared.awaited.Held.{Held}
-use Rattle.statement_calls.specs.declared.awaited.NamedMessage.{NamedMessage}
-use Rattle.statement_calls.specs.declared.awaited.Seat.{Seat}
-use Rattle.statement_calls.specs.Told.{empty_status}
-use Rattle.name_tables.specs.Tables.{Entry, value_at, with_value}
-use Rattle.fault_lines.specs.Lacks.{Holdings}
-use Rattle.fault_lines.specs.declared.holder.Slot.{Slot}
-use Rattle.fault_lines.specs.declared.holder.Slot.TheVariants as slots
+use Rattle.statements.specs.declared.action.CommunicatorName.{CommunicatorName}
+use Rattle.statements.specs.declared.action.CommunicatorName.TheVariants as communicators
+use Rattle.script_calls.specs.declared.pending.NamedRequest.{NamedRequest}
+use Rattle.script_calls.specs.declared.pending.NamedMessage.{NamedMessage}
+use Rattle.script_calls.specs.declared.pending.NamedCommunicator.{NamedCommunicator}
+use Rattle.script_calls.specs.Told.{empty_status}
+use Rattle.script_calls.specs.Tables.{Entry, value_at, with_value}
+use Rattle.line_diagnostics.specs.Lacks.{Holdings}
+use Rattle.line_diagnostics.specs.declared.holder.Slot.{Slot}
+use Rattle.line_diagnostics.specs.declared.holder.Slot.TheVariants as slots
 
 -- The rank in world, or none where world has no such rank; the buffers that were set, where none is one that is lent; the layouts; the
 -- requests that were started; the messages that were taken out; the communicators that were made, where none is MPI_COMM_NULL; and the
@@ -22,9 +22,9 @@ pub record NamesState : Type 0 where
   pub rank : Option ℕ
   pub buffers : List (Entry (Option Contents))
   pub layouts : List (Entry Shape)
-  pub requests : List (Entry Held)
+  pub requests : List (Entry NamedRequest)
   pub messages : List (Entry NamedMessage)
-  pub communicators : List (Entry (Option Seat))
+  pub communicators : List (Entry (Option NamedCommunicator))
   pub last : Status
 
 -- the names at the start, of this rank
@@ -55,18 +55,18 @@ message_at s name = value_at s.messages name
 
 -- the place among the rank's communicators of the one that a line names, if it is set: world has place 0, self place 1, and none is
 -- MPI_COMM_NULL
-abbrev pub place_named : NamesState → Communicator → Option (Option ℕ)
+abbrev pub place_named : NamesState → CommunicatorName → Option (Option ℕ)
 place_named s communicators.World = Some (Some 0)
 place_named s communicators.Own = Some (Some 1)
 place_named s (communicators.Named name) = option_map (λ held. option_map (λ seat. seat.place) held) (value_at s.communicators name)
 
 -- whether this is the rank's rank in a communicator that was made
-abbrev pub has_rank : ℕ → Option (Option Seat) → Bool
+abbrev pub has_rank : ℕ → Option (Option NamedCommunicator) → Bool
 has_rank root None = false
 has_rank root (Some None) = false
 has_rank root (Some (Some seat)) = seat.rank == root
 
-abbrev pub is_root_at : NamesState → Option ℕ → Communicator → ℕ → Bool
+abbrev pub is_root_at : NamesState → Option ℕ → CommunicatorName → ℕ → Bool
 is_root_at s None communicator root = false
 is_root_at s (Some own) communicators.World root = own == root
 is_root_at s (Some own) communicators.Own root = root == 0
@@ -74,7 +74,7 @@ is_root_at s (Some own) (communicators.Named name) root = has_rank root (value_a
 
 -- whether the rank, which world has, is the member with this rank of the communicator that a line names; where there is no such
 -- member, nobody is
-abbrev pub is_root : NamesState → Communicator → ℕ → Bool
+abbrev pub is_root : NamesState → CommunicatorName → ℕ → Bool
 is_root s communicator root = is_root_at s s.rank communicator root
 
 -- a buffer's name stands for these elements, or is lent
@@ -86,7 +86,7 @@ abbrev pub with_layout : NamesState → List ℕ → Shape → NamesState
 with_layout s name layout = record s { layouts = with_value s.layouts name layout }
 
 -- a request's name stands for this
-abbrev pub with_request : NamesState → List ℕ → Held → NamesState
+abbrev pub with_request : NamesState → List ℕ → NamedRequest → NamesState
 with_request s name held = record s { requests = with_value s.requests name held }
 
 -- a message's name stands for this
@@ -94,7 +94,7 @@ abbrev pub with_message : NamesState → List ℕ → NamedMessage → NamesStat
 with_message s name message = record s { messages = with_value s.messages name message }
 
 -- a communicator's name stands for this
-abbrev pub with_communicator : NamesState → List ℕ → Option Seat → NamesState
+abbrev pub with_communicator : NamesState → List ℕ → Option NamedCommunicator → NamesState
 with_communicator s name seat = record s { communicators = with_value s.communicators name seat }
 
 -- a buffer comes back to the name that lent it, if one did

@@ -5,12 +5,12 @@
 //! the engine keeps what the answer is for, and hands both in to `Names::hear` once the answer is here.
 #![tactic(auto)]
 
-mod acting;
-mod entering;
-mod hearing;
+mod answers;
+mod calls;
+mod collective_calls;
 mod names;
 mod outcomes;
 mod steps;
 
 pub use names::Names;
-pub use steps::{Asked, ErrorNumbers, Heard, Told};
+pub use steps::{StatementCall, ErrorNumbers, AnswerEffect, Told};

@@ -1,14 +1,13 @@
 //! What the names of a rank stand for.
 
 ghost use Rattle.std.specs.Prelude.{◌≡◌, IfOk, OnOk, Option, Some, None};
-ghost use Rattle.name_tables.specs.Tables.{value_at};
+ghost use Rattle.script_calls.specs.Tables.{value_at};
 ghost use Rattle.interpreter.specs.NamesState.{no_names, here, is_lent, is_root, place_named, with_buffer, given_back};
 
 use datatypes::{Buffer, Layout};
-use fault_lines::{Holder, Slot};
-use name_tables::Table;
-use statement_calls::{Held, NamedMessage, Seat, empty_status};
-use statements::{Communicator, Name};
+use line_diagnostics::{Holder, Slot};
+use script_calls::{NamedCommunicator, NamedMessage, NamedRequest, Table, empty_status};
+use statements::{CommunicatorName, Name};
 use std::alloc::{AllocError, Global};
 use std::marker::Model;
 use vocabulary::Status;
@@ -21,9 +20,9 @@ pub struct Names {
     pub(crate) rank: Option<u16>,
     pub(crate) buffers: Table<Option<Buffer>>,
     pub(crate) layouts: Table<Layout>,
-    pub(crate) requests: Table<Held>,
+    pub(crate) requests: Table<NamedRequest>,
     pub(crate) messages: Table<NamedMessage>,
-    pub(crate) communicators: Table<Option<Seat>>,
+    pub(crate) communicators: Table<Option<NamedCommunicator>>,
     pub(crate) last: Status,
 }
 
@@ -85,13 +84,13 @@ impl Names {
     }
 
     /// The place of the communicator that a line names, if it is set; none is MPI_COMM_NULL.
-    pub(crate) fn place_named(&self, communicator: &Communicator) -> Option<Option<usize>>
+    pub(crate) fn place_named(&self, communicator: &CommunicatorName) -> Option<Option<usize>>
         ensures { result ≡ place_named self.now communicator.now }
     {
         match communicator {
-            Communicator::World => Some(Some(0)),
-            Communicator::Own => Some(Some(1)),
-            Communicator::Named(name) => match self.communicators.get(name) {
+            CommunicatorName::World => Some(Some(0)),
+            CommunicatorName::Own => Some(Some(1)),
+            CommunicatorName::Named(name) => match self.communicators.get(name) {
                 Some(held) => match held {
                     Some(seat) => Some(Some(seat.place)),
                     None => Some(None),
@@ -102,16 +101,16 @@ impl Names {
     }
 
     /// Whether the rank, which world has, is the member with this rank of the communicator that a line names.
-    pub(crate) fn is_root(&self, communicator: &Communicator, root: u16) -> bool
+    pub(crate) fn is_root(&self, communicator: &CommunicatorName, root: u16) -> bool
         ensures { result ≡ is_root self.now communicator.now root }
     {
         let Some(rank) = self.rank else {
             return false;
         };
         match communicator {
-            Communicator::World => rank == root,
-            Communicator::Own => root == 0,
-            Communicator::Named(name) => match self.communicators.get(name) {
+            CommunicatorName::World => rank == root,
+            CommunicatorName::Own => root == 0,
+            CommunicatorName::Named(name) => match self.communicators.get(name) {
                 Some(held) => match held {
                     Some(seat) => seat.rank == usize::from(root),
                     None => false,
@@ -193,7 +192,7 @@ impl Holder for Names {
         }
     }
 
-    fn is_member(&self, communicator: &Communicator, rank: u16) -> bool {
+    fn is_member(&self, communicator: &CommunicatorName, rank: u16) -> bool {
         self.is_root(communicator, rank)
     }
 }

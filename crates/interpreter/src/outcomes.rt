@@ -1,48 +1,48 @@
 //! What is made of the outcomes of operations.
 
 ghost use Rattle.std.specs.Prelude.{◌≡◌, IfOk, OnOk, slice_get};
-ghost use Rattle.statement_calls.specs.Awaited.{null};
+ghost use Rattle.script_calls.specs.Awaited.{null};
 ghost use Rattle.interpreter.specs.NamesState.{with_request};
 ghost use Rattle.interpreter.specs.Hearing.{ended_each, ended_named, ends_all, ends_at, ends_by, ends_message, ends_named_one, ends_one, ends_requested, ends_with, EndsNext, error_told, errors_told, held_buffer, returned};
 
 use crate::names::Names;
-use crate::steps::{ErrorNumbers, Heard, Told};
+use crate::steps::{ErrorNumbers, AnswerEffect, Told};
 use requests::{Answer, Outcome};
-use statement_calls::{Held, NamedMessage, Pending, error_of, status_after};
-use statements::{Name, Requested, RequestedList};
+use script_calls::{NamedRequest, NamedMessage, Pending, error_of, status_after};
+use statements::{Name, RequestName, RequestNames};
 use std::alloc::{AllocError, Global};
 
 /// The error is told, if there is one.
-fn error_told(error: Option<u8>) -> Heard
+fn error_told(error: Option<u8>) -> AnswerEffect
     ensures { result ≡ error_told error }
 {
     match error {
-        Some(number) => Heard::Told(Told::Error(number)),
-        None => Heard::Nothing,
+        Some(number) => AnswerEffect::Told(Told::Error(number)),
+        None => AnswerEffect::Nothing,
     }
 }
 
 /// The errors are told, if there are any.
-fn errors_told(errors: ErrorNumbers) -> Heard
+fn errors_told(errors: ErrorNumbers) -> AnswerEffect
     ensures { result ≡ errors_told errors }
 {
     match errors.as_slice() {
-        [] => Heard::Nothing,
-        [_, ..] => Heard::Told(Told::Errors(errors)),
+        [] => AnswerEffect::Nothing,
+        [_, ..] => AnswerEffect::Told(Told::Errors(errors)),
     }
 }
 
 /// The request at this place of a list. The only error is want of memory.
 fn requested_at(
     alloc: Global,
-    several: &RequestedList,
+    several: &RequestNames,
     index: usize,
-) -> Result<Option<Requested>, AllocError>
+) -> Result<Option<RequestName>, AllocError>
     ensures { IfOk result (λ requested. requested ≡ slice_get several.now index) }
 {
     match several.as_slice().get(index) {
-        Some(Requested::Null) => Ok(Some(Requested::Null)),
-        Some(Requested::Named(name)) => Ok(Some(Requested::Named(name.try_clone(alloc)?))),
+        Some(RequestName::Null) => Ok(Some(RequestName::Null)),
+        Some(RequestName::Named(name)) => Ok(Some(RequestName::Named(name.try_clone(alloc)?))),
         None => Ok(None),
     }
 }
@@ -53,10 +53,10 @@ impl Names {
         ensures { IfOk result (λ buffer.
             (buffer ≡ held_buffer self.old name.now) × (self.new ≡ with_request self.old name.now null)) }
     {
-        match self.requests.replace(name, Held::null()) {
+        match self.requests.replace(name, NamedRequest::null()) {
             Some(held) => Ok(held.buffer),
             None => {
-                self.requests.set(name, Held::null())?;
+                self.requests.set(name, NamedRequest::null())?;
                 Ok(None)
             }
         }
@@ -78,7 +78,7 @@ impl Names {
     }
 
     /// The one operation that was waited for or tested has ended so, and its buffer comes back to this name.
-    fn end_with(&mut self, name: &Option<Name>, outcome: Outcome) -> Result<Heard, AllocError>
+    fn end_with(&mut self, name: &Option<Name>, outcome: Outcome) -> Result<AnswerEffect, AllocError>
         ensures { IfOk result (λ heard. ends_with name.now outcome self.old ≡ (heard, self.new)) }
     {
         let error = error_of(&outcome);
@@ -89,12 +89,12 @@ impl Names {
     }
 
     /// The request that a line names has ended so.
-    fn end_requested(&mut self, requested: Requested, outcome: Outcome) -> Result<Heard, AllocError>
+    fn end_requested(&mut self, requested: RequestName, outcome: Outcome) -> Result<AnswerEffect, AllocError>
         ensures { IfOk result (λ heard. ends_requested requested outcome self.old ≡ (heard, self.new)) }
     {
         match requested {
-            Requested::Null => self.end_with(&None, outcome),
-            Requested::Named(name) => {
+            RequestName::Null => self.end_with(&None, outcome),
+            RequestName::Named(name) => {
                 let buffer = self.null_request(&name)?;
                 self.end_with(&buffer, outcome)
             }
@@ -107,7 +107,7 @@ impl Names {
         message: &Name,
         buffer: Name,
         outcome: Outcome,
-    ) -> Result<Heard, AllocError>
+    ) -> Result<AnswerEffect, AllocError>
         ensures { IfOk result (λ heard. ends_message message.now buffer outcome self.old ≡ (heard, self.new)) }
     {
         self.messages.set(message, NamedMessage::Ended)?;
@@ -116,7 +116,7 @@ impl Names {
     }
 
     /// An operation that was waited for alone has ended so.
-    fn end_one(&mut self, pending: Pending, outcome: Outcome) -> Result<Heard, AllocError>
+    fn end_one(&mut self, pending: Pending, outcome: Outcome) -> Result<AnswerEffect, AllocError>
         ensures { IfOk result (λ heard. ends_one pending outcome self.old ≡ (heard, self.new)) }
     {
         match pending {
@@ -126,18 +126,18 @@ impl Names {
             other => {
                 drop(other);
                 drop(outcome);
-                Ok(Heard::Nothing)
+                Ok(AnswerEffect::Nothing)
             }
         }
     }
 
     /// One of several requests has ended so.
-    fn end_named(&mut self, requested: Requested, outcome: Outcome) -> Result<(), AllocError>
+    fn end_named(&mut self, requested: RequestName, outcome: Outcome) -> Result<(), AllocError>
         ensures { OnOk result (self.new ≡ ended_named requested outcome self.old) }
     {
         match requested {
-            Requested::Null => Ok(()),
-            Requested::Named(name) => {
+            RequestName::Null => Ok(()),
+            RequestName::Named(name) => {
                 let buffer = self.null_request(&name)?;
                 self.return_buffer(&buffer, outcome)
             }
@@ -147,9 +147,9 @@ impl Names {
     /// The request that stands there among several has ended so.
     fn end_named_one(
         &mut self,
-        requested: Option<Requested>,
+        requested: Option<RequestName>,
         outcome: Outcome,
-    ) -> Result<Heard, AllocError>
+    ) -> Result<AnswerEffect, AllocError>
         ensures { IfOk result (λ heard. ends_named_one requested outcome self.old ≡ (heard, self.new)) }
     {
         match requested {
@@ -160,7 +160,7 @@ impl Names {
             }
             None => {
                 drop(outcome);
-                Ok(Heard::Nothing)
+                Ok(AnswerEffect::Nothing)
             }
         }
     }
@@ -171,7 +171,7 @@ impl Names {
         pending: Pending,
         index: usize,
         outcome: Outcome,
-    ) -> Result<Heard, AllocError>
+    ) -> Result<AnswerEffect, AllocError>
         ensures { IfOk result (λ heard. ends_at pending index outcome self.old ≡ (heard, self.new)) }
     {
         match pending {
@@ -185,7 +185,7 @@ impl Names {
             other => {
                 drop(other);
                 drop(outcome);
-                Ok(Heard::Nothing)
+                Ok(AnswerEffect::Nothing)
             }
         }
     }
@@ -194,7 +194,7 @@ impl Names {
     fn end_next(
         &mut self,
         errors: &mut ErrorNumbers,
-        requested: Requested,
+        requested: RequestName,
         outcome: Outcome,
     ) -> Result<(), AllocError>
         ensures { OnOk result (EndsNext errors.old requested outcome self.old errors.new self.new) }
@@ -208,7 +208,7 @@ impl Names {
     /// Each of several requests has ended, in order. Answers the errors with which they did.
     fn end_each(
         &mut self,
-        several: Vec<Requested>,
+        several: Vec<RequestName>,
         outcomes: Vec<Outcome>,
     ) -> Result<ErrorNumbers, AllocError>
         ensures { IfOk result (λ errors. ended_each several.items outcomes.items self.old ≡ (errors, self.new)) }
@@ -230,7 +230,7 @@ impl Names {
         &mut self,
         pending: Pending,
         outcomes: Vec<Outcome>,
-    ) -> Result<Heard, AllocError>
+    ) -> Result<AnswerEffect, AllocError>
         ensures { IfOk result (λ heard. ends_all pending outcomes.items self.old ≡ (heard, self.new)) }
     {
         match pending {
@@ -241,13 +241,13 @@ impl Names {
             other => {
                 drop(other);
                 drop(outcomes);
-                Ok(Heard::Nothing)
+                Ok(AnswerEffect::Nothing)
             }
         }
     }
 
     /// What was waited for is answered so.
-    pub(crate) fn end(&mut self, pending: Pending, answer: Answer) -> Result<Heard, AllocError>
+    pub(crate) fn end(&mut self, pending: Pending, answer: Answer) -> Result<AnswerEffect, AllocError>
         ensures { IfOk result (λ heard. ends_by pending answer self.old ≡ (heard, self.new)) }
     {
         match answer {
@@ -255,7 +255,7 @@ impl Names {
             Answer::Index(index, outcome) => self.end_at(pending, index, outcome),
             Answer::IndexUndefined => {
                 drop(pending);
-                Ok(Heard::Nothing)
+                Ok(AnswerEffect::Nothing)
             }
             Answer::All(outcomes) => self.hear_all(pending, outcomes.into_vec()),
         }

@@ -2,15 +2,15 @@
 
 ghost use Rattle.std.specs.Prelude.{◌≡◌, ◌++◌, [], ◌∷◌, OnOk};
 
-use communicators::Comparison;
-use engine_parts::Call;
-use statement_calls::Pending;
+use communicators::CommunicatorComparison;
+use engine_calls::Call;
+use script_calls::Pending;
 use std::alloc::{AllocError, Global};
 use std::marker::Model;
 
 /// What a statement asks for.
 #[derive(Drop)]
-pub enum Asked {
+pub enum StatementCall {
     /// No more than a change of names.
     Nothing,
     /// A call of the engine, whose answer is for this.
@@ -76,12 +76,12 @@ pub enum Told {
     /// The ranks of world of a communicator's members, in order.
     Members(Vec<u16>),
     /// How two communicators compare.
-    Comparison(Comparison),
+    Comparison(CommunicatorComparison),
 }
 
 /// What is made of an answer, beside a change of names.
 #[derive(Drop)]
-pub enum Heard {
+pub enum AnswerEffect {
     /// Nothing more: the statement is done.
     Nothing,
     /// The statement makes another call, whose answer is for this.

@@ -4,7 +4,7 @@ ghost use Rattle.std.specs.Prelude.{◌≡◌, ◌∷◌, ◌++◌, [], OnOk};
 ghost use Rattle.std.specs.Process.{command_args, command_program};
 
 use crate::text::text_of;
-use keeping::Word;
+use launch_keeper::Word;
 use std::io;
 use std::process::Command;
 

@@ -5,9 +5,9 @@ ghost use Rattle.launch_process.specs.Commands.{IsCommandOf};
 
 use crate::commands::add_arguments;
 use crate::text::text_of;
-use crate::watching::{await_end, collect};
-use keeping::{After, Ending, EndingLine, Keeper, Report, Words};
-use launch::Plan;
+use crate::child::{await_end, collect};
+use launch_keeper::{After, ProgramEnding, EndingLine, Keeper, Report, Words};
+use launch_plan::Plan;
 use std::alloc::Global;
 use std::io;
 use std::io::{ErrorKind, Write};
@@ -30,12 +30,12 @@ fn command_of(alloc: Global, words: &Words) -> io::Result<Command>
 }
 
 /// What became of a program that ended so.
-fn ending_of(status: ExitStatus) -> Ending {
+fn ending_of(status: ExitStatus) -> ProgramEnding {
     let byte = |number: i32| u8::try_from(number).ok();
     match (status.code().and_then(byte), status.signal().and_then(byte)) {
-        (Some(status), _) => Ending::Status(status),
-        (None, Some(signal)) => Ending::Signal(signal),
-        (None, None) => Ending::WithoutStatus,
+        (Some(status), _) => ProgramEnding::Status(status),
+        (None, Some(signal)) => ProgramEnding::Signal(signal),
+        (None, None) => ProgramEnding::WithoutStatus,
     }
 }
 
@@ -43,7 +43,7 @@ fn ending_of(status: ExitStatus) -> Ending {
 fn follow<P: OpenProcess<Stdout: AsRawFd>>(
     child: &mut Child<P>,
     output: &mut Vec<u8>,
-) -> io::Result<Ending> {
+) -> io::Result<ProgramEnding> {
     if let Some(mut pipe) = child.stdout.take() {
         collect(&mut pipe, output)?;
     }
@@ -57,10 +57,10 @@ fn run_once<R: Processes<Started: OpenProcess<Stdout: AsRawFd>>>(
     alloc: Global,
     words: &Words,
     output: &mut Vec<u8>,
-) -> io::Result<Ending> {
+) -> io::Result<ProgramEnding> {
     let mut command = command_of(alloc, words)?;
     let Ok(mut child) = command.spawn(rt) else {
-        return Ok(Ending::NotStarted);
+        return Ok(ProgramEnding::NotStarted);
     };
     let ending = follow(&mut child, output);
     if ending.is_err() {
@@ -71,7 +71,7 @@ fn run_once<R: Processes<Started: OpenProcess<Stdout: AsRawFd>>>(
 }
 
 /// Tells on the standard error that a rank's program failed, and whether it is started again. It is told at once.
-fn tell_ending(rt: &impl Eprint, rank: u16, words: &Words, ending: Ending, after: After) {
+fn tell_ending(rt: &impl Eprint, rank: u16, words: &Words, ending: ProgramEnding, after: After) {
     let Some(program) = words.as_slice().first() else {
         return;
     };

@@ -2,11 +2,11 @@
 //! `main`, so that a program of worked rows can run it too.
 #![tactic(auto)]
 
+mod child;
+mod command;
 mod commands;
 mod keeper;
-mod launching;
-mod running;
+mod launcher;
 mod text;
-mod watching;
 
-pub use crate::running::{run, run_words};
+pub use crate::command::{run, run_words};

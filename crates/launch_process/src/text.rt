@@ -2,7 +2,7 @@
 
 ghost use Rattle.std.specs.Prelude.{◌≡◌, IfOk};
 
-use keeping::Word;
+use launch_keeper::Word;
 use std::io;
 use std::io::ErrorKind;
 

@@ -1,6 +1,6 @@
 //! Calls of a rank, and what their answers print.
 
-use answer_texts::OutcomeText;
+use printed_lines::OutcomeText;
 use datatypes::Buffer;
 use engine::{Answer, Call, Mode, Outcome, Receive, Region, Send, Source};
 use std::alloc::{AllocError, Global};

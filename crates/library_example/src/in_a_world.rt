@@ -3,10 +3,10 @@
 use crate::calls::{print_received, receive, send};
 use anyhow::bail;
 use engine::{Call, Reply, Request};
-use world::{Event, Refused, Stepped, World};
+use world::{Event, WorldRefusal, Stepped, World};
 
 /// One event: the datagrams that it emitted, and its place in the history.
-fn step(world: &mut World, event: Event) -> Result<Stepped, Refused> {
+fn step(world: &mut World, event: Event) -> Result<Stepped, WorldRefusal> {
     match world.step(event) {
         Ok(stepped) => Ok(stepped),
         Err(failed) => Err(failed.refused),

@@ -2,13 +2,13 @@
 
 use crate::calls::{print_received, receive, send};
 use anyhow::bail;
-use engine::{Call, Completion, Engine, Place, Refused, Reply, Request};
+use engine::{Call, Completion, Engine, Place, Refusal, Reply, Request};
 use std::alloc::Global;
 use std::io;
 use vocabulary::Endpoint;
 
 /// The engine of a rank in a job of two, at the rank's first incarnation.
-fn engine_of(alloc: Global, rank: u16) -> Result<Engine, Refused> {
+fn engine_of(alloc: Global, rank: u16) -> Result<Engine, Refusal> {
     let endpoint = Endpoint {
         rank,
         incarnation: 0,
@@ -42,7 +42,7 @@ fn start(engine: &mut Engine, call: Call) -> Result<Request, anyhow::Error> {
 }
 
 /// The network: brings to one engine all that the other one has emitted.
-fn carry(from: &mut Engine, to: &mut Engine) -> Result<(), Refused> {
+fn carry(from: &mut Engine, to: &mut Engine) -> Result<(), Refusal> {
     for (_target, bytes) in from.take_out() {
         to.on_datagram(bytes.as_slice())?;
     }

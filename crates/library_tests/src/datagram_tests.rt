@@ -145,10 +145,10 @@ fn an_acknowledgement_tells_what_is_held(rt: HostRuntime) {
         Some((9_223_372_036_854_775_808, true))
     );
     for (at, byte, fault) in [
-        (39, 1, Refused::BadFrame),
-        (40, 0, Refused::Length),
-        (15, 0, Refused::Length),
-        (15, 9, Refused::Length),
+        (39, 1, DatagramRefusal::BadFrame),
+        (40, 0, DatagramRefusal::Length),
+        (15, 0, DatagramRefusal::Length),
+        (15, 9, DatagramRefusal::Length),
     ] {
         let found = fault_with(rt.alloc(), &ACKNOWLEDGEMENT, at, byte);
         assert_eq!(rt; found, Some(fault), "byte {at}");
@@ -166,7 +166,7 @@ fn set(bytes: &mut Vec<u8>, at: usize, byte: u8) -> Option<()> {
 }
 
 /// Why these bytes are refused once the byte at a place is another one.
-fn fault_with(alloc: Global, bytes: &[u8], at: usize, byte: u8) -> Option<Refused> {
+fn fault_with(alloc: Global, bytes: &[u8], at: usize, byte: u8) -> Option<DatagramRefusal> {
     let mut edited = Vec::from_slice(alloc, bytes).ok()?;
     set(&mut edited, at, byte)?;
     read(&edited).err()
@@ -175,10 +175,10 @@ fn fault_with(alloc: Global, bytes: &[u8], at: usize, byte: u8) -> Option<Refuse
 #[test]
 fn the_first_fault_is_answered(rt: HostRuntime) {
     for (at, byte, fault) in [
-        (0, 0x4e, Refused::Magic),
-        (4, 1, Refused::Version),
-        (5, 4, Refused::Kind),
-        (40, 0, Refused::Length),
+        (0, 0x4e, DatagramRefusal::Magic),
+        (4, 1, DatagramRefusal::Version),
+        (5, 4, DatagramRefusal::Kind),
+        (40, 0, DatagramRefusal::Length),
     ] {
         let found = fault_with(rt.alloc(), &ACKNOWLEDGEMENT, at, byte);
         assert_eq!(rt; found, Some(fault), "byte {at}");
@@ -193,9 +193,9 @@ fn what_lacks_bytes_is_refused(rt: HostRuntime) {
         read(&MESSAGE[..63]).err(),
     );
     let wanted = (
-        Some(Refused::Short),
-        Some(Refused::Length),
-        Some(Refused::Length),
+        Some(DatagramRefusal::Short),
+        Some(DatagramRefusal::Length),
+        Some(DatagramRefusal::Length),
     );
     assert_eq!(rt; faults, wanted);
 }
@@ -212,16 +212,16 @@ fn a_frame_has_its_form(rt: HostRuntime) {
         (51, 2),
     ] {
         let found = fault_with(rt.alloc(), &MESSAGE, at, byte);
-        assert_eq!(rt; found, Some(Refused::BadFrame), "byte {at}");
+        assert_eq!(rt; found, Some(DatagramRefusal::BadFrame), "byte {at}");
     }
 }
 
 #[test]
 fn a_reset_has_number_0_and_no_body(rt: HostRuntime) {
     for (at, byte, fault) in [
-        (31, 1, Refused::BadFrame),
-        (32, 0, Refused::Length),
-        (15, 1, Refused::Length),
+        (31, 1, DatagramRefusal::BadFrame),
+        (32, 0, DatagramRefusal::Length),
+        (15, 1, DatagramRefusal::Length),
     ] {
         let found = fault_with(rt.alloc(), &RESET, at, byte);
         assert_eq!(rt; found, Some(fault), "byte {at}");
@@ -231,13 +231,13 @@ fn a_reset_has_number_0_and_no_body(rt: HostRuntime) {
 #[test]
 fn each_refusal_has_its_number(rt: HostRuntime) {
     for (refused, number) in [
-        (Refused::OutOfMemory, 14),
-        (Refused::Short, 21),
-        (Refused::Magic, 22),
-        (Refused::Version, 23),
-        (Refused::Kind, 24),
-        (Refused::Length, 25),
-        (Refused::BadFrame, 30),
+        (DatagramRefusal::OutOfMemory, 14),
+        (DatagramRefusal::Short, 21),
+        (DatagramRefusal::Magic, 22),
+        (DatagramRefusal::Version, 23),
+        (DatagramRefusal::Kind, 24),
+        (DatagramRefusal::Length, 25),
+        (DatagramRefusal::BadFrame, 30),
     ] {
         assert_eq!(rt; refused.number(), number);
     }

@@ -59,10 +59,10 @@ fn datagram_with(alloc: Global, body: &[u8]) -> Option<Vec<u8>> {
 }
 
 /// The frame that the bytes of a datagram spell.
-fn frame_of(bytes: &[u8]) -> Result<Frame<'_>, Refused> {
+fn frame_of(bytes: &[u8]) -> Result<Frame<'_>, DatagramRefusal> {
     match read(bytes)?.content {
         Content::Frame(frame) => Ok(frame),
-        _ => Err(Refused::Kind),
+        _ => Err(DatagramRefusal::Kind),
     }
 }
 
@@ -253,7 +253,7 @@ fn data_are_blocks_of_a_message(rt: HostRuntime) {
 }
 
 /// Why a frame is refused once the byte at a place is another one.
-fn fault_with(alloc: Global, frame: &[u8], at: usize, byte: u8) -> Option<Refused> {
+fn fault_with(alloc: Global, frame: &[u8], at: usize, byte: u8) -> Option<DatagramRefusal> {
     let mut body = Vec::from_slice(alloc, frame).ok()?;
     if at < body.len() {
         body[at] = byte;
@@ -281,7 +281,7 @@ fn other_forms_are_refused(rt: HostRuntime) {
         (&[], 0, 0),
     ] {
         let found = fault_with(rt.alloc(), frame, at, byte);
-        assert_eq!(rt; found, Some(Refused::BadFrame), "byte {at}");
+        assert_eq!(rt; found, Some(DatagramRefusal::BadFrame), "byte {at}");
     }
 }
 

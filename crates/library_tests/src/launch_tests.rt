@@ -1,8 +1,8 @@
 //! Worked rows of the launcher's words: tables whose rows one helper tries.
 
-use keeping::{After, Keeper, Word, Words, join};
-use launch::planning::plan;
-use launch::{Plan, config_name};
+use launch_keeper::{After, Keeper, Word, Words, join};
+use launch_plan::planning::plan;
+use launch_plan::{Plan, config_name};
 use std::alloc::Global;
 use std::process::Abort;
 

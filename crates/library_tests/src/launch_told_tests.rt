@@ -1,9 +1,9 @@
 //! What the launcher tells on the standard error: the word at fault, and the lines.
 
-use keeping::{
-    After, Ending, EndingLine, LostKeeperLine, TakenPortsLine, UnstartedKeeperLine, Word,
+use launch_keeper::{
+    After, ProgramEnding, EndingLine, LostKeeperLine, TakenPortsLine, UnstartedKeeperLine, Word,
 };
-use launch_faults::{explain, fault_place};
+use launch_diagnostics::{explain, fault_place};
 use shown_words::Shown;
 use std::alloc::Global;
 
@@ -112,10 +112,10 @@ fn lines_of_keepers(rt: HostRuntime) {
         };
         format!(in alloc; "{line}").ok()
     };
-    let patient = line(b"bin/rank_main", Ending::Status(4), After::Again(1));
-    let other = line(b"brank_main", Ending::Status(4), After::End(4));
-    let killed = line(b"rank_main", Ending::Signal(9), After::End(128));
-    let absent = line(b"./no\tne", Ending::NotStarted, After::End(127));
+    let patient = line(b"bin/rank_main", ProgramEnding::Status(4), After::Again(1));
+    let other = line(b"brank_main", ProgramEnding::Status(4), After::End(4));
+    let killed = line(b"rank_main", ProgramEnding::Signal(9), After::End(128));
+    let absent = line(b"./no\tne", ProgramEnding::NotStarted, After::End(127));
     assert_eq!(rt;
         patient.as_deref(),
         Some("mpiexec: rank 3 ended with status 4 (patience); started again as incarnation 1")
@@ -132,7 +132,7 @@ fn lines_of_keepers(rt: HostRuntime) {
         absent.as_deref(),
         Some("mpiexec: rank 3: ./no?ne can't be started")
     );
-    assert!(rt; Ending::Signal(9).is_failure() && !Ending::Status(0).is_failure());
+    assert!(rt; ProgramEnding::Signal(9).is_failure() && !ProgramEnding::Status(0).is_failure());
 }
 
 #[test]

@@ -1,6 +1,6 @@
 //! The words of a rank.
 
-use rank_settings::{Refused, settings_of};
+use rank_settings::{SettingsRefusal, settings_of};
 use std::alloc::Global;
 use std::process::Abort;
 
@@ -90,5 +90,5 @@ fn wrong_words_are_refused(rt: HostRuntime) {
     assert_refused(&rt, alloc, "00", "1", "47000", "file");
     assert_refused(&rt, alloc, "+0", "1", "47000", "file");
     assert_refused(&rt, alloc, "0", "1", "47000", "--patience");
-    assert_eq!(rt; Refused::OutOfMemory.number(), 14);
+    assert_eq!(rt; SettingsRefusal::OutOfMemory.number(), 14);
 }

@@ -1,7 +1,7 @@
 //! Acknowledgements that take one another's place, and how long one is kept back.
 
 use datagram::Header;
-use kept_acknowledgements::*;
+use delayed_acknowledgements::*;
 use vocabulary::Endpoint;
 
 /// An acknowledgement of job 1 from rank 1 to rank 0, of the frames below 1, which tells that frame 3 is held.
@@ -39,8 +39,8 @@ fn said(rank: u16, sequence: u64, held: u64) -> Acknowledgement {
 }
 
 /// One that tells of no frame that is held, as it is kept back.
-fn kept(rank: u16, sequence: u64) -> Kept {
-    Kept {
+fn kept(rank: u16, sequence: u64) -> DelayedAcknowledgement {
+    DelayedAcknowledgement {
         target: rank,
         said: said(rank, sequence, 0),
         bytes: [0; 40],
@@ -54,10 +54,10 @@ fn an_acknowledgement_is_known_by_its_bytes(rt: HostRuntime) {
         Some((1, 4))
     );
     assert!(rt; acknowledgement_in(&RESET).is_none());
-    let shown = kept_of(7, &ACK).map(|kept| (kept.target, kept.said.held, kept.bytes == ACK));
+    let shown = delayed_of(7, &ACK).map(|kept| (kept.target, kept.said.held, kept.bytes == ACK));
     assert_eq!(rt; shown, Some((7, 4, true)));
-    assert!(rt; kept_of(7, &RESET).is_none());
-    assert!(rt; kept_of(7, &ACK[..39]).is_none());
+    assert!(rt; delayed_of(7, &RESET).is_none());
+    assert!(rt; delayed_of(7, &ACK[..39]).is_none());
 }
 
 /// Whether one of so many frames to a rank covers one of two frames to rank 1.
@@ -74,12 +74,12 @@ fn a_later_one_says_all_that_an_earlier_one_says(rt: HostRuntime) {
 
 /// The rank of the one that goes where one to rank 1 was kept and one to a rank comes.
 fn goes_before(rank: u16) -> Option<u16> {
-    going(Some(kept(1, 2)), kept(rank, 3)).map(|gone| gone.target)
+    sent_before(Some(kept(1, 2)), kept(rank, 3)).map(|gone| gone.target)
 }
 
 #[test]
 fn the_former_one_goes_unless_it_is_covered(rt: HostRuntime) {
-    assert!(rt; going(None, kept(1, 2)).is_none());
+    assert!(rt; sent_before(None, kept(1, 2)).is_none());
     assert_eq!(rt; goes_before(1), None);
     assert_eq!(rt; goes_before(2), Some(1));
 }
@@ -97,7 +97,7 @@ fn one_that_tells_of_held_frames_or_says_nothing_new_goes_at_once(rt: HostRuntim
 fn is_over_behind(begun: Delay, places: u32, receives: u32) -> bool {
     let mut delay = begun;
     for _ in 0..places {
-        delay = delay.of_one_more();
+        delay = delay.with_one_more();
     }
     for _ in 0..receives {
         delay = delay.behind_receive();
@@ -107,7 +107,7 @@ fn is_over_behind(begun: Delay, places: u32, receives: u32) -> bool {
 
 #[test]
 fn one_is_kept_for_16_and_for_128_receives(rt: HostRuntime) {
-    let begun = Delay::begun(None);
+    let begun = Delay::start(None);
     assert!(rt; !is_over_behind(begun, 14, 127));
     assert!(rt; is_over_behind(begun, 15, 0));
     assert!(rt; is_over_behind(begun, 0, 128));

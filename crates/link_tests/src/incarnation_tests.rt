@@ -34,7 +34,7 @@ fn place(endpoint: Endpoint) -> Place
     }
 }
 
-type Judged = Result<Judgement, Refused>;
+type Judged = Result<Judgement, IncarnationRefusal>;
 
 /// How datagrams of a former and a later incarnation of rank 1 are judged.
 fn judge_both(peers: &Peers) -> (Judged, Judged) {
@@ -60,7 +60,7 @@ fn learn_later(alloc: Global) -> Option<([(Judged, Judged); 3], [(u16, u16); 3])
 #[test]
 fn a_restarted_sender_is_learnt_and_its_former_datagrams_are_stale(rt: HostRuntime) {
     let before = (Ok(Judgement::Current), Ok(Judgement::Learn(1)));
-    let after = (Err(Refused::StaleSource), Ok(Judgement::Current));
+    let after = (Err(IncarnationRefusal::StaleSource), Ok(Judgement::Current));
     assert_eq!(rt;
         learn_later(rt.alloc()),
         Some(([before, after, after], [(0, 0), (0, 1), (0, 1)]))
@@ -88,7 +88,7 @@ fn a_restarted_receiver_takes_nothing_that_was_meant_for_its_former_self(rt: Hos
         Some((
             place(endpoint(1, 1)),
             (0, 1),
-            Err(Refused::StaleTarget),
+            Err(IncarnationRefusal::StaleTarget),
             Ok(Judgement::Current)
         ))
     );
@@ -106,13 +106,13 @@ fn the_first_broken_rule_is_answered(rt: HostRuntime) {
     let stale = header(endpoint(1, 0), endpoint(0, 0));
     let foreign = Header { job: 2, ..stale };
     for (header, fault) in [
-        (foreign, Refused::ForeignJob),
-        (header(endpoint(1, 0), endpoint(1, 0)), Refused::NotForMe),
-        (header(endpoint(1, 0), endpoint(0, 2)), Refused::NotForMe),
-        (header(endpoint(0, 0), endpoint(0, 0)), Refused::NotForMe),
-        (header(endpoint(2, 0), endpoint(0, 0)), Refused::NotForMe),
-        (stale, Refused::StaleSource),
-        (header(endpoint(1, 2), endpoint(0, 0)), Refused::StaleTarget),
+        (foreign, IncarnationRefusal::ForeignJob),
+        (header(endpoint(1, 0), endpoint(1, 0)), IncarnationRefusal::NotForMe),
+        (header(endpoint(1, 0), endpoint(0, 2)), IncarnationRefusal::NotForMe),
+        (header(endpoint(0, 0), endpoint(0, 0)), IncarnationRefusal::NotForMe),
+        (header(endpoint(2, 0), endpoint(0, 0)), IncarnationRefusal::NotForMe),
+        (stale, IncarnationRefusal::StaleSource),
+        (header(endpoint(1, 2), endpoint(0, 0)), IncarnationRefusal::StaleTarget),
     ] {
         assert_eq!(rt; judged(rt.alloc(), header), Some(Err(fault)));
     }
@@ -122,7 +122,7 @@ fn the_first_broken_rule_is_answered(rt: HostRuntime) {
 fn incarnations_end_at_65535(rt: HostRuntime) {
     assert_eq!(rt; next_incarnation(0), Ok(1));
     assert_eq!(rt; next_incarnation(65_534), Ok(65_535));
-    assert_eq!(rt; next_incarnation(65_535), Err(Refused::Limit));
+    assert_eq!(rt; next_incarnation(65_535), Err(IncarnationRefusal::Limit));
     known_never_falls();
     stale_sources_stay_stale();
     what_is_handled_is_known();
@@ -131,12 +131,12 @@ fn incarnations_end_at_65535(rt: HostRuntime) {
 #[test]
 fn each_refusal_has_its_number(rt: HostRuntime) {
     for (refused, number) in [
-        (Refused::Limit, 13),
-        (Refused::OutOfMemory, 14),
-        (Refused::ForeignJob, 26),
-        (Refused::NotForMe, 27),
-        (Refused::StaleSource, 28),
-        (Refused::StaleTarget, 29),
+        (IncarnationRefusal::Limit, 13),
+        (IncarnationRefusal::OutOfMemory, 14),
+        (IncarnationRefusal::ForeignJob, 26),
+        (IncarnationRefusal::NotForMe, 27),
+        (IncarnationRefusal::StaleSource, 28),
+        (IncarnationRefusal::StaleTarget, 29),
     ] {
         assert_eq!(rt; refused.number(), number);
     }

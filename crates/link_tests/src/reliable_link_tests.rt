@@ -26,7 +26,7 @@ fn fill(alloc: Global, sender: &mut Sender) -> u64 {
 }
 
 /// The numbers that come into the window by an acknowledgement.
-fn entered_by(sender: &mut Sender, number: u64) -> Result<(u64, u64), Refused> {
+fn entered_by(sender: &mut Sender, number: u64) -> Result<(u64, u64), LinkRefusal> {
     let entered = sender.on_ack(number, 0)?;
     Ok((entered.start, entered.end))
 }
@@ -61,7 +61,7 @@ fn the_65th_frame_waits(rt: HostRuntime) {
     );
 }
 
-type Entered = Result<(u64, u64), Refused>;
+type Entered = Result<(u64, u64), LinkRefusal>;
 
 /// What an acknowledgement beyond the window, of the first frame, of it again and of all bring into the window, and whether
 /// nothing is left then.
@@ -80,7 +80,7 @@ fn acknowledge(alloc: Global, sender: &mut Sender) -> ([Entered; 4], bool, u64) 
 fn an_acknowledgement_lets_the_65th_frame_out(rt: HostRuntime) {
     let mut sender = Sender::new(rt.alloc());
     let entered = [
-        Err(Refused::OutOfWindow),
+        Err(LinkRefusal::OutOfWindow),
         Ok((64, 65)),
         Ok((65, 65)),
         Ok((65, 65)),
@@ -133,7 +133,7 @@ fn mark(sender: &mut Sender, now: u64) -> u64 {
 }
 
 /// Whether frames are due just when they should be, how a clock that goes back is refused, and the clock.
-fn resend(alloc: Global, sender: &mut Sender) -> ([bool; 5], Option<Refused>, [u64; 2]) {
+fn resend(alloc: Global, sender: &mut Sender) -> ([bool; 5], Option<LinkRefusal>, [u64; 2]) {
     let _first = accepted(alloc, sender, 0);
     let early = are_due(sender, 19, &[]);
     let first_clock = mark(sender, 19);
@@ -155,7 +155,7 @@ fn a_frame_is_due_20_ms_after_it_was_sent(rt: HostRuntime) {
     let mut sender = Sender::new(rt.alloc());
     assert_eq!(rt;
         resend(rt.alloc(), &mut sender),
-        ([true; 5], Some(Refused::ClockBack), [19, 20])
+        ([true; 5], Some(LinkRefusal::ClockBack), [19, 20])
     );
 }
 
@@ -197,7 +197,7 @@ fn a_new_session_begins_with_number_0(rt: HostRuntime) {
 
 /// Whether just these frames are due at 20 ms: the one whose bit is clear where three were sent at 0 ms and the receiver holds two,
 /// none where it holds them all but the first and that one was acknowledged, and the next one where it is told that it isn't held.
-fn marked(alloc: Global, sender: &mut Sender) -> ([Option<Refused>; 3], [bool; 3]) {
+fn marked(alloc: Global, sender: &mut Sender) -> ([Option<LinkRefusal>; 3], [bool; 3]) {
     for number in 0..3u8 {
         let _entered = accepted(alloc, sender, number);
     }
@@ -215,7 +215,7 @@ fn frames_that_are_held_are_not_sent_again(rt: HostRuntime) {
     let mut sender = Sender::new(rt.alloc());
     assert_eq!(rt;
         marked(rt.alloc(), &mut sender),
-        ([Some(Refused::OutOfWindow), None, None], [true; 3])
+        ([Some(LinkRefusal::OutOfWindow), None, None], [true; 3])
     );
 }
 
@@ -224,7 +224,7 @@ fn frames_that_are_held_are_not_sent_again(rt: HostRuntime) {
 fn renewed(alloc: Global, mut sender: Sender) -> (bool, u64, Option<Option<u64>>) {
     let _first = accepted(alloc, &mut sender, 0);
     let _clock = mark(&mut sender, 7);
-    let mut next = sender.renewed();
+    let mut next = sender.for_new_session();
     next.take_places(sender);
     let is_empty = next.is_empty();
     (is_empty, next.clock(), accepted(alloc, &mut next, 9))
@@ -238,7 +238,7 @@ fn a_renewed_sender_begins_with_number_0(rt: HostRuntime) {
     );
 }
 
-type Judged = Result<Verdict, Refused>;
+type Judged = Result<FrameVerdict, LinkRefusal>;
 
 /// What becomes of frame 1, of frame 0 twice, and of frame 1 again, and the number that is next then.
 fn hand_up(receiver: &mut Receiver) -> ([Judged; 4], u64) {
@@ -263,14 +263,14 @@ fn frames_are_handed_up_once_and_in_order(rt: HostRuntime) {
     let handed = hand_up(&mut receiver);
     let again = begin_again(&mut receiver);
     let verdicts = [
-        Ok(Verdict::Accepted),
-        Ok(Verdict::Accepted),
-        Ok(Verdict::Repeated),
-        Ok(Verdict::Accepted),
+        Ok(FrameVerdict::Accepted),
+        Ok(FrameVerdict::Accepted),
+        Ok(FrameVerdict::Repeated),
+        Ok(FrameVerdict::Accepted),
     ];
     assert_eq!(rt;
         (handed, again),
-        ((verdicts, 2), [Ok(Verdict::Accepted); 2])
+        ((verdicts, 2), [Ok(FrameVerdict::Accepted); 2])
     );
     frames_are_handed_up_in_order();
 }
@@ -286,12 +286,12 @@ fn a_frame_is_held_up_to_63_numbers_early(rt: HostRuntime) {
     assert_eq!(rt;
         verdicts,
         [
-            Ok(Verdict::Accepted),
-            Ok(Verdict::Repeated),
-            Err(Refused::OutOfWindow)
+            Ok(FrameVerdict::Accepted),
+            Ok(FrameVerdict::Repeated),
+            Err(LinkRefusal::OutOfWindow)
         ]
     );
-    assert_eq!(rt; (receiver.next(), receiver.held()), (0, 1 << 63));
+    assert_eq!(rt; (receiver.next(), receiver.held_bits()), (0, 1 << 63));
 }
 
 /// Whether these bytes are held as the next frame.
@@ -306,14 +306,14 @@ fn is_ready(receiver: &Receiver, bytes: &[u8]) -> bool {
 fn told(receiver: &mut Receiver) -> [u64; 4] {
     let _second = receiver.on_frame(2, b"2");
     let _first = receiver.on_frame(1, b"1");
-    let early = receiver.held();
+    let early = receiver.held_bits();
     let _next = receiver.on_frame(0, b"0");
-    let behind = receiver.held_behind();
-    let first = receiver.held();
+    let behind = receiver.held_bits_after_next();
+    let first = receiver.held_bits();
     if receiver.next() < 9 {
         receiver.advance();
     }
-    [early, first, behind, receiver.held()]
+    [early, first, behind, receiver.held_bits()]
 }
 
 #[test]
@@ -324,18 +324,18 @@ fn held_frames_are_told_until_their_turn_comes(rt: HostRuntime) {
     receiver.discard();
     assert!(rt; receiver.ready().is_none());
     assert_eq!(rt; receiver.next(), 2);
-    let mut next = receiver.renewed();
+    let mut next = receiver.for_new_session();
     next.take_places(receiver);
-    assert_eq!(rt; (next.next(), next.held()), (0, 0));
+    assert_eq!(rt; (next.next(), next.held_bits()), (0, 0));
 }
 
 #[test]
 fn each_refusal_has_its_number(rt: HostRuntime) {
     for (refused, number) in [
-        (Refused::Limit, 13),
-        (Refused::OutOfMemory, 14),
-        (Refused::OutOfWindow, 31),
-        (Refused::ClockBack, 41),
+        (LinkRefusal::Limit, 13),
+        (LinkRefusal::OutOfMemory, 14),
+        (LinkRefusal::OutOfWindow, 31),
+        (LinkRefusal::ClockBack, 41),
     ] {
         assert_eq!(rt; refused.number(), number);
     }

@@ -51,12 +51,12 @@ fn take_in(sessions: &mut Sessions, bytes: &[u8]) -> Option<usize> {
     let heard = match sessions.judge(bytes) {
         Ok(heard) => heard,
         Err(unheard) => {
-            let _ = sessions.turn_away(unheard);
+            let _ = sessions.refuse(unheard);
             return None;
         }
     };
     let handed = match heard.word {
-        Word::Hands(Frame::Eager(eager)) => Some(eager.elements.len()),
+        LinkEvent::Hands(Frame::Eager(eager)) => Some(eager.elements.len()),
         _ => None,
     };
     match sessions.carry_out(Some(heard), &[]) {
@@ -261,11 +261,11 @@ const PART: [u8; 46] = [
 ];
 
 /// The transfer of the frame of a large message that is handed up.
-fn transfer_of(word: Word<'_>) -> Option<u32> {
+fn transfer_of(word: LinkEvent<'_>) -> Option<u32> {
     match word {
-        Word::Hands(Frame::RequestToSend(request)) => Some(request.transfer),
-        Word::Hands(Frame::ClearToSend(clear)) => Some(clear.transfer),
-        Word::Hands(Frame::Data(part)) => Some(part.transfer),
+        LinkEvent::Hands(Frame::RequestToSend(request)) => Some(request.transfer),
+        LinkEvent::Hands(Frame::ClearToSend(clear)) => Some(clear.transfer),
+        LinkEvent::Hands(Frame::Data(part)) => Some(part.transfer),
         _ => None,
     }
 }
@@ -336,7 +336,7 @@ fn following(sessions: &Sessions, source: Endpoint) -> Option<usize> {
     }
     let bytes = sessions.ready(source.rank).ok()??;
     match turn_in(source, &bytes)?.word {
-        Word::Follows(Frame::Eager(eager)) => Some(eager.elements.len()),
+        LinkEvent::Follows(Frame::Eager(eager)) => Some(eager.elements.len()),
         _ => None,
     }
 }

@@ -6,13 +6,13 @@ ghost use Rattle.memory_rows.specs.declared.giving.Fault.TheVariants.{Output};
 use crate::rows::Row;
 use crate::seen::{Seen, datagram_count, look_at};
 use crate::steps::{Step, event_of};
-use event_lines::{
+use simulation::{
     SimulateError, print_completion, print_datagram, print_refusal, print_reply, print_taken,
 };
 use std::alloc::Global;
 use std::io;
 use std::io::Write;
-use world::{Entry, Event, Failed, Stepped, World};
+use world::{HistoryEntry, Event, Failed, Stepped, World};
 
 /// How often a thing is tried for which memory was wanting.
 const TRIES: u8 = 3;
@@ -73,7 +73,7 @@ fn print_emitted<W: Write>(
 }
 
 /// What an event answered.
-fn print_answer<W: Write>(alloc: Global, entry: &Entry, out: &mut W) -> Result<(), Fault> {
+fn print_answer<W: Write>(alloc: Global, entry: &HistoryEntry, out: &mut W) -> Result<(), Fault> {
     match &entry.reply {
         Some(reply) => print_reply(alloc, reply, out).map_err(unprinted),
         None => Ok(print_taken(out)?),

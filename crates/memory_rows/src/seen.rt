@@ -1,7 +1,7 @@
 //! What can be seen of a world.
 
 use seen_sums::Sum;
-use world::{Entry, Event, World};
+use world::{HistoryEntry, Event, World};
 
 /// What can be seen of a world: its history, its datagrams, and whether it is quiet. It takes no memory.
 #[derive(Clone, Copy, Debug, PartialEq, Eq)]
@@ -27,7 +27,7 @@ fn with_event(sum: Sum, event: &Event) -> Sum {
 }
 
 /// The sum with an entry of the history.
-fn with_entry(sum: Sum, entry: &Entry) -> Sum {
+fn with_entry(sum: Sum, entry: &HistoryEntry) -> Sum {
     let placed = sum
         .with(u64::from(entry.endpoint.rank))
         .with(u64::from(entry.endpoint.incarnation));

@@ -1,6 +1,6 @@
 //! What the program says on standard error.
 
-use fault_lines::{Fault, event_fault, explanation, line_at};
+use line_diagnostics::{LineFault, event_fault, explanation, line_at};
 use std::alloc::Global;
 use std::str;
 
@@ -25,7 +25,7 @@ pub fn unread(rt: &impl Eprint, name: &str) -> u8 {
 
 /// Why the line of this number is faulty: as it was found when it was reached, or else since it is no line of a file of
 /// events.
-fn told_of(alloc: Global, text: &[u8], number: usize, fault: Option<Fault>) -> Option<Vec<u8>> {
+fn told_of(alloc: Global, text: &[u8], number: usize, fault: Option<LineFault>) -> Option<Vec<u8>> {
     let line = line_at(alloc, text, number).ok()?.unwrap_or(b"");
     let fault = match fault {
         Some(fault) => fault,
@@ -39,7 +39,7 @@ pub fn faulty(
     rt: &(impl Eprint + AllocGlobal),
     text: &[u8],
     number: usize,
-    fault: Option<Fault>,
+    fault: Option<LineFault>,
 ) -> u8 {
     let status = refused(rt, 51, Some(number));
     if let Some(line) = told_of(rt.alloc(), text, number, fault) {

@@ -6,7 +6,7 @@
 //! stands why: the fault and the text of the line, or the name of the file.
 #![tactic(auto)]
 
-use fault_lines::{Fault, event_fault, explanation, line_at};
+use line_diagnostics::{LineFault, event_fault, explanation, line_at};
 use simulation::{SimulateError, Stopped, simulate_or_tell};
 use std::alloc::Global;
 use std::env::FillError;
@@ -22,7 +22,7 @@ usage: mpisim FILE
         `tick R NOW`, `restart R` or `stray R HEX`. What each line answers is printed.";
 
 /// Says why nothing more runs, and answers the status.
-fn refused(rt: &impl Eprint, number: u8, line: Option<usize>) -> u8 {
+fn tell_refusal(rt: &impl Eprint, number: u8, line: Option<usize>) -> u8 {
     let told = match line {
         Some(line) => eprintln!(rt; "mpisim: refused {number} line {line}"),
         None => eprintln!(rt; "mpisim: refused {number}"),
@@ -34,23 +34,23 @@ fn refused(rt: &impl Eprint, number: u8, line: Option<usize>) -> u8 {
 }
 
 /// Says how the program is called, and answers the status.
-fn misused(rt: &impl Eprint) -> u8 {
+fn tell_misuse(rt: &impl Eprint) -> u8 {
     let _told = eprintln!(rt; "{USAGE}");
     2
 }
 
 /// Says that the file can't be read, and answers the status.
-fn unread(rt: &impl Eprint, name: &str) -> u8 {
-    let status = refused(rt, 59, None);
+fn tell_unread(rt: &impl Eprint, name: &str) -> u8 {
+    let status = tell_refusal(rt, 59, None);
     let _told = eprintln!(rt; "mpisim: {name} can't be read");
     if matches!(name, "--help" | "-h" | "--version") {
-        let _told = misused(rt);
+        let _told = tell_misuse(rt);
     }
     status
 }
 
 /// Why the line of this number is faulty: as it was found when it was reached, or else since it is no line of a file of events.
-fn told_of(alloc: Global, text: &[u8], number: usize, fault: Option<Fault>) -> Option<Vec<u8>> {
+fn told_of(alloc: Global, text: &[u8], number: usize, fault: Option<LineFault>) -> Option<Vec<u8>> {
     let line = line_at(alloc, text, number).ok()?.unwrap_or(b"");
     let fault = match fault {
         Some(fault) => fault,
@@ -60,13 +60,13 @@ fn told_of(alloc: Global, text: &[u8], number: usize, fault: Option<Fault>) -> O
 }
 
 /// Says at which line the file is faulty, and why, and answers the status.
-fn faulty(
+fn tell_fault(
     rt: &(impl Eprint + AllocGlobal),
     text: &[u8],
     number: usize,
-    fault: Option<Fault>,
+    fault: Option<LineFault>,
 ) -> u8 {
-    let status = refused(rt, 51, Some(number));
+    let status = tell_refusal(rt, 51, Some(number));
     if let Some(line) = told_of(rt.alloc(), text, number, fault) {
         if let Ok(told) = str::from_utf8(&line) {
             let _told = eprintln!(rt; "{told}");
@@ -93,11 +93,11 @@ fn has_one_word(rt: &impl Env) -> bool {
 fn run(rt: &(impl Files + Print + Eprint + AllocGlobal), name: &str) -> u8 {
     let text = match fs::read(rt, name) {
         Ok(text) => text,
-        Err(e) if e.kind() == ErrorKind::OutOfMemory => return refused(rt, 14, None),
-        Err(_) => return unread(rt, name),
+        Err(e) if e.kind() == ErrorKind::OutOfMemory => return tell_refusal(rt, 14, None),
+        Err(_) => return tell_unread(rt, name),
     };
     let Ok(mut out) = BufWriter::new(rt.alloc(), io::writer(rt)) else {
-        return refused(rt, 14, None);
+        return tell_refusal(rt, 14, None);
     };
     let ended = simulate_or_tell(rt.alloc(), &text, &mut out);
     if out.flush().is_err() {
@@ -106,8 +106,8 @@ fn run(rt: &(impl Files + Print + Eprint + AllocGlobal), name: &str) -> u8 {
     match ended {
         Ok(()) => 0,
         Err(Stopped { error, fault }) => match error {
-            SimulateError::Script(line) => faulty(rt, &text, line, fault),
-            SimulateError::OutOfMemory => refused(rt, 14, None),
+            SimulateError::Script(line) => tell_fault(rt, &text, line, fault),
+            SimulateError::OutOfMemory => tell_refusal(rt, 14, None),
             SimulateError::Output => 3,
         },
     }
@@ -117,18 +117,18 @@ fn run(rt: &(impl Files + Print + Eprint + AllocGlobal), name: &str) -> u8 {
 fn run_word(rt: &(impl Env + Files + Print + Eprint + AllocGlobal)) -> u8 {
     let mut words = match env::args(rt) {
         Ok(words) => words,
-        Err(e) if e.kind() == ErrorKind::OutOfMemory => return refused(rt, 14, None),
-        Err(_) => return refused(rt, 59, None),
+        Err(e) if e.kind() == ErrorKind::OutOfMemory => return tell_refusal(rt, 14, None),
+        Err(_) => return tell_refusal(rt, 59, None),
     };
     match words.nth(1) {
         Some(name) => run(rt, name.as_str()),
-        None => misused(rt),
+        None => tell_misuse(rt),
     }
 }
 
 fn main(rt: HostRuntime) -> ExitCode {
     if !has_one_word(&rt) {
-        return ExitCode::from(misused(&rt));
+        return ExitCode::from(tell_misuse(&rt));
     }
     ExitCode::from(run_word(&rt))
 }

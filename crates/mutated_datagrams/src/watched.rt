@@ -2,7 +2,7 @@
 
 use crate::shown::standing;
 use datagram::{Bytes, Content};
-use engine::{Call, Engine, Place, Refused};
+use engine::{Call, Engine, Place, Refusal};
 use seen_sums::Sum;
 use std::alloc::Global;
 use std::mem;
@@ -30,8 +30,8 @@ pub fn rank_of_three(alloc: Global, rank: u16, incarnation: u16) -> Option<Engin
 }
 
 /// The number of a refusal.
-fn number_of(answer: Result<(), Refused>) -> Option<u8> {
-    answer.err().map(Refused::number)
+fn number_of(answer: Result<(), Refusal>) -> Option<u8> {
+    answer.err().map(Refusal::number)
 }
 
 /// What an engine has emitted, and the sum of all that it shows.

@@ -7,7 +7,7 @@ use Rattle.std.proofs.Math.Seq.{drop-cons}
 use Rattle.byteorder.specs.Endian.{big_bytes, big_number}
 use Rattle.byteorder.specs.Numbers.{big_from-lt, big_from-take}
 use Rattle.vocabulary.specs.declared.basic_type.BasicType.{BasicType}
-use Rattle.payload.specs.declared.kind.Kind.{Kind}
+use Rattle.payload.specs.declared.kind.CollectiveKind.{CollectiveKind}
 use Rattle.payload.specs.declared.kind.Phase.{Phase}
 use Rattle.payload.specs.declared.operation.Operation.{Operation}
 use Rattle.vocabulary.specs.BasicTypes.{code_of, type_at}
@@ -92,7 +92,7 @@ row code_of code n x y o e is rest =
       | inr h ↦ rest h
     ]
 
-pub kind_back : (code : ℕ) (y : Kind) → kind_at code ≡ Some y → kind_code y ≡ code
+pub kind_back : (code : ℕ) (y : CollectiveKind) → kind_at code ≡ Some y → kind_code y ≡ code
 kind_back code y e =
     row kind_code code _ _ y _ e refl (λ e1. row kind_code code _ _ y _ e1 refl (λ e2. row kind_code code _ _ y _ e2 refl
     (λ e3. row kind_code code _ _ y _ e3 refl (λ e4. row kind_code code _ _ y _ e4 refl (λ e5. row kind_code code _ _ y _ e5 refl

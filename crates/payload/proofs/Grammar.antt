@@ -11,16 +11,16 @@ use Rattle.byteorder.specs.Numbers.{big_number-reads_back}
 use Rattle.vocabulary.specs.declared.basic_type.BasicType.{BasicType}
 use Rattle.vocabulary.specs.declared.basic_type.BasicType.TheVariants as basics
 use Rattle.vocabulary.specs.BasicTypes.{code_of, type_at, size_of}
-use Rattle.payload.specs.declared.refused.Refused.{Refused}
-use Rattle.payload.specs.declared.refused.Refused.TheVariants.{OutOfMemory, BadFrame}
+use Rattle.payload.specs.declared.refusal.PayloadRefusal.{PayloadRefusal}
+use Rattle.payload.specs.declared.refusal.PayloadRefusal.TheVariants.{OutOfMemory, BadFrame}
 use Rattle.payload.specs.declared.operation.Operation.{Operation}
 use Rattle.payload.specs.declared.operation.Operation.TheVariants as operations
 use Rattle.payload.specs.declared.record.Elements.{Elements}
 use Rattle.payload.specs.declared.record.Rooted.{Rooted}
 use Rattle.payload.specs.declared.record.Record.{Record}
 use Rattle.payload.specs.declared.record.Record.TheVariants as records
-use Rattle.payload.specs.declared.kind.Kind.{Kind}
-use Rattle.payload.specs.declared.kind.Kind.TheVariants as kinds
+use Rattle.payload.specs.declared.kind.CollectiveKind.{CollectiveKind}
+use Rattle.payload.specs.declared.kind.CollectiveKind.TheVariants as kinds
 use Rattle.payload.specs.declared.kind.Phase.{Phase}
 use Rattle.payload.specs.declared.kind.Phase.TheVariants as phases
 use Rattle.payload.specs.declared.payload.Direction.{Direction}
@@ -29,13 +29,13 @@ use Rattle.payload.specs.declared.payload.Payload.{Payload}
 use Rattle.payload.specs.declared.reading.Fields.{Fields}
 use Rattle.payload.specs.Codes.{kind_code, kind_at, phase_code, phase_at, operation_code, operation_at}
 use Rattle.payload.specs.Spelling.{PartText, Differing, NothingMore, ElementsText, ContextText, ChoiceText, NullText, GroupText, PayloadText, payload_text, kind_of, elements_of, operation_field, root_field, type_code, count_field, way_phase, phase_of, AreElements, SaysNothing, AreRanks, PartFits, ColourIsWithin, PartIsWithin, RecordIsWithin, PayloadFits, colour_spelling, part_spelling, record_spelling, spelling}
-use Rattle.payload.specs.Reading.{Gives, given, number_at, fields_of, bare, elements_in, rooted_in, reduce_in, allreduce_in, record_in, elements_from, nothing_from, colour_from, choice_from, context_from, group_from, towards_root, from_root, part_in, head_of, payload_of}
+use Rattle.payload.specs.Reading.{Gives, given, number_at, fields_of, without_fields, elements_in, rooted_in, reduce_in, allreduce_in, record_in, elements_from, nothing_from, colour_from, choice_from, context_from, group_from, towards_root, from_root, part_in, head_of, payload_of}
 use Rattle.payload.proofs.Fields.{IsBytes, IsBytes-drop, bind_some, given_some, there, nothing, some_is, wide4, wide8, number_takes, byte_takes, number_fits, kind_back, phase_back, operation_back, basic_back}
 
 -- ---- the record
 
 -- a record of this kind that these fields say
-pub record Says (kind : Kind) (f : Fields) (r : Record) : Type 0 where
+pub record Says (kind : CollectiveKind) (f : Fields) (r : Record) : Type 0 where
   pub kind_is : kind_of r ≡ kind
   pub operation_is : operation_field r ≡ f.operation
   pub type_is : type_code (elements_of r) ≡ f.basic
@@ -49,8 +49,8 @@ record AreNone (f : Fields) : Type 0 where
   root : 0 ≡ f.root
   count : 0 ≡ f.count
 
-bare_takes : (f : Fields) (x r : Record) → bare x f ≡ Some r → AreNone f × (x ≡ r)
-unfolding bare
+bare_takes : (f : Fields) (x r : Record) → without_fields x f ≡ Some r → AreNone f × (x ≡ r)
+unfolding without_fields
 bare_takes f x r is =
     let a = given_some (eqb f.operation 0) _ r is in
     let b = given_some (eqb f.basic 0) _ r a.1 in
@@ -103,7 +103,7 @@ allreduce_takes f r is =
     subst (Says kinds.Allreduce f) (some_is (records.Allreduce a.0 b.0) r d.1)
     (record { kind_is = refl; operation_is = operation_back f.operation a.0 a.1; type_is = e.basic; root_is = sym (eqb-true _ _ d.0); count_is = e.count })
 
-record_takes : (k : Kind) (f : Fields) (r : Record) → record_in k f ≡ Some r → Says k f r
+record_takes : (k : CollectiveKind) (f : Fields) (r : Record) → record_in k f ≡ Some r → Says k f r
 unfolding record_in
 record_takes kinds.Barrier f r is =
     let a = bare_takes f records.Barrier r is in
@@ -341,7 +341,7 @@ operation_again operations.Bor = refl
 operation_again operations.Bxor = refl
 operation_again operations.Affine = refl
 
-kind_again : (k : Kind) → kind_at (kind_code k) ≡ Some k
+kind_again : (k : CollectiveKind) → kind_at (kind_code k) ≡ Some k
 kind_again kinds.Barrier = refl
 kind_again kinds.Bcast = refl
 kind_again kinds.Gather = refl
@@ -361,7 +361,7 @@ abbrev fields_in : Record → Fields
 fields_in r = record { operation = operation_field r; basic = type_code (elements_of r); root = root_field r; count = count_field (elements_of r) }
 
 record_again : (r : Record) → record_in (kind_of r) (fields_in r) ≡ Some r
-unfolding record_in bare elements_in rooted_in reduce_in allreduce_in
+unfolding record_in without_fields elements_in rooted_in reduce_in allreduce_in
 record_again records.Barrier = refl
 record_again records.Dup = refl
 record_again records.Split = refl
@@ -504,11 +504,11 @@ payload_again p fits =
     let h = head_again p.record_is phase (part_spelling p.part) fits.record_width in
     payload_from (spelling p) (part_spelling p.part) p phase h.0 (ap phase_at h.1 ∙ phase_again phase) h.2 (part_again p.record_is p.part fits.width fits.part)
 
-pub is_found : (bytes : List ℕ) (r : Result Payload Refused) → IsBytes bytes → Gives payload_text r (payload_of bytes) → IfOk r (λ p. PayloadFits (payload_text p) × (bytes ≡ spelling (payload_text p)))
+pub is_found : (bytes : List ℕ) (r : Result Payload PayloadRefusal) → IsBytes bytes → Gives payload_text r (payload_of bytes) → IfOk r (λ p. PayloadFits (payload_text p) × (bytes ≡ spelling (payload_text p)))
 is_found bytes (Ok p) fits gives = payload_takes bytes (payload_text p) fits gives
 is_found bytes (Err e) fits gives = tt
 
-pub is_only : (bytes : List ℕ) (r : Result Payload Refused) → Gives payload_text r (payload_of bytes) → (p : PayloadText) → PayloadFits p → bytes ≡ spelling p → Gives payload_text r (Some p)
+pub is_only : (bytes : List ℕ) (r : Result Payload PayloadRefusal) → Gives payload_text r (payload_of bytes) → (p : PayloadText) → PayloadFits p → bytes ≡ spelling p → Gives payload_text r (Some p)
 is_only bytes (Ok x) gives p fits is = sym (ap payload_of is ∙ payload_again p fits) ∙ gives
 is_only bytes (Err BadFrame) gives p fits is = sym (ap payload_of is ∙ payload_again p fits) ∙ gives
 is_only bytes (Err OutOfMemory) gives p fits is = absurd gives

@@ -1,14 +1,14 @@
 -- The codes of a payload's fields.
 use Rattle.std.specs.Prelude.{ℕ, ◌==◌, Option, Some, None, if◌then◌else◌}
-use Rattle.payload.specs.declared.kind.Kind.{Kind}
-use Rattle.payload.specs.declared.kind.Kind.TheVariants as kinds
+use Rattle.payload.specs.declared.kind.CollectiveKind.{CollectiveKind}
+use Rattle.payload.specs.declared.kind.CollectiveKind.TheVariants as kinds
 use Rattle.payload.specs.declared.kind.Phase.{Phase}
 use Rattle.payload.specs.declared.kind.Phase.TheVariants as phases
 use Rattle.payload.specs.declared.operation.Operation.{Operation}
 use Rattle.payload.specs.declared.operation.Operation.TheVariants as operations
 
 -- the code of a kind
-abbrev pub kind_code : Kind → ℕ
+abbrev pub kind_code : CollectiveKind → ℕ
 kind_code kinds.Barrier = 1
 kind_code kinds.Bcast = 2
 kind_code kinds.Gather = 3
@@ -19,7 +19,7 @@ kind_code kinds.Dup = 7
 kind_code kinds.Split = 8
 
 -- the kind that has a code
-abbrev pub kind_at : ℕ → Option Kind
+abbrev pub kind_at : ℕ → Option CollectiveKind
 kind_at code =
     if code == 1 then Some kinds.Barrier else (if code == 2 then Some kinds.Bcast else (if code == 3 then Some kinds.Gather else
     (if code == 4 then Some kinds.Scatter else (if code == 5 then Some kinds.Reduce else (if code == 6 then Some kinds.Allreduce else

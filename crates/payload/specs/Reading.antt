@@ -3,14 +3,14 @@ use Rattle.std.specs.Prelude.{◌≡◌, ℕ, ◌*◌, ◌%◌, ◌==◌, List, 
 use Rattle.std.specs.Int.{cast_signed, w32}
 use Rattle.byteorder.specs.Endian.{big_number}
 use Rattle.vocabulary.specs.BasicTypes.{size_of, type_at}
-use Rattle.payload.specs.declared.refused.Refused.{Refused}
-use Rattle.payload.specs.declared.refused.Refused.TheVariants.{OutOfMemory, BadFrame}
+use Rattle.payload.specs.declared.refusal.PayloadRefusal.{PayloadRefusal}
+use Rattle.payload.specs.declared.refusal.PayloadRefusal.TheVariants.{OutOfMemory, BadFrame}
 use Rattle.payload.specs.declared.record.Elements.{Elements}
 use Rattle.payload.specs.declared.record.Rooted.{Rooted}
 use Rattle.payload.specs.declared.record.Record.{Record}
 use Rattle.payload.specs.declared.record.Record.TheVariants as records
-use Rattle.payload.specs.declared.kind.Kind.{Kind}
-use Rattle.payload.specs.declared.kind.Kind.TheVariants as kinds
+use Rattle.payload.specs.declared.kind.CollectiveKind.{CollectiveKind}
+use Rattle.payload.specs.declared.kind.CollectiveKind.TheVariants as kinds
 use Rattle.payload.specs.declared.kind.Phase.{Phase}
 use Rattle.payload.specs.declared.kind.Phase.TheVariants as phases
 use Rattle.payload.specs.declared.payload.Direction.{Direction}
@@ -30,7 +30,7 @@ abbrev pub given : {A : Type 0} → Bool → Option A → Option A
 given test next = if test then next else None
 
 -- what a function returned, seen by view, is what reading gives; the one fault is that there is nothing
-abbrev pub Gives : {X Y : Type 0} → (X → Y) → Result X Refused → Option Y → Type 0
+abbrev pub Gives : {X Y : Type 0} → (X → Y) → Result X PayloadRefusal → Option Y → Type 0
 Gives view (Ok x) read = read ≡ Some (view x)
 Gives view (Err BadFrame) read = read ≡ None
 Gives view (Err OutOfMemory) read = ⊥
@@ -51,8 +51,8 @@ fields_of bytes = record {
 }
 
 -- a record of a kind that has no fields
-unfoldable pub bare : Record → Fields → Option Record
-bare r f = given (f.operation == 0) (given (f.basic == 0) (given (f.root == 0) (given (f.count == 0) (Some r))))
+unfoldable pub without_fields : Record → Fields → Option Record
+without_fields r f = given (f.operation == 0) (given (f.basic == 0) (given (f.root == 0) (given (f.count == 0) (Some r))))
 
 -- the elements that the fields name
 unfoldable pub elements_in : Fields → Option Elements
@@ -77,15 +77,15 @@ allreduce_in f =
     given (f.root == 0) (Some (records.Allreduce operation e))
 
 -- the record of this kind that the fields say
-unfoldable pub record_in : Kind → Fields → Option Record
-record_in kinds.Barrier f = bare records.Barrier f
+unfoldable pub record_in : CollectiveKind → Fields → Option Record
+record_in kinds.Barrier f = without_fields records.Barrier f
 record_in kinds.Bcast f = rooted_in f >>= λ r. Some (records.Bcast r)
 record_in kinds.Gather f = rooted_in f >>= λ r. Some (records.Gather r)
 record_in kinds.Scatter f = rooted_in f >>= λ r. Some (records.Scatter r)
 record_in kinds.Reduce f = reduce_in f
 record_in kinds.Allreduce f = allreduce_in f
-record_in kinds.Dup f = bare records.Dup f
-record_in kinds.Split f = bare records.Split f
+record_in kinds.Dup f = without_fields records.Dup f
+record_in kinds.Split f = without_fields records.Split f
 
 -- ---- what comes after the record
 

@@ -6,15 +6,15 @@ use Rattle.vocabulary.specs.BasicTypes.{code_of, size_of}
 use Rattle.payload.specs.declared.record.Elements.{Elements}
 use Rattle.payload.specs.declared.record.Record.{Record}
 use Rattle.payload.specs.declared.record.Record.TheVariants as records
-use Rattle.payload.specs.declared.kind.Kind.{Kind}
-use Rattle.payload.specs.declared.kind.Kind.TheVariants as kinds
+use Rattle.payload.specs.declared.kind.CollectiveKind.{CollectiveKind}
+use Rattle.payload.specs.declared.kind.CollectiveKind.TheVariants as kinds
 use Rattle.payload.specs.declared.kind.Phase.{Phase}
 use Rattle.payload.specs.declared.kind.Phase.TheVariants as phases
 use Rattle.payload.specs.declared.payload.Direction.{Direction}
 use Rattle.payload.specs.declared.payload.Direction.TheVariants as directions
 use Rattle.payload.specs.declared.payload.Choice.{Choice}
-use Rattle.payload.specs.declared.payload.Part.{Part}
-use Rattle.payload.specs.declared.payload.Part.TheVariants as parts
+use Rattle.payload.specs.declared.payload.PayloadContent.{PayloadContent}
+use Rattle.payload.specs.declared.payload.PayloadContent.TheVariants as parts
 use Rattle.payload.specs.declared.payload.Payload.{Payload}
 use Rattle.payload.specs.Codes.{kind_code, phase_code, operation_code}
 
@@ -36,7 +36,7 @@ pub record PayloadText : Type 0 where
 -- ---- what a value of the program says
 
 -- what a part says
-abbrev pub part_text : Part → PartText
+abbrev pub part_text : PayloadContent → PartText
 part_text parts.RecordsDiffer = Differing
 part_text (parts.Nothing way) = NothingMore way
 part_text (parts.Elements way bytes) = ElementsText way bytes.now
@@ -52,7 +52,7 @@ payload_text p = record { record_is = p.entered; part = part_text p.part }
 -- ---- the fields of a record, each a number; 0 where the kind has none
 
 -- the kind of a record
-abbrev pub kind_of : Record → Kind
+abbrev pub kind_of : Record → CollectiveKind
 kind_of records.Barrier = kinds.Barrier
 kind_of (records.Bcast r) = kinds.Bcast
 kind_of (records.Gather r) = kinds.Gather

@@ -5,7 +5,7 @@ ghost use Rattle.payload.specs.Codes.{kind_code, kind_at, phase_code, phase_at};
 
 /// Which collective a record is of.
 #[derive(Clone, Copy)]
-pub enum Kind {
+pub enum CollectiveKind {
     /// MPI_Barrier.
     Barrier,
     /// MPI_Bcast.
@@ -24,36 +24,36 @@ pub enum Kind {
     Split,
 }
 
-impl Kind {
+impl CollectiveKind {
     /// The code that stands for this kind.
     pub fn code(self) -> u8
         ensures { result ≡ kind_code self }
     {
         match self {
-            Kind::Barrier => 1,
-            Kind::Bcast => 2,
-            Kind::Gather => 3,
-            Kind::Scatter => 4,
-            Kind::Reduce => 5,
-            Kind::Allreduce => 6,
-            Kind::Dup => 7,
-            Kind::Split => 8,
+            CollectiveKind::Barrier => 1,
+            CollectiveKind::Bcast => 2,
+            CollectiveKind::Gather => 3,
+            CollectiveKind::Scatter => 4,
+            CollectiveKind::Reduce => 5,
+            CollectiveKind::Allreduce => 6,
+            CollectiveKind::Dup => 7,
+            CollectiveKind::Split => 8,
         }
     }
 
     /// The kind that has this code, where there is one.
-    pub fn from_code(code: u8) -> Option<Kind>
+    pub fn from_code(code: u8) -> Option<CollectiveKind>
         ensures { result ≡ kind_at code }
     {
         match code {
-            1 => Some(Kind::Barrier),
-            2 => Some(Kind::Bcast),
-            3 => Some(Kind::Gather),
-            4 => Some(Kind::Scatter),
-            5 => Some(Kind::Reduce),
-            6 => Some(Kind::Allreduce),
-            7 => Some(Kind::Dup),
-            8 => Some(Kind::Split),
+            1 => Some(CollectiveKind::Barrier),
+            2 => Some(CollectiveKind::Bcast),
+            3 => Some(CollectiveKind::Gather),
+            4 => Some(CollectiveKind::Scatter),
+            5 => Some(CollectiveKind::Reduce),
+            6 => Some(CollectiveKind::Allreduce),
+            7 => Some(CollectiveKind::Dup),
+            8 => Some(CollectiveKind::Split),
             _ => None,
         }
     }

@@ -6,12 +6,12 @@ mod operation;
 mod payload;
 mod reading;
 mod record;
-mod refused;
+mod refusal;
 mod writing;
 
 pub use operation::Operation;
-pub use payload::{Choice, Direction, NewGroup, Part, Payload};
+pub use payload::{Choice, Direction, NewGroup, PayloadContent, Payload};
 pub use reading::read_payload;
 pub use record::{Elements, Record, Rooted};
-pub use refused::Refused;
+pub use refusal::PayloadRefusal;
 pub use writing::write_payload;

@@ -71,7 +71,7 @@ impl NewGroup<'_> {
 
 /// What a message carries beside its sender's record.
 #[derive(Clone, Copy)]
-pub enum Part<'a> {
+pub enum PayloadContent<'a> {
     /// That the records of two members differ: nothing else.
     RecordsDiffer,
     /// Nothing: of a barrier either way, of a copy towards member 0.
@@ -94,19 +94,19 @@ pub struct Payload<'a> {
     /// What its sender entered.
     pub entered: Record,
     /// What it carries.
-    pub part: Part<'a>,
+    pub part: PayloadContent<'a>,
 }
 
-impl Part<'_> {
+impl PayloadContent<'_> {
     /// The phase of a message that carries this.
     pub(crate) fn phase(self) -> Phase
         ensures { result ≡ phase_of (part_text self.entry) }
     {
         match self {
-            Part::RecordsDiffer => Phase::RecordsDiffer,
-            Part::Nothing(way) | Part::Elements(way, _) => way.phase(),
-            Part::Choice(_) => Phase::TowardsRoot,
-            Part::Context(_) | Part::NullCommunicator | Part::NewGroup(_) => Phase::FromRoot,
+            PayloadContent::RecordsDiffer => Phase::RecordsDiffer,
+            PayloadContent::Nothing(way) | PayloadContent::Elements(way, _) => way.phase(),
+            PayloadContent::Choice(_) => Phase::TowardsRoot,
+            PayloadContent::Context(_) | PayloadContent::NullCommunicator | PayloadContent::NewGroup(_) => Phase::FromRoot,
         }
     }
 
@@ -115,11 +115,11 @@ impl Part<'_> {
         ensures { result ≡ length (part_spelling (part_text self.entry)) }
     {
         match self {
-            Part::RecordsDiffer | Part::Nothing(_) | Part::NullCommunicator => 0,
-            Part::Elements(_, bytes) => bytes.len(),
-            Part::Context(_) => 8,
-            Part::Choice(_) => 9,
-            Part::NewGroup(group) => 8 + group.ranks.len(),
+            PayloadContent::RecordsDiffer | PayloadContent::Nothing(_) | PayloadContent::NullCommunicator => 0,
+            PayloadContent::Elements(_, bytes) => bytes.len(),
+            PayloadContent::Context(_) => 8,
+            PayloadContent::Choice(_) => 9,
+            PayloadContent::NewGroup(group) => 8 + group.ranks.len(),
         }
     }
 }
@@ -133,12 +133,12 @@ impl Payload<'_> {
         ensures { IsTrue result ↔ PartFits self.now.entered (part_text self.now.part) }
     {
         match self.part {
-            Part::RecordsDiffer => true,
-            Part::Nothing(way) => says_nothing(self.entered, way),
-            Part::Elements(_, bytes) => are_elements(self.entered, bytes),
-            Part::Context(_) => self.entered == Record::Dup,
-            Part::Choice(_) | Part::NullCommunicator => self.entered == Record::Split,
-            Part::NewGroup(group) => self.entered == Record::Split && are_ranks(group.ranks),
+            PayloadContent::RecordsDiffer => true,
+            PayloadContent::Nothing(way) => says_nothing(self.entered, way),
+            PayloadContent::Elements(_, bytes) => are_elements(self.entered, bytes),
+            PayloadContent::Context(_) => self.entered == Record::Dup,
+            PayloadContent::Choice(_) | PayloadContent::NullCommunicator => self.entered == Record::Split,
+            PayloadContent::NewGroup(group) => self.entered == Record::Split && are_ranks(group.ranks),
         }
     }
 }

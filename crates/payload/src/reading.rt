@@ -3,13 +3,13 @@
 ghost use Rattle.std.specs.Prelude.{◌≡◌, ◌≤◌, length, slice_index, IfOk, OnOk, Some};
 ghost use Rattle.payload.specs.Spelling.{PartText, NothingMore, part_text, PayloadText, payload_text, PayloadFits, spelling};
 ghost use Rattle.payload.specs.Codes.{operation_at};
-ghost use Rattle.payload.specs.Reading.{Gives, bare, elements_in, rooted_in, reduce_in, allreduce_in, record_in, elements_from, nothing_from, colour_from, choice_from, context_from, group_from, towards_root, from_root, part_in, head_of, payload_of};
+ghost use Rattle.payload.specs.Reading.{Gives, without_fields, elements_in, rooted_in, reduce_in, allreduce_in, record_in, elements_from, nothing_from, colour_from, choice_from, context_from, group_from, towards_root, from_root, part_in, head_of, payload_of};
 
-use crate::kind::{Kind, Phase};
+use crate::kind::{CollectiveKind, Phase};
 use crate::operation::Operation;
-use crate::payload::{Choice, Direction, NewGroup, Part, Payload};
+use crate::payload::{Choice, Direction, NewGroup, PayloadContent, Payload};
 use crate::record::{Elements, Record, Rooted};
-use crate::refused::Refused;
+use crate::refusal::PayloadRefusal;
 use byteorder::{BigEndian, ByteOrder};
 use vocabulary::BasicType;
 
@@ -30,19 +30,19 @@ pub struct Fields {
 }
 
 /// The record, which has no fields: all of them are 0.
-#[tactic(auto, unfolding(crate::specs::Reading::bare))]
-fn bare(entered: Record, fields: Fields) -> Result<Record, Refused>
-    ensures { Gives (λ r. r) result (bare entered fields) }
+#[tactic(auto, unfolding(crate::specs::Reading::without_fields))]
+fn without_fields(entered: Record, fields: Fields) -> Result<Record, PayloadRefusal>
+    ensures { Gives (λ r. r) result (without_fields entered fields) }
 {
     if fields.operation != 0 || fields.basic != 0 || fields.root != 0 || fields.count != 0 {
-        return Err(Refused::BadFrame);
+        return Err(PayloadRefusal::BadFrame);
     }
     Ok(entered)
 }
 
 /// The elements that the fields name.
 #[tactic(auto, unfolding(crate::specs::Reading::elements_in))]
-fn elements_in(fields: Fields) -> Result<Elements, Refused>
+fn elements_in(fields: Fields) -> Result<Elements, PayloadRefusal>
     ensures { Gives (λ e. e) result (elements_in fields) }
 {
     match BasicType::from_code(fields.basic) {
@@ -50,17 +50,17 @@ fn elements_in(fields: Fields) -> Result<Elements, Refused>
             basic,
             count: fields.count,
         }),
-        None => Err(Refused::BadFrame),
+        None => Err(PayloadRefusal::BadFrame),
     }
 }
 
 /// The elements and their root, without an operation.
 #[tactic(auto, unfolding(crate::specs::Reading::rooted_in))]
-fn rooted_in(fields: Fields) -> Result<Rooted, Refused>
+fn rooted_in(fields: Fields) -> Result<Rooted, PayloadRefusal>
     ensures { Gives (λ r. r) result (rooted_in fields) }
 {
     if fields.operation != 0 {
-        return Err(Refused::BadFrame);
+        return Err(PayloadRefusal::BadFrame);
     }
     Ok(Rooted {
         elements: elements_in(fields)?,
@@ -69,18 +69,18 @@ fn rooted_in(fields: Fields) -> Result<Rooted, Refused>
 }
 
 /// The operation with this code.
-fn operation_in(code: u8) -> Result<Operation, Refused>
+fn operation_in(code: u8) -> Result<Operation, PayloadRefusal>
     ensures { Gives (λ o. o) result (operation_at code) }
 {
     match Operation::from_code(code) {
         Some(operation) => Ok(operation),
-        None => Err(Refused::BadFrame),
+        None => Err(PayloadRefusal::BadFrame),
     }
 }
 
 /// A reduction to a root.
 #[tactic(auto, unfolding(crate::specs::Reading::reduce_in))]
-fn reduce_in(fields: Fields) -> Result<Record, Refused>
+fn reduce_in(fields: Fields) -> Result<Record, PayloadRefusal>
     ensures { Gives (λ r. r) result (reduce_in fields) }
 {
     let operation = operation_in(fields.operation)?;
@@ -91,60 +91,60 @@ fn reduce_in(fields: Fields) -> Result<Record, Refused>
 
 /// A reduction to all members, which has no root.
 #[tactic(auto, unfolding(crate::specs::Reading::allreduce_in))]
-fn allreduce_in(fields: Fields) -> Result<Record, Refused>
+fn allreduce_in(fields: Fields) -> Result<Record, PayloadRefusal>
     ensures { Gives (λ r. r) result (allreduce_in fields) }
 {
     let operation = operation_in(fields.operation)?;
     let elements = elements_in(fields)?;
     if fields.root != 0 {
-        return Err(Refused::BadFrame);
+        return Err(PayloadRefusal::BadFrame);
     }
     Ok(Record::Allreduce(operation, elements))
 }
 
 /// The record of this kind that the fields say.
 #[tactic(auto, unfolding(crate::specs::Reading::record_in))]
-fn record_in(kind: Kind, fields: Fields) -> Result<Record, Refused>
+fn record_in(kind: CollectiveKind, fields: Fields) -> Result<Record, PayloadRefusal>
     ensures { Gives (λ r. r) result (record_in kind fields) }
 {
     match kind {
-        Kind::Barrier => bare(Record::Barrier, fields),
-        Kind::Bcast => Ok(Record::Bcast(rooted_in(fields)?)),
-        Kind::Gather => Ok(Record::Gather(rooted_in(fields)?)),
-        Kind::Scatter => Ok(Record::Scatter(rooted_in(fields)?)),
-        Kind::Reduce => reduce_in(fields),
-        Kind::Allreduce => allreduce_in(fields),
-        Kind::Dup => bare(Record::Dup, fields),
-        Kind::Split => bare(Record::Split, fields),
+        CollectiveKind::Barrier => without_fields(Record::Barrier, fields),
+        CollectiveKind::Bcast => Ok(Record::Bcast(rooted_in(fields)?)),
+        CollectiveKind::Gather => Ok(Record::Gather(rooted_in(fields)?)),
+        CollectiveKind::Scatter => Ok(Record::Scatter(rooted_in(fields)?)),
+        CollectiveKind::Reduce => reduce_in(fields),
+        CollectiveKind::Allreduce => allreduce_in(fields),
+        CollectiveKind::Dup => without_fields(Record::Dup, fields),
+        CollectiveKind::Split => without_fields(Record::Split, fields),
     }
 }
 
 /// The elements, where they are as many bytes as the record says.
 #[tactic(auto, unfolding(crate::specs::Reading::elements_from))]
-fn elements_from(way: Direction, elements: Elements, body: &[u8]) -> Result<Part<'_>, Refused>
+fn elements_from(way: Direction, elements: Elements, body: &[u8]) -> Result<PayloadContent<'_>, PayloadRefusal>
     ensures { Gives part_text result (elements_from way elements body.now) }
 {
     let size = u64::from(elements.count) * u64::from(elements.basic.size());
     if body.len() as u64 != size {
-        return Err(Refused::BadFrame);
+        return Err(PayloadRefusal::BadFrame);
     }
-    Ok(Part::Elements(way, body))
+    Ok(PayloadContent::Elements(way, body))
 }
 
 /// The part that says nothing more, where nothing more is said.
 #[tactic(auto, unfolding(crate::specs::Reading::nothing_from))]
-fn nothing_from<'a>(part: Part<'a>, body: &[u8]) -> Result<Part<'a>, Refused>
+fn nothing_from<'a>(part: PayloadContent<'a>, body: &[u8]) -> Result<PayloadContent<'a>, PayloadRefusal>
     ensures { Gives part_text result (nothing_from (part_text part.entry) body.now) }
 {
     if body.len() != 0 {
-        return Err(Refused::BadFrame);
+        return Err(PayloadRefusal::BadFrame);
     }
     Ok(part)
 }
 
 /// The colour, by the byte that says whether there is one.
 #[tactic(auto, unfolding(crate::specs::Reading::colour_from))]
-fn colour_from(given: u8, colour: u32) -> Result<Option<u32>, Refused>
+fn colour_from(given: u8, colour: u32) -> Result<Option<u32>, PayloadRefusal>
     ensures { Gives (λ c. c) result (colour_from given colour) }
 {
     match given {
@@ -153,79 +153,79 @@ fn colour_from(given: u8, colour: u32) -> Result<Option<u32>, Refused>
             if colour == 0 {
                 Ok(None)
             } else {
-                Err(Refused::BadFrame)
+                Err(PayloadRefusal::BadFrame)
             }
         }
-        _ => Err(Refused::BadFrame),
+        _ => Err(PayloadRefusal::BadFrame),
     }
 }
 
 /// What a member asks for in a split.
 #[tactic(auto, unfolding(crate::specs::Reading::choice_from))]
-fn choice_from(body: &[u8]) -> Result<Part<'_>, Refused>
+fn choice_from(body: &[u8]) -> Result<PayloadContent<'_>, PayloadRefusal>
     ensures { Gives part_text result (choice_from body.now) }
 {
     if body.len() != 9 {
-        return Err(Refused::BadFrame);
+        return Err(PayloadRefusal::BadFrame);
     }
     let colour = colour_from(body[0], BigEndian::read_u32(&body[1..]))?;
     let key = BigEndian::read_i32(&body[5..]);
-    Ok(Part::Choice(Choice { colour, key }))
+    Ok(PayloadContent::Choice(Choice { colour, key }))
 }
 
 /// The context of a copy.
 #[tactic(auto, unfolding(crate::specs::Reading::context_from))]
-fn context_from(body: &[u8]) -> Result<Part<'_>, Refused>
+fn context_from(body: &[u8]) -> Result<PayloadContent<'_>, PayloadRefusal>
     ensures { Gives part_text result (context_from body.now) }
 {
     if body.len() != 8 {
-        return Err(Refused::BadFrame);
+        return Err(PayloadRefusal::BadFrame);
     }
-    Ok(Part::Context(BigEndian::read_u64(body)))
+    Ok(PayloadContent::Context(BigEndian::read_u64(body)))
 }
 
 /// What a member gets of a split.
 #[tactic(auto, unfolding(crate::specs::Reading::group_from))]
-fn group_from(body: &[u8]) -> Result<Part<'_>, Refused>
+fn group_from(body: &[u8]) -> Result<PayloadContent<'_>, PayloadRefusal>
     ensures { Gives part_text result (group_from body.now) }
 {
     if body.is_empty() {
-        return Ok(Part::NullCommunicator);
+        return Ok(PayloadContent::NullCommunicator);
     }
     if body.len() < 10 || body.len() % 2 != 0 {
-        return Err(Refused::BadFrame);
+        return Err(PayloadRefusal::BadFrame);
     }
     let context = BigEndian::read_u64(body);
     let (_, ranks) = body.split_at(8);
-    Ok(Part::NewGroup(NewGroup { context, ranks }))
+    Ok(PayloadContent::NewGroup(NewGroup { context, ranks }))
 }
 
 /// What goes towards the root.
 #[tactic(auto, unfolding(crate::specs::Reading::towards_root))]
-fn towards_root(entered: Record, body: &[u8]) -> Result<Part<'_>, Refused>
+fn towards_root(entered: Record, body: &[u8]) -> Result<PayloadContent<'_>, PayloadRefusal>
     ensures { Gives part_text result (towards_root entered body.now) }
 {
     let way = Direction::TowardsRoot;
     match entered {
-        Record::Barrier => nothing_from(Part::Nothing(way), body),
+        Record::Barrier => nothing_from(PayloadContent::Nothing(way), body),
         Record::Bcast(rooted) => elements_from(way, rooted.elements, body),
         Record::Gather(rooted) => elements_from(way, rooted.elements, body),
         Record::Scatter(rooted) => elements_from(way, rooted.elements, body),
         Record::Reduce(_, rooted) => elements_from(way, rooted.elements, body),
         Record::Allreduce(_, elements) => elements_from(way, elements, body),
-        Record::Dup => nothing_from(Part::Nothing(way), body),
+        Record::Dup => nothing_from(PayloadContent::Nothing(way), body),
         Record::Split => choice_from(body),
     }
 }
 
 /// What comes from the root.
 #[tactic(auto, unfolding(crate::specs::Reading::from_root))]
-fn from_root(entered: Record, body: &[u8]) -> Result<Part<'_>, Refused>
+fn from_root(entered: Record, body: &[u8]) -> Result<PayloadContent<'_>, PayloadRefusal>
     ensures { Gives part_text result (from_root entered body.now) }
 {
     let way = Direction::FromRoot;
     match entered {
-        Record::Barrier => nothing_from(Part::Nothing(way), body),
+        Record::Barrier => nothing_from(PayloadContent::Nothing(way), body),
         Record::Bcast(rooted) => elements_from(way, rooted.elements, body),
         Record::Gather(rooted) => elements_from(way, rooted.elements, body),
         Record::Scatter(rooted) => elements_from(way, rooted.elements, body),
@@ -238,27 +238,27 @@ fn from_root(entered: Record, body: &[u8]) -> Result<Part<'_>, Refused>
 
 /// What a message of this phase and record carries.
 #[tactic(auto, unfolding(crate::specs::Reading::part_in))]
-fn part_in(phase: Phase, entered: Record, body: &[u8]) -> Result<Part<'_>, Refused>
+fn part_in(phase: Phase, entered: Record, body: &[u8]) -> Result<PayloadContent<'_>, PayloadRefusal>
     ensures { Gives part_text result (part_in phase entered body.now) }
 {
     match phase {
         Phase::TowardsRoot => towards_root(entered, body),
         Phase::FromRoot => from_root(entered, body),
-        Phase::RecordsDiffer => nothing_from(Part::RecordsDiffer, body),
+        Phase::RecordsDiffer => nothing_from(PayloadContent::RecordsDiffer, body),
     }
 }
 
 /// The record in the first bytes.
 #[tactic(auto, unfolding(crate::specs::Reading::head_of))]
-fn head_of(bytes: &[u8]) -> Result<Record, Refused>
+fn head_of(bytes: &[u8]) -> Result<Record, PayloadRefusal>
     ensures exact { Gives (λ r. r) result (head_of bytes.now) }
     ensures long { OnOk result (16 ≤ length bytes.now) }
 {
     if bytes.len() < RECORD_BYTES || BigEndian::read_u32(&bytes[12..]) != 0 {
-        return Err(Refused::BadFrame);
+        return Err(PayloadRefusal::BadFrame);
     }
-    let Some(kind) = Kind::from_code(bytes[0]) else {
-        return Err(Refused::BadFrame);
+    let Some(kind) = CollectiveKind::from_code(bytes[0]) else {
+        return Err(PayloadRefusal::BadFrame);
     };
     let fields = Fields {
         operation: bytes[1],
@@ -271,12 +271,12 @@ fn head_of(bytes: &[u8]) -> Result<Record, Refused>
 
 /// What the bytes say, field by field.
 #[tactic(auto, unfolding(crate::specs::Reading::payload_of))]
-fn payload_of(bytes: &[u8]) -> Result<Payload<'_>, Refused>
+fn payload_of(bytes: &[u8]) -> Result<Payload<'_>, PayloadRefusal>
     ensures { Gives payload_text result (payload_of bytes.now) }
 {
     let entered = head_of(bytes)?;
     let Some(phase) = Phase::from_code(bytes[3]) else {
-        return Err(Refused::BadFrame);
+        return Err(PayloadRefusal::BadFrame);
     };
     let (_, body) = bytes.split_at(RECORD_BYTES);
     let part = part_in(phase, entered, body)?;
@@ -286,7 +286,7 @@ fn payload_of(bytes: &[u8]) -> Result<Payload<'_>, Refused>
 /// The payload that the bytes spell, which borrows them; bytes that spell none are refused with 30.
 /// What the members of the communicator make of it (whether the root is one of them, whether the
 /// operation is defined on the type, whether a rank is named twice) is judged where it is used.
-pub fn read_payload(bytes: &[u8]) -> Result<Payload<'_>, Refused>
+pub fn read_payload(bytes: &[u8]) -> Result<Payload<'_>, PayloadRefusal>
     // What is read is within the format's rules and spelled so, each byte of it.
     ensures found { IfOk result (λ p.
         PayloadFits (payload_text p) × (bytes.now ≡ spelling (payload_text p))) }

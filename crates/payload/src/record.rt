@@ -4,7 +4,7 @@ ghost use Rattle.std.specs.Prelude.{◌≡◌, ◌<◌, ◌^◌};
 ghost use Rattle.payload.specs.Agreement.{is_same_record};
 ghost use Rattle.payload.specs.Spelling.{kind_of, elements_of, operation_field, root_field, type_code, count_field, RecordIsWithin};
 
-use crate::kind::Kind;
+use crate::kind::CollectiveKind;
 use crate::operation::Operation;
 use vocabulary::BasicType;
 
@@ -50,18 +50,18 @@ pub enum Record {
 
 impl Record {
     /// Which collective it is of.
-    pub(crate) fn kind(self) -> Kind
+    pub(crate) fn kind(self) -> CollectiveKind
         ensures { result ≡ kind_of self }
     {
         match self {
-            Record::Barrier => Kind::Barrier,
-            Record::Bcast(_) => Kind::Bcast,
-            Record::Gather(_) => Kind::Gather,
-            Record::Scatter(_) => Kind::Scatter,
-            Record::Reduce(..) => Kind::Reduce,
-            Record::Allreduce(..) => Kind::Allreduce,
-            Record::Dup => Kind::Dup,
-            Record::Split => Kind::Split,
+            Record::Barrier => CollectiveKind::Barrier,
+            Record::Bcast(_) => CollectiveKind::Bcast,
+            Record::Gather(_) => CollectiveKind::Gather,
+            Record::Scatter(_) => CollectiveKind::Scatter,
+            Record::Reduce(..) => CollectiveKind::Reduce,
+            Record::Allreduce(..) => CollectiveKind::Allreduce,
+            Record::Dup => CollectiveKind::Dup,
+            Record::Split => CollectiveKind::Split,
         }
     }
 

@@ -6,9 +6,9 @@ ghost use Rattle.byteorder.specs.Endian.{big_bytes};
 ghost use Rattle.payload.specs.Spelling.{ChoiceText, part_text, part_spelling, phase_of, colour_spelling, payload_text, RecordIsWithin, ColourIsWithin, PartIsWithin, PartFits, PayloadFits, record_spelling, spelling};
 
 use crate::kind::Phase;
-use crate::payload::{Choice, Part, Payload};
+use crate::payload::{Choice, PayloadContent, Payload};
 use crate::record::Record;
-use crate::refused::Refused;
+use crate::refusal::PayloadRefusal;
 use byteorder::{BigEndian, ByteOrder};
 
 /// Appends the number in one byte, where there is room.
@@ -94,17 +94,17 @@ fn put_choice(out: &mut Vec<u8>, choice: Choice)
 }
 
 /// Appends what a message carries, where there is room.
-fn put_part(out: &mut Vec<u8>, part: Part)
+fn put_part(out: &mut Vec<u8>, part: PayloadContent)
     requires { vec_len out.old + length (part_spelling (part_text part)) ≤ vec_capacity out.old }
     ensures items { out.new.items ≡ out.old.items ++ part_spelling (part_text part.entry) }
     ensures width { PartIsWithin (part_text part.entry) }
 {
     match part {
-        Part::RecordsDiffer | Part::Nothing(_) | Part::NullCommunicator => {}
-        Part::Elements(_, bytes) => out.extend_from_slice(bytes).unwrap(),
-        Part::Context(context) => put_u64(out, context),
-        Part::Choice(choice) => put_choice(out, choice),
-        Part::NewGroup(group) => {
+        PayloadContent::RecordsDiffer | PayloadContent::Nothing(_) | PayloadContent::NullCommunicator => {}
+        PayloadContent::Elements(_, bytes) => out.extend_from_slice(bytes).unwrap(),
+        PayloadContent::Context(context) => put_u64(out, context),
+        PayloadContent::Choice(choice) => put_choice(out, choice),
+        PayloadContent::NewGroup(group) => {
             put_u64(out, group.context);
             out.extend_from_slice(group.ranks).unwrap();
         }
@@ -115,19 +115,19 @@ fn put_part(out: &mut Vec<u8>, part: Part)
 /// appended. A payload can be written where its part fits its record (`Payload::fits`); what
 /// `read_payload` answered does.
 #[tactic(auto, unfolding(crate::specs::Spelling::spelling))]
-pub fn write_payload(payload: &Payload, out: &mut Vec<u8>) -> Result<(), Refused>
+pub fn write_payload(payload: &Payload, out: &mut Vec<u8>) -> Result<(), PayloadRefusal>
     requires { PartFits payload.now.entered (part_text payload.now.part) }
     ensures ok { OnOk result
         (out.new.items ≡ out.old.items ++ spelling (payload_text payload.now)) }
     ensures fits { OnOk result (PayloadFits (payload_text payload.now)) }
     ensures err { OnErr result (out.new.items ≡ out.old.items) }
-    ensures memory { IsOkUnless result Refused.OutOfMemory }
+    ensures memory { IsOkUnless result PayloadRefusal.OutOfMemory }
 {
     let Payload { entered, part } = *payload;
     let Some(room) = part.byte_len().checked_add(16) else {
-        return Err(Refused::OutOfMemory);
+        return Err(PayloadRefusal::OutOfMemory);
     };
-    out.reserve(room).map_err(|_| Refused::OutOfMemory)?;
+    out.reserve(room).map_err(|_| PayloadRefusal::OutOfMemory)?;
     put_record(out, entered, part.phase());
     put_part(out, part);
     Ok(())

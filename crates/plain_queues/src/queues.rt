@@ -9,7 +9,7 @@ ghost use Rattle.match_queues.specs.State.{message_at, receive_at, message_for, 
 ghost use Rattle.match_queues.specs.Accepts.{accepts};
 ghost use Rattle.match_queues.specs.Arrivals.{arrival_of};
 
-use match_queues::{Arrival, Message, Receive, is_former, names};
+use match_queues::{Arrival, Message, PostedReceive, is_former, names};
 use std::alloc::Global;
 use std::collections::VecDeque;
 use std::marker::Model;
@@ -19,7 +19,7 @@ use vocabulary::OutOfMemory;
 /// first. Each call has the contract that it has at `Queues`.
 #[derive(Drop)]
 pub struct PlainQueues {
-    posted: VecDeque<Receive>,
+    posted: VecDeque<PostedReceive>,
     unexpected: VecDeque<Message>,
 }
 
@@ -37,19 +37,19 @@ impl Model for PlainQueues {
     } };
 }
 
-fn place_of_message(receive: &Receive, messages: &VecDeque<Message>) -> Option<usize>
+fn place_of_message(receive: &PostedReceive, messages: &VecDeque<Message>) -> Option<usize>
     ensures { result ≡ message_for receive.now messages.now.items }
 {
     messages.iter().position(|message| receive.accepts(message))
 }
 
-fn place_of_receive(message: &Message, receives: &VecDeque<Receive>) -> Option<usize>
+fn place_of_receive(message: &Message, receives: &VecDeque<PostedReceive>) -> Option<usize>
     ensures { result ≡ receive_for message.now receives.now.items }
 {
     receives.iter().position(|receive| receive.accepts(message))
 }
 
-fn receive_at(receives: &VecDeque<Receive>, place: Option<usize>) -> Option<Receive>
+fn receive_at(receives: &VecDeque<PostedReceive>, place: Option<usize>) -> Option<PostedReceive>
     ensures { result ≡ receive_at receives.now.items place }
 {
     match place {
@@ -59,13 +59,13 @@ fn receive_at(receives: &VecDeque<Receive>, place: Option<usize>) -> Option<Rece
 }
 
 /// The place of the oldest receive that accepts the message and does not name the rank.
-fn place_of_other(message: &Message, receives: &VecDeque<Receive>, rank: u16) -> Option<usize>
+fn place_of_other(message: &Message, receives: &VecDeque<PostedReceive>, rank: u16) -> Option<usize>
     ensures { result ≡ position (λ r. not (names r.source rank) && accepts r message.now) receives.now.items }
 {
     receives.iter().position(|receive| !names(receive, rank) && receive.accepts(message))
 }
 
-fn place_of_request(request: usize, receives: &VecDeque<Receive>) -> Option<usize>
+fn place_of_request(request: usize, receives: &VecDeque<PostedReceive>) -> Option<usize>
     ensures { result ≡ posted_for request receives.now.items }
 {
     receives
@@ -74,7 +74,7 @@ fn place_of_request(request: usize, receives: &VecDeque<Receive>) -> Option<usiz
 }
 
 /// Drops the receives that name the rank.
-fn drop_receives(posted: &mut VecDeque<Receive>, rank: u16)
+fn drop_receives(posted: &mut VecDeque<PostedReceive>, rank: u16)
     ensures { posted.new.items ≡ filter (λ r. not (names r.source rank)) posted.old.items }
 {
     posted.retain(|receive| !names(receive, rank));
@@ -92,7 +92,7 @@ fn drop_messages(unexpected: &mut VecDeque<Message>, rank: u16, incarnation: u16
 /// The keys of the receives that name the rank, or want of memory.
 fn keys_among(
     alloc: Global,
-    receives: &VecDeque<Receive>,
+    receives: &VecDeque<PostedReceive>,
     rank: u16,
 ) -> Result<Vec<usize>, OutOfMemory>
     ensures { IfOk result (λ keys. keys.items ≡ keys_naming rank receives.now.items) }
@@ -139,7 +139,7 @@ impl PlainQueues {
     }
 
     /// The oldest posted receive that accepts the message, which stays posted.
-    pub fn receive_for(&self, message: &Message) -> Option<Receive>
+    pub fn receive_for(&self, message: &Message) -> Option<PostedReceive>
         ensures { result ≡ receive_at self.now.state.posted (receive_for message.now self.now.state.posted) }
     {
         receive_at(&self.posted, place_of_receive(message, &self.posted))
@@ -148,7 +148,7 @@ impl PlainQueues {
     /// The oldest posted receive that accepts the message, among those that would be left if what names the rank were
     /// dropped. It stays posted.
     #[tactic(auto, using(match_queues::proofs::Others::oldest_other))]
-    pub fn receive_for_unnamed(&self, message: &Message, rank: u16) -> Option<Receive>
+    pub fn receive_for_unnamed(&self, message: &Message, rank: u16) -> Option<PostedReceive>
         ensures { result ≡ receive_at (filter (λ r. not (names r.source rank)) self.now.state.posted)
             (receive_for message.now (filter (λ r. not (names r.source rank)) self.now.state.posted)) }
     {
@@ -156,7 +156,7 @@ impl PlainQueues {
     }
 
     /// The oldest unexpected message that the receive accepts, which stays where it is: what a probe finds (MPI 3.1, 3.8.1).
-    pub fn message_for(&self, receive: &Receive) -> Option<&Message>
+    pub fn message_for(&self, receive: &PostedReceive) -> Option<&Message>
         ensures { option_copied result ≡ message_at self.now.state.unexpected (message_for receive.now self.now.state.unexpected) }
     {
         match place_of_message(receive, &self.unexpected) {
@@ -167,7 +167,7 @@ impl PlainQueues {
 
     /// Takes the oldest unexpected message that the receive accepts, or posts the receive behind the others, for which
     /// there is room.
-    pub fn post(&mut self, receive: Receive) -> Option<Message>
+    pub fn post(&mut self, receive: PostedReceive) -> Option<Message>
         requires { 0 < self.old.receives }
         ensures state { self.new.state ≡ after_post self.old.state receive }
         ensures found { result ≡ message_at self.old.state.unexpected (message_for receive self.old.state.unexpected) }
@@ -183,7 +183,7 @@ impl PlainQueues {
 
     /// Takes the oldest unexpected message that the receive accepts out of matching: no receive finds it from now on. Where
     /// none is accepted, nothing changes. No receive is posted, and it takes no memory (MPI 3.1, 3.8.2).
-    pub fn take(&mut self, receive: &Receive) -> Option<Message>
+    pub fn take(&mut self, receive: &PostedReceive) -> Option<Message>
         ensures state { self.new.state ≡ after_take self.old.state receive.now }
         ensures found { result ≡ message_at self.old.state.unexpected (message_for receive.now self.old.state.unexpected) }
         ensures room { self.old.messages ≤ self.new.messages }

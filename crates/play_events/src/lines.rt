@@ -1,6 +1,6 @@
 //! The lines of a script, as text.
 
-use line_words::lines_of;
+use tokens::lines_of;
 use std::alloc::{AllocError, Global};
 
 /// The text of a script by lines. Their numbers count from 1.

@@ -1,7 +1,7 @@
 //! A file of events, line by line.
 
 use crate::lines::{ScriptLines, behind_verb};
-use script_files::{RankLine, Statement};
+use script_files::{RankLine, ScriptStatement};
 use std::alloc::{AllocError, Global};
 
 /// A file of events that is being written.
@@ -95,14 +95,14 @@ impl EventFile {
         text: &[u8],
     ) -> Result<(), AllocError> {
         match &line.statement {
-            Statement::Action(_) => {
+            ScriptStatement::Action(_) => {
                 self.front(rank)?;
                 self.text.extend_from_slice(text)?;
                 self.text.push(b'\n')?;
                 Ok(())
             }
-            Statement::Send(_) => self.starts(rank, "isend", text),
-            Statement::Recv(_) => self.starts(rank, "irecv", text),
+            ScriptStatement::Send(_) => self.starts(rank, "isend", text),
+            ScriptStatement::Recv(_) => self.starts(rank, "irecv", text),
             _ => Ok(()),
         }
     }

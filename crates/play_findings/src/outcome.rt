@@ -7,7 +7,7 @@ use crate::ending::{Verdict, verdict_of};
 use script_files::Script;
 use script_plays::{Move, Played, play};
 use std::alloc::Global;
-use world::{Refused, World};
+use world::{WorldRefusal, World};
 
 /// What came of a play.
 #[derive(Drop)]
@@ -25,7 +25,7 @@ pub fn outcome_of(
     alloc: Global,
     scripts: Vec<Script>,
     schedule: &[Move],
-) -> Result<Outcome, Refused>
+) -> Result<Outcome, WorldRefusal>
     ensures { IfOk result (λ outcome. IsOutcomeOf scripts.items schedule.now outcome) }
 {
     let (world, players) = play(alloc, scripts, schedule)?;

@@ -4,7 +4,7 @@ use crate::ending::Verdict;
 use crate::outcome::{Outcome, outcome_of};
 use crate::printed::{add_printed, errors_in};
 use engine::Request;
-use fault_lines::explanation;
+use line_diagnostics::explanation;
 use play_events::{Account, AccountError, ScriptLines, account_of, scripts_of};
 use play_waits::{
     Communicators, Entered, Group, Leftover, Page, Waiter, Waiting, add_elements, add_source,

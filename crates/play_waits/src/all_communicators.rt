@@ -7,7 +7,7 @@ use engine::{Call, Completion, Reply};
 use payload::Choice;
 use play_events::CallAt;
 use std::alloc::{AllocError, Global};
-use world::{Entry, Event};
+use world::{HistoryEntry, Event};
 
 /// The communicators of a play, and the collectives that were entered.
 #[derive(Drop)]
@@ -30,7 +30,7 @@ pub fn line_at(calls: &[CallAt], place: usize) -> usize {
 }
 
 /// The place of the communicator that an entry of the history gave its rank.
-fn made_in(entry: &Entry) -> Option<usize> {
+fn made_in(entry: &HistoryEntry) -> Option<usize> {
     match (&entry.reply, &entry.completion) {
         (Some(Reply::Left(Ending::Comm(place))), _) => *place,
         (_, Some(Completion::Collective(Ending::Comm(place)))) => *place,
@@ -181,7 +181,7 @@ impl Communicators {
         &mut self,
         rank: u16,
         place: usize,
-        entry: &collective_notes::Entry,
+        entry: &collective_messages::Entry,
         line: usize,
     ) -> Result<(), AllocError> {
         if let Some(group) = self.group_at(rank, place) {
@@ -198,7 +198,7 @@ impl Communicators {
         Ok(())
     }
 
-    fn take_in(&mut self, entry: &Entry, line: usize) -> Result<(), AllocError> {
+    fn take_in(&mut self, entry: &HistoryEntry, line: usize) -> Result<(), AllocError> {
         if let Event::Call(rank, Call::Enter(Some(place), what)) = &entry.event {
             self.enter(*rank, *place, what, line)?;
         }
@@ -213,7 +213,7 @@ impl Communicators {
 pub fn communicators_of(
     alloc: Global,
     size: u16,
-    history: &[Entry],
+    history: &[HistoryEntry],
     calls: &[CallAt],
 ) -> Result<Communicators, AllocError> {
     let mut all = Communicators::new(alloc, size)?;

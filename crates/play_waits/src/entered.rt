@@ -1,6 +1,6 @@
 //! A collective that a rank entered.
 
-use collective_notes::Entry;
+use collective_messages::Entry;
 use payload::{Choice, Record};
 
 /// A collective that a rank entered.

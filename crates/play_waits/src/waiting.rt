@@ -7,7 +7,7 @@ use engine::{Call, Receive, Reply, Request, Send};
 use script_plays::{Played, Stage};
 use std::alloc::{AllocError, Global};
 use vocabulary::Source;
-use world::{Entry, Event};
+use world::{HistoryEntry, Event};
 
 /// Whom a rank waits for, and for what.
 #[derive(Drop)]
@@ -26,7 +26,7 @@ pub struct Waiter<'a> {
     /// The rank.
     pub rank: u16,
     /// What has happened.
-    pub history: &'a [Entry],
+    pub history: &'a [HistoryEntry],
     /// The communicators.
     pub communicators: &'a Communicators,
 }
@@ -40,7 +40,7 @@ fn names(reply: &Option<Reply>, request: Request) -> bool {
 }
 
 /// The call of this rank that gave this request.
-fn call_of(history: &[Entry], rank: u16, request: Request) -> Option<&Call> {
+fn call_of(history: &[HistoryEntry], rank: u16, request: Request) -> Option<&Call> {
     for entry in history {
         if entry.endpoint.rank == rank && names(&entry.reply, request) {
             if let Event::Call(_, call) = &entry.event {

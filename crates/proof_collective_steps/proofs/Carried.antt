@@ -4,27 +4,27 @@ use Rattle.std.specs.List.{AllByRecursion, list_any}
 use Rattle.std.proofs.lemmas.Bool.{eq-eqb, eqb-true}
 use Rattle.std.proofs.lemmas.List.{length-map}
 use Rattle.std.proofs.Math.ListN.{get_or-map}
-use Rattle.collective_notes.specs.Entering as entering
-use Rattle.collective_notes.specs.Entering.{agrees}
-use Rattle.collective_notes.specs.Notes.{is_result, member_at}
+use Rattle.collective_messages.specs.Entering as entering
+use Rattle.collective_messages.specs.Entering.{agrees}
+use Rattle.collective_messages.specs.Notes.{is_result, member_at}
 use Rattle.collectives.specs.State.{State, after_step, members_incarnation}
 use Rattle.collective_steps.specs.Steps as steps
 use Rattle.collective_steps.specs.Steps.{HasHeard, IsCarriedOut, IsHeard, IsPrepared, IsPreparedIn, Prepared, contexts_after, difference_messages, ending_of, word_messages, given_of, group_of_part, made_by, message_to, outcome_of}
-use Rattle.collective_notes.specs.Verdicts.{is_at, is_first}
-use Rattle.collective_notes.specs.Verdicts as verdicts
-use Rattle.collective_notes.specs.declared.entry.Entry.{Entry}
-use Rattle.collective_notes.specs.declared.entry.Entry.TheVariants as entries
-use Rattle.collective_notes.specs.declared.entry.Inside.{Inside}
-use Rattle.collective_notes.specs.declared.message.Given.TheVariants as given
-use Rattle.collective_notes.specs.declared.note.Note.{Note}
-use Rattle.collective_notes.specs.declared.note.Said.{Said}
-use Rattle.collective_notes.specs.declared.note.Said.TheVariants as said
+use Rattle.collective_messages.specs.Verdicts.{is_at, is_first}
+use Rattle.collective_messages.specs.Verdicts as verdicts
+use Rattle.collective_messages.specs.declared.entry.Entry.{Entry}
+use Rattle.collective_messages.specs.declared.entry.Entry.TheVariants as entries
+use Rattle.collective_messages.specs.declared.entry.Inside.{Inside}
+use Rattle.collective_messages.specs.declared.message.MessageContent.TheVariants as given
+use Rattle.collective_messages.specs.declared.note.Note.{Note}
+use Rattle.collective_messages.specs.declared.note.NoteContent.{NoteContent}
+use Rattle.collective_messages.specs.declared.note.NoteContent.TheVariants as said
 use Rattle.collective_steps.specs.declared.step.Ending as ended
 use Rattle.collective_steps.specs.declared.step.Ending.TheVariants as endings
-use Rattle.collective_steps.specs.declared.step.Outcome.{Outcome}
-use Rattle.collective_steps.specs.declared.step.Outcome.TheVariants as outcomes
-use Rattle.collective_notes.specs.declared.verdict.Verdict.{Verdict}
-use Rattle.collective_notes.specs.declared.verdict.Verdict.TheVariants as code
+use Rattle.collective_steps.specs.declared.step.StepOutcome.{StepOutcome}
+use Rattle.collective_steps.specs.declared.step.StepOutcome.TheVariants as outcomes
+use Rattle.collective_messages.specs.declared.verdict.Verdict.{Verdict}
+use Rattle.collective_messages.specs.declared.verdict.Verdict.TheVariants as code
 use Rattle.context_agreement.specs.Communicators.{ContextsState, coming_context}
 use Rattle.context_agreement.specs.Numbers.{number_of}
 use Rattle.context_agreement.specs.Parts.{SplitPart}
@@ -63,9 +63,9 @@ use Rattle.proof_collective_steps.specs.Following.{here}
 use Rattle.proof_roles.proofs.RolesJoin.{first_same}
 use Rattle.proof_roles.specs.Meeting.{named}
 use Rattle.proof_group_network.specs.Roles as roles
-use Rattle.collective_notes.specs.Roles.{RoleState, all_or_own, role_of}
+use Rattle.collective_messages.specs.Roles.{RoleState, all_or_own, role_of}
 use Rattle.collectives.specs.State.{told_in}
-use Rattle.collective_notes.specs.declared.message.Message.{Message}
+use Rattle.collective_messages.specs.declared.message.CollectiveMessage.{CollectiveMessage}
 
 -- MEMBERS
 
@@ -278,24 +278,24 @@ decides e s h m place c inc k (entries.Split a) role told own ranks once hands p
 
 -- A RESULT IS HEARD
 
-abbrev HeardLeaves : Endpoint → State → ContextsState → Member → Inside → network.Said → Outcome → Type 0
+abbrev HeardLeaves : Endpoint → State → ContextsState → Member → Inside → network.Said → StepOutcome → Type 0
 HeardLeaves e s h m i w o =
     IsShown e (after_step s o) (contexts_after h 0 o) (record { membership = left_by m.membership w; serial = m.serial; kept = network.without i.context i.number m.kept; told = m.told }) (ending_of h o)
 
 hears : (e : Endpoint) (s : State) (h : ContextsState) (m : Member) → IsShown e s h m None → (i : Inside) → s.present ≡ Some i → e.incarnation ≡ i.incarnation → (ranks : List ℕ) →
-    (r : payload.Record) (x : Said) (w : network.Said) → StandsFor e r x w → is_result x ≡ true → SaidFits r x → agrees i.entry r ≡ true → GroupIs (here i ranks) w →
-    (o : Outcome) → HasHeard ranks x o → HeardLeaves e s h m i w o
+    (r : payload.Record) (x : NoteContent) (w : network.Said) → StandsFor e r x w → is_result x ≡ true → SaidFits r x → agrees i.entry r ≡ true → GroupIs (here i ranks) w →
+    (o : StepOutcome) → HasHeard ranks x o → HeardLeaves e s h m i w o
 hears e s h m b i at own ranks r said.RecordsDiffer w st res fits ag g o q = absurd cc
 hears e s h m b i at own ranks r (said.Nothing TowardsRoot) w st res fits ag g o q = absurd cc
 hears e s h m b i at own ranks r (said.Nothing FromRoot) w st res fits ag g o q =
-    subst (λ (v : Outcome). HeardLeaves e s h m i w v) (sym q)
+    subst (λ (v : StepOutcome). HeardLeaves e s h m i w v) (sym q)
     (subst (λ (v : network.Said). HeardLeaves e s h m i v (outcomes.Leaves None)) (sym st) (leaves e s h m b i at None None refl m.serial refl))
 hears e s h m b i at own ranks r (said.Elements TowardsRoot c) w st res fits ag g o q = absurd cc
 hears e s h m b i at own ranks r (said.Elements FromRoot c) w st res fits ag g o q =
-    subst (λ (v : Outcome). HeardLeaves e s h m i w v) (sym q)
+    subst (λ (v : StepOutcome). HeardLeaves e s h m i w v) (sym q)
     (subst (λ (v : network.Said). HeardLeaves e s h m i v (outcomes.Leaves (Some c))) (sym st) (leaves e s h m b i at (Some c) (Some c) refl m.serial refl))
 hears e s h m b i at own ranks r (said.Context number) w st res fits ag g o q =
-    subst (λ (v : Outcome). HeardLeaves e s h m i w v) (sym q.2)
+    subst (λ (v : StepOutcome). HeardLeaves e s h m i w v) (sym q.2)
     (subst (λ (v : network.Said). HeardLeaves e s h m i v (outcomes.Gets X)) (sym st.1)
     (subst (λ (c : Communicator). IsShown e (after_step s (outcomes.Gets X)) (contexts_after h 0 (outcomes.Gets X)) (record { membership = got m.membership (Some c); serial = m.serial; kept = network.without i.context i.number m.kept; told = m.told }) (ending_of h (outcomes.Gets X)))
     same (gets e s h m b i at (Some X) 0 m.serial (let z : h.next_serial ≡ h.next_serial + 0 = omega arith in b.serial ∙ z))))
@@ -313,11 +313,11 @@ hears e s h m b i at own ranks r (said.Context number) w st res fits ag g o q =
     same = λ t. record { context = q.1 t; members = (ap (λ (z : ℕ). map (member_at z) ranks) (ap (members_incarnation e) q.1 ∙ inc) ∙ sym is_group.0) t }
 hears e s h m b i at own ranks r (said.Choice c) w st res fits ag g o q = absurd cc
 hears e s h m b i at own ranks r said.NullCommunicator w st res fits ag g o q =
-    subst (λ (v : Outcome). HeardLeaves e s h m i w v) (sym q)
+    subst (λ (v : StepOutcome). HeardLeaves e s h m i w v) (sym q)
     (subst (λ (v : network.Said). HeardLeaves e s h m i v outcomes.GetsNull) (sym st)
     (gets e s h m b i at None 0 m.serial (let z : h.next_serial ≡ h.next_serial + 0 = omega arith in b.serial ∙ z)))
 hears e s h m b i at own ranks r (said.NewGroup number group) w st res fits ag g o q =
-    subst (λ (v : Outcome). HeardLeaves e s h m i w v) (sym q.2)
+    subst (λ (v : StepOutcome). HeardLeaves e s h m i w v) (sym q.2)
     (subst (λ (v : network.Said). HeardLeaves e s h m i v (outcomes.Gets X)) (sym st)
     (subst (λ (c : Communicator). IsShown e (after_step s (outcomes.Gets X)) (contexts_after h 0 (outcomes.Gets X)) (record { membership = got m.membership (Some c); serial = m.serial; kept = network.without i.context i.number m.kept; told = m.told }) (ending_of h (outcomes.Gets X)))
     same (gets e s h m b i at (Some X) 0 m.serial (let z : h.next_serial ≡ h.next_serial + 0 = omega arith in b.serial ∙ z))))
@@ -330,7 +330,7 @@ hears e s h m b i at own ranks r (said.NewGroup number group) w st res fits ag g
 
 -- ALL VERDICTS
 
-both_said : (e : Endpoint) (ms ns : List Message) (xs ys : List (Endpoint × Notice)) → AreSaid e ms xs → AreSaid e ns ys → AreSaid e (ms ++ ns) (xs ++ ys)
+both_said : (e : Endpoint) (ms ns : List CollectiveMessage) (xs ys : List (Endpoint × Notice)) → AreSaid e ms xs → AreSaid e ns ys → AreSaid e (ms ++ ns) (xs ++ ys)
 both_said e [] ns [] ys a b = b
 both_said e [] ns (x ∷ xs) ys a b = absurd a
 both_said e (m ∷ ms) ns [] ys a b = absurd a

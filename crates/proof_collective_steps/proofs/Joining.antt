@@ -4,15 +4,15 @@ use Rattle.std.specs.List.{list_any}
 use Rattle.std.proofs.lemmas.Bool.{eqb-true}
 use Rattle.std.proofs.lemmas.Option.{same_Some, slice_get-map}
 use Rattle.collectives.specs.Calls.{EntryGives, context_of, entered, inside_of}
-use Rattle.collective_notes.specs.Entering as entering
-use Rattle.collective_notes.specs.Notes.{member_at}
+use Rattle.collective_messages.specs.Entering as entering
+use Rattle.collective_messages.specs.Notes.{member_at}
 use Rattle.collectives.specs.State.{State, after_step, members_incarnation}
 use Rattle.collective_steps.specs.Steps.{IsPrepared, Prepared, contexts_after, ending_of, ranks_of}
-use Rattle.collective_notes.specs.Tallies.{count_in}
-use Rattle.collective_notes.specs.Roles.{role_of}
-use Rattle.collective_notes.specs.declared.entry.Entry.{Entry}
-use Rattle.collective_notes.specs.declared.entry.Inside.{Inside}
-use Rattle.collective_notes.specs.declared.message.Message.{Message}
+use Rattle.collective_messages.specs.Tallies.{count_in}
+use Rattle.collective_messages.specs.Roles.{role_of}
+use Rattle.collective_messages.specs.declared.entry.Entry.{Entry}
+use Rattle.collective_messages.specs.declared.entry.Inside.{Inside}
+use Rattle.collective_messages.specs.declared.message.CollectiveMessage.{CollectiveMessage}
 use Rattle.collective_steps.specs.declared.step.Ending.{Ending}
 use Rattle.context_agreement.specs.Communicators.{ContextsState}
 use Rattle.context_agreement.specs.Numbers.{number_of}
@@ -34,7 +34,7 @@ use Rattle.vocabulary.specs.declared.endpoint.Endpoint.{Endpoint}
 
 -- WHAT IS TOLD
 
-pub said_append : (e : Endpoint) (ms ns : List Message) (xs ys : List (Endpoint × Notice)) → AreSaid e ms xs → AreSaid e ns ys → AreSaid e (ms ++ ns) (xs ++ ys)
+pub said_append : (e : Endpoint) (ms ns : List CollectiveMessage) (xs ys : List (Endpoint × Notice)) → AreSaid e ms xs → AreSaid e ns ys → AreSaid e (ms ++ ns) (xs ++ ys)
 said_append e [] ns [] ys a b = b
 said_append e [] ns (x ∷ xs) ys a b = absurd a
 said_append e (m ∷ ms) ns [] ys a b = absurd a

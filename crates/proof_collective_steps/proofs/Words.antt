@@ -4,20 +4,20 @@ use Rattle.std.specs.Prelude.{fold}
 use Rattle.std.specs.Option.{option_to_list}
 use Rattle.std.proofs.lemmas.Bool.{eq-eqb}
 use Rattle.std.proofs.lemmas.Option.{same_Some}
-use Rattle.collective_blocks.specs.Operations.{op_of}
-use Rattle.collective_notes.specs.Entering as entering
-use Rattle.collective_notes.specs.Notes as notes
-use Rattle.collective_notes.specs.Notes.{have_entered, member_at}
-use Rattle.collective_notes.specs.Roles.{RoleState, below_place, own_place, role_of}
+use Rattle.collective_progress.specs.Operations.{op_of}
+use Rattle.collective_messages.specs.Entering as entering
+use Rattle.collective_messages.specs.Notes as notes
+use Rattle.collective_messages.specs.Notes.{have_entered, member_at}
+use Rattle.collective_messages.specs.Roles.{RoleState, below_place, own_place, role_of}
 use Rattle.collective_steps.specs.Steps as steps
 use Rattle.collective_steps.specs.Steps.{towards, word_given, word_to}
-use Rattle.collective_notes.specs.declared.entry.Entry.{Entry}
-use Rattle.collective_notes.specs.declared.entry.Entry.TheVariants as entries
-use Rattle.collective_notes.specs.declared.entry.Inside.{Inside}
-use Rattle.collective_notes.specs.declared.message.Given.{Given}
-use Rattle.collective_notes.specs.declared.message.Given.TheVariants as given
-use Rattle.collective_notes.specs.declared.message.Message.{Message}
-use Rattle.collective_notes.specs.declared.note.Note.{Note}
+use Rattle.collective_messages.specs.declared.entry.Entry.{Entry}
+use Rattle.collective_messages.specs.declared.entry.Entry.TheVariants as entries
+use Rattle.collective_messages.specs.declared.entry.Inside.{Inside}
+use Rattle.collective_messages.specs.declared.message.MessageContent.{MessageContent}
+use Rattle.collective_messages.specs.declared.message.MessageContent.TheVariants as given
+use Rattle.collective_messages.specs.declared.message.CollectiveMessage.{CollectiveMessage}
+use Rattle.collective_messages.specs.declared.note.Note.{Note}
 use Rattle.datatypes.specs.Combinations.{combined_values}
 use Rattle.datatypes.specs.Contents.{Contents}
 use Rattle.payload.specs.declared.payload.Direction.TheVariants.{TowardsRoot}
@@ -91,7 +91,7 @@ inside place c inc k y role = record { place = place; context = c; incarnation =
 
 -- a rank says a word that stands for its member's
 abbrev Says : Endpoint → Inside → List Note → (y : Entry) → List Part → Type 0
-Says e i ns y ps = (g : Given) × (word_given e i ns y ≡ Some g) × GivenStandsFor e (entering.record_of y) g (HasEntered (joined (part_of y).record_is ps))
+Says e i ns y ps = (g : MessageContent) × (word_given e i ns y ≡ Some g) × GivenStandsFor e (entering.record_of y) g (HasEntered (joined (part_of y).record_is ps))
 
 says : (e : Endpoint) (place c inc k : ℕ) (y : Entry) (role : RoleState) (ranks : List ℕ) (ns : List Note) (xs : List network.Note) (ps : List Part) →
     IsRole (part_of y).record_is.kind (part_of y).record_is.root e inc ranks role → role.feeders ≡ (role_of e inc ranks (entering.record_of y)).feeders → HandsIn e ranks y →
@@ -143,9 +143,9 @@ says e place c inc k (entries.Reduce o root b) role ranks ns xs ps h fed hands a
     below : List ℕ
     below = below_place ranks (own_place e inc ranks)
 
-    made : steps.reduced e (inside place c inc k (entries.Reduce o root b) role) ns role.feeders o b ≡ Some sum
+    made : steps.reduce_blocks e (inside place c inc k (entries.Reduce o root b) role) ns role.feeders o b ≡ Some sum
     made =
-        ap (λ (fs : List ℕ). steps.reduced e (inside place c inc k (entries.Reduce o root b) role) ns fs o b) fed
+        ap (λ (fs : List ℕ). steps.reduce_blocks e (inside place c inc k (entries.Reduce o root b) role) ns fs o b) fed
         ∙ reduced_is e (inside place c inc k (entries.Reduce o root b) role) ns e.rank below o b ps
         (subst (λ (fs : List ℕ). PartsAre e (inside place c inc k (entries.Reduce o root b) role) ns fs ps) fed are).blocks hands
 
@@ -180,22 +180,22 @@ says e place c inc k (entries.Split a) role ranks ns xs ps h fed hands are q r u
 )
 
 -- it goes to the one right above, if that is another
-word_said : (e : Endpoint) (i : Inside) (g : Option Given) (x : network.Said) (above : Option ℕ) →
-    ((r : ℕ) → above ≡ Some r → is_same (member_at i.incarnation r) e ≡ false → (d : Given) × (g ≡ Some d) × GivenStandsFor e (entering.record_of i.entry) d x) →
+word_said : (e : Endpoint) (i : Inside) (g : Option MessageContent) (x : network.Said) (above : Option ℕ) →
+    ((r : ℕ) → above ≡ Some r → is_same (member_at i.incarnation r) e ≡ false → (d : MessageContent) × (g ≡ Some d) × GivenStandsFor e (entering.record_of i.entry) d x) →
     AreSaid e (word_to e i above g) (network.to_others e (λ m. notice i.context i.number x) (named i.incarnation (option_to_list above)))
 word_said e i g x None gives = tt
 word_said e i g x (Some r) gives = by (is_same (member_at i.incarnation r) e) refl
   where
-    nobody : (o : Option Given) → is_same (member_at i.incarnation r) e ≡ true → word_to e i (Some r) o ≡ []
+    nobody : (o : Option MessageContent) → is_same (member_at i.incarnation r) e ≡ true → word_to e i (Some r) o ≡ []
     nobody None same = refl
     nobody (Some d) same = ap (λ (t : Bool). if t then [] else steps.message_to i d r ∷ []) same
 
     by : (b : Bool) → is_same (member_at i.incarnation r) e ≡ b → AreSaid e (word_to e i (Some r) g) (network.to_others e (λ m. notice i.context i.number x) (member_at i.incarnation r ∷ []))
     by true same =
-        subst (λ (ms : List Message). AreSaid e ms (network.to_others e (λ m. notice i.context i.number x) (member_at i.incarnation r ∷ []))) (sym (nobody g same))
+        subst (λ (ms : List CollectiveMessage). AreSaid e ms (network.to_others e (λ m. notice i.context i.number x) (member_at i.incarnation r ∷ []))) (sym (nobody g same))
         (subst (λ (b : Bool). AreSaid e [] (if b then [] else (member_at i.incarnation r, notice i.context i.number x) ∷ [])) (sym same) tt)
     by false other =
-        subst (λ (o : Option Given). AreSaid e (word_to e i (Some r) o) (network.to_others e (λ m. notice i.context i.number x) (member_at i.incarnation r ∷ []))) (sym (gives r refl other).1)
+        subst (λ (o : Option MessageContent). AreSaid e (word_to e i (Some r) o) (network.to_others e (λ m. notice i.context i.number x) (member_at i.incarnation r ∷ []))) (sym (gives r refl other).1)
         (some_said e i (gives r refl other).0 x (gives r refl other).2 (r ∷ []))
 
 pub words_follow : (e : Endpoint) (i : Inside) (ranks : List ℕ) (ns : List Note) (xs : List network.Note) (ps : List Part) →

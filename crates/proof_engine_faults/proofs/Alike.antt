@@ -1,32 +1,32 @@
 -- An engine with such a core judges each call as it did, but for limits.
 use Rattle.std.proofs.Common.{◌≡◌, Bool, ◌||◌, Option, Some, None, if◌then◌else◌, refl, sym, ap, subst, inl, inr, ◌⊎◌}
 use Rattle.communicators.specs.Routes.{RouteText}
-use Rattle.engine_parts.specs.EngineState.{EngineState, member_of}
-use Rattle.engine_parts.specs.Faults.{broken, free_fault, group_limit, is_replaced, look_rules, message_rules, on_route, probe_rules, receive_rules, routed_limit, send_rules}
-use Rattle.engine_parts.specs.Refusals.{first_fault}
-use Rattle.engine_parts.specs.Routing.{probe_by, receive_by, route_at, send_by}
-use Rattle.engine_parts.specs.declared.call.Call.{Call}
-use Rattle.engine_parts.specs.declared.call.Call.TheVariants as calls
-use Rattle.engine_parts.specs.declared.call.Probe.{Probe}
-use Rattle.engine_parts.specs.declared.call.Receive.{Receive}
-use Rattle.engine_parts.specs.declared.call.Send.{Send}
+use Rattle.engine_calls.specs.EngineState.{EngineState, member_of}
+use Rattle.engine_calls.specs.Faults.{broken, free_fault, group_limit, is_replaced, look_rules, message_rules, on_route, probe_rules, receive_rules, routed_limit, send_rules}
+use Rattle.engine_calls.specs.Refusals.{first_fault}
+use Rattle.engine_calls.specs.Routing.{probe_by, receive_by, route_at, send_by}
+use Rattle.engine_calls.specs.declared.call.Call.{Call}
+use Rattle.engine_calls.specs.declared.call.Call.TheVariants as calls
+use Rattle.engine_calls.specs.declared.call.Probe.{Probe}
+use Rattle.engine_calls.specs.declared.call.Receive.{Receive}
+use Rattle.engine_calls.specs.declared.call.Send.{Send}
 use Rattle.perfect_groups.specs.Calls.{held_at}
 use Rattle.perfect_groups.specs.Faults.{is_no_target, is_source_beyond}
 use Rattle.proof_engine_faults.proofs.Calm.{message_alike, one_absent_alike, receive_alike}
 use Rattle.proof_engine_faults.proofs.Rows.{calm_core}
 use Rattle.proof_network_bridge.proofs.Routed.{routed_full}
-use Rattle.rank_calls.specs.declared.call.Call as cores
-use Rattle.rank_calls.specs.declared.call.Call.TheVariants as core_calls
-use Rattle.rank_calls.specs.declared.refused.Refused.{Refused}
-use Rattle.rank_calls.specs.declared.refused.Refused.TheVariants as refusals
-use Rattle.rank_core.specs.Calls.{argument_fault}
-use Rattle.rank_core.specs.CoreState.{CoreState}
-use Rattle.rank_core.specs.Waiting.{cancel_fault, wait_fault}
-use Rattle.rank_core.specs.Messages.{message_fault}
+use Rattle.point_to_point_calls.specs.declared.call.CoreCall as cores
+use Rattle.point_to_point_calls.specs.declared.call.CoreCall.TheVariants as core_calls
+use Rattle.point_to_point_calls.specs.declared.refusal.Refusal.{Refusal}
+use Rattle.point_to_point_calls.specs.declared.refusal.Refusal.TheVariants as refusals
+use Rattle.point_to_point.specs.Calls.{argument_fault}
+use Rattle.point_to_point.specs.CoreState.{CoreState}
+use Rattle.point_to_point.specs.Waiting.{cancel_fault, wait_fault}
+use Rattle.point_to_point.specs.Messages.{message_fault}
 use Rattle.requests.specs.Completions.{awaited_requests}
 use Rattle.requests.specs.Lists as lists
-use Rattle.requests.specs.declared.awaited.Awaited.{Awaited}
-use Rattle.requests.specs.declared.awaited.Awaited.TheVariants as awaiteds
+use Rattle.requests.specs.declared.awaited_requests.Awaited.{Awaited}
+use Rattle.requests.specs.declared.awaited_requests.Awaited.TheVariants as awaiteds
 use Rattle.requests.specs.declared.region.Region.{Region}
 use Rattle.requests.specs.declared.table.Request.{Request}
 
@@ -35,25 +35,25 @@ abbrev pub calm_engine : EngineState → EngineState
 calm_engine e = record e { core = calm_core e.core }
 
 -- no rule is broken; a limit may be met
-abbrev pub IsFull : Option Refused → Type 0
+abbrev pub IsFull : Option Refusal → Type 0
 IsFull o = (o ≡ None) ⊎ (o ≡ Some refusals.Limit)
 
 -- both break the same rule; or neither breaks one
-pub data Alike (o p : Option Refused) : Type 0 where
+pub data Alike (o p : Option Refusal) : Type 0 where
   Same : o ≡ p → Alike o p
   Full : IsFull o → IsFull p → Alike o p
 
 -- a rule that both look at first
-first_alike : (rule o p : Option Refused) → Alike o p → Alike (first_fault rule o) (first_fault rule p)
+first_alike : (rule o p : Option Refusal) → Alike o p → Alike (first_fault rule o) (first_fault rule p)
 first_alike None o p h = h
 first_alike (Some x) o p h = Same refl
 
-only_full : (o : Option Refused) → ((x : Refused) → o ≡ Some x → x ≡ refusals.Limit) → IsFull o
+only_full : (o : Option Refusal) → ((x : Refusal) → o ≡ Some x → x ≡ refusals.Limit) → IsFull o
 only_full None h = inl refl
-only_full (Some x) h = inr (ap (λ (y : Refused). Some y) (h x refl))
+only_full (Some x) h = inr (ap (λ (y : Refusal). Some y) (h x refl))
 
 -- the limits of a call with a route
-limits_alike : (e : EngineState) (q : cores.Call) → Alike (routed_limit e q) (routed_limit (calm_engine e) q)
+limits_alike : (e : EngineState) (q : cores.CoreCall) → Alike (routed_limit e q) (routed_limit (calm_engine e) q)
 limits_alike e q = Full (only_full (routed_limit e q) (routed_full e q)) (only_full (routed_limit (calm_engine e) q) (routed_full (calm_engine e) q))
 
 -- ---- point to point
@@ -64,7 +64,7 @@ send_alike e s r =
     (first_alike (broken (is_no_target (held_at (member_of e.groups) s.comm) s.target) refusals.Rank) _ _
     (first_alike (broken (is_replaced e s.comm s.target) refusals.Replaced) _ _ (limits_alike e q)))
   where
-    q : cores.Call
+    q : cores.CoreCall
     q = core_calls.Isend (send_by s r)
 
 receive_alike_by : (e : EngineState) (v : Receive) (r : RouteText) → Alike (receive_rules e v r) (receive_rules (calm_engine e) v r)
@@ -73,7 +73,7 @@ receive_alike_by e v r =
     (first_alike (broken (is_source_beyond (held_at (member_of e.groups) v.comm) v.source) refusals.Rank) _ _
     (first_alike (broken (is_replaced e v.comm v.source) refusals.Replaced) _ _ (first_alike (group_limit r.group) _ _ (limits_alike e q))))
   where
-    q : cores.Call
+    q : cores.CoreCall
     q = core_calls.Irecv (receive_by v r)
 
 probe_alike : (e : EngineState) (p : Probe) (r : RouteText) → Alike (probe_rules e p r) (probe_rules (calm_engine e) p r)
@@ -94,10 +94,10 @@ message_same c (Some q) = sym (ap (λ (b : Bool). if b then None else Some refus
 
 message_rules_alike : (e : EngineState) (q : Option Request) (into : Region) → Alike (message_rules e (core_calls.Mrecv q into)) (message_rules (calm_engine e) (core_calls.Mrecv q into))
 message_rules_alike e q into =
-    subst (λ (o : Option Refused). Alike (message_rules e call) (first_fault o (first_fault (argument_fault e.core.place call) (routed_limit (calm_engine e) call)))) (message_same e.core q)
+    subst (λ (o : Option Refusal). Alike (message_rules e call) (first_fault o (first_fault (argument_fault e.core.place call) (routed_limit (calm_engine e) call)))) (message_same e.core q)
     (first_alike (message_fault e.core q) _ _ (first_alike (argument_fault e.core.place call) _ _ (limits_alike e call)))
   where
-    call : cores.Call
+    call : cores.CoreCall
     call = core_calls.Mrecv q into
 
 -- ---- all calls

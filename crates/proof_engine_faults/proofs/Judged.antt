@@ -2,14 +2,14 @@
 use Rattle.std.proofs.Common.{◌≡◌, ℕ, Bool, true, false, ◌||◌, [], ◌∷◌, Option, Some, None, if◌then◌else◌, is_some, refl, sym, ap, ap₂, ◌∙◌, subst, inl, inr, arith}
 use mathlib.Core.Path.{fun_ext}
 use Rattle.communicators.specs.Rules.{known_by}
-use Rattle.engine_parts.specs.Calls.{CallGives, IsRefused, IsTaken, LacksRoom, WhyRefused}
-use Rattle.engine_parts.specs.EngineState.{EngineState, member_of}
-use Rattle.engine_parts.specs.Faults.{broken, fault_of, free_fault, is_busy}
-use Rattle.engine_parts.specs.Refusals.{first_fault}
-use Rattle.engine_parts.specs.declared.call.Call.{Call}
-use Rattle.engine_parts.specs.declared.call.Call.TheVariants as calls
-use Rattle.engine_parts.specs.declared.reply.Reply.{Reply}
-use Rattle.engine_parts.specs.declared.reply.Reply.TheVariants as replies
+use Rattle.engine_calls.specs.Calls.{CallGives, IsRefused, IsTaken, LacksRoom, WhyRefused}
+use Rattle.engine_calls.specs.EngineState.{EngineState, member_of}
+use Rattle.engine_calls.specs.Faults.{broken, fault_of, free_fault, is_busy}
+use Rattle.engine_calls.specs.Refusals.{first_fault}
+use Rattle.engine_calls.specs.declared.call.Call.{Call}
+use Rattle.engine_calls.specs.declared.call.Call.TheVariants as calls
+use Rattle.engine_calls.specs.declared.reply.Reply.{Reply}
+use Rattle.engine_calls.specs.declared.reply.Reply.TheVariants as replies
 use Rattle.perfect_groups.specs.Calls as machine
 use Rattle.perfect_groups.specs.Faults.{fault, fault_by, is_within, wrong_communicator, wrong_count, wrong_incarnation, wrong_operation, wrong_rank, wrong_request, wrong_root, wrong_tag, wrong_type}
 use Rattle.perfect_groups.specs.Membership.{Membership}
@@ -29,13 +29,13 @@ use Rattle.proof_network_bridge.specs.Following.{IsFaultless}
 use Rattle.proof_network_bridge.specs.Seen.{call_by, call_meant, call_seen}
 use Rattle.proof_pure_network.specs.Core.{view}
 use Rattle.proof_pure_network.specs.Held.{blank}
-use Rattle.rank_calls.specs.declared.refused.Refused.{Refused}
-use Rattle.rank_calls.specs.declared.refused.Refused.TheVariants as refusals
-use Rattle.rank_core.specs.CoreState.{CoreState}
-use Rattle.rank_core.specs.Messages.{message_fault}
+use Rattle.point_to_point_calls.specs.declared.refusal.Refusal.{Refusal}
+use Rattle.point_to_point_calls.specs.declared.refusal.Refusal.TheVariants as refusals
+use Rattle.point_to_point.specs.CoreState.{CoreState}
+use Rattle.point_to_point.specs.Messages.{message_fault}
 use Rattle.requests.specs.Table.{is_message, progress_at}
-use Rattle.requests.specs.declared.awaited.Awaited.TheVariants as awaiteds
-use Rattle.requests.specs.declared.table.Progress.{Progress}
+use Rattle.requests.specs.declared.awaited_requests.Awaited.TheVariants as awaiteds
+use Rattle.requests.specs.declared.table.RequestProgress.{RequestProgress}
 use Rattle.requests.specs.declared.table.Request.{Request}
 use Rattle.vocabulary.specs.declared.endpoint.Endpoint.{Endpoint}
 
@@ -57,7 +57,7 @@ allowed old new (calls.Enter comm x) reply taken gives = (entered old new comm x
 allowed old new (calls.Ask comm q) reply taken gives = (asked old new comm q reply taken gives).told.allowed
 
 -- what was refused was so for its first rule or limit, or for want of room
-refused : (old new : EngineState) (call : Call) (why : Refused) (back : Call) → CallGives old call (replies.Refused why back) new → IsRefused old call why back new
+refused : (old new : EngineState) (call : Call) (why : Refusal) (back : Call) → CallGives old call (replies.Refused why back) new → IsRefused old call why back new
 refused old new (calls.Isend s) why back gives = gives
 refused old new (calls.Irecv v) why back gives = gives
 refused old new (calls.Wait q) why back gives = gives
@@ -72,7 +72,7 @@ refused old new (calls.Enter comm x) why back gives = gives
 refused old new (calls.Ask comm q) why back gives = gives
 
 -- want of room is a limit, or want of memory
-out_of_room : (e : EngineState) (call : Call) (why : Refused) → LacksRoom e call why → IsOutOfRoom why
+out_of_room : (e : EngineState) (call : Call) (why : Refusal) → LacksRoom e call why → IsOutOfRoom why
 out_of_room e (calls.Isend s) why h = inr h.0
 out_of_room e (calls.Irecv v) why h = inr h.0
 out_of_room e (calls.Wait q) why h = absurd h
@@ -93,11 +93,11 @@ out_of_room e (calls.Ask comm q) why h = inr h.0
 message_there : (c : CoreState) (q : Request) → message_fault c (Some q) ≡ None → IsPresent c q
 message_there c q fine = go (progress_at c.slots q.key q.serial) refl fine
   where
-    go : (o : Option Progress) → progress_at c.slots q.key q.serial ≡ o → (if is_message o then None else Some refusals.Request) ≡ None → IsPresent c q
+    go : (o : Option RequestProgress) → progress_at c.slots q.key q.serial ≡ o → (if is_message o then None else Some refusals.Request) ≡ None → IsPresent c q
     go None at h = absurd cc
     go (Some g) at h = (g, at)
 
-first_none : (o p : Option Refused) → first_fault o p ≡ None → o ≡ None
+first_none : (o p : Option Refusal) → first_fault o p ≡ None → o ≡ None
 first_none None p h = refl
 first_none (Some x) p h = absurd cc
 
@@ -180,7 +180,7 @@ full_none e call o idle (inl none) =
     ap (own_fault e) (sym (meant_same e.core call) ∙ f.own) ∙ sym (idle_fault e (call_seen call) o idle) ∙ f.none
 full_none e call o idle (inr limit) =
     go (free_reason nothing e.sessions.place.endpoint (calm_engine e) (core_of e.core e.sessions.known) (member_of e.groups) call refusals.Limit (is_free e o idle) o.own
-    (subst (λ (p : Option Refused). WhyRefused p (calm_engine e) call refusals.Limit) (sym limit) refl))
+    (subst (λ (p : Option Refusal). WhyRefused p (calm_engine e) call refusals.Limit) (sym limit) refl))
   where
     there : (x : Option ℕ) → fault e.sessions.place.endpoint (view blank (core_of e.core e.sessions.known)) (member_of e.groups) (call_meant (calm_core e.core) call) ≡ x → own_fault e (call_meant e.core call) ≡ x
     there x h = ap (own_fault e) (sym (meant_same e.core call)) ∙ sym (idle_fault e (call_meant (calm_core e.core) call) o idle) ∙ h
@@ -190,17 +190,17 @@ full_none e call o idle (inr limit) =
     go (NoRoom room h) = there None h
 
 -- a call is refused by the rule that it breaks, which is the machine's too
-rule_found : (e : EngineState) (call : Call) (x : Refused) → IsOrderly e → is_busy e ≡ false → free_fault (calm_engine e) call ≡ Some x → IsReason (own_fault e (call_meant e.core call)) x
+rule_found : (e : EngineState) (call : Call) (x : Refusal) → IsOrderly e → is_busy e ≡ false → free_fault (calm_engine e) call ≡ Some x → IsReason (own_fault e (call_meant e.core call)) x
 rule_found e call x o idle is =
     subst (λ (p : Option ℕ). IsReason p x) (idle_fault e (call_meant (calm_core e.core) call) o idle ∙ ap (own_fault e) (meant_same e.core call))
     (free_reason nothing e.sessions.place.endpoint (calm_engine e) (core_of e.core e.sessions.known) (member_of e.groups) call x (is_free e o idle) o.own
-    (subst (λ (p : Option Refused). WhyRefused p (calm_engine e) call x) (sym is) refl))
+    (subst (λ (p : Option Refusal). WhyRefused p (calm_engine e) call x) (sym is) refl))
 
 -- so is any refusal
-free_refusal : (e : EngineState) (call : Call) (why : Refused) → IsOrderly e → is_busy e ≡ false → WhyRefused (free_fault e call) e call why → IsReason (own_fault e (call_meant e.core call)) why
+free_refusal : (e : EngineState) (call : Call) (why : Refusal) → IsOrderly e → is_busy e ≡ false → WhyRefused (free_fault e call) e call why → IsReason (own_fault e (call_meant e.core call)) why
 free_refusal e call why o idle because = go (judged_alike e call) (free_fault e call) refl because
   where
-    go : Alike (free_fault e call) (free_fault (calm_engine e) call) → (p : Option Refused) → free_fault e call ≡ p → WhyRefused p e call why → IsReason (own_fault e (call_meant e.core call)) why
+    go : Alike (free_fault e call) (free_fault (calm_engine e) call) → (p : Option Refusal) → free_fault e call ≡ p → WhyRefused p e call why → IsReason (own_fault e (call_meant e.core call)) why
     go (Same same) (Some x) is h = subst (IsReason (own_fault e (call_meant e.core call))) (sym h) (rule_found e call x o idle (sym same ∙ is))
     go (Same same) None is h = NoRoom (out_of_room e call why h) (full_none e call o idle (inl (sym same ∙ is)))
     go (Full full calm_full) None is h = NoRoom (out_of_room e call why h) (full_none e call o idle calm_full)

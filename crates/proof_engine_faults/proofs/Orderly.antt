@@ -3,7 +3,7 @@ use Rattle.std.proofs.Common.{◌≡◌, ℕ, zero, suc, ◌+◌, ◌<◌, [], �
 use Rattle.std.specs.Prelude.{slice_get}
 use Rattle.std.specs.List.{range_with_len}
 use Rattle.std.proofs.lemmas.Option.{same_Some, slice_get_within}
-use Rattle.engine_parts.specs.EngineState.{EngineState, member_of, opening}
+use Rattle.engine_calls.specs.EngineState.{EngineState, member_of, opening}
 use Rattle.perfect_groups.specs.Communicators.{Communicator, first_endpoint, group_of, self_of, world_of}
 use Rattle.perfect_groups.specs.Membership.{fresh_member}
 use Rattle.proof_collective_steps.proofs.RankSteps.{openings_are_shown}

@@ -1,12 +1,12 @@
 -- The fault that the machine finds with a call of an engine, by what the engine itself holds.
 use Rattle.std.specs.Prelude.{◌≡◌, ℕ, ◌<◌, List, [], ◌∷◌, length, Option, Some, None, if◌then◌else◌, ◌==◌, slice_get, slice_index}
 use Rattle.communicators.specs.Rules.{known_by}
-use Rattle.engine_parts.specs.Calls.{CallGives, IsTaken}
-use Rattle.engine_parts.specs.EngineState.{EngineState, member_of, opening}
-use Rattle.engine_parts.specs.Faults.{fault_of, is_busy}
-use Rattle.engine_parts.specs.declared.call.Call.{Call}
-use Rattle.engine_parts.specs.declared.reply.Reply.{Reply}
-use Rattle.engine_parts.specs.declared.reply.Reply.TheVariants as replies
+use Rattle.engine_calls.specs.Calls.{CallGives, IsTaken}
+use Rattle.engine_calls.specs.EngineState.{EngineState, member_of, opening}
+use Rattle.engine_calls.specs.Faults.{fault_of, is_busy}
+use Rattle.engine_calls.specs.declared.call.Call.{Call}
+use Rattle.engine_calls.specs.declared.reply.Reply.{Reply}
+use Rattle.engine_calls.specs.declared.reply.Reply.TheVariants as replies
 use Rattle.incarnation.specs.declared.place.Place.{Place}
 use Rattle.perfect_groups.specs.Calls as machine
 use Rattle.perfect_groups.specs.Events.{Entry}
@@ -18,20 +18,20 @@ use Rattle.proof_network_bridge.specs.Following.{IsFaultless}
 use Rattle.proof_network_bridge.specs.Joined.{IsFollowed}
 use Rattle.proof_network_bridge.specs.Seen.{call_meant, call_seen}
 use Rattle.proof_queue_calls.specs.Halves.{AreInWorld}
-use Rattle.rank_calls.specs.declared.refused.Refused.{Refused}
+use Rattle.point_to_point_calls.specs.declared.refusal.Refusal.{Refusal}
 use Rattle.requests.specs.Table.{slot_at}
-use Rattle.requests.specs.declared.table.Entry as table
-use Rattle.requests.specs.declared.table.Progress.{Progress}
-use Rattle.requests.specs.declared.table.Progress.TheVariants as progresses
+use Rattle.requests.specs.declared.table.TableEntry as table
+use Rattle.requests.specs.declared.table.RequestProgress.{RequestProgress}
+use Rattle.requests.specs.declared.table.RequestProgress.TheVariants as progresses
 
 -- how far the request with this serial is, if one stands in the table
-abbrev pub found : List (Option table.Entry) → (serial : ℕ) → Option Progress
+abbrev pub found : List (Option table.TableEntry) → (serial : ℕ) → Option RequestProgress
 found [] serial = None
 found (None ∷ slots) serial = found slots serial
 found (Some t ∷ slots) serial = if t.serial == serial then Some t.progress else found slots serial
 
 -- what a call may do with it
-abbrev pub standing_of : Option Progress → Standing
+abbrev pub standing_of : Option RequestProgress → Standing
 standing_of None = Missing
 standing_of (Some (progresses.Receiving w)) = Receiving
 standing_of (Some (progresses.Collecting w)) = Receiving
@@ -49,9 +49,9 @@ own_fault e call =
 -- What is asked of the engine: its requests have serials of their own, all below the next; its communicators are of ranks of its
 -- job; and its parts know where it stands
 pub record IsOrderly (e : EngineState) : Type 0 where
-  pub below : (key : ℕ) (t : table.Entry) → slot_at e.core.slots key ≡ Some t → t.serial < e.core.serial
+  pub below : (key : ℕ) (t : table.TableEntry) → slot_at e.core.slots key ≡ Some t → t.serial < e.core.serial
   pub apart :
-      (key other : ℕ) (t u : table.Entry) → slot_at e.core.slots key ≡ Some t → slot_at e.core.slots other ≡ Some u →
+      (key other : ℕ) (t u : table.TableEntry) → slot_at e.core.slots key ≡ Some t → slot_at e.core.slots other ≡ Some u →
       t.serial ≡ u.serial → key ≡ other
   pub inside : AreInWorld e.core.place.size (member_of e.groups)
   pub placed : e.core.place ≡ e.sessions.place
@@ -62,7 +62,7 @@ pub record IsOrderly (e : EngineState) : Type 0 where
 -- a call that it refuses has the machine's first fault, by its number; or the machine finds none, and the number is 13 or 14
 abbrev pub OwnRefusals : Type 0
 OwnRefusals =
-    (e mid : EngineState) (call back : Call) (why : Refused) → IsOrderly e → CallGives e call (replies.Refused why back) mid →
+    (e mid : EngineState) (call back : Call) (why : Refusal) → IsOrderly e → CallGives e call (replies.Refused why back) mid →
     IsReason (own_fault e (call_meant e.core call)) why
 
 -- a call that it takes names no request of another engine, and the machine finds no fault with it

@@ -2,7 +2,7 @@
 use Rattle.std.proofs.Common.{◌≡◌, ℕ, List, Bool, true, false, ◌&&◌, ◌==◌, refl}
 use Rattle.perfect_queues.specs.Receives as machine
 use Rattle.match_queues.specs.Accepts as queues
-use Rattle.match_queues.specs.declared.envelope.Receive as posted
+use Rattle.match_queues.specs.declared.envelope.PostedReceive as posted
 use Rattle.match_queues.specs.declared.envelope.Message.{Message}
 use Rattle.proof_pure_network.specs.Held.{fits}
 use Rattle.proof_engine_view.specs.Rows.{held_of}
@@ -10,7 +10,7 @@ use Rattle.vocabulary.specs.declared.endpoint.Endpoint.{Endpoint}
 use Rattle.proof_engine_view.specs.Transfers.{Transfer}
 
 -- the record that stands in the queue for a receive
-abbrev pub posted_record : (key : ℕ) → machine.Receive → posted.Receive
+abbrev pub posted_record : (key : ℕ) → machine.Receive → posted.PostedReceive
 posted_record key p = record { request = key; context = p.context; source = p.source; tag = p.tag }
 
 -- both sides need all three

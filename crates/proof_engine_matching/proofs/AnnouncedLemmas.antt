@@ -14,7 +14,7 @@ use Rattle.match_queues.specs.declared.envelope.Body.{Body}
 use Rattle.match_queues.specs.declared.envelope.Body.TheVariants.{Announced}
 use Rattle.match_queues.specs.declared.envelope.Message.{Message}
 use Rattle.requests.specs.Regions.{handed_by, handed_of}
-use Rattle.shared_groups.specs.Statuses.{status_in}
+use Rattle.communicator_members.specs.Statuses.{status_in}
 use Rattle.requests.specs.Table.{has_room, matched_progress}
 use Rattle.requests.specs.declared.outcome.Failure.TheVariants.{Truncated, WrongType}
 use Rattle.requests.specs.declared.outcome.Outcome.TheVariants as outcomes
@@ -22,8 +22,8 @@ use Rattle.requests.specs.declared.region.Places.{Places}
 use Rattle.requests.specs.declared.region.Places.TheVariants.{All, Copies}
 use Rattle.requests.specs.declared.region.Region.{Region}
 use Rattle.requests.specs.declared.table.Posted.{Posted}
-use Rattle.requests.specs.declared.table.Progress.TheVariants.{Collecting, Finished}
-use Rattle.rank_calls.specs.Receiving.{status_of}
+use Rattle.requests.specs.declared.table.RequestProgress.TheVariants.{Collecting, Finished}
+use Rattle.point_to_point_calls.specs.Receiving.{status_of}
 use Rattle.proof_pure_network.specs.Held.{Held, count_of, fits, full}
 use Rattle.proof_pure_network.specs.Jobs as jobs
 use Rattle.proof_pure_network.specs.Jobs.{Job, Over, matched_job, matched_part}

@@ -1,7 +1,7 @@
 -- A message that arrives takes the same receive from the queue and from the jobs, or none.
 use Rattle.std.proofs.Common.{◌≡◌, ℕ, suc, Bool, true, false, List, [], ◌∷◌, ◌++◌, position, remove, slice_get, slice_set, Option, Some, None, refl, sym, ap, ap₂, ◌∙◌, ◌⊎◌, inl, inr, ⊎_elim, if◌then◌else◌}
 use Rattle.match_queues.specs.Accepts.{accepts}
-use Rattle.match_queues.specs.declared.envelope.Receive as posted
+use Rattle.match_queues.specs.declared.envelope.PostedReceive as posted
 use Rattle.match_queues.specs.declared.envelope.Message.{Message}
 use Rattle.match_queues.specs.Arrivals.{arrival_at}
 use Rattle.match_queues.specs.State.{State, arrived_at, receive_at, receive_for}
@@ -46,7 +46,7 @@ skip : (from : Endpoint → List Transfer) (m : Message) (key : ℕ) (j : Job) (
 skip from m key j rs a b = ⊎_elim
     (λ (n : Passed from m rs). inl (record {
       core = ap₂ or_later a n.core;
-      place = ap (λ (l : List posted.Receive). position (λ r. accepts r m) (l ++ posted_rows rs)) b ∙ n.place;
+      place = ap (λ (l : List posted.PostedReceive). position (λ r. accepts r m) (l ++ posted_rows rs)) b ∙ n.place;
     }))
     (λ (s : (k : ℕ) × (i : ℕ) × (key : ℕ) × (p : Receive) × Taken from m rs k i key p). inr (
       suc s.0,
@@ -56,12 +56,12 @@ skip from m key j rs a b = ⊎_elim
       record {
         row = s.4.row;
         core = ap₂ or_later a s.4.core;
-        place = ap (λ (l : List posted.Receive). position (λ r. accepts r m) (l ++ posted_rows rs)) b ∙ s.4.place;
-        there = ap (λ (l : List posted.Receive). slice_get (l ++ posted_rows rs) s.1) b ∙ s.4.there;
+        place = ap (λ (l : List posted.PostedReceive). position (λ r. accepts r m) (l ++ posted_rows rs)) b ∙ s.4.place;
+        there = ap (λ (l : List posted.PostedReceive). slice_get (l ++ posted_rows rs) s.1) b ∙ s.4.there;
         accepts = s.4.accepts;
         rest = λ x e.
-            ap (λ (l : List posted.Receive). remove (l ++ posted_rows rs) s.1) b
-            ∙ (s.4.rest x e ∙ sym (ap (λ (l : List posted.Receive). l ++ posted_rows (slice_set rs s.0 (row_of s.2 x))) b));
+            ap (λ (l : List posted.PostedReceive). remove (l ++ posted_rows rs) s.1) b
+            ∙ (s.4.rest x e ∙ sym (ap (λ (l : List posted.PostedReceive). l ++ posted_rows (slice_set rs s.0 (row_of s.2 x))) b));
       },
     ))
 
@@ -87,7 +87,7 @@ miss from m key p rs h = ⊎_elim
         place = position_later (λ r. accepts r m) (posted_record key p) (posted_rows rs) (Some s.1) (same_test from key p m ∙ h) s.4.place;
         there = s.4.there;
         accepts = s.4.accepts;
-        rest = λ x e. ap (λ (l : List posted.Receive). posted_record key p ∷ l) (s.4.rest x e);
+        rest = λ x e. ap (λ (l : List posted.PostedReceive). posted_record key p ∷ l) (s.4.rest x e);
       },
     ))
 
@@ -100,7 +100,7 @@ hit from m key p rs h =
       place = position_here (λ r. accepts r m) (posted_record key p) (posted_rows rs) (same_test from key p m ∙ h);
       there = refl;
       accepts = h;
-      rest = λ x e. remove_first (posted_record key p) (posted_rows rs) ∙ sym (ap (λ (l : List posted.Receive). l ++ posted_rows rs) e);
+      rest = λ x e. remove_first (posted_record key p) (posted_rows rs) ∙ sym (ap (λ (l : List posted.PostedReceive). l ++ posted_rows rs) e);
     }
 
 -- one more row in front
@@ -125,7 +125,7 @@ tried from m (r ∷ rs) = step from m r.key r.job rs (tried from m rs)
 -- the message stays, as no row takes it
 kept : (from : Endpoint → List Transfer) (rows : List Row) (old : State) (m : Message) → old.posted ≡ posted_rows rows → Passed from m rows → IsKept from rows old m
 kept from rows old m h n =
-    let none : receive_for m old.posted ≡ None = ap (λ (ps : List posted.Receive). receive_for m ps) h ∙ n.place in
+    let none : receive_for m old.posted ≡ None = ap (λ (ps : List posted.PostedReceive). receive_for m ps) h ∙ n.place in
     record {
       core = n.core;
       arrival = ap (λ (o : Option ℕ). arrival_at (receive_at old.posted o) m) none;
@@ -135,14 +135,14 @@ kept from rows old m h n =
 -- the message goes to the row that takes it
 matched : (from : Endpoint → List Transfer) (rows : List Row) (old : State) (m : Message) (k i key : ℕ) (p : Receive) → old.posted ≡ posted_rows rows → Taken from m rows k i key p → IsMatchedTo from rows old m k key p
 matched from rows old m k i key p h s =
-    let place : receive_for m old.posted ≡ Some i = ap (λ (ps : List posted.Receive). receive_for m ps) h ∙ s.place in
-    let there : slice_get old.posted i ≡ Some (posted_record key p) = ap (λ (ps : List posted.Receive). slice_get ps i) h ∙ s.there in
+    let place : receive_for m old.posted ≡ Some i = ap (λ (ps : List posted.PostedReceive). receive_for m ps) h ∙ s.place in
+    let there : slice_get old.posted i ≡ Some (posted_record key p) = ap (λ (ps : List posted.PostedReceive). slice_get ps i) h ∙ s.there in
     record {
       row = s.row;
       core = s.core;
-      arrival = ap (λ (o : Option ℕ). arrival_at (receive_at old.posted o) m) place ∙ ap (λ (r : Option posted.Receive). arrival_at r m) there;
+      arrival = ap (λ (o : Option ℕ). arrival_at (receive_at old.posted o) m) place ∙ ap (λ (r : Option posted.PostedReceive). arrival_at r m) there;
       accepts = s.accepts;
-      posted = λ x e. ap (λ (q : Option ℕ). (arrived_at q old m).posted) place ∙ (ap (λ (ps : List posted.Receive). remove ps i) h ∙ s.rest x e);
+      posted = λ x e. ap (λ (q : Option ℕ). (arrived_at q old m).posted) place ∙ (ap (λ (ps : List posted.PostedReceive). remove ps i) h ∙ s.rest x e);
       unexpected = ap (λ (q : Option ℕ). (arrived_at q old m).unexpected) place;
     }
 

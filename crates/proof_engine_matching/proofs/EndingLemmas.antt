@@ -11,14 +11,14 @@ use Rattle.match_queues.specs.declared.envelope.Body.{Body}
 use Rattle.match_queues.specs.declared.envelope.Body.TheVariants.{Own, Whole}
 use Rattle.proof_pure_network.specs.Held.{full}
 use Rattle.requests.specs.Outcomes.{outcome_of}
-use Rattle.shared_groups.specs.Statuses.{status_in}
+use Rattle.communicator_members.specs.Statuses.{status_in}
 use Rattle.proof_engine_view.specs.Rows.{held_of}
 use Rattle.vocabulary.specs.declared.endpoint.Endpoint.{Endpoint}
 use Rattle.proof_engine_view.specs.Transfers.{Transfer}
 use Rattle.vocabulary.specs.declared.envelope.Status.{Status}
 use Rattle.requests.specs.declared.outcome.Failure.TheVariants.{WrongType, Truncated}
 use Rattle.requests.specs.declared.outcome.Outcome.TheVariants as outcomes
-use Rattle.rank_calls.specs.Receiving.{status_of}
+use Rattle.point_to_point_calls.specs.Receiving.{status_of}
 use Rattle.proof_engine_view.specs.Seen.{outcome_seen}
 use Rattle.proof_engine_matching.specs.Matches.{OutcomesAgree, OwnOutcomesAgree}
 

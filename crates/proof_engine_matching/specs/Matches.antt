@@ -11,11 +11,11 @@ use Rattle.match_queues.specs.Arrivals.{arrival_of}
 use Rattle.match_queues.specs.State.{State, after_arrival, after_post, after_take, message_at, message_for}
 use Rattle.requests.specs.Outcomes.{outcome_of}
 use Rattle.requests.specs.Table.{has_room, matched_progress}
-use Rattle.shared_groups.specs.Statuses.{status_in}
+use Rattle.communicator_members.specs.Statuses.{status_in}
 use Rattle.requests.specs.declared.table.Posted.{Posted}
-use Rattle.rank_calls.specs.declared.call.Receive as engine_receive
-use Rattle.rank_calls.specs.Receiving.{posted_by, status_of}
-use Rattle.rank_core.specs.Messages.{probed_by}
+use Rattle.point_to_point_calls.specs.declared.call.CoreReceive as engine_receive
+use Rattle.point_to_point_calls.specs.Receiving.{posted_by, status_of}
+use Rattle.point_to_point.specs.Messages.{probed_by}
 use Rattle.perfect_queues.specs.Outcomes.{outcome}
 use Rattle.perfect_queues.specs.Receives.{Receive}
 use Rattle.perfect_queues.specs.Receives as machine
@@ -52,13 +52,13 @@ ArrivalsMatch =
     IsKept from rows old m ⊎ ((k : ℕ) × (key : ℕ) × (p : Receive) × IsMatchedTo from rows old m k key p)
 
 -- no message that waits is accepted
-pub record FindsNone (from : Endpoint → List Transfer) (old : State) (v : engine_receive.Receive) (key : ℕ) : Type 0 where
+pub record FindsNone (from : Endpoint → List Transfer) (old : State) (v : engine_receive.CoreReceive) (key : ℕ) : Type 0 where
   pub core : found (receive_seen v) (map (held_of from) old.unexpected) ≡ None
   pub message : message_at old.unexpected (message_for (posted_by key v) old.unexpected) ≡ None
   pub queues : after_post old (posted_by key v) ≡ record old { posted = old.posted ++ posted_by key v ∷ [] }
 
 -- the receive takes the same message out of both, and those before and after it stay
-pub record Finds (from : Endpoint → List Transfer) (old : State) (v : engine_receive.Receive) (key : ℕ) (m : Message) (earlier later : List Held) : Type 0 where
+pub record Finds (from : Endpoint → List Transfer) (old : State) (v : engine_receive.CoreReceive) (key : ℕ) (m : Message) (earlier later : List Held) : Type 0 where
   pub core : found (receive_seen v) (map (held_of from) old.unexpected) ≡ Some (earlier, held_of from m, later)
   pub message : message_at old.unexpected (message_for (posted_by key v) old.unexpected) ≡ Some m
   pub accepts : fits (receive_seen v) (held_of from m) ≡ true
@@ -68,7 +68,7 @@ pub record Finds (from : Endpoint → List Transfer) (old : State) (v : engine_r
 -- A receive that is posted finds the same message in the engine's queues and in the core, or in neither
 abbrev pub PostsMatch : Type 0
 PostsMatch =
-    (from : Endpoint → List Transfer) (old : State) (v : engine_receive.Receive) (key : ℕ) →
+    (from : Endpoint → List Transfer) (old : State) (v : engine_receive.CoreReceive) (key : ℕ) →
     FindsNone from old v key ⊎ ((m : Message) × (earlier : List Held) × (later : List Held) × Finds from old v key m earlier later)
 
 -- such a receive would find no message that waits, and nothing is taken out

@@ -9,17 +9,17 @@ use Rattle.requests.specs.Lists.{named}
 use Rattle.requests.specs.Table.{progress_at, slot_at}
 use Rattle.requests.specs.declared.answer.Answer.{Answer}
 use Rattle.requests.specs.declared.answer.Answer.TheVariants as answers
-use Rattle.requests.specs.declared.awaited.Awaited.{Awaited}
-use Rattle.requests.specs.declared.awaited.Awaited.TheVariants as awaiteds
+use Rattle.requests.specs.declared.awaited_requests.Awaited.{Awaited}
+use Rattle.requests.specs.declared.awaited_requests.Awaited.TheVariants as awaiteds
 use Rattle.requests.specs.declared.outcome.Outcome.{Outcome}
 use Rattle.requests.specs.declared.outcome.Outcome.TheVariants as outcomes
 use Rattle.requests.specs.declared.table.Posted.{Posted}
-use Rattle.requests.specs.declared.table.Entry.{Entry}
-use Rattle.requests.specs.declared.table.Progress.{Progress}
+use Rattle.requests.specs.declared.table.TableEntry.{TableEntry}
+use Rattle.requests.specs.declared.table.RequestProgress.{RequestProgress}
 use Rattle.requests.specs.declared.table.Matched.{Matched}
 use Rattle.requests.specs.declared.table.TakenOut as taken
-use Rattle.requests.specs.declared.table.Progress.TheVariants.{Receiving, Finished}
-use Rattle.requests.specs.declared.table.Progress.TheVariants as progresses
+use Rattle.requests.specs.declared.table.RequestProgress.TheVariants.{Receiving, Finished}
+use Rattle.requests.specs.declared.table.RequestProgress.TheVariants as progresses
 use Rattle.requests.specs.declared.table.Request.{Request}
 use Rattle.proof_engine_view.specs.Rows.{IsMatched, IsTable, IsTaken, Row, Stands, jobs_of}
 use Rattle.proof_engine_view.specs.Seen.{answer_seen, awaited_seen, outcome_seen, own_serial, requests_by}
@@ -110,7 +110,7 @@ every_same qs (Some os) = refl
 every_same qs None = refl
 
 -- where both say the same of all that is awaited, both answer the same and use up the same
-pub completions_same : (table : List (Option Entry)) (g : ℕ → Option ends.Outcome) (a : Awaited) → AllByRecursion (SayTheSame (rank.outcome_at table) g) (rank.awaited_requests a) →
+pub completions_same : (table : List (Option TableEntry)) (g : ℕ → Option ends.Outcome) (a : Awaited) → AllByRecursion (SayTheSame (rank.outcome_at table) g) (rank.awaited_requests a) →
     machine.completion g (awaited_seen a) ≡ completion_seen (rank.completion table a)
 completions_same table g (awaiteds.One None) h = refl
 completions_same table g (awaiteds.One (Some q)) h =
@@ -127,7 +127,7 @@ completions_same table g (awaiteds.AllOf rs) h =
 -- ---- the table and the rows
 
 -- of a request that is named by an unanswered row, the table and the jobs say the same
-pub named_same_outcome : (table : List (Option Entry)) (rows : List Row) → IsTable table rows → (q : Request) → IsNamed rows q →
+pub named_same_outcome : (table : List (Option TableEntry)) (rows : List Row) → IsTable table rows → (q : Request) → IsNamed rows q →
     SayTheSame (rank.outcome_at table) (over_at (jobs_of rows)) q
 named_same_outcome table rows t q h = subst (λ (key : ℕ). SayTheSame (rank.outcome_at table) (over_at (jobs_of rows)) (record { key = key; serial = q.serial })) h.key_is (by_job h.row.job refl (t.stands q.serial h.row h.there))
   where
@@ -138,25 +138,25 @@ named_same_outcome table rows t q h = subst (λ (key : ℕ). SayTheSame (rank.ou
     by_job (Waiting p) e s =
         let g : (b : Posted) × (progress_at table h.row.key q.serial ≡ Some (Receiving b)) = progress_waiting table rows q.serial h.row.key p t (here (Waiting p) e) in
         ap job_outcome (job_at rows q.serial h.row.key (Waiting p) (here (Waiting p) e)) ∙
-        ap (λ (o : Option Progress). option_map outcome_seen (rank.finished_with o)) (sym g.1)
+        ap (λ (o : Option RequestProgress). option_map outcome_seen (rank.finished_with o)) (sym g.1)
     by_job (Over x) e s =
         let g : (o : Outcome) × (progress_at table h.row.key q.serial ≡ Some (Finished o)) × (x ≡ outcome_seen o) = progress_over table rows q.serial h.row.key x t (here (Over x) e) in
-        over_row rows q.serial h.row.key x (here (Over x) e) ∙ (ap Some g.2 ∙ ap (λ (o : Option Progress). option_map outcome_seen (rank.finished_with o)) (sym g.1))
+        over_row rows q.serial h.row.key x (here (Over x) e) ∙ (ap Some g.2 ∙ ap (λ (o : Option RequestProgress). option_map outcome_seen (rank.finished_with o)) (sym g.1))
     by_job (Collecting p m got) e s =
         let g : (w : Matched) × (progress_at table h.row.key q.serial ≡ Some (progresses.Collecting w)) × IsMatched w p m =
         progress_collecting table rows q.serial h.row.key p m got t (here (Collecting p m got) e) in
         ap job_outcome (job_at rows q.serial h.row.key (Collecting p m got) (here (Collecting p m got) e)) ∙
-        ap (λ (o : Option Progress). option_map outcome_seen (rank.finished_with o)) (sym g.1)
+        ap (λ (o : Option RequestProgress). option_map outcome_seen (rank.finished_with o)) (sym g.1)
     by_job (Offering d basic values) e s =
         ap job_outcome (job_at rows q.serial h.row.key (Offering d basic values) (here (Offering d basic values) e)) ∙
-        ap (λ (o : Option Progress). option_map outcome_seen (rank.finished_with o))
+        ap (λ (o : Option RequestProgress). option_map outcome_seen (rank.finished_with o))
         (sym (progress_offering table rows q.serial h.row.key d basic values t (here (Offering d basic values) e)))
     by_job Closed e s = absurd (h.unanswered e)
     by_job (Unmatched d) e s =
         ap job_outcome (job_at rows q.serial h.row.key (Unmatched d) (here (Unmatched d) e)) ∙
-        ap (λ (o : Option Progress). option_map outcome_seen (rank.finished_with o))
+        ap (λ (o : Option RequestProgress). option_map outcome_seen (rank.finished_with o))
         (sym (progress_unmatched table rows q.serial h.row.key d t (here (Unmatched d) e)))
     by_job (Probed g m) e s =
         let x : (w : taken.TakenOut) × (progress_at table h.row.key q.serial ≡ Some (progresses.TakenOut w)) × IsTaken w g m = progress_probed table rows q.serial h.row.key g m t (here (Probed g m) e) in
         ap job_outcome (job_at rows q.serial h.row.key (Probed g m) (here (Probed g m) e)) ∙
-        ap (λ (o : Option Progress). option_map outcome_seen (rank.finished_with o)) (sym x.1)
+        ap (λ (o : Option RequestProgress). option_map outcome_seen (rank.finished_with o)) (sym x.1)

@@ -13,17 +13,17 @@ use Rattle.datatypes.specs.Contents.{AreWithin, Contents}
 use Rattle.perfect_queues.specs.Calls as machine
 use Rattle.perfect_queues.specs.Refusals as rules
 use Rattle.requests.specs.Regions.{sent_from}
-use Rattle.requests.specs.declared.table.Progress.TheVariants.{Offering}
+use Rattle.requests.specs.declared.table.RequestProgress.TheVariants.{Offering}
 use Rattle.requests.specs.declared.table.Request.{Request}
-use Rattle.rank_calls.specs.declared.call.Call.TheVariants as calls
-use Rattle.rank_calls.specs.declared.call.Reply.TheVariants as replies
-use Rattle.rank_calls.specs.declared.call.Send.{Send}
-use Rattle.rank_calls.specs.Calls.{IsWithin}
-use Rattle.rank_calls.specs.Frames.{FrameFor, as_list}
-use Rattle.rank_calls.specs.Sending.{announced_to, is_announced, send_fault}
-use Rattle.rank_core.specs.Calls.{free_fault}
-use Rattle.rank_core.specs.CoreState.{CoreState}
-use Rattle.rank_core.specs.Sending.{IsOffering, IsSending, frame_of, or_full}
+use Rattle.point_to_point_calls.specs.declared.call.CoreCall.TheVariants as calls
+use Rattle.point_to_point_calls.specs.declared.call.CoreReply.TheVariants as replies
+use Rattle.point_to_point_calls.specs.declared.call.CoreSend.{CoreSend}
+use Rattle.point_to_point_calls.specs.Calls.{IsWithin}
+use Rattle.point_to_point_calls.specs.Frames.{FrameFor, as_list}
+use Rattle.point_to_point_calls.specs.Sending.{announced_to, is_announced, send_fault}
+use Rattle.point_to_point.specs.Calls.{free_fault}
+use Rattle.point_to_point.specs.CoreState.{CoreState}
+use Rattle.point_to_point.specs.Sending.{IsOffering, IsSending, frame_of, or_full}
 use Rattle.rendezvous.specs.State.{after_begin, is_full_to, next_to}
 use Rattle.proof_pure_network.specs.Core.{Core, Effect, effect}
 use Rattle.proof_pure_network.specs.Jobs as jobs
@@ -55,7 +55,7 @@ record MayAnnounce (mode : Mode) (old : CoreState) (to context tag : ℕ) (c : C
   pub free : is_full_to old.transfers.numbers to ≡ false
 
 -- one that meets no rule and no limit may
-may_announce : (old : CoreState) (s : Send) (to tag : ℕ) → s.target ≡ Rank to → s.tag ≡ Some tag → (to == old.place.endpoint.rank) ≡ false → KeepsRules old.place s → IsWithin (calls.Isend s) →
+may_announce : (old : CoreState) (s : CoreSend) (to tag : ℕ) → s.target ≡ Rank to → s.tag ≡ Some tag → (to == old.place.endpoint.rank) ≡ false → KeepsRules old.place s → IsWithin (calls.Isend s) →
     is_announced s.mode (sent_from s.from) ≡ true → free_fault old (calls.Isend s) ≡ None → MayAnnounce s.mode old to s.context tag (sent_from s.from)
 may_announce old s to tag target_is tag_is other kept within large fine =
     record {
@@ -92,7 +92,7 @@ large_holds mode a old known core q new to context tag c shown may sent =
     (after_grows a (announcement_of core (endpoint_of known to) context tag c.basic c.values ∷ [])) tt refl refl
 
 -- a large send to another rank
-pub large_send_shown : (a : Announcements) (old new : CoreState) (known : List ℕ) (core : Core) (s : Send) (q : Request) (to tag : ℕ) → IsShown a old known core → old.blocked ≡ None →
+pub large_send_shown : (a : Announcements) (old new : CoreState) (known : List ℕ) (core : Core) (s : CoreSend) (q : Request) (to tag : ℕ) → IsShown a old known core → old.blocked ≡ None →
     s.target ≡ Rank to → s.tag ≡ Some tag → (to == old.place.endpoint.rank) ≡ false → KeepsRules old.place s → IsWithin (calls.Isend s) → is_announced s.mode (sent_from s.from) ≡ true →
     free_fault old (calls.Isend s) ≡ None → IsSending old s q new → IsCalled a old known core (calls.Isend s) (replies.Started q) new
 large_send_shown a old new known core s q to tag shown free target_is tag_is other kept within large fine is_sent =

@@ -15,13 +15,13 @@ use Rattle.requests.specs.Table.{slot_at, wants_by}
 use Rattle.incarnation.specs.declared.place.Place.{Place}
 use Rattle.rendezvous.specs.declared.transfers.Numbers.{Numbers}
 use Rattle.rendezvous.specs.State.{after_rts, most_transfers, next_to, with_announced}
-use Rattle.rank_calls.specs.Frames.{as_list}
-use Rattle.rank_calls.specs.Hearing.{announced_of}
+use Rattle.point_to_point_calls.specs.Frames.{as_list}
+use Rattle.point_to_point_calls.specs.Hearing.{announced_of}
 use Rattle.match_queues.specs.declared.envelope.Body.TheVariants.{Announced}
-use Rattle.rank_calls.specs.Receiving.{answer_on_arrival, collection_on_match, transfers_with, slots_on_arrival, transfers_on_arrival}
-use Rattle.rank_core.specs.CoreState.{CoreState}
-use Rattle.rank_core.specs.Hearing.{announced}
-use Rattle.rank_core.specs.Sending as rank
+use Rattle.point_to_point_calls.specs.Receiving.{answer_on_arrival, collection_on_match, transfers_with, slots_on_arrival, transfers_on_arrival}
+use Rattle.point_to_point.specs.CoreState.{CoreState}
+use Rattle.point_to_point.specs.Arrivals.{after_announcement}
+use Rattle.point_to_point.specs.Sending as rank
 use Rattle.perfect_queues.specs.Receives.{Receive, has_room}
 use Rattle.proof_pure_network.specs.Core.{Core, Effect}
 use Rattle.proof_pure_network.specs.Engine.{came}
@@ -233,10 +233,10 @@ came_so links core s t frame is =
 
 -- each announcement is taken alike
 pub announcements_are_taken : ArrivalsMatch → AnnouncementsAgree → AnnouncementsAreTaken
-unfolding rank.arrived announced_of
+unfolding rank.after_arrival announced_of
 announcements_are_taken match agree links e known core s t frame meets =
     record {
-      both = subst (λ (f : Effect). HoldBoth links (announced e s t) known f.core) (sym same)
+      both = subst (λ (f : Effect). HoldBoth links (after_announcement e s t) known f.core) (sym same)
           (record { rows = a.left; holding = a.holding; awaited = blocked_stays rows a.left e.blocked core.blocked after.core.blocked meets.both.awaited a.blocked a.waits });
       place = refl;
       completion = refl;

@@ -18,7 +18,7 @@ use Rattle.rendezvous.specs.Collecting as rendezvous
 use Rattle.rendezvous.specs.State as transfers
 use Rattle.rendezvous.specs.State.{after_begin, fresh, has_none_to, is_full_to, most_transfers, next_to, with_begun}
 use Rattle.requests.specs.Table.{slot_at}
-use Rattle.requests.specs.declared.table.Entry.{Entry}
+use Rattle.requests.specs.declared.table.TableEntry.{TableEntry}
 use Rattle.proof_pure_network.proofs.JobLemmas.{All_append, push_at}
 use Rattle.proof_pure_network.proofs.LinksGrow.{in_begun, in_end}
 use Rattle.proof_pure_network.specs.Announced.{Begins, IsIn}
@@ -113,14 +113,14 @@ apart_pushed (y ∷ ys) x apart none =
     (All_append (λ (z : ℕ). z ≡ y → ⊥) ys (x ∷ []) apart.0 ((λ e. none.0 (sym e)), tt), apart_pushed ys x apart.1 none.1)
 
 -- a key under which nothing stands is none of a request that is under way
-row_elsewhere : (slots : List (Option Entry)) (rows : List Row) (k key fresh_key : ℕ) (job : Job) → IsTable slots rows → ((slot : Option Entry) → Stands slot k job → Holds slot k job) →
+row_elsewhere : (slots : List (Option TableEntry)) (rows : List Row) (k key fresh_key : ℕ) (job : Job) → IsTable slots rows → ((slot : Option TableEntry) → Stands slot k job → Holds slot k job) →
     slice_get rows k ≡ Some (row_of key job) → slot_at slots fresh_key ≡ None → key ≡ fresh_key → ⊥
 row_elsewhere slots rows k key fresh_key job table held row free e =
     let h : Holds (slot_at slots key) k job = held (slot_at slots key) (table.stands k (row_of key job) row) in
     none-some h.entry (sym (ap (slot_at slots) e ∙ free) ∙ h.there)
 
 -- so an offer's is none
-offers_elsewhere : (slots : List (Option Entry)) (rows : List Row) (to : Endpoint → List Transfer) (known : List ℕ) (key : ℕ) (offers : List Offer) → IsTable slots rows → slot_at slots key ≡ None →
+offers_elsewhere : (slots : List (Option TableEntry)) (rows : List Row) (to : Endpoint → List Transfer) (known : List ℕ) (key : ℕ) (offers : List Offer) → IsTable slots rows → slot_at slots key ≡ None →
     AllByRecursion (IsOfferOf to known rows) offers → AllByRecursion (λ (y : ℕ). y ≡ key → ⊥) (offer_keys offers)
 offers_elsewhere slots rows to known key [] table free all = tt
 offers_elsewhere slots rows to known key (o ∷ os) table free all = (
@@ -129,7 +129,7 @@ offers_elsewhere slots rows to known key (o ∷ os) table free all = (
 )
 
 -- nor that of a collection
-pub collections_elsewhere : (slots : List (Option Entry)) (rows : List Row) (from : Endpoint → List Transfer) (known : List ℕ) (key : ℕ) (collections : List rendezvous.Collecting) → IsTable slots rows →
+pub collections_elsewhere : (slots : List (Option TableEntry)) (rows : List Row) (from : Endpoint → List Transfer) (known : List ℕ) (key : ℕ) (collections : List rendezvous.Collecting) → IsTable slots rows →
     slot_at slots key ≡ None → AllByRecursion (IsCollectionOf from known rows) collections → AllByRecursion (λ (y : ℕ). y ≡ key → ⊥) (collection_keys collections)
 collections_elsewhere slots rows from known key [] table free all = tt
 collections_elsewhere slots rows from known key (c ∷ cs) table free all = (
@@ -231,7 +231,7 @@ not_collecting key key' d c r h got e =
 
 -- What is under way once a large message of a send is announced to another rank of the job: what was, and its offer
 pub begun_under_way :
-    (a : Announcements) (known : List ℕ) (p : Place) (slots : List (Option Entry)) (rows : List Row) (t : transfers.State) (ms : List Message) (to key context tag serial : ℕ) (c : Contents) →
+    (a : Announcements) (known : List ℕ) (p : Place) (slots : List (Option TableEntry)) (rows : List Row) (t : transfers.State) (ms : List Message) (to key context tag serial : ℕ) (c : Contents) →
     AreUnderWay a known p rows t ms → IsTable slots rows → slot_at slots key ≡ None → length rows ≡ serial → to < p.size → (to ≡ p.endpoint.rank → ⊥) → is_full_to t.numbers to ≡ false →
     AreWithin (size_of c.basic) c.values → length c.values * size_of c.basic ≤ send_limit →
     AreUnderWay (after_out a ((endpoint_of known to, Rts context tag c.basic serial (length c.values)) ∷ [])) known p (rows ++ offering_row key (endpoint_of known to) c ∷ []) (after_begin t to key c) ms

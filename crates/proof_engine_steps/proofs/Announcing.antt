@@ -8,7 +8,7 @@ use Rattle.perfect_queues.proofs.EndpointLemmas.{same_refl}
 use Rattle.proof_pure_network.specs.Frames.{Frame, Rts}
 use Rattle.proof_pure_network.proofs.JobLemmas.{push_at}
 use Rattle.datatypes.specs.Contents.{Contents}
-use Rattle.rank_calls.specs.Sending.{request_frame}
+use Rattle.point_to_point_calls.specs.Sending.{request_frame}
 use Rattle.proof_engine_view.specs.Standing.{StandsFor}
 use Rattle.proof_engine_view.specs.Transfers.{Announcements, Transfer, after_out, announced_in}
 

@@ -16,8 +16,8 @@ use Rattle.rendezvous.specs.State.{after_cts, after_drop, offered}
 use Rattle.rendezvous.proofs.Firsts.{first_or_none}
 use Rattle.perfect_queues.proofs.ListLemmas.{get_set_other}
 use Rattle.perfect_queues.specs.Outcomes as machine
-use Rattle.requests.specs.declared.table.Entry.{Entry}
-use Rattle.rank_calls.specs.Hearing.{bad_unless, heard_fault}
+use Rattle.requests.specs.declared.table.TableEntry.{TableEntry}
+use Rattle.point_to_point_calls.specs.Hearing.{bad_unless, heard_fault}
 use Rattle.proof_pure_network.specs.Announced.{IsIn}
 use Rattle.proof_pure_network.specs.Jobs.{Job, Collecting, Offering, Over, Unmatched}
 use Rattle.proof_pure_network.proofs.JobLemmas.{get_set_same}
@@ -109,7 +109,7 @@ answer_there t rank f h = offer_there t rank f.transfer (unless_bad (is_some (of
 -- ---- WHAT IS LEFT UNDER WAY
 
 -- two rows of requests that offer have two keys
-keys_differ : (slots : List (Option Entry)) (rows : List Row) (k n key other : ℕ) (d e : Endpoint) (basic kind : BasicType) (values elements : List ℕ) → IsTable slots rows →
+keys_differ : (slots : List (Option TableEntry)) (rows : List Row) (k n key other : ℕ) (d e : Endpoint) (basic kind : BasicType) (values elements : List ℕ) → IsTable slots rows →
     slice_get rows k ≡ Some (row_of key (Offering d basic values)) → slice_get rows n ≡ Some (row_of other (Offering e kind elements)) → n ≢ k → other ≡ key → ⊥
 keys_differ slots rows k n key other d e basic kind values elements table here there ne same =
     let moved : slice_get rows n ≡ Some (row_of key (Offering e kind elements)) = subst (λ (y : ℕ). slice_get rows n ≡ Some (row_of y (Offering e kind elements))) same there in
@@ -177,7 +177,7 @@ row_before rows k n key job over r here h live = go (cases_eq n k)
     go (inr ne) = (ne, sym (get_set_other rows k n (row_of key over) (λ e. ne (sym e))) ∙ h)
 
 -- all but the offer that is answered is under way
-pub answered_under_way : (a : Announcements) (known : List ℕ) (p : Place) (slots : List (Option Entry)) (rows : List Row) (t : transfers.State) (ms : List Message) (rank transfer k : ℕ)
+pub answered_under_way : (a : Announcements) (known : List ℕ) (p : Place) (slots : List (Option TableEntry)) (rows : List Row) (t : transfers.State) (ms : List Message) (rank transfer k : ℕ)
     (found : IsAnswered t rank transfer) (d : Endpoint) (basic : BasicType) (values : List ℕ) → AreUnderWay a known p rows t ms → IsTable slots rows →
     slice_get rows k ≡ Some (row_of found.offer.request (Offering d basic values)) →
     AreUnderWay a known p (slice_set rows k (row_of found.offer.request (Over machine.Sent))) (after_cts t rank transfer) ms

@@ -18,11 +18,11 @@ use Rattle.perfect_queues.proofs.EndpointLemmas.{same_refl}
 use Rattle.perfect_queues.specs.Outcomes as machine
 use Rattle.rendezvous.specs.State.{offered}
 use Rattle.requests.specs.Table.{progress_on_answer, slot_answered, slot_at}
-use Rattle.requests.specs.declared.table.Entry.{Entry}
-use Rattle.requests.specs.declared.table.Progress.{Progress}
-use Rattle.rank_calls.specs.Hearing.{sent_by, wanted_frames}
-use Rattle.rank_core.specs.CoreState.{CoreState}
-use Rattle.rank_core.specs.Hearing as hearing
+use Rattle.requests.specs.declared.table.TableEntry.{TableEntry}
+use Rattle.requests.specs.declared.table.RequestProgress.{RequestProgress}
+use Rattle.point_to_point_calls.specs.Hearing.{sent_by, wanted_frames}
+use Rattle.point_to_point.specs.CoreState.{CoreState}
+use Rattle.point_to_point.specs.Arrivals as hearing
 use Rattle.proof_pure_network.specs.Core.{Core, Effect, effect, with_jobs}
 use Rattle.proof_pure_network.specs.Engine.{came}
 use Rattle.proof_pure_network.specs.Frames.{Cts, Frame}
@@ -101,18 +101,18 @@ core_answers core s d serial basic values wanted same job =
 -- ---- THE RANK'S TABLE
 
 -- a send that was offered is over
-over_fits : (g : Progress) (d : Endpoint) (basic : BasicType) (values : List ℕ) → Fits g (Offering d basic values) → Fits (progress_on_answer g) (Over machine.Sent)
-over_fits g d basic values f = subst (λ (x : Progress). Fits (progress_on_answer x) (Over machine.Sent)) (sym (fits_offering g d basic values f)) refl
+over_fits : (g : RequestProgress) (d : Endpoint) (basic : BasicType) (values : List ℕ) → Fits g (Offering d basic values) → Fits (progress_on_answer g) (Over machine.Sent)
+over_fits g d basic values f = subst (λ (x : RequestProgress). Fits (progress_on_answer x) (Over machine.Sent)) (sym (fits_offering g d basic values f)) refl
 
 -- an entry with the serial, that fits the job, says the same
-entry_says : (t : Entry) (k : ℕ) (j : Job) → t.serial ≡ k → Fits t.progress j → Says (Some t) k j
+entry_says : (t : TableEntry) (k : ℕ) (j : Job) → t.serial ≡ k → Fits t.progress j → Says (Some t) k j
 entry_says t k j e f = subst (λ (x : ℕ). Says (Some t) x j) e (says_some t.serial t.progress j f)
 
 -- its slot and its row change
-over_table : (slots : List (Option Entry)) (rows : List Row) (k : ℕ) (d : Endpoint) (o : Offer) → IsTable slots rows → slice_get rows k ≡ Some (row_of o.request (offering d o)) →
+over_table : (slots : List (Option TableEntry)) (rows : List Row) (k : ℕ) (d : Endpoint) (o : Offer) → IsTable slots rows → slice_get rows k ≡ Some (row_of o.request (offering d o)) →
     IsTable (sent_by slots (Some o)) (slice_set rows k (row_of o.request (Over machine.Sent)))
 over_table slots rows k d o table here =
-    subst (λ (x : List (Option Entry)). IsTable x (slice_set rows k (row_of o.request (Over machine.Sent)))) (sym written)
+    subst (λ (x : List (Option TableEntry)). IsTable x (slice_set rows k (row_of o.request (Over machine.Sent)))) (sym written)
     (changed_table slots (slice_set slots o.request (Some after)) rows k o.request (offering d o) (Over machine.Sent) (Some after) table here (λ e. cc)
     (set_is_set slots o.request mine.entry (Some after) mine.there)
     (entry_says after k (Over machine.Sent) mine.serial_is (over_fits mine.entry.progress d o.elements.basic o.elements.values mine.fits)))
@@ -120,28 +120,28 @@ over_table slots rows k d o table here =
     mine : Holds (slot_at slots o.request) k (offering d o)
     mine = held_at slots rows k o.request (offering d o) table here (λ e. cc)
 
-    after : Entry
+    after : TableEntry
     after = record mine.entry { progress = progress_on_answer mine.entry.progress }
 
     written : sent_by slots (Some o) ≡ slice_set slots o.request (Some after)
-    written = ap (λ (x : Option Entry). slot_answered x slots o.request) mine.there
+    written = ap (λ (x : Option TableEntry). slot_answered x slots o.request) mine.there
 
 -- it is no message that was taken out, neither before nor after
-over_taken : (from : Endpoint → List Transfer) (known : List ℕ) (place : Place) (slots : List (Option Entry)) (rows : List Row) (k : ℕ) (d : Endpoint) (o : Offer) → IsTable slots rows → slice_get rows k ≡ Some (row_of o.request (offering d o)) →
+over_taken : (from : Endpoint → List Transfer) (known : List ℕ) (place : Place) (slots : List (Option TableEntry)) (rows : List Row) (k : ℕ) (d : Endpoint) (o : Offer) → IsTable slots rows → slice_get rows k ≡ Some (row_of o.request (offering d o)) →
     AreTaken from known place rows slots → AreTaken from known place (slice_set rows k (row_of o.request (Over machine.Sent))) (sent_by slots (Some o))
 over_taken from known place slots rows k d o table here taken =
-    subst (λ (x : List (Option Entry)). AreTaken from known place (slice_set rows k (row_of o.request (Over machine.Sent))) x) (sym written)
+    subst (λ (x : List (Option TableEntry)). AreTaken from known place (slice_set rows k (row_of o.request (Over machine.Sent))) x) (sym written)
     (taken_changed from known place rows slots (slice_set slots o.request (Some after)) k o.request (offering d o) (Over machine.Sent) after taken here (λ i. i)
     (set_is_set slots o.request mine.entry (Some after) mine.there) (over_fits mine.entry.progress d o.elements.basic o.elements.values mine.fits) tt)
   where
     mine : Holds (slot_at slots o.request) k (offering d o)
     mine = held_at slots rows k o.request (offering d o) table here (λ e. cc)
 
-    after : Entry
+    after : TableEntry
     after = record mine.entry { progress = progress_on_answer mine.entry.progress }
 
     written : sent_by slots (Some o) ≡ slice_set slots o.request (Some after)
-    written = ap (λ (x : Option Entry). slot_answered x slots o.request) mine.there
+    written = ap (λ (x : Option TableEntry). slot_answered x slots o.request) mine.there
 
 -- ---- WHAT GOES OUT
 
@@ -171,7 +171,7 @@ wanted_leave p rank o Send there apart width limit = data_leave p rank o.transfe
 -- both hold that the send is over
 over_held : (links : Announcements) (e : CoreState) (known : List ℕ) (core : Core) (rows : List Row) (rank transfer serial : ℕ) (d : Endpoint) (found : IsAnswered e.transfers rank transfer) →
     Holding links e known core rows → slice_get rows serial ≡ Some (row_of found.offer.request (offering d found.offer)) →
-    Holding links (hearing.answered e rank transfer) known (over_at core serial) (slice_set rows serial (row_of found.offer.request (Over machine.Sent)))
+    Holding links (hearing.after_answer e rank transfer) known (over_at core serial) (slice_set rows serial (row_of found.offer.request (Over machine.Sent)))
 over_held links e known core rows rank transfer serial d found h row =
     record {
       jobs = ap (λ (js : List Job). slice_set js serial (Over machine.Sent)) h.jobs ∙ sym (set_jobs rows serial o.request (Over machine.Sent));
@@ -192,7 +192,7 @@ over_held links e known core rows rank transfer serial d found h row =
 pub answers_are_taken : AnswersAreTaken
 answers_are_taken links e known core s t frame m =
     record {
-      both = subst (λ (x : Effect). HoldBoth links (hearing.answered e s.rank t.transfer) known x.core) (sym core_is) (record {
+      both = subst (λ (x : Effect). HoldBoth links (hearing.after_answer e s.rank t.transfer) known x.core) (sym core_is) (record {
         rows = slice_set m.both.rows answer.serial (row_of o.request (Over machine.Sent));
         holding = over_held links e known core m.both.rows s.rank t.transfer answer.serial d found m.both.holding answer.row;
         awaited = blocked_stays m.both.rows (slice_set m.both.rows answer.serial (row_of o.request (Over machine.Sent))) e.blocked core.blocked core.blocked m.both.awaited refl

@@ -12,16 +12,16 @@ use Rattle.match_queues.specs.declared.envelope.Message.{Message}
 use Rattle.match_queues.specs.declared.queues.Arrival.{Arrival}
 use Rattle.match_queues.specs.Arrivals.{arrival_of}
 use Rattle.match_queues.specs.State.{State, after_arrival, receive_at, receive_for}
-use Rattle.shared_groups.specs.Statuses.{status_in}
+use Rattle.communicator_members.specs.Statuses.{status_in}
 use Rattle.requests.specs.Outcomes.{outcome_of}
 use Rattle.requests.specs.Table.{after_finish, after_message, entry_after, progress_after, slot_at}
-use Rattle.requests.specs.declared.table.Entry.{Entry}
-use Rattle.requests.specs.declared.table.Progress.{Progress}
-use Rattle.requests.specs.declared.table.Progress.TheVariants.{Receiving, Finished}
-use Rattle.requests.specs.declared.table.Progress.TheVariants as progresses
-use Rattle.rank_core.specs.CoreState.{CoreState}
-use Rattle.rank_calls.specs.Receiving.{slots_on_arrival, status_of, transfers_on_arrival}
-use Rattle.rank_core.specs.Sending as rank
+use Rattle.requests.specs.declared.table.TableEntry.{TableEntry}
+use Rattle.requests.specs.declared.table.RequestProgress.{RequestProgress}
+use Rattle.requests.specs.declared.table.RequestProgress.TheVariants.{Receiving, Finished}
+use Rattle.requests.specs.declared.table.RequestProgress.TheVariants as progresses
+use Rattle.point_to_point.specs.CoreState.{CoreState}
+use Rattle.point_to_point_calls.specs.Receiving.{slots_on_arrival, status_of, transfers_on_arrival}
+use Rattle.point_to_point.specs.Sending as rank
 use Rattle.proof_pure_network.specs.Core.{Core, Effect}
 use Rattle.proof_pure_network.specs.Held.{Held, full}
 use Rattle.proof_pure_network.specs.Jobs.{Job, Over, Waiting, oldest_posted}
@@ -40,7 +40,7 @@ use Rattle.proof_engine_steps.proofs.UnderWay.{SameTransfers, keeps_same, messag
 use Rattle.proof_engine_steps.proofs.Wholes.{arrival_keeps, arrival_leaves, whole, whole_of}
 
 -- what a message leaves of the rows
-pub record Arrives (links : Announcements) (rows : List Row) (before slots : List (Option Entry)) (queues : State) (core : Core) (after : Effect) : Type 0 where
+pub record Arrives (links : Announcements) (rows : List Row) (before slots : List (Option TableEntry)) (queues : State) (core : Core) (after : Effect) : Type 0 where
   pub left : List Row
   pub jobs : after.core.jobs ≡ jobs_of left
   pub count : length left ≡ length rows
@@ -55,7 +55,7 @@ pub record Arrives (links : Announcements) (rows : List Row) (before slots : Lis
   pub taken : (known : List ℕ) (p : Place) → AreTaken links.from known p rows before → AreTaken links.from known p left slots
 
 -- it waits behind the others
-arrives_kept : (links : Announcements) (rows : List Row) (slots : List (Option Entry)) (queues : State) (core : Core) (m : Message) →
+arrives_kept : (links : Announcements) (rows : List Row) (slots : List (Option TableEntry)) (queues : State) (core : Core) (m : Message) →
     core.jobs ≡ jobs_of rows → IsTable slots rows → queues.posted ≡ posted_rows rows → core.held ≡ map (held_of links.from) queues.unexpected →
     Arrives links rows slots slots (record queues { unexpected = queues.unexpected ++ m ∷ [] }) core (arrived_at core (held_of links.from m) None)
 arrives_kept links rows slots queues core m js table po he =
@@ -75,7 +75,7 @@ arrives_kept links rows slots queues core m js table po he =
     }
 
 -- what the message makes of the entry is what it makes of the job
-finished_fits : (g : Progress) (p : Receive) (status : Status) (c : Contents) (x : machine.Outcome) → Fits g (Waiting p) → x ≡ outcome_seen (outcome_of p.into (status_in p.group status) c) →
+finished_fits : (g : RequestProgress) (p : Receive) (status : Status) (c : Contents) (x : machine.Outcome) → Fits g (Waiting p) → x ≡ outcome_seen (outcome_of p.into (status_in p.group status) c) →
     Fits (progress_after g status c) (Over x)
 finished_fits (Receiving w) p status c x f h = h ∙ ap₂ (λ (y : Handed) (g : Option (List ℕ)). outcome_seen (outcome_of y (status_in g status) c)) f.into f.group
 finished_fits (progresses.Collecting w) p status c x f h = absurd f
@@ -84,11 +84,11 @@ finished_fits (progresses.TakenOut taken) p status c x f h = absurd f
 finished_fits (Finished o) p status c x f h = absurd f
 
 -- an entry with the serial, that fits the job, says the same
-says_entry : (t : Entry) (k : ℕ) (j : Job) → t.serial ≡ k → Fits t.progress j → Says (Some t) k j
+says_entry : (t : TableEntry) (k : ℕ) (j : Job) → t.serial ≡ k → Fits t.progress j → Says (Some t) k j
 says_entry t k j e f = subst (λ (x : ℕ). Says (Some t) x j) e (says_some t.serial t.progress j f)
 
 -- the receive with serial k takes it
-pub arrives_matched : OutcomesAgree → (links : Announcements) (rows : List Row) (slots : List (Option Entry)) (queues : State) (core : Core) (m : Message) (c : Contents) (k key : ℕ) (p : Receive) →
+pub arrives_matched : OutcomesAgree → (links : Announcements) (rows : List Row) (slots : List (Option TableEntry)) (queues : State) (core : Core) (m : Message) (c : Contents) (k key : ℕ) (p : Receive) →
     core.jobs ≡ jobs_of rows → IsTable slots rows → core.held ≡ map (held_of links.from) queues.unexpected → slice_get rows k ≡ Some (record { key = key; job = Waiting p }) →
     ((o : machine.Outcome) → queues.posted ≡ posted_rows (slice_set rows k (record { key = key; job = Over o }))) →
     Arrives links rows slots (after_finish slots key (status_of (whole m c)) c) queues core (arrived_at core (held_of links.from (whole m c)) (Some (k, p)))
@@ -97,7 +97,7 @@ arrives_matched agree links rows slots queues core m c k key p js table he row p
       left = slice_set rows k over;
       jobs = ap (λ (ys : List Job). slice_set ys k (Over x)) js ∙ sym (set_jobs rows k key (Over x));
       count = length-set rows k over;
-      table = subst (λ (t : List (Option Entry)). IsTable t (slice_set rows k over)) (sym finish)
+      table = subst (λ (t : List (Option TableEntry)). IsTable t (slice_set rows k over)) (sym finish)
           (changed_table slots (slice_set slots key (Some after)) rows k key (Waiting p) (Over x) (Some after) table row (λ e. cc)
           (set_is_set slots key mine.entry (Some after) mine.there)
           (says_entry after k (Over x) mine.serial_is (finished_fits mine.entry.progress p (status_of (whole m c)) c x mine.fits (agree links.from p (whole m c) c refl))));
@@ -108,7 +108,7 @@ arrives_matched agree links rows slots queues core m c k key p js table he row p
       sends = refl;
       waits = named_set rows k key (Waiting p) (Over x) row (λ e. cc);
       same = same_set rows k key (Waiting p) (Over x) row (λ i. i) (λ i. i);
-      taken = λ known place taken. subst (λ (t : List (Option Entry)). AreTaken links.from known place (slice_set rows k over) t) (sym finish)
+      taken = λ known place taken. subst (λ (t : List (Option TableEntry)). AreTaken links.from known place (slice_set rows k over) t) (sym finish)
           (taken_changed links.from known place rows slots (slice_set slots key (Some after)) k key (Waiting p) (Over x) after taken row (λ i. i)
           (set_is_set slots key mine.entry (Some after) mine.there)
           (finished_fits mine.entry.progress p (status_of (whole m c)) c x mine.fits (agree links.from p (whole m c) c refl)) tt);
@@ -123,14 +123,14 @@ arrives_matched agree links rows slots queues core m c k key p js table he row p
     mine : Holds (slot_at slots key) k (Waiting p)
     mine = held_at slots rows k key (Waiting p) table row (λ e. cc)
 
-    after : Entry
+    after : TableEntry
     after = after_message mine.entry (status_of (whole m c)) c
 
     finish : after_finish slots key (status_of (whole m c)) c ≡ slice_set slots key (Some after)
-    finish = ap (λ (s : Option Entry). entry_after s slots key (status_of (whole m c)) c) mine.there
+    finish = ap (λ (s : Option TableEntry). entry_after s slots key (status_of (whole m c)) c) mine.there
 
 -- a whole message comes, from a link or from the rank itself
-pub message_arrives : ArrivalsMatch → OutcomesAgree → (links : Announcements) (rows : List Row) (slots : List (Option Entry)) (queues : State) (core : Core) (m : Message) (c : Contents) →
+pub message_arrives : ArrivalsMatch → OutcomesAgree → (links : Announcements) (rows : List Row) (slots : List (Option TableEntry)) (queues : State) (core : Core) (m : Message) (c : Contents) →
     core.jobs ≡ jobs_of rows → IsTable slots rows → queues.posted ≡ posted_rows rows → core.held ≡ map (held_of links.from) queues.unexpected →
     Arrives links rows slots (slots_on_arrival slots (arrival_of queues (whole m c))) (after_arrival queues (whole m c)) core (arrived core (held_of links.from (whole m c)))
 message_arrives match agree links rows slots queues core m c js table po he = go (match links.from rows queues (whole m c) po)
@@ -160,8 +160,8 @@ pub record IsHeldAfter (links : Announcements) (rows : List Row) (new : CoreStat
 
 -- a rank takes a message with these elements into its queues and its slots, and its core takes it too
 elements_hold : ArrivalsMatch → OutcomesAgree → (links : Announcements) (old : CoreState) (known : List ℕ) (core : Core) (rows : List Row) (m : Message) (c : Contents) → Holding links old known core rows →
-    IsHeldAfter links rows (rank.arrived old (whole m c)) known core (arrived core (held_of links.from (whole m c)))
-unfolding rank.arrived
+    IsHeldAfter links rows (rank.after_arrival old (whole m c)) known core (arrived core (held_of links.from (whole m c)))
+unfolding rank.after_arrival
 elements_hold match agree links old known core rows m c h =
     let a : Arrives links rows old.slots (slots_on_arrival old.slots (arrival_of old.queues (whole m c))) (after_arrival old.queues (whole m c)) core (arrived core (held_of links.from (whole m c))) =
     message_arrives match agree links rows old.slots old.queues core m c h.jobs h.table h.posted h.held in
@@ -187,9 +187,9 @@ elements_hold match agree links old known core rows m c h =
 
 -- so it is with each message that is whole
 pub message_holds : ArrivalsMatch → OutcomesAgree → (links : Announcements) (old : CoreState) (known : List ℕ) (core : Core) (rows : List Row) (m : Message) (c : Contents) → m.body ≡ bodies.Whole c →
-    Holding links old known core rows → IsHeldAfter links rows (rank.arrived old m) known core (arrived core (held_of links.from m))
+    Holding links old known core rows → IsHeldAfter links rows (rank.after_arrival old m) known core (arrived core (held_of links.from m))
 message_holds match agree links old known core rows m c is h =
-    subst (λ (x : Message). IsHeldAfter links rows (rank.arrived old x) known core (arrived core (held_of links.from x))) (sym (whole_of m c is)) (elements_hold match agree links old known core rows m c h)
+    subst (λ (x : Message). IsHeldAfter links rows (rank.after_arrival old x) known core (arrived core (held_of links.from x))) (sym (whole_of m c is)) (elements_hold match agree links old known core rows m c h)
 
 -- what a message leaves as it was
 pub record Keeps (old new : CoreState) : Type 0 where
@@ -197,6 +197,6 @@ pub record Keeps (old new : CoreState) : Type 0 where
   pub blocked : new.blocked ≡ old.blocked
   pub completion : new.completion ≡ old.completion
 
-pub arrived_keeps : (c : CoreState) (m : Message) → Keeps c (rank.arrived c m)
-unfolding rank.arrived
+pub arrived_keeps : (c : CoreState) (m : Message) → Keeps c (rank.after_arrival c m)
+unfolding rank.after_arrival
 arrived_keeps c m = record { place = refl; blocked = refl; completion = refl }

@@ -1,14 +1,14 @@
 -- Each call that meets no rule and no limit of a rank's core is one of its core in the network.
 use Rattle.std.proofs.Common.{◌≡◌, ℕ, List, Option, Some, None, refl}
-use Rattle.requests.specs.declared.awaited.Awaited.{Awaited}
-use Rattle.requests.specs.declared.awaited.Awaited.TheVariants as awaiteds
-use Rattle.rank_calls.specs.declared.call.Call.{Call}
-use Rattle.rank_calls.specs.declared.call.Call.TheVariants as calls
-use Rattle.rank_calls.specs.declared.call.Reply.{Reply}
-use Rattle.rank_calls.specs.declared.call.Reply.TheVariants as replies
-use Rattle.rank_calls.specs.Calls.{IsWithin}
-use Rattle.rank_core.specs.Calls.{Answers, fault_at, free_fault}
-use Rattle.rank_core.specs.CoreState.{CoreState}
+use Rattle.requests.specs.declared.awaited_requests.Awaited.{Awaited}
+use Rattle.requests.specs.declared.awaited_requests.Awaited.TheVariants as awaiteds
+use Rattle.point_to_point_calls.specs.declared.call.CoreCall.{CoreCall}
+use Rattle.point_to_point_calls.specs.declared.call.CoreCall.TheVariants as calls
+use Rattle.point_to_point_calls.specs.declared.call.CoreReply.{CoreReply}
+use Rattle.point_to_point_calls.specs.declared.call.CoreReply.TheVariants as replies
+use Rattle.point_to_point_calls.specs.Calls.{IsWithin}
+use Rattle.point_to_point.specs.Calls.{Answers, fault_at, free_fault}
+use Rattle.point_to_point.specs.CoreState.{CoreState}
 use Rattle.proof_pure_network.specs.Claims.{ClaimsOnce}
 use Rattle.proof_pure_network.specs.Core.{Core}
 use Rattle.proof_engine_view.specs.Shown.{IsShown}
@@ -33,7 +33,7 @@ record Matching : Type 0 where
   announced : AnnouncementsAgree
 
 -- a call while no other is blocked
-free_call : Matching → (links : Announcements) (old new : CoreState) (known : List ℕ) (core : Core) (call : Call) (reply : Reply) → IsShown links old known core → ClaimsOnce core → old.blocked ≡ None →
+free_call : Matching → (links : Announcements) (old new : CoreState) (known : List ℕ) (core : Core) (call : CoreCall) (reply : CoreReply) → IsShown links old known core → ClaimsOnce core → old.blocked ≡ None →
     IsWithin call → free_fault old call ≡ None → Answers old call reply new → IsCalled links old known core call reply new
 free_call laws links old new known core (calls.Isend s) (replies.Started q) shown once free within fine answers =
     send_shown laws.arrivals laws.wholes links old new known core s q shown free within fine answers

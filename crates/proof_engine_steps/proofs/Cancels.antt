@@ -11,7 +11,7 @@ use Rattle.perfect_queues.specs.Receives as receives
 use Rattle.perfect_queues.specs.Requests.{changed}
 use Rattle.match_queues.specs.State as queues
 use Rattle.match_queues.specs.declared.envelope.Message.{Message}
-use Rattle.match_queues.specs.declared.envelope.Receive as posted
+use Rattle.match_queues.specs.declared.envelope.PostedReceive as posted
 use Rattle.proof_pure_network.specs.Core.{Core, with_jobs}
 use Rattle.proof_pure_network.specs.Engine.{core_cancels}
 use Rattle.proof_pure_network.specs.Jobs.{Job, Waiting, Collecting, Offering, Over, Closed, dropped, Probed, Unmatched}
@@ -19,17 +19,17 @@ use Rattle.requests.specs.Regions.{handed_of}
 use Rattle.requests.specs.Table.{cancelled_by, progress_at, slot_at}
 use Rattle.requests.specs.declared.outcome.Outcome.TheVariants as outcomes
 use Rattle.requests.specs.declared.table.Posted.{Posted}
-use Rattle.requests.specs.declared.table.Entry.{Entry}
+use Rattle.requests.specs.declared.table.TableEntry.{TableEntry}
 use Rattle.requests.specs.declared.table.Matched.{Matched}
 use Rattle.requests.specs.declared.table.TakenOut as slots
-use Rattle.requests.specs.declared.table.Progress.{Progress}
-use Rattle.requests.specs.declared.table.Progress.TheVariants.{Receiving, Finished}
-use Rattle.requests.specs.declared.table.Progress.TheVariants as progresses
+use Rattle.requests.specs.declared.table.RequestProgress.{RequestProgress}
+use Rattle.requests.specs.declared.table.RequestProgress.TheVariants.{Receiving, Finished}
+use Rattle.requests.specs.declared.table.RequestProgress.TheVariants as progresses
 use Rattle.requests.specs.declared.table.Request.{Request}
-use Rattle.rank_calls.specs.declared.call.Reply.{Reply}
-use Rattle.rank_calls.specs.declared.call.Reply.TheVariants as replies
-use Rattle.rank_core.specs.CoreState.{CoreState}
-use Rattle.rank_core.specs.Waiting.{Cancels, cancel_fault, cancelled_at}
+use Rattle.point_to_point_calls.specs.declared.call.CoreReply.{CoreReply}
+use Rattle.point_to_point_calls.specs.declared.call.CoreReply.TheVariants as replies
+use Rattle.point_to_point.specs.CoreState.{CoreState}
+use Rattle.point_to_point.specs.Waiting.{Cancels, cancel_fault, cancelled_at}
 use Rattle.proof_engine_view.specs.Rows.{Fits, Holds, Row, held_of, posted_job, posted_rows}
 use Rattle.proof_engine_view.specs.Seen.{outcome_seen, own_serial, request_by}
 use Rattle.proof_engine_view.specs.Shown.{IsShown}
@@ -83,32 +83,32 @@ taken_stays t j f = let m : HoldsMessage t j = probed_of t j f in ap dropped m.i
 -- ---- the queue
 
 -- the receives without that at this place, where one was found
-abbrev without_at : List posted.Receive → Option ℕ → List posted.Receive
+abbrev without_at : List posted.PostedReceive → Option ℕ → List posted.PostedReceive
 without_at rs None = rs
 without_at rs (Some i) = remove rs i
 
 -- with one more in front
-without_later : (x : posted.Receive) (rs : List posted.Receive) (o : Option ℕ) → without_at (x ∷ rs) (option_map suc o) ≡ x ∷ without_at rs o
+without_later : (x : posted.PostedReceive) (rs : List posted.PostedReceive) (o : Option ℕ) → without_at (x ∷ rs) (option_map suc o) ≡ x ∷ without_at rs o
 without_later x rs None = refl
 without_later x rs (Some i) = refl
 
 -- the receives once that of this request is taken out
-abbrev posted_without : List posted.Receive → (key : ℕ) → List posted.Receive
+abbrev posted_without : List posted.PostedReceive → (key : ℕ) → List posted.PostedReceive
 posted_without rs key = without_at rs (queues.posted_for key rs)
 
 -- the front one is that of the request
-taken_here : (x : posted.Receive) (rs : List posted.Receive) (key : ℕ) → x.request ≡ key → posted_without (x ∷ rs) key ≡ rs
+taken_here : (x : posted.PostedReceive) (rs : List posted.PostedReceive) (key : ℕ) → x.request ≡ key → posted_without (x ∷ rs) key ≡ rs
 taken_here x rs key e =
-    ap (without_at (x ∷ rs)) (position_here (λ (r : posted.Receive). r.request == key) x rs (eq-eqb x.request key e)) ∙ remove_first x rs
+    ap (without_at (x ∷ rs)) (position_here (λ (r : posted.PostedReceive). r.request == key) x rs (eq-eqb x.request key e)) ∙ remove_first x rs
 
 -- the front one is that of another request
-taken_later : (x : posted.Receive) (rs : List posted.Receive) (key : ℕ) → x.request ≢ key → posted_without (x ∷ rs) key ≡ x ∷ posted_without rs key
+taken_later : (x : posted.PostedReceive) (rs : List posted.PostedReceive) (key : ℕ) → x.request ≢ key → posted_without (x ∷ rs) key ≡ x ∷ posted_without rs key
 taken_later x rs key n = go (x.request == key) refl
   where
     go : (b : Bool) → (x.request == key) ≡ b → posted_without (x ∷ rs) key ≡ x ∷ posted_without rs key
     go true e = absurd (n (eqb-true x.request key e))
     go false e =
-        ap (without_at (x ∷ rs)) (position_later (λ (r : posted.Receive). r.request == key) x rs (queues.posted_for key rs) e refl) ∙ without_later x rs (queues.posted_for key rs)
+        ap (without_at (x ∷ rs)) (position_later (λ (r : posted.PostedReceive). r.request == key) x rs (queues.posted_for key rs) e refl) ∙ without_later x rs (queues.posted_for key rs)
 
 -- the queues after a cancel have these receives, and the same messages
 cancel_posted : (s : queues.State) (key : ℕ) → (queues.after_cancel s key).posted ≡ posted_without s.posted key
@@ -148,13 +148,13 @@ cancelled_rows (r ∷ rs) zero key p x h alone =
     taken_here (record { request = key; context = p.context; source = p.source; tag = p.tag }) (posted_rows rs) key refl
 cancelled_rows (r ∷ rs) (suc k) key p x h alone = front r.job refl (cancelled_rows rs k key p x h (λ j y n. alone (suc j) y (λ e. n (suc_same j k e))))
   where
-    left : List posted.Receive
+    left : List posted.PostedReceive
     left = posted_rows (slice_set rs k (record { key = key; job = Over x }))
 
     by_job : (j : Job) → r.job ≡ j → posted_without (posted_rows rs) key ≡ left → posted_without (posted_job r.key j ++ posted_rows rs) key ≡ posted_job r.key j ++ left
     by_job (Waiting q) e rest =
-        let one : posted.Receive = record { request = r.key; context = q.context; source = q.source; tag = q.tag } in
-        taken_later one (posted_rows rs) key (λ same. still_open q r.job e (alone zero r (λ z. zero_apart k z) refl same)) ∙ ap (λ (ps : List posted.Receive). one ∷ ps) rest
+        let one : posted.PostedReceive = record { request = r.key; context = q.context; source = q.source; tag = q.tag } in
+        taken_later one (posted_rows rs) key (λ same. still_open q r.job e (alone zero r (λ z. zero_apart k z) refl same)) ∙ ap (λ (ps : List posted.PostedReceive). one ∷ ps) rest
     by_job (Collecting q m got) e rest = rest
     by_job (Offering d basic values) e rest = rest
     by_job (Over y) e rest = rest
@@ -219,7 +219,7 @@ cancel_holds links old known core q b shown w =
       count = length-set shown.rows q.serial over ∙ shown.count;
       table = changed_table old.slots (slice_set old.slots q.key (Some after)) shown.rows q.serial q.key (Waiting w.receive) (Over x) (Some after) shown.table w.there (λ e. cc)
           (set_is_set old.slots q.key mine.entry (Some after) mine.there) (says_some q.serial (Finished (outcomes.Cancelled b.into.buffer)) (Over x) values_same);
-      posted = cancel_posted old.queues q.key ∙ (ap (λ (ps : List posted.Receive). posted_without ps q.key) shown.posted ∙
+      posted = cancel_posted old.queues q.key ∙ (ap (λ (ps : List posted.PostedReceive). posted_without ps q.key) shown.posted ∙
           cancelled_rows shown.rows q.serial q.key w.receive x w.there (set_change old.slots shown.rows q.serial q.key (Waiting w.receive) (Over x) shown.table w.there (λ e. cc)).alone);
       held = shown.held ∙ ap (λ (ms : List Message). map (held_of links.from) ms) (sym (cancel_unexpected old.queues q.key));
       under_way = under_way_still links known old.place old.place shown.rows (slice_set shown.rows q.serial over) old.transfers old.transfers old.queues.unexpected (queues.after_cancel old.queues q.key).unexpected shown.under_way
@@ -235,7 +235,7 @@ cancel_holds links old known core q b shown w =
     over : Row
     over = record { key = q.key; job = Over x }
 
-    after : Entry
+    after : TableEntry
     after = record { serial = q.serial; progress = Finished (outcomes.Cancelled b.into.buffer) }
 
     mine : Holds (slot_at old.slots q.key) q.serial (Waiting w.receive)
@@ -265,13 +265,13 @@ cancel_waiting links old known core q b shown free fine g =
     }
 
 -- what is cancelled by how far it is
-cancel_some : (links : Announcements) (old : CoreState) (known : List ℕ) (core : Core) (q : Request) → IsShown links old known core → old.blocked ≡ None → cancel_fault old (Some q) ≡ None → (o : Option Progress) →
+cancel_some : (links : Announcements) (old : CoreState) (known : List ℕ) (core : Core) (q : Request) → IsShown links old known core → old.blocked ≡ None → cancel_fault old (Some q) ≡ None → (o : Option RequestProgress) →
     progress_at old.slots q.key q.serial ≡ o → IsMeant links old known core (machine.Cancel (Some q.serial)) replies.Accepted (cancelled_at old q o)
 cancel_some links old known core q shown free fine None g =
     let p : IsPresent old q = cancel_present old q fine in
     absurd (none-some p.0 (sym g ∙ p.1))
 cancel_some links old known core q shown free fine (Some (Receiving b)) g =
-    subst (λ (ss : List (Option Entry)). IsMeant links old known core (machine.Cancel (Some q.serial)) replies.Accepted (record old { slots = ss; queues = queues.after_cancel old.queues q.key }))
+    subst (λ (ss : List (Option TableEntry)). IsMeant links old known core (machine.Cancel (Some q.serial)) replies.Accepted (record old { slots = ss; queues = queues.after_cancel old.queues q.key }))
     (sym (ap (cancelled_by old.slots q) g)) (cancel_waiting links old known core q b shown free fine g)
 cancel_some links old known core q shown free fine (Some (progresses.Collecting w)) g =
     let r : HasRow shown.rows q.serial q.key (progresses.Collecting w) = row_of old.slots shown.rows q.serial q.key (progresses.Collecting w) shown.table g in
@@ -286,10 +286,10 @@ cancel_some links old known core q shown free fine (Some (Finished o)) g =
     cancel_still links old known core q (Over (outcome_seen o)) shown free fine (finished_row old.slots shown.rows q o shown.table g) refl
 
 -- a cancel that breaks no rule
-pub cancel_meant : (links : Announcements) (old new : CoreState) (known : List ℕ) (core : Core) (q : Option Request) (reply : Reply) → IsShown links old known core → old.blocked ≡ None → cancel_fault old q ≡ None → Cancels old q reply new →
+pub cancel_meant : (links : Announcements) (old new : CoreState) (known : List ℕ) (core : Core) (q : Option Request) (reply : CoreReply) → IsShown links old known core → old.blocked ≡ None → cancel_fault old q ≡ None → Cancels old q reply new →
     IsMeant links old known core (machine.Cancel (request_by own_serial q)) reply new
 cancel_meant links old new known core None reply shown free fine cancels = absurd cc
 cancel_meant links old new known core (Some q) reply shown free fine cancels =
-    subst (λ (x : Reply). IsMeant links old known core (machine.Cancel (Some q.serial)) x new) (sym cancels.0)
+    subst (λ (x : CoreReply). IsMeant links old known core (machine.Cancel (Some q.serial)) x new) (sym cancels.0)
     (subst (λ (x : CoreState). IsMeant links old known core (machine.Cancel (Some q.serial)) replies.Accepted x) (sym cancels.1)
     (cancel_some links old known core q shown free fine (progress_at old.slots q.key q.serial) refl))

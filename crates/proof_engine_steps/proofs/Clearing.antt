@@ -7,8 +7,8 @@ use Rattle.datagram.specs.Spelling.{ClearFrame}
 use Rattle.match_queues.specs.declared.envelope.Announcement.{Announcement}
 use Rattle.match_queues.specs.declared.envelope.Body.TheVariants as bodies
 use Rattle.match_queues.specs.declared.envelope.Message.{Message}
-use Rattle.rank_calls.specs.Frames.{as_list}
-use Rattle.rank_calls.specs.Receiving.{answer_by, clearance_of}
+use Rattle.point_to_point_calls.specs.Frames.{as_list}
+use Rattle.point_to_point_calls.specs.Receiving.{answer_by, clearance_of}
 use Rattle.perfect_queues.specs.Receives.{Receive, has_room}
 use Rattle.proof_pure_network.specs.Frames.{Cts, Frame}
 use Rattle.proof_pure_network.specs.Held.{Body, Held, Own, Part, Whole}

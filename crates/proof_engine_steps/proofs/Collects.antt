@@ -17,7 +17,7 @@ use Rattle.rendezvous.specs.Collecting as rendezvous
 use Rattle.rendezvous.specs.State as transfers
 use Rattle.rendezvous.specs.State.{after_collect}
 use Rattle.match_queues.specs.declared.envelope.Body.TheVariants.{Announced}
-use Rattle.rank_calls.specs.Receiving.{collection_on_match, transfers_with, collecting}
+use Rattle.point_to_point_calls.specs.Receiving.{collection_on_match, transfers_with, collecting}
 use Rattle.perfect_queues.proofs.ListLemmas.{get_set_other}
 use Rattle.perfect_queues.specs.Outcomes.{outcome}
 use Rattle.perfect_queues.specs.Receives.{Receive}

@@ -13,7 +13,7 @@ use Rattle.incarnation.specs.declared.place.Place.{Place}
 use Rattle.rendezvous.specs.Pieces.{piece_bytes, pieces_of}
 use Rattle.rendezvous.specs.WholePieces.{AreCut, IsCut, joined}
 use Rattle.rendezvous.proofs.PieceLaws as bytes
-use Rattle.rank_calls.specs.Hearing as hearing
+use Rattle.point_to_point_calls.specs.Hearing as hearing
 use Rattle.proof_pure_network.specs.Transfers.{cut, data_frames, piece_values, pieces}
 use Rattle.proof_pure_network.proofs.Pieces as values
 use Rattle.proof_engine_view.specs.Frames.{endpoint_of}

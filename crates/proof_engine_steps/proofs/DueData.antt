@@ -6,7 +6,7 @@ use Rattle.std.proofs.lemmas.Option.{same_Some}
 use Rattle.vocabulary.specs.Endpoints.{is_former}
 use Rattle.vocabulary.specs.declared.endpoint.Endpoint.{Endpoint}
 use Rattle.datatypes.specs.Contents.{AreWithin}
-use Rattle.rendezvous.specs.Collecting.{Collecting, is_from, takes}
+use Rattle.rendezvous.specs.Collecting.{Collecting, is_from, is_next_data}
 use Rattle.rendezvous.specs.State.{collection_at, collection_for, is_due, is_taken}
 use Rattle.perfect_queues.specs.Outcomes as machine
 use Rattle.perfect_queues.specs.Receives.{names}
@@ -43,7 +43,7 @@ collection_there cs source transfer offset piece due = go (collection_for source
     at : (i : ℕ) → collection_for source transfer cs ≡ Some i → Passes (is_from source transfer) cs i → is_taken (slice_get cs i) offset piece ≡ true → IsDueFor cs source transfer offset
     at i e p h =
         let c : Collecting = p.element in
-        let t : takes c offset piece ≡ true = sym (ap (λ (o : Option Collecting). is_taken o offset piece) p.there) ∙ h in
+        let t : is_next_data c offset piece ≡ true = sym (ap (λ (o : Option Collecting). is_taken o offset piece) p.there) ∙ h in
         let f = and_parts (c.source == source) (c.transfer == transfer) p.passes in
         record {
           place = i;

@@ -8,7 +8,7 @@ use Rattle.vocabulary.specs.declared.endpoint.Endpoint.{Endpoint}
 use Rattle.perfect_queues.specs.Outcomes as machine
 use Rattle.perfect_queues.specs.Receives.{Receive, names}
 use Rattle.match_queues.specs.declared.envelope.Message.{Message}
-use Rattle.match_queues.specs.declared.envelope.Receive as queued
+use Rattle.match_queues.specs.declared.envelope.PostedReceive as queued
 use Rattle.match_queues.specs.State.{keys_naming}
 use Rattle.proof_pure_network.specs.Announced.{IsIn}
 use Rattle.proof_pure_network.specs.Held.{Held}
@@ -34,7 +34,7 @@ ended_at r i rows k row h = slice_get-map (ended_row r i) rows k ∙ ap (λ (o :
 
 -- of one row
 posted_ended : (r i key : ℕ) (job : Job) →
-    filter (λ (x : queued.Receive). not (names x.source r)) (posted_job key job) ≡ posted_job key (ended r i job)
+    filter (λ (x : queued.PostedReceive). not (names x.source r)) (posted_job key job) ≡ posted_job key (ended r i job)
 posted_ended r i key (Waiting p) = go (names p.source r)
   where
     go : (b : Bool) →
@@ -45,13 +45,13 @@ posted_ended r i key (Waiting p) = go (names p.source r)
 posted_ended r i key (Collecting p h got) = go (names p.source r || is_former r i h.sender)
   where
     go : (b : Bool) →
-        ◌≡◌ {A = List queued.Receive} [] (posted_job key (if b then Over (machine.Replaced (Some p.into.buffer)) else Collecting p h got))
+        ◌≡◌ {A = List queued.PostedReceive} [] (posted_job key (if b then Over (machine.Replaced (Some p.into.buffer)) else Collecting p h got))
     go true = refl
     go false = refl
 posted_ended r i key (Offering d basic values) = go (d.rank == r)
   where
     go : (b : Bool) →
-        ◌≡◌ {A = List queued.Receive} [] (posted_job key (if b then Over (machine.Replaced None) else Offering d basic values))
+        ◌≡◌ {A = List queued.PostedReceive} [] (posted_job key (if b then Over (machine.Replaced None) else Offering d basic values))
     go true = refl
     go false = refl
 posted_ended r i key (Over x) = refl
@@ -59,19 +59,19 @@ posted_ended r i key Closed = refl
 posted_ended r i key (Unmatched d) = go (d.rank == r)
   where
     go : (b : Bool) →
-        ◌≡◌ {A = List queued.Receive} [] (posted_job key (if b then Over (machine.Replaced None) else Unmatched d))
+        ◌≡◌ {A = List queued.PostedReceive} [] (posted_job key (if b then Over (machine.Replaced None) else Unmatched d))
     go true = refl
     go false = refl
 posted_ended r i key (Probed g h) = refl
 
 -- of all rows
 pub posted_left : (r i : ℕ) (rows : List Row) →
-    filter (λ (x : queued.Receive). not (names x.source r)) (posted_rows rows) ≡ posted_rows (map (ended_row r i) rows)
+    filter (λ (x : queued.PostedReceive). not (names x.source r)) (posted_rows rows) ≡ posted_rows (map (ended_row r i) rows)
 posted_left r i [] = refl
 posted_left r i (x ∷ xs) =
-    filter-append (λ (y : queued.Receive). not (names y.source r)) (posted_job x.key x.job) (posted_rows xs) ∙
-    (ap (λ (ys : List queued.Receive). ys ++ filter (λ (y : queued.Receive). not (names y.source r)) (posted_rows xs)) (posted_ended r i x.key x.job) ∙
-    ap (λ (ys : List queued.Receive). posted_job x.key (ended r i x.job) ++ ys) (posted_left r i xs))
+    filter-append (λ (y : queued.PostedReceive). not (names y.source r)) (posted_job x.key x.job) (posted_rows xs) ∙
+    (ap (λ (ys : List queued.PostedReceive). ys ++ filter (λ (y : queued.PostedReceive). not (names y.source r)) (posted_rows xs)) (posted_ended r i x.key x.job) ∙
+    ap (λ (ys : List queued.PostedReceive). posted_job x.key (ended r i x.job) ++ ys) (posted_left r i xs))
 
 -- WHAT IS HELD
 
@@ -156,16 +156,16 @@ pub record IsNaming (rows : List Row) (r key : ℕ) : Type 0 where
   pub named : names receive.source r ≡ true
 
 -- a receive as it is posted
-abbrev posted_of : (key : ℕ) → Receive → queued.Receive
+abbrev posted_of : (key : ℕ) → Receive → queued.PostedReceive
 posted_of key p = record { request = key; context = p.context; source = p.source; tag = p.tag }
 
 -- the keys with this receive in front, by whether it names the rank
-abbrev keys_by : (r : ℕ) → Bool → queued.Receive → List queued.Receive → List ℕ
-keys_by r b x ps = map (λ (y : queued.Receive). y.request)
-    (cond b (x ∷ filter (λ (y : queued.Receive). names y.source r) ps) (filter (λ (y : queued.Receive). names y.source r) ps))
+abbrev keys_by : (r : ℕ) → Bool → queued.PostedReceive → List queued.PostedReceive → List ℕ
+keys_by r b x ps = map (λ (y : queued.PostedReceive). y.request)
+    (cond b (x ∷ filter (λ (y : queued.PostedReceive). names y.source r) ps) (filter (λ (y : queued.PostedReceive). names y.source r) ps))
 
 -- a key is there where that of a later row is
-more_among : (r key own : ℕ) (job : Job) (ps : List queued.Receive) → IsAmong key (keys_naming r ps) →
+more_among : (r key own : ℕ) (job : Job) (ps : List queued.PostedReceive) → IsAmong key (keys_naming r ps) →
     IsAmong key (keys_naming r (posted_job own job ++ ps))
 more_among r key own (Waiting p) ps h = go (names p.source r)
   where
@@ -180,7 +180,7 @@ more_among r key own (Unmatched d) ps h = h
 more_among r key own (Probed g x) ps h = h
 
 -- the key of a receive that waits and names the rank
-first_among : (r key : ℕ) (p : Receive) (ps : List queued.Receive) → names p.source r ≡ true →
+first_among : (r key : ℕ) (p : Receive) (ps : List queued.PostedReceive) → names p.source r ≡ true →
     IsAmong key (keys_naming r (posted_job key (Waiting p) ++ ps))
 first_among r key p ps named =
     subst (λ (b : Bool). IsAmong key (keys_by r b (posted_of key p) ps)) (sym named) (inl refl)

@@ -10,37 +10,37 @@ use Rattle.proof_pure_network.specs.Jobs.{Job, Waiting, Collecting, Offering, Ov
 use Rattle.requests.specs.Table.{progress_at, progress_of, slot_at}
 use Rattle.requests.specs.declared.outcome.Outcome.{Outcome}
 use Rattle.requests.specs.declared.table.Posted.{Posted}
-use Rattle.requests.specs.declared.table.Entry.{Entry}
+use Rattle.requests.specs.declared.table.TableEntry.{TableEntry}
 use Rattle.requests.specs.declared.table.Matched.{Matched}
 use Rattle.requests.specs.declared.table.TakenOut as table
-use Rattle.requests.specs.declared.table.Progress.{Progress}
-use Rattle.requests.specs.declared.table.Progress.TheVariants.{Receiving, Finished}
-use Rattle.requests.specs.declared.table.Progress.TheVariants as progresses
+use Rattle.requests.specs.declared.table.RequestProgress.{RequestProgress}
+use Rattle.requests.specs.declared.table.RequestProgress.TheVariants.{Receiving, Finished}
+use Rattle.requests.specs.declared.table.RequestProgress.TheVariants as progresses
 use Rattle.requests.specs.declared.table.Request.{Request}
 use Rattle.proof_engine_view.specs.Rows.{Fits, IsMatched, IsRow, IsTable, Row}
 use Rattle.proof_engine_view.specs.Seen.{outcome_seen}
 use Rattle.proof_engine_view.specs.Shown.{IsNamed}
 
 -- the row of a request that stands in the table
-pub record HasRow (rows : List Row) (k key : ℕ) (g : Progress) : Type 0 where
+pub record HasRow (rows : List Row) (k key : ℕ) (g : RequestProgress) : Type 0 where
   pub job : Job
   pub there : slice_get rows k ≡ Some (record { key = key; job = job })
   pub fits : Fits g job
 
 -- the row of an entry with this serial
-row_found : (rows : List Row) (k key : ℕ) (g : Progress) (t : Entry) → IsRow rows key t → t.serial ≡ k → t.progress ≡ g → HasRow rows k key g
+row_found : (rows : List Row) (k key : ℕ) (g : RequestProgress) (t : TableEntry) → IsRow rows key t → t.serial ≡ k → t.progress ≡ g → HasRow rows k key g
 row_found rows k key g t r s p =
     record {
       job = r.row.job;
       there = sym (ap (slice_get rows) s) ∙ (r.there ∙ ap (λ (x : ℕ). Some (record { key = x; job = r.row.job })) r.key_is);
-      fits = subst (λ (x : Progress). Fits x r.row.job) p r.fits;
+      fits = subst (λ (x : RequestProgress). Fits x r.row.job) p r.fits;
     }
 
 -- a request whose progress the table tells has a row
-pub row_of : (table : List (Option Entry)) (rows : List Row) (k key : ℕ) (g : Progress) → IsTable table rows → progress_at table key k ≡ Some g → HasRow rows k key g
+pub row_of : (table : List (Option TableEntry)) (rows : List Row) (k key : ℕ) (g : RequestProgress) → IsTable table rows → progress_at table key k ≡ Some g → HasRow rows k key g
 row_of table rows k key g t h = go (slot_at table key) refl h
   where
-    go : (s : Option Entry) → slot_at table key ≡ s → progress_of s k ≡ Some g → HasRow rows k key g
+    go : (s : Option TableEntry) → slot_at table key ≡ s → progress_of s k ≡ Some g → HasRow rows k key g
     go None e p = absurd (none-some g p)
     go (Some x) e p =
         let c : ((x.serial == k) ≡ true) × (x.progress ≡ g) = cond_some (x.serial == k) x.progress g p in
@@ -123,7 +123,7 @@ probed_of t (Unmatched d) f = absurd f
 probed_of t (Probed g h) f = record { message = h; is = ap (λ (x : Option (List ℕ)). Probed x h) f.group_is; there = f.there }
 
 -- one that stands in the table isn't closed
-pub open_of : (g : Progress) → Fits g Closed → ⊥
+pub open_of : (g : RequestProgress) → Fits g Closed → ⊥
 open_of (Receiving b) f = f
 open_of (progresses.Collecting w) f = f
 open_of progresses.Offering f = f
@@ -131,7 +131,7 @@ open_of (progresses.TakenOut t) f = f
 open_of (Finished o) f = f
 
 -- a request whose progress the table tells is named by an unanswered row
-pub named_of : (table : List (Option Entry)) (rows : List Row) (q : Request) (g : Progress) → IsTable table rows → progress_at table q.key q.serial ≡ Some g → IsNamed rows q
+pub named_of : (table : List (Option TableEntry)) (rows : List Row) (q : Request) (g : RequestProgress) → IsTable table rows → progress_at table q.key q.serial ≡ Some g → IsNamed rows q
 named_of table rows q g t h =
     let r : HasRow rows q.serial q.key g = row_of table rows q.serial q.key g t h in
     record {
@@ -142,7 +142,7 @@ named_of table rows q g t h =
     }
 
 -- the row of a request that is finished
-pub finished_row : (table : List (Option Entry)) (rows : List Row) (q : Request) (o : Outcome) → IsTable table rows → progress_at table q.key q.serial ≡ Some (Finished o) →
+pub finished_row : (table : List (Option TableEntry)) (rows : List Row) (q : Request) (o : Outcome) → IsTable table rows → progress_at table q.key q.serial ≡ Some (Finished o) →
     slice_get rows q.serial ≡ Some (record { key = q.key; job = Over (outcome_seen o) })
 finished_row table rows q o t h =
     let r : HasRow rows q.serial q.key (Finished o) = row_of table rows q.serial q.key (Finished o) t h in

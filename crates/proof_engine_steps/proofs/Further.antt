@@ -6,8 +6,8 @@ use Rattle.datagram.specs.Spelling.{FrameText}
 use Rattle.incarnation.specs.declared.place.Place.{Place}
 use Rattle.perfect_queues.specs.Completions.{Answer}
 use Rattle.perfect_queues.specs.Requests.{all_changed, changed}
-use Rattle.rank_calls.specs.Hearing.{NewsText}
-use Rattle.rank_core.specs.CoreState.{CoreState}
+use Rattle.point_to_point_calls.specs.Hearing.{NewsText}
+use Rattle.point_to_point.specs.CoreState.{CoreState}
 use Rattle.vocabulary.specs.declared.endpoint.Endpoint.{Endpoint}
 use Rattle.proof_pure_network.specs.Core.{Core}
 use Rattle.proof_pure_network.specs.Engine as network

@@ -20,7 +20,7 @@ use Rattle.rendezvous.specs.Collecting.{is_whole, with_piece}
 use Rattle.rendezvous.specs.State as transfers
 use Rattle.rendezvous.specs.State.{blank, collection_for, is_due}
 use Rattle.rendezvous.specs.declared.offer.Offer.{Offer}
-use Rattle.requests.specs.declared.table.Entry.{Entry}
+use Rattle.requests.specs.declared.table.TableEntry.{TableEntry}
 use Rattle.proof_pure_network.proofs.JobLemmas.{get_set_same}
 use Rattle.proof_pure_network.specs.Announced.{IsIn}
 use Rattle.proof_pure_network.specs.Frames.{Data, Frame}
@@ -248,7 +248,7 @@ more_under_way a known p rows t ms s d frame x u =
     unmatched n other e (inr q) = u.unmatched n other e q.1
 
 -- the last piece
-pub last_under_way : (a : Announcements) (known : List ℕ) (p : Place) (slots : List (Option Entry)) (rows : List Row) (t : transfers.State) (ms : List Message) (s : Endpoint) (d : DataText) (frame : Frame)
+pub last_under_way : (a : Announcements) (known : List ℕ) (p : Place) (slots : List (Option TableEntry)) (rows : List Row) (t : transfers.State) (ms : List Message) (s : Endpoint) (d : DataText) (frame : Frame)
     (x : IsPieceOf a.from known rows t.collections s d frame) (o : machine.Outcome) → IsTable slots rows → AreUnderWay a known p rows t ms →
     AreUnderWay a known p (slice_set rows x.stands.serial (row_of x.collection.request (Over o))) (record t { collections = remove t.collections x.place }) ms
 last_under_way a known p slots rows t ms s d frame x o table u =

@@ -17,17 +17,17 @@ use Rattle.incarnation.specs.declared.place.Place.{Place}
 use Rattle.perfect_queues.specs.Calls as machine
 use Rattle.requests.specs.Regions.{sent_from}
 use Rattle.requests.specs.Table.{IsSet}
-use Rattle.requests.specs.declared.table.Entry.{Entry}
-use Rattle.requests.specs.declared.table.Progress.TheVariants.{Offering}
+use Rattle.requests.specs.declared.table.TableEntry.{TableEntry}
+use Rattle.requests.specs.declared.table.RequestProgress.TheVariants.{Offering}
 use Rattle.requests.specs.declared.table.Request.{Request}
-use Rattle.rank_calls.specs.declared.refused.Refused.{Refused}
-use Rattle.rank_calls.specs.declared.refused.Refused.TheVariants as refusals
-use Rattle.rank_calls.specs.declared.call.Send.{Send}
-use Rattle.rank_calls.specs.Frames.{FrameFor}
+use Rattle.point_to_point_calls.specs.declared.refusal.Refusal.{Refusal}
+use Rattle.point_to_point_calls.specs.declared.refusal.Refusal.TheVariants as refusals
+use Rattle.point_to_point_calls.specs.declared.call.CoreSend.{CoreSend}
+use Rattle.point_to_point_calls.specs.Frames.{FrameFor}
 use Rattle.datagram.specs.Spelling.{FrameText}
-use Rattle.rank_calls.specs.Sending.{announced_to, destination, eager_frame, frame_to, frame_unless, is_announced, is_own, is_to_itself, offered_by, or_worn_out, progress_of_send, rank_to, rank_unless, request_frame}
-use Rattle.rank_core.specs.CoreState.{CoreState}
-use Rattle.rank_core.specs.Sending.{IsOffering, IsSending, arrived_at_itself, arrived_if, begun, frame_of, waiting_of}
+use Rattle.point_to_point_calls.specs.Sending.{announced_to, destination, eager_frame, frame_to, frame_unless, is_announced, is_own, is_to_itself, offered_by, or_worn_out, progress_of_send, rank_to, rank_unless, request_frame}
+use Rattle.point_to_point.specs.CoreState.{CoreState}
+use Rattle.point_to_point.specs.Sending.{IsOffering, IsSending, arrived_at_itself, arrived_if, begun, frame_of, waiting_of}
 use Rattle.rendezvous.specs.State as transfers
 use Rattle.rendezvous.specs.State.{after_begin, is_full_to, most_transfers, next_to}
 use Rattle.proof_pure_network.specs.Core.{Core, effect, with_jobs}
@@ -74,14 +74,14 @@ core_announces mode core own to i c tag x other large known =
 -- ---- THE RANK'S SEND
 
 -- it is announced to that rank
-pub is_announced_to : (p : Place) (s : Send) (to tag : ℕ) → s.target ≡ Rank to → s.tag ≡ Some tag → (to == p.endpoint.rank) ≡ false → is_announced s.mode (sent_from s.from) ≡ true → announced_to p s ≡ Some to
+pub is_announced_to : (p : Place) (s : CoreSend) (to tag : ℕ) → s.target ≡ Rank to → s.tag ≡ Some tag → (to == p.endpoint.rank) ≡ false → is_announced s.mode (sent_from s.from) ≡ true → announced_to p s ≡ Some to
 is_announced_to p s to tag target_is tag_is other large =
     ap (λ (b : Bool). if b then rank_to p (destination s.target s.tag s.context) else None) large
     ∙ (ap₂ (λ (t : Source) (g : Option ℕ). rank_to p (destination t g s.context)) target_is tag_is
     ∙ ap (λ (b : Bool). rank_unless b (record { rank = to; tag = tag; context = s.context })) other)
 
 -- where no limit refused it, a number is left for it
-free_after : (fault : Option Refused) (to : ℕ) (t : transfers.State) → or_worn_out fault (Some to) t ≡ None → is_full_to t.numbers to ≡ false
+free_after : (fault : Option Refusal) (to : ℕ) (t : transfers.State) → or_worn_out fault (Some to) t ≡ None → is_full_to t.numbers to ≡ false
 free_after (Some e) to t fine = absurd cc
 free_after None to t fine = go (is_full_to t.numbers to) fine
   where
@@ -89,11 +89,11 @@ free_after None to t fine = go (is_full_to t.numbers to) fine
     go true h = absurd cc
     go false h = refl
 
-pub number_left : (fault : Option Refused) (rank : Option ℕ) (to : ℕ) (t : transfers.State) → rank ≡ Some to → or_worn_out fault rank t ≡ None → is_full_to t.numbers to ≡ false
+pub number_left : (fault : Option Refusal) (rank : Option ℕ) (to : ℕ) (t : transfers.State) → rank ≡ Some to → or_worn_out fault rank t ≡ None → is_full_to t.numbers to ≡ false
 number_left fault rank to t is fine = free_after fault to t (subst (λ (o : Option ℕ). or_worn_out fault o t ≡ None) is fine)
 
 -- one that goes to another rank isn't one to itself
-pub not_to_itself : (p : Place) (s : Send) (to tag : ℕ) → s.target ≡ Rank to → s.tag ≡ Some tag → (to == p.endpoint.rank) ≡ false → is_to_itself p s ≡ false
+pub not_to_itself : (p : Place) (s : CoreSend) (to tag : ℕ) → s.target ≡ Rank to → s.tag ≡ Some tag → (to == p.endpoint.rank) ≡ false → is_to_itself p s ≡ false
 not_to_itself p s to tag target_is tag_is other = ap₂ (λ (t : Source) (g : Option ℕ). is_own p (destination t g s.context)) target_is tag_is ∙ other
 
 -- so none of the rank's own sends waits for a match then
@@ -103,13 +103,13 @@ none_waits Synchronous true q is = absurd cc
 none_waits Synchronous false q is = refl
 
 -- its request waits for the answer
-pub large_sending : (old new : CoreState) (s : Send) (q : Request) (to tag : ℕ) → s.target ≡ Rank to → s.tag ≡ Some tag → (to == old.place.endpoint.rank) ≡ false →
+pub large_sending : (old new : CoreState) (s : CoreSend) (q : Request) (to tag : ℕ) → s.target ≡ Rank to → s.tag ≡ Some tag → (to == old.place.endpoint.rank) ≡ false →
     is_announced s.mode (sent_from s.from) ≡ true → IsSending old s q new → IsOffering old to (sent_from s.from) q new
 large_sending old new s q to tag target_is tag_is other large sent =
     record {
       fresh = sent.fresh;
       serial = sent.serial;
-      entry = subst (λ (slots : List (Option Entry)). IsSet old.slots slots q.key (Some (record { serial = old.serial; progress = Offering }))) (sym slots_are)
+      entry = subst (λ (slots : List (Option TableEntry)). IsSet old.slots slots q.key (Some (record { serial = old.serial; progress = Offering }))) (sym slots_are)
           (subst (λ (to : Option ℕ). IsSet old.slots sent.started q.key (Some (record { serial = old.serial; progress = progress_of_send to }))) announced
           (subst (λ (w : Option Request). IsSet old.slots sent.started q.key (Some (record { serial = old.serial; progress = begun w (announced_to old.place s) })))
           (none_waits s.mode (is_to_itself old.place s) q (not_to_itself old.place s to tag target_is tag_is other)) sent.entry));
@@ -123,7 +123,7 @@ large_sending old new s q to tag target_is tag_is other large sent =
     announced = is_announced_to old.place s to tag target_is tag_is other large
 
     -- the rank with these slots
-    left : List (Option Entry) → CoreState
+    left : List (Option TableEntry) → CoreState
     left slots = record old { slots = slots; serial = old.serial + 1; transfers = after_begin old.transfers to q.key c }
 
     -- the own send that waits, if one does
@@ -145,7 +145,7 @@ large_sending old new s q to tag target_is tag_is other large sent =
 abbrev pub announcing_frame : Mode → CoreState → (to context tag : ℕ) → Contents → FrameFor
 announcing_frame mode old to context tag c = record { rank = to; frame = request_frame mode (next_to old.transfers.numbers to) context tag c }
 
-pub large_frame : (old : CoreState) (s : Send) (to tag : ℕ) → s.target ≡ Rank to → s.tag ≡ Some tag → (to == old.place.endpoint.rank) ≡ false → is_announced s.mode (sent_from s.from) ≡ true →
+pub large_frame : (old : CoreState) (s : CoreSend) (to tag : ℕ) → s.target ≡ Rank to → s.tag ≡ Some tag → (to == old.place.endpoint.rank) ≡ false → is_announced s.mode (sent_from s.from) ≡ true →
     frame_of old s ≡ Some (announcing_frame s.mode old to s.context tag (sent_from s.from))
 large_frame old s to tag target_is tag_is other large =
     ap₂ (λ (t : Source) (g : Option ℕ). frame_to old.place old.transfers s.mode (destination t g s.context) c) target_is tag_is

@@ -20,10 +20,10 @@ use Rattle.rendezvous.specs.State.{after_drop, fresh, keys_with, most_transfers,
 use Rattle.rendezvous.specs.declared.offer.Offer.{Offer}
 use Rattle.rendezvous.specs.declared.transfers.Numbers.{Numbers}
 use Rattle.requests.specs.Table.{keys_of_messages, slot_at}
-use Rattle.requests.specs.declared.table.Entry.{Entry}
-use Rattle.requests.specs.declared.table.Progress.{Progress}
-use Rattle.requests.specs.declared.table.Progress.TheVariants.{Receiving, Finished}
-use Rattle.requests.specs.declared.table.Progress.TheVariants as progresses
+use Rattle.requests.specs.declared.table.TableEntry.{TableEntry}
+use Rattle.requests.specs.declared.table.RequestProgress.{RequestProgress}
+use Rattle.requests.specs.declared.table.RequestProgress.TheVariants.{Receiving, Finished}
+use Rattle.requests.specs.declared.table.RequestProgress.TheVariants as progresses
 use Rattle.proof_pure_network.specs.Announced.{IsIn}
 use Rattle.proof_pure_network.specs.Held.{Held, fits}
 use Rattle.proof_pure_network.specs.Jobs.{Job, Waiting, Collecting, Offering, Over, Closed, ended, Probed, Unmatched}
@@ -53,14 +53,14 @@ fits_from p h e =
     (and_parts (is_from p.source h.sender.rank) (has_tag p.tag h.tag) (and_parts (p.context == h.context) (is_from p.source h.sender.rank && has_tag p.tag h.tag) e).1).0
 
 -- what is collected was accepted
-collected_fits : (g : Progress) (p : Receive) (h : Held) (got : List ℕ) → Fits g (Collecting p h got) → fits p h ≡ true
+collected_fits : (g : RequestProgress) (p : Receive) (h : Held) (got : List ℕ) → Fits g (Collecting p h got) → fits p h ≡ true
 collected_fits (Receiving b) p h got f = absurd f
 collected_fits (progresses.Collecting w) p h got f = f.accepts
 collected_fits progresses.Offering p h got f = absurd f
 collected_fits (progresses.TakenOut taken) p h got f = absurd f
 collected_fits (Finished o) p h got f = absurd f
 
-row_fits : (slots : List (Option Entry)) (rows : List Row) (k key : ℕ) (p : Receive) (h : Held) (got : List ℕ) → IsTable slots rows → slice_get rows k ≡ Some (row_of key (Collecting p h got)) → fits p h ≡ true
+row_fits : (slots : List (Option TableEntry)) (rows : List Row) (k key : ℕ) (p : Receive) (h : Held) (got : List ℕ) → IsTable slots rows → slice_get rows k ≡ Some (row_of key (Collecting p h got)) → fits p h ≡ true
 row_fits slots rows k key p h got table at =
     let m : Holds (slot_at slots key) k (Collecting p h got) = held_at slots rows k key (Collecting p h got) table at (λ e. cc) in
     collected_fits m.entry.progress p h got m.fits
@@ -99,7 +99,7 @@ pub record IsOffered (to : Endpoint → List Transfer) (known : List ℕ) (rows 
   pub key_is : offer.request ≡ key
   pub target_is : d ≡ endpoint_of known offer.target
 
-offer_of : (a : Announcements) (known : List ℕ) (p : Place) (rows : List Row) (slots : List (Option Entry)) (t : transfers.State) (ms : List Message) (k key : ℕ) (d : Endpoint) (basic : BasicType) (values : List ℕ) →
+offer_of : (a : Announcements) (known : List ℕ) (p : Place) (rows : List Row) (slots : List (Option TableEntry)) (t : transfers.State) (ms : List Message) (k key : ℕ) (d : Endpoint) (basic : BasicType) (values : List ℕ) →
     IsTable slots rows → AreUnderWay a known p rows t ms → slice_get rows k ≡ Some (row_of key (Offering d basic values)) → IsOffered a.to known rows t.offers key d
 offer_of a known p rows slots t ms k key d basic values table u at =
     let n : IsIn key (offer_keys t.offers) = u.offered k key d basic values at in
@@ -120,7 +120,7 @@ pub record IsCollected (known : List ℕ) (collections : List rendezvous.Collect
   pub key_is : collection.request ≡ key
   pub sender_is : h.sender ≡ endpoint_of known collection.source
 
-collection_of : (a : Announcements) (known : List ℕ) (p : Place) (rows : List Row) (slots : List (Option Entry)) (t : transfers.State) (ms : List Message) (k key : ℕ) (r : Receive) (h : Held) (got : List ℕ) →
+collection_of : (a : Announcements) (known : List ℕ) (p : Place) (rows : List Row) (slots : List (Option TableEntry)) (t : transfers.State) (ms : List Message) (k key : ℕ) (r : Receive) (h : Held) (got : List ℕ) →
     IsTable slots rows → AreUnderWay a known p rows t ms → slice_get rows k ≡ Some (row_of key (Collecting r h got)) → IsCollected known t.collections key h
 collection_of a known p rows slots t ms k key r h got table u at =
     let n : IsIn key (collection_keys t.collections) = u.collected k key r h got at in
@@ -170,7 +170,7 @@ collection_ends from known rows r i key c y is source later =
     }
 
 -- the keys of the requests that end are those of the receives that name the rank, and of what is under way with it
-pub keys_end : (a : Announcements) (known : List ℕ) (p : Place) (rows : List Row) (slots : List (Option Entry)) (t : transfers.State) (ms : List Message) (r i : ℕ) → IsTable slots rows → AreUnderWay a known p rows t ms →
+pub keys_end : (a : Announcements) (known : List ℕ) (p : Place) (rows : List Row) (slots : List (Option TableEntry)) (t : transfers.State) (ms : List Message) (r i : ℕ) → IsTable slots rows → AreUnderWay a known p rows t ms →
     AreTaken a.from known p rows slots → (r ≡ p.endpoint.rank → ⊥) → slice_index known r < i → AreEnding rows r i (keys_naming r (posted_rows rows) ++ (keys_with t r ++ keys_of_messages r i slots))
 keys_end a known p rows slots t ms r i table u taken apart later = record { each = each; only = only }
   where
@@ -377,7 +377,7 @@ learned_offer to known rows r i v o n y =
     }
 
 -- so does a collection from another rank
-learned_collection : (from : Endpoint → List Transfer) (known : List ℕ) (slots : List (Option Entry)) (rows : List Row) (r i v : ℕ) (c : rendezvous.Collecting) → IsTable slots rows → c.source ≢ r → IsCollectionOf from known rows c →
+learned_collection : (from : Endpoint → List Transfer) (known : List ℕ) (slots : List (Option TableEntry)) (rows : List Row) (r i v : ℕ) (c : rendezvous.Collecting) → IsTable slots rows → c.source ≢ r → IsCollectionOf from known rows c →
     IsCollectionOf from (slice_set known r v) (map (ended_row r i) rows) c
 learned_collection from known slots rows r i v c table n y =
     record {
@@ -416,7 +416,7 @@ learned_message from known p rows r i v m (bodies.Announced x) apart later kept 
         absurd (grind arith)
 
 -- once rank r is learnt at incarnation i
-pub learned_under_way : (a : Announcements) (known : List ℕ) (p : Place) (rows : List Row) (slots : List (Option Entry)) (t : transfers.State) (ms : List Message) (r i : ℕ) → IsTable slots rows → AreUnderWay a known p rows t ms →
+pub learned_under_way : (a : Announcements) (known : List ℕ) (p : Place) (rows : List Row) (slots : List (Option TableEntry)) (t : transfers.State) (ms : List Message) (r i : ℕ) → IsTable slots rows → AreUnderWay a known p rows t ms →
     NoneUntold a known → length known ≡ p.size → r < p.size → (r ≡ p.endpoint.rank → ⊥) → slice_index known r < i →
     AreUnderWay a (slice_set known r (max (slice_index known r) i)) p (map (ended_row r i) rows) (after_drop t r) (filter (λ (m : Message). not (is_former r i m.sender)) ms)
 learned_under_way a known p rows slots t ms r i table u untold width inside apart later =

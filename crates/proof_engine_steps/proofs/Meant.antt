@@ -9,12 +9,12 @@ use Rattle.proof_pure_network.specs.Core.{Core, view}
 use Rattle.proof_pure_network.specs.Engine.{called, core_ready, core_settled}
 use Rattle.proof_pure_network.specs.Frames.{Frame}
 use Rattle.proof_pure_network.specs.Held.{blank}
-use Rattle.rank_calls.specs.declared.call.Call.{Call}
-use Rattle.rank_calls.specs.declared.call.Reply.{Reply}
-use Rattle.rank_calls.specs.declared.call.Reply.TheVariants as replies
-use Rattle.rank_core.specs.Calls.{call_frame}
-use Rattle.rank_core.specs.CoreState.{CoreState}
-use Rattle.rank_calls.specs.Frames.{FrameFor, as_list}
+use Rattle.point_to_point_calls.specs.declared.call.CoreCall.{CoreCall}
+use Rattle.point_to_point_calls.specs.declared.call.CoreReply.{CoreReply}
+use Rattle.point_to_point_calls.specs.declared.call.CoreReply.TheVariants as replies
+use Rattle.point_to_point.specs.Calls.{call_frame}
+use Rattle.point_to_point.specs.CoreState.{CoreState}
+use Rattle.point_to_point_calls.specs.Frames.{FrameFor, as_list}
 use Rattle.proof_engine_view.specs.Faults.{queue_fault}
 use Rattle.proof_engine_view.specs.Seen.{answer_seen, call_seen, match_seen, told_call}
 use Rattle.proof_engine_view.specs.Shown.{IsShown}
@@ -25,7 +25,7 @@ use Rattle.proof_engine_steps.proofs.Settling.{settled_is}
 use Rattle.proof_engine_steps.proofs.Staying.{shown_quiet}
 
 -- what is seen of the machine's call that was answered so
-abbrev pub told_by : Endpoint → machine.Call → Reply → List Entry
+abbrev pub told_by : Endpoint → machine.Call → CoreReply → List Entry
 told_by e c (replies.Started q) = Called e c (machine.Started q.serial) ∷ []
 told_by e c (replies.Done a) = Called e c (machine.Done (answer_seen a)) ∷ []
 told_by e c replies.Pending = Called e c machine.Pending ∷ []
@@ -35,7 +35,7 @@ told_by e c replies.Blocked = Called e c machine.Blocked ∷ []
 told_by e c (replies.Refused why back) = []
 
 -- it is what is seen of the rank's call
-told_same : (e : Endpoint) (call : Call) (reply : Reply) → told_by e (call_seen call) reply ≡ told_call e call (Some reply)
+told_same : (e : Endpoint) (call : CoreCall) (reply : CoreReply) → told_by e (call_seen call) reply ≡ told_call e call (Some reply)
 told_same e call (replies.Started q) = refl
 told_same e call (replies.Done a) = refl
 told_same e call replies.Pending = refl
@@ -45,7 +45,7 @@ told_same e call replies.Blocked = refl
 told_same e call (replies.Refused why back) = refl
 
 -- what a call leaves that the machine is told as this one
-pub record IsMeant (links : Announcements) (old : CoreState) (known : List ℕ) (core : Core) (c : machine.Call) (reply : Reply) (new : CoreState) : Type 0 where
+pub record IsMeant (links : Announcements) (old : CoreState) (known : List ℕ) (core : Core) (c : machine.Call) (reply : CoreReply) (new : CoreState) : Type 0 where
   pub fit : queue_fault old.place.size (view blank core) c ≡ None
   pub place : new.place ≡ old.place
   pub completion : new.completion ≡ old.completion
@@ -56,7 +56,7 @@ pub record IsMeant (links : Announcements) (old : CoreState) (known : List ℕ) 
       ≡ told_by old.place.endpoint c reply
 
 -- the rank's call is so
-pub meant_called : (links : Announcements) (old new : CoreState) (known : List ℕ) (core : Core) (call : Call) (reply : Reply) → call_frame old call ≡ None → IsMeant links old known core (call_seen call) reply new →
+pub meant_called : (links : Announcements) (old new : CoreState) (known : List ℕ) (core : Core) (call : CoreCall) (reply : CoreReply) → call_frame old call ≡ None → IsMeant links old known core (call_seen call) reply new →
     IsCalled links old known core call reply new
 meant_called links old new known core call reply frame m =
     record {

@@ -6,13 +6,13 @@ use Rattle.vocabulary.specs.Endpoints.{is_former}
 use Rattle.perfect_queues.specs.Outcomes as machine
 use Rattle.perfect_queues.specs.Receives.{names}
 use Rattle.vocabulary.specs.declared.endpoint.Endpoint.{Endpoint}
-use Rattle.match_queues.specs.declared.envelope.Receive as queued
+use Rattle.match_queues.specs.declared.envelope.PostedReceive as queued
 use Rattle.match_queues.specs.State.{keys_naming}
 use Rattle.rendezvous.specs.State.{keys_with}
 use Rattle.requests.specs.Table.{after_replaces, keys_of_messages}
-use Rattle.rank_core.specs.CoreState.{CoreState}
-use Rattle.rank_calls.specs.Hearing.{NewsText}
-use Rattle.rank_core.specs.Hearing.{replaced, taught}
+use Rattle.point_to_point.specs.CoreState.{CoreState}
+use Rattle.point_to_point_calls.specs.Hearing.{NewsText}
+use Rattle.point_to_point.specs.Arrivals.{replaced, after_lesson}
 use Rattle.proof_pure_network.specs.Core.{Core}
 use Rattle.proof_pure_network.specs.Engine as network
 use Rattle.proof_pure_network.specs.Held.{Held}
@@ -73,7 +73,7 @@ learned_holds links e known core rows s h inside apart later untold =
       count = length-map rows (ended_row r i) ∙ h.count;
       table = subst (λ (ks : List ℕ). IsTable (after_replaces e.slots ks) (map (ended_row r i) rows))
           (sym keys_are) (replaced_table e.slots rows r i keys h.table ending);
-      posted = ap (λ (ps : List queued.Receive). filter (λ (x : queued.Receive). not (names x.source r)) ps) h.posted ∙ posted_left r i rows;
+      posted = ap (λ (ps : List queued.PostedReceive). filter (λ (x : queued.PostedReceive). not (names x.source r)) ps) h.posted ∙ posted_left r i rows;
       held = ap (λ (hs : List Held). filter (λ (x : Held). not (is_former r i x.sender)) hs) h.held ∙ held_left links.from r i e.queues.unexpected;
       under_way = learned_under_way links known e.place rows e.slots e.transfers e.queues.unexpected r i h.table h.under_way untold h.knowing.width inside apart later;
       taken = subst (λ (ks : List ℕ). AreTaken links.from (known_after true known s) e.place (map (ended_row r i) rows) (after_replaces e.slots ks))
@@ -91,16 +91,16 @@ learned_holds links e known core rows s h inside apart later untold =
     keys = keys_naming r (posted_rows rows) ++ (keys_with e.transfers r ++ keys_of_messages r i e.slots)
 
     keys_are : keys_naming r e.queues.posted ++ (keys_with e.transfers r ++ keys_of_messages r i e.slots) ≡ keys
-    keys_are = ap (λ (ps : List queued.Receive). keys_naming r ps ++ (keys_with e.transfers r ++ keys_of_messages r i e.slots)) h.posted
+    keys_are = ap (λ (ps : List queued.PostedReceive). keys_naming r ps ++ (keys_with e.transfers r ++ keys_of_messages r i e.slots)) h.posted
 
     ending : AreEnding rows r i keys
     ending = keys_end links known e.place rows e.slots e.transfers e.queues.unexpected r i h.table h.under_way h.taken apart later
 
 -- what a word of another rank of the job leaves both holding, by whether it is a lesson
 pub met_holds : (links : Announcements) (e : CoreState) (known : List ℕ) (core : Core) (news : NewsText) → IsShown links e known core → IsFromOther e known news → NoneUntold links known →
-    HoldBoth links (taught news.lesson e news.source) (known_after news.lesson known news.source) (network.met core news.source)
+    HoldBoth links (after_lesson news.lesson e news.source) (known_after news.lesson known news.source) (network.met core news.source)
 met_holds links e known core news shown other untold =
-    subst (λ (c : Core). HoldBoth links (taught news.lesson e s) (known_after news.lesson known s) c) (sym met_is) (go news.lesson other.lesson)
+    subst (λ (c : Core). HoldBoth links (after_lesson news.lesson e s) (known_after news.lesson known s) c) (sym met_is) (go news.lesson other.lesson)
   where
     s : Endpoint
     s = news.source
@@ -109,7 +109,7 @@ met_holds links e known core news shown other untold =
     met_is = ap (λ (b : Bool). if b then network.learned core s.rank s.incarnation else core) (ap (λ (n : ℕ). nat_lt n s.incarnation) (shown.known_alike s.rank) ∙ other.lesson)
 
     go : (b : Bool) → nat_lt (slice_index known s.rank) s.incarnation ≡ b →
-        HoldBoth links (taught b e s) (known_after b known s) (if b then network.learned core s.rank s.incarnation else core)
+        HoldBoth links (after_lesson b e s) (known_after b known s) (if b then network.learned core s.rank s.incarnation else core)
     go true later =
         record {
           rows = map (ended_row s.rank s.incarnation) shown.rows;

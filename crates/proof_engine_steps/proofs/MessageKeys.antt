@@ -5,10 +5,10 @@ use Rattle.vocabulary.specs.Endpoints.{is_former}
 use Rattle.vocabulary.specs.declared.endpoint.Endpoint.{Endpoint}
 use Rattle.incarnation.specs.declared.place.Place.{Place}
 use Rattle.match_queues.specs.declared.envelope.Message.{Message}
-use Rattle.requests.specs.declared.table.Entry.{Entry}
-use Rattle.requests.specs.declared.table.Progress.{Progress}
-use Rattle.requests.specs.declared.table.Progress.TheVariants.{Receiving, Finished}
-use Rattle.requests.specs.declared.table.Progress.TheVariants as progresses
+use Rattle.requests.specs.declared.table.TableEntry.{TableEntry}
+use Rattle.requests.specs.declared.table.RequestProgress.{RequestProgress}
+use Rattle.requests.specs.declared.table.RequestProgress.TheVariants.{Receiving, Finished}
+use Rattle.requests.specs.declared.table.RequestProgress.TheVariants as progresses
 use Rattle.requests.specs.Table.{is_former_message, is_of_former, keys_of, keys_of_messages, slot_at}
 use Rattle.slab.specs.Slab.{entries_from}
 use Rattle.proof_pure_network.specs.Held.{Held}
@@ -30,12 +30,12 @@ more_front true key x xs a = inr a
 more_front false key x xs a = a
 
 -- the key of a former message
-former_among : (r i k : ℕ) (slots : List (Option Entry)) (j : ℕ) (e : Entry) → slot_at slots j ≡ Some e → is_of_former r i e.progress ≡ true → IsAmong (k + j) (keys_of r i (entries_from k slots))
+former_among : (r i k : ℕ) (slots : List (Option TableEntry)) (j : ℕ) (e : TableEntry) → slot_at slots j ≡ Some e → is_of_former r i e.progress ≡ true → IsAmong (k + j) (keys_of r i (entries_from k slots))
 former_among r i k [] j e at former = absurd (none-some e at)
 former_among r i k (None ∷ xs) zero e at former = absurd (none-some e at)
 former_among r i k (Some x ∷ xs) zero e at former =
     subst (λ (b : Bool). IsAmong (k + 0) (if b then k ∷ keys_of r i (entries_from (k + 1) xs) else keys_of r i (entries_from (k + 1) xs)))
-    (sym (ap (λ (y : Entry). is_of_former r i y.progress) (same_Some x e at) ∙ former)) (inl (omega arith))
+    (sym (ap (λ (y : TableEntry). is_of_former r i y.progress) (same_Some x e at) ∙ former)) (inl (omega arith))
 former_among r i k (None ∷ xs) (suc j) e at former =
     subst (λ (n : ℕ). IsAmong n (keys_of r i (entries_from (k + 1) xs))) (omega arith) (former_among r i (k + 1) xs j e at former)
 former_among r i k (Some x ∷ xs) (suc j) e at former =
@@ -43,18 +43,18 @@ former_among r i k (Some x ∷ xs) (suc j) e at former =
     (subst (λ (n : ℕ). IsAmong n (keys_of r i (entries_from (k + 1) xs))) (omega arith) (former_among r i (k + 1) xs j e at former))
 
 -- a former message stands under the key
-pub record IsFormerAt (r i : ℕ) (slots : List (Option Entry)) (k key : ℕ) : Type 0 where
+pub record IsFormerAt (r i : ℕ) (slots : List (Option TableEntry)) (k key : ℕ) : Type 0 where
   pub place : ℕ
   pub key_is : key ≡ k + place
-  pub entry : Entry
+  pub entry : TableEntry
   pub there : slot_at slots place ≡ Some entry
   pub former : is_of_former r i entry.progress ≡ true
 
 -- one place later
-later_former : (r i k key : ℕ) (s : Option Entry) (xs : List (Option Entry)) → IsFormerAt r i xs (k + 1) key → IsFormerAt r i (s ∷ xs) k key
+later_former : (r i k key : ℕ) (s : Option TableEntry) (xs : List (Option TableEntry)) → IsFormerAt r i xs (k + 1) key → IsFormerAt r i (s ∷ xs) k key
 later_former r i k key s xs h = record { place = suc h.place; key_is = omega (arith, h.key_is); entry = h.entry; there = h.there; former = h.former }
 
-among_former : (r i k : ℕ) (slots : List (Option Entry)) (key : ℕ) → IsAmong key (keys_of r i (entries_from k slots)) → IsFormerAt r i slots k key
+among_former : (r i k : ℕ) (slots : List (Option TableEntry)) (key : ℕ) → IsAmong key (keys_of r i (entries_from k slots)) → IsFormerAt r i slots k key
 among_former r i k [] key a = absurd a
 among_former r i k (None ∷ xs) key a = later_former r i k key None xs (among_former r i (k + 1) xs key a)
 among_former r i k (Some x ∷ xs) key a = go (is_of_former r i x.progress) refl a (among_former r i (k + 1) xs key)
@@ -77,7 +77,7 @@ record IsFormerTaken (from : Endpoint → List Transfer) (known : List ℕ) (p :
   former : is_former r i message.sender ≡ true
 
 -- such an entry holds one
-former_taken : (from : Endpoint → List Transfer) (known : List ℕ) (p : Place) (rows : List Row) (r i serial : ℕ) (g : Progress) → IsTakenBy from known p rows serial g → is_of_former r i g ≡ true → IsFormerTaken from known p rows r i serial
+former_taken : (from : Endpoint → List Transfer) (known : List ℕ) (p : Place) (rows : List Row) (r i serial : ℕ) (g : RequestProgress) → IsTakenBy from known p rows serial g → is_of_former r i g ≡ true → IsFormerTaken from known p rows r i serial
 former_taken from known p rows r i serial (Receiving w) t former = absurd cc
 former_taken from known p rows r i serial (progresses.Collecting w) t former = absurd cc
 former_taken from known p rows r i serial progresses.Offering t former = absurd cc
@@ -89,7 +89,7 @@ former_taken from known p rows r i serial (progresses.TakenOut x) t former = go 
 former_taken from known p rows r i serial (Finished o) t former = absurd cc
 
 -- the key of a former message is that of a request that ends
-pub message_ends : (from : Endpoint → List Transfer) (known : List ℕ) (p : Place) (rows : List Row) (slots : List (Option Entry)) (r i key : ℕ) → IsTable slots rows → AreTaken from known p rows slots → IsAmong key (keys_of_messages r i slots) →
+pub message_ends : (from : Endpoint → List Transfer) (known : List ℕ) (p : Place) (rows : List Row) (slots : List (Option TableEntry)) (r i key : ℕ) → IsTable slots rows → AreTaken from known p rows slots → IsAmong key (keys_of_messages r i slots) →
     IsEnding rows r i key
 message_ends from known p rows slots r i key table taken a =
     let f : IsFormerAt r i slots 0 key = among_former r i 0 slots key a in
@@ -104,19 +104,19 @@ message_ends from known p rows slots r i key table taken a =
       ends = t.former;
     }
   where
-    here : (e : Entry) → slot_at slots key ≡ Some e → IsTakenBy from known p rows e.serial e.progress
+    here : (e : TableEntry) → slot_at slots key ≡ Some e → IsTakenBy from known p rows e.serial e.progress
     here e at = go (slot_at slots key) at (taken key)
       where
-        go : (o : Option Entry) → o ≡ Some e → IsTakenAt from known p rows o → IsTakenBy from known p rows e.serial e.progress
+        go : (o : Option TableEntry) → o ≡ Some e → IsTakenAt from known p rows o → IsTakenBy from known p rows e.serial e.progress
         go None is t = absurd (none-some e is)
-        go (Some x) is t = subst (λ (y : Entry). IsTakenBy from known p rows y.serial y.progress) (same_Some x e is) t
+        go (Some x) is t = subst (λ (y : TableEntry). IsTakenBy from known p rows y.serial y.progress) (same_Some x e is) t
 
 -- and that of a message that was taken out and is lost is among them
-pub taken_among : (from : Endpoint → List Transfer) (known : List ℕ) (p : Place) (rows : List Row) (slots : List (Option Entry)) (r i k key : ℕ) (group : Option (List ℕ)) (h : Held) → IsTable slots rows → AreTaken from known p rows slots →
+pub taken_among : (from : Endpoint → List Transfer) (known : List ℕ) (p : Place) (rows : List Row) (slots : List (Option TableEntry)) (r i k key : ℕ) (group : Option (List ℕ)) (h : Held) → IsTable slots rows → AreTaken from known p rows slots →
     slice_get rows k ≡ Some (row_of key (Probed group (Some h))) → is_former r i h.sender ≡ true → IsAmong key (keys_of_messages r i slots)
 taken_among from known p rows slots r i k key group h table taken at former =
     subst (λ (n : ℕ). IsAmong n (keys_of r i (entries_from 0 slots))) (omega arith) (former_among r i 0 slots key mine.entry mine.there
-    (ap (is_of_former r i) message.is ∙ by_message message.taken.message message.alike.there (subst (λ (g : Progress). IsTakenBy from known p rows mine.entry.serial g) message.is (here mine.entry mine.there))))
+    (ap (is_of_former r i) message.is ∙ by_message message.taken.message message.alike.there (subst (λ (g : RequestProgress). IsTakenBy from known p rows mine.entry.serial g) message.is (here mine.entry mine.there))))
   where
     mine : Holds (slot_at slots key) k (Probed group (Some h))
     mine = held_at slots rows k key (Probed group (Some h)) table at (λ e. cc)
@@ -124,12 +124,12 @@ taken_among from known p rows slots r i k key group h table taken at former =
     message : IsMessage mine.entry.progress group (Some h)
     message = fits_probed mine.entry.progress group (Some h) mine.fits
 
-    here : (e : Entry) → slot_at slots key ≡ Some e → IsTakenBy from known p rows e.serial e.progress
+    here : (e : TableEntry) → slot_at slots key ≡ Some e → IsTakenBy from known p rows e.serial e.progress
     here e is = go (slot_at slots key) is (taken key)
       where
-        go : (o : Option Entry) → o ≡ Some e → IsTakenAt from known p rows o → IsTakenBy from known p rows e.serial e.progress
+        go : (o : Option TableEntry) → o ≡ Some e → IsTakenAt from known p rows o → IsTakenBy from known p rows e.serial e.progress
         go None x t = absurd (none-some e x)
-        go (Some y) x t = subst (λ (z : Entry). IsTakenBy from known p rows z.serial z.progress) (same_Some y e x) t
+        go (Some y) x t = subst (λ (z : TableEntry). IsTakenBy from known p rows z.serial z.progress) (same_Some y e x) t
 
     held_of_job : Job → Option Held
     held_of_job (Probed g x) = x

@@ -23,29 +23,29 @@ use Rattle.requests.specs.Outcomes.{outcome_of}
 use Rattle.requests.specs.Regions.{handed_of}
 use Rattle.requests.specs.Table as table
 use Rattle.requests.specs.Table.{has_room, is_message, matched_progress, message_in, progress_at, progress_of, slot_at, slot_received}
-use Rattle.requests.specs.declared.awaited.Awaited.TheVariants as awaiteds
+use Rattle.requests.specs.declared.awaited_requests.Awaited.TheVariants as awaiteds
 use Rattle.requests.specs.declared.answer.Answer.TheVariants as answers
 use Rattle.requests.specs.declared.outcome.Outcome.TheVariants as outcomes
 use Rattle.requests.specs.declared.region.Region.{Region}
-use Rattle.requests.specs.declared.table.Entry as entries
-use Rattle.requests.specs.declared.table.Progress.{Progress}
-use Rattle.requests.specs.declared.table.Progress.TheVariants.{Finished, Receiving}
-use Rattle.requests.specs.declared.table.Progress.TheVariants as progresses
+use Rattle.requests.specs.declared.table.TableEntry as entries
+use Rattle.requests.specs.declared.table.RequestProgress.{RequestProgress}
+use Rattle.requests.specs.declared.table.RequestProgress.TheVariants.{Finished, Receiving}
+use Rattle.requests.specs.declared.table.RequestProgress.TheVariants as progresses
 use Rattle.requests.specs.declared.table.Request.{Request}
-use Rattle.shared_groups.specs.Statuses.{status_in}
-use Rattle.rank_calls.specs.declared.call.Call.TheVariants as calls
-use Rattle.rank_calls.specs.declared.call.Receive.{Receive}
-use Rattle.rank_calls.specs.declared.call.Reply.{Reply}
-use Rattle.rank_calls.specs.declared.call.Reply.TheVariants as replies
-use Rattle.rank_calls.specs.declared.refused.Refused.{Refused}
-use Rattle.rank_calls.specs.declared.refused.Refused.TheVariants as refusals
-use Rattle.rank_calls.specs.Frames.{FrameFor, as_list}
-use Rattle.rank_calls.specs.Hearing.{first_of}
-use Rattle.rank_calls.specs.Receiving.{answer_on_post, collection_on_match, status_of, transfers_on_post, transfers_with, waiting_by}
-use Rattle.rank_core.specs.Calls.{free_fault}
-use Rattle.rank_core.specs.CoreState.{CoreState}
-use Rattle.rank_core.specs.Messages.{Receives, message_fault, message_frame, own_key_sent, own_send_of, received, region_rule}
-use Rattle.rank_core.specs.Waiting.{Waits}
+use Rattle.communicator_members.specs.Statuses.{status_in}
+use Rattle.point_to_point_calls.specs.declared.call.CoreCall.TheVariants as calls
+use Rattle.point_to_point_calls.specs.declared.call.CoreReceive.{CoreReceive}
+use Rattle.point_to_point_calls.specs.declared.call.CoreReply.{CoreReply}
+use Rattle.point_to_point_calls.specs.declared.call.CoreReply.TheVariants as replies
+use Rattle.point_to_point_calls.specs.declared.refusal.Refusal.{Refusal}
+use Rattle.point_to_point_calls.specs.declared.refusal.Refusal.TheVariants as refusals
+use Rattle.point_to_point_calls.specs.Frames.{FrameFor, as_list}
+use Rattle.point_to_point_calls.specs.Hearing.{first_of}
+use Rattle.point_to_point_calls.specs.Receiving.{answer_on_post, collection_on_match, status_of, transfers_on_post, transfers_with, waiting_by}
+use Rattle.point_to_point.specs.Calls.{free_fault}
+use Rattle.point_to_point.specs.CoreState.{CoreState}
+use Rattle.point_to_point.specs.Messages.{Receives, message_fault, message_frame, own_key_sent, own_send_of, received, region_rule}
+use Rattle.point_to_point.specs.Waiting.{Waits}
 use Rattle.proof_pure_network.specs.Claims.{ClaimsOnce}
 use Rattle.proof_pure_network.specs.Core.{Core, Effect, effect, view, with_jobs}
 use Rattle.proof_pure_network.specs.Engine.{called, core_ready, core_settled}
@@ -103,7 +103,7 @@ entry_held : (links : Announcements) (old : CoreState) (known : List ℕ) (core 
     slot_at old.slots q.key ≡ Some (record { serial = q.serial; progress = progresses.TakenOut (record { group = group; message = o }) }) → HoldsEither links old known shown.rows q
 entry_held links old known core q group None shown at =
     let r : found.HasRow shown.rows q.serial q.key (progresses.TakenOut (record { group = group; message = None })) = found.row_of old.slots shown.rows q.serial q.key (progresses.TakenOut (record { group = group; message = None })) shown.table
-    (ap (λ (s : Option entries.Entry). progress_of s q.serial) at ∙ ap (λ (b : Bool). if b then Some (progresses.TakenOut (record { group = group; message = None })) else None) (eq-eqb q.serial q.serial refl)) in
+    (ap (λ (s : Option entries.TableEntry). progress_of s q.serial) at ∙ ap (λ (b : Bool). if b then Some (progresses.TakenOut (record { group = group; message = None })) else None) (eq-eqb q.serial q.serial refl)) in
     let h : found.HoldsMessage (record { group = group; message = None }) r.job = found.probed_of (record { group = group; message = None }) r.job r.fits in
     inl (
       group,
@@ -115,7 +115,7 @@ entry_held links old known core q group None shown at =
     none_of (Some h) e = absurd cc
 entry_held links old known core q group (Some m) shown at =
     let r : found.HasRow shown.rows q.serial q.key (progresses.TakenOut (record { group = group; message = Some m })) = found.row_of old.slots shown.rows q.serial q.key (progresses.TakenOut (record { group = group; message = Some m })) shown.table
-    (ap (λ (s : Option entries.Entry). progress_of s q.serial) at ∙ ap (λ (b : Bool). if b then Some (progresses.TakenOut (record { group = group; message = Some m })) else None) (eq-eqb q.serial q.serial refl)) in
+    (ap (λ (s : Option entries.TableEntry). progress_of s q.serial) at ∙ ap (λ (b : Bool). if b then Some (progresses.TakenOut (record { group = group; message = Some m })) else None) (eq-eqb q.serial q.serial refl)) in
     let t : IsTakenAt links.from known old.place shown.rows (Some (record { serial = q.serial; progress = progresses.TakenOut (record { group = group; message = Some m }) })) =
     subst (IsTakenAt links.from known old.place shown.rows) at (shown.taken q.key) in
     let same : row_of q.key r.job ≡ row_of t.key (Probed group (Some (held_of links.from m))) = same_Some (row_of q.key r.job) (row_of t.key (Probed group (Some (held_of links.from m)))) (sym r.there ∙ t.row) in
@@ -133,7 +133,7 @@ message_held links old known core q shown fine = by_slot (slot_at old.slots q.ke
     is_one true h = refl
     is_one false h = absurd cc
 
-    by_progress : (e : entries.Entry) (g : Progress) → slot_at old.slots q.key ≡ Some (record { serial = e.serial; progress = g }) → e.serial ≡ q.serial → is_message (Some g) ≡ true → HoldsEither links old known shown.rows q
+    by_progress : (e : entries.TableEntry) (g : RequestProgress) → slot_at old.slots q.key ≡ Some (record { serial = e.serial; progress = g }) → e.serial ≡ q.serial → is_message (Some g) ≡ true → HoldsEither links old known shown.rows q
     by_progress e (Receiving w) at s h = absurd cc
     by_progress e (progresses.Collecting w) at s h = absurd cc
     by_progress e progresses.Offering at s h = absurd cc
@@ -141,13 +141,13 @@ message_held links old known core q shown fine = by_slot (slot_at old.slots q.ke
         entry_held links old known core q t.group t.message shown (at ∙ ap (λ (n : ℕ). Some (record { serial = n; progress = progresses.TakenOut t })) s)
     by_progress e (Finished o) at s h = absurd cc
 
-    by_serial : (e : entries.Entry) → slot_at old.slots q.key ≡ Some e → (b : Bool) → (e.serial == q.serial) ≡ b → is_message (if b then Some e.progress else None) ≡ true → HoldsEither links old known shown.rows q
+    by_serial : (e : entries.TableEntry) → slot_at old.slots q.key ≡ Some e → (b : Bool) → (e.serial == q.serial) ≡ b → is_message (if b then Some e.progress else None) ≡ true → HoldsEither links old known shown.rows q
     by_serial e at true s h = by_progress e e.progress at (eqb-true e.serial q.serial s) h
     by_serial e at false s h = absurd cc
 
-    by_slot : (s : Option entries.Entry) → slot_at old.slots q.key ≡ s → is_message (progress_at old.slots q.key q.serial) ≡ true → HoldsEither links old known shown.rows q
-    by_slot None at h = let wrong : false ≡ true = sym (ap (λ (s : Option entries.Entry). is_message (progress_of s q.serial)) at) ∙ h in absurd cc
-    by_slot (Some e) at h = by_serial e at (e.serial == q.serial) refl (sym (ap (λ (s : Option entries.Entry). is_message (progress_of s q.serial)) at) ∙ h)
+    by_slot : (s : Option entries.TableEntry) → slot_at old.slots q.key ≡ s → is_message (progress_at old.slots q.key q.serial) ≡ true → HoldsEither links old known shown.rows q
+    by_slot None at h = let wrong : false ≡ true = sym (ap (λ (s : Option entries.TableEntry). is_message (progress_of s q.serial)) at) ∙ h in absurd cc
+    by_slot (Some e) at h = by_serial e at (e.serial == q.serial) refl (sym (ap (λ (s : Option entries.TableEntry). is_message (progress_of s q.serial)) at) ∙ h)
 
 -- ---- THE CALL
 
@@ -177,14 +177,14 @@ renamed c (Completed e a ∷ es) = Completed e a ∷ renamed c es
 renamed c (Restarted r ∷ es) = Restarted r ∷ renamed c es
 
 -- where one call is told so, the other is
-told_as : (e : Endpoint) (c d : machine.Call) (o : Option (Answer × List ℕ)) (reply : Reply) → told e (Some (c, None)) o ≡ told_by e c reply → told e (Some (d, None)) o ≡ told_by e d reply
+told_as : (e : Endpoint) (c d : machine.Call) (o : Option (Answer × List ℕ)) (reply : CoreReply) → told e (Some (c, None)) o ≡ told_by e c reply → told e (Some (d, None)) o ≡ told_by e d reply
 told_as e c d o reply h = sym (by_answer o) ∙ (ap (renamed d) h ∙ by_reply reply)
   where
     by_answer : (x : Option (Answer × List ℕ)) → renamed d (told e (Some (c, None)) x) ≡ told e (Some (d, None)) x
     by_answer None = refl
     by_answer (Some t) = refl
 
-    by_reply : (x : Reply) → renamed d (told_by e c x) ≡ told_by e d x
+    by_reply : (x : CoreReply) → renamed d (told_by e c x) ≡ told_by e d x
     by_reply (replies.Started q) = refl
     by_reply (replies.Done a) = refl
     by_reply replies.Pending = refl
@@ -194,7 +194,7 @@ told_as e c d o reply h = sym (by_answer o) ∙ (ap (renamed d) h ∙ by_reply r
     by_reply (replies.Refused why back) = refl
 
 -- such a receive is that of the core
-received_called : (links : Announcements) (old new : CoreState) (known : List ℕ) (core : Core) (q : Request) (into : Region) (reply : Reply) → IsShown links old known core → old.blocked ≡ None →
+received_called : (links : Announcements) (old new : CoreState) (known : List ℕ) (core : Core) (q : Request) (into : Region) (reply : CoreReply) → IsShown links old known core → old.blocked ≡ None →
     queue_fault old.place.size (view blank core) (machine.Mrecv (Some q.serial) (handed_of into)) ≡ None → IsReceivedSo links old known core q into → Receives old (Some q) into reply new →
     IsCalled links old known core (calls.Mrecv (Some q) into) reply new
 received_called links old new known core q into reply shown free fit so done =
@@ -238,12 +238,12 @@ progress_held : (old : CoreState) (q : Request) (g : Option (List ℕ)) (o : Opt
     slot_at old.slots q.key ≡ Some (record { serial = q.serial; progress = progresses.TakenOut (record { group = g; message = o }) }) →
     progress_at old.slots q.key q.serial ≡ Some (progresses.TakenOut (record { group = g; message = o }))
 progress_held old q g o at =
-    ap (λ (s : Option entries.Entry). progress_of s q.serial) at ∙ ap (λ (b : Bool). if b then Some (progresses.TakenOut (record { group = g; message = o })) else None) (eq-eqb q.serial q.serial refl)
+    ap (λ (s : Option entries.TableEntry). progress_of s q.serial) at ∙ ap (λ (b : Bool). if b then Some (progresses.TakenOut (record { group = g; message = o })) else None) (eq-eqb q.serial q.serial refl)
 
 received_is : (old : CoreState) (q : Request) (into : Region) (g : Option (List ℕ)) (o : Option Message) →
     slot_at old.slots q.key ≡ Some (record { serial = q.serial; progress = progresses.TakenOut (record { group = g; message = o }) }) → received old q into ≡ left_with old q into g o
 received_is old q into g o at =
-    ap₂ (λ (p : Option Progress) (s : Option entries.Entry). record old {
+    ap₂ (λ (p : Option RequestProgress) (s : Option entries.TableEntry). record old {
       slots = own_key_sent (own_send_of (message_in p)) (slot_received s old.slots q.key into);
       transfers = transfers_on_post old.transfers into q.key (message_in p);
     }) (progress_held old q g o at) at
@@ -251,7 +251,7 @@ received_is old q into g o at =
 -- and the frame that answers it
 frame_is : (old : CoreState) (q : Request) (into : Region) (g : Option (List ℕ)) (o : Option Message) →
     slot_at old.slots q.key ≡ Some (record { serial = q.serial; progress = progresses.TakenOut (record { group = g; message = o }) }) → message_frame old (Some q) into ≡ answer_on_post into o
-frame_is old q into g o at = ap (λ (p : Option Progress). answer_on_post into (message_in p)) (progress_held old q g o at)
+frame_is old q into g o at = ap (λ (p : Option RequestProgress). answer_on_post into (message_in p)) (progress_held old q g o at)
 
 -- what the core holds under it
 job_held : (links : Announcements) (old : CoreState) (known : List ℕ) (core : Core) (q : Request) (j : Job) → (shown : IsShown links old known core) → slice_get shown.rows q.serial ≡ Some (row_of q.key j) → slice_get core.jobs q.serial ≡ Some j
@@ -262,7 +262,7 @@ row_set : (rows : List Row) (q : Request) (j job : Job) → slice_get rows q.ser
 row_set rows q j job at = get_set_same rows q.serial (row_of q.key j) (row_of q.key job) at
 
 -- the receive of the message, by its own envelope
-abbrev receive_by : Option (List ℕ) → Message → Region → Receive
+abbrev receive_by : Option (List ℕ) → Message → Region → CoreReceive
 receive_by g m into = record { source = sources.Rank m.sender.rank; tag = Some m.tag; context = m.context; group = g; into = into }
 
 -- it accepts the message
@@ -324,7 +324,7 @@ received_whole agree links old known core q into g m c shown has =
     p : receives.Receive
     p = receive_seen (receive_by g (whole m c) into)
 
-    x : Progress
+    x : RequestProgress
     x = Finished (outcome_of (handed_of into) (status_in g (status_of (whole m c))) c)
 
     y : ends.Outcome
@@ -406,7 +406,7 @@ received_own agree links old known core q into g m o shown once has =
     p : receives.Receive
     p = receive_seen (receive_by g (own_as m o) into)
 
-    x : Progress
+    x : RequestProgress
     x = Finished (outcome_of (handed_of into) (status_in g (status_of (own_as m o))) o.elements)
 
     y : ends.Outcome
@@ -431,11 +431,11 @@ received_own agree links old known core q into g m o shown once has =
 -- ---- WHATEVER IS RECEIVED
 
 -- the receive of the null process's message ends at once, and its buffer is as it was
-nothing_shown : (links : Announcements) (old new : CoreState) (known : List ℕ) (core : Core) (into : Region) (reply : Reply) → IsShown links old known core → old.blocked ≡ None →
+nothing_shown : (links : Announcements) (old new : CoreState) (known : List ℕ) (core : Core) (into : Region) (reply : CoreReply) → IsShown links old known core → old.blocked ≡ None →
     free_fault old (calls.Mrecv None into) ≡ None → Receives old None into reply new → IsCalled links old known core (calls.Mrecv None into) reply new
 nothing_shown links old new known core into reply shown free fine done =
     meant_called links old new known core (calls.Mrecv None into) reply refl
-    (subst (λ (x : Reply). IsMeant links old known core c x new) (sym done.0)
+    (subst (λ (x : CoreReply). IsMeant links old known core c x new) (sym done.0)
     (subst (λ (x : CoreState). IsMeant links old known core c (replies.Done (answers.One (outcomes.Received ends.null_status into.buffer))) x) (sym done.1)
     (record {
       fit = (message_without_fault links old known core None into shown free fine).none;
@@ -463,7 +463,7 @@ message_received agree own alike links old known core q into g m shown once has 
     go (inr (inr w)) = received_own own links old known core q into g m w.0 shown once (subst (HoldsMessage links old known shown.rows q g) w.1 has)
 
 -- the receive of a message that meets no rule
-pub messages_shown : OutcomesAgree → OwnOutcomesAgree → AnnouncementsAgree → (links : Announcements) (old new : CoreState) (known : List ℕ) (core : Core) (q : Option Request) (into : Region) (reply : Reply) → IsShown links old known core →
+pub messages_shown : OutcomesAgree → OwnOutcomesAgree → AnnouncementsAgree → (links : Announcements) (old new : CoreState) (known : List ℕ) (core : Core) (q : Option Request) (into : Region) (reply : CoreReply) → IsShown links old known core →
     ClaimsOnce core → old.blocked ≡ None → free_fault old (calls.Mrecv q into) ≡ None → Receives old q into reply new → IsCalled links old known core (calls.Mrecv q into) reply new
 messages_shown agree own alike links old new known core None into reply shown once free fine done =
     nothing_shown links old new known core into reply shown free fine done
@@ -471,7 +471,7 @@ messages_shown agree own alike links old new known core (Some q) into reply show
     go (message_held links old known core q shown (first_none (message_fault old (Some q)) (region_rule into) fine))
   where
     -- two rules are kept
-    first_none : (a b : Option Refused) → first_of a b ≡ None → a ≡ None
+    first_none : (a b : Option Refusal) → first_of a b ≡ None → a ≡ None
     first_none None b h = refl
     first_none (Some e) b h = absurd cc
 

@@ -9,7 +9,7 @@ use Rattle.perfect_queues.specs.Completions as machine
 use Rattle.proof_pure_network.proofs.JobLemmas.{get_set_same}
 use Rattle.proof_pure_network.specs.Jobs.{Job, Closed}
 use Rattle.requests.specs.Completions.{awaited_requests}
-use Rattle.requests.specs.declared.awaited.Awaited.{Awaited}
+use Rattle.requests.specs.declared.awaited_requests.Awaited.{Awaited}
 use Rattle.requests.specs.declared.table.Request.{Request}
 use Rattle.proof_engine_view.specs.Rows.{Row}
 use Rattle.proof_engine_view.specs.Shown.{IsBlocked, IsNamed}

@@ -11,11 +11,11 @@ use Rattle.match_queues.specs.declared.envelope.Body.TheVariants as bodies
 use Rattle.match_queues.specs.declared.envelope.Message.{Message}
 use Rattle.datatypes.specs.Contents.{values_of}
 use Rattle.vocabulary.specs.BasicTypes.{size_of}
-use Rattle.requests.specs.declared.awaited.Awaited.{Awaited}
-use Rattle.rank_core.specs.CoreState.{CoreState}
-use Rattle.rank_calls.specs.Hearing.{NewsText, heard_fault, message_of, transfers_met}
-use Rattle.rank_core.specs.Hearing.{after_any, after_news, called_for, news_frames, taught}
-use Rattle.rank_core.specs.Sending as rank
+use Rattle.requests.specs.declared.awaited_requests.Awaited.{Awaited}
+use Rattle.point_to_point.specs.CoreState.{CoreState}
+use Rattle.point_to_point_calls.specs.Hearing.{NewsText, heard_fault, message_of, transfers_met}
+use Rattle.point_to_point.specs.Arrivals.{after_any, after_news, called_for, news_frames, after_lesson}
+use Rattle.point_to_point.specs.Sending as rank
 use Rattle.rendezvous.specs.State as transfers
 use Rattle.proof_pure_network.specs.Core.{Core, Effect}
 use Rattle.proof_pure_network.specs.Engine as network
@@ -61,11 +61,11 @@ eager_whole s t = refl
 pub messages_are_taken : ArrivalsMatch → OutcomesAgree → MessagesAreTaken
 messages_are_taken match agree links e known core s t frame meets =
     record {
-      both = subst (λ (x : Effect). HoldBoth links (rank.arrived e m) known x.core) (sym same)
+      both = subst (λ (x : Effect). HoldBoth links (rank.after_arrival e m) known x.core) (sym same)
           (record {
             rows = a.left;
             holding = a.holding;
-            awaited = blocked_stays meets.both.rows a.left (rank.arrived e m).blocked core.blocked (arrived core (held_of links.from m)).core.blocked
+            awaited = blocked_stays meets.both.rows a.left (rank.after_arrival e m).blocked core.blocked (arrived core (held_of links.from m)).core.blocked
                 (subst (λ (x : Option Awaited). IsBlocked meets.both.rows x core.blocked) (sym keeps.blocked) meets.both.awaited) a.blocked a.waits;
           });
       place = keeps.place;
@@ -78,10 +78,10 @@ messages_are_taken match agree links e known core s t frame meets =
     m : Message
     m = message_of s t
 
-    keeps : Keeps e (rank.arrived e m)
+    keeps : Keeps e (rank.after_arrival e m)
     keeps = arrived_keeps e m
 
-    a : IsHeldAfter links meets.both.rows (rank.arrived e m) known core (arrived core (held_of links.from m))
+    a : IsHeldAfter links meets.both.rows (rank.after_arrival e m) known core (arrived core (held_of links.from m))
     a = message_holds match agree links e known core meets.both.rows m (record { basic = t.basic; values = values_of (size_of t.basic) t.elements }) (eager_whole s t) meets.both.holding
 
     same : came core s frame ≡ arrived core (held_of links.from m)
@@ -148,23 +148,23 @@ any_taken laws links e known core s (Some text) (Some frame) c =
 -- ---- THE LESSON AND THE FRAME
 
 -- the rank stays at its place
-taught_place : (lesson : Bool) (c : CoreState) (s : Endpoint) → (taught lesson c s).place ≡ c.place
+taught_place : (lesson : Bool) (c : CoreState) (s : Endpoint) → (after_lesson lesson c s).place ≡ c.place
 taught_place true c s = refl
 taught_place false c s = refl
 
 -- and owes the answer that it owed
-taught_completion : (lesson : Bool) (c : CoreState) (s : Endpoint) → (taught lesson c s).completion ≡ c.completion
+taught_completion : (lesson : Bool) (c : CoreState) (s : Endpoint) → (after_lesson lesson c s).completion ≡ c.completion
 taught_completion true c s = refl
 taught_completion false c s = refl
 
 -- the frame meets the transfers that the lesson leaves
-taught_transfers : (lesson : Bool) (c : CoreState) (s : Endpoint) → transfers_met lesson c.transfers s.rank ≡ (taught lesson c s).transfers
+taught_transfers : (lesson : Bool) (c : CoreState) (s : Endpoint) → transfers_met lesson c.transfers s.rank ≡ (after_lesson lesson c s).transfers
 taught_transfers true c s = refl
 taught_transfers false c s = refl
 
 -- what comes once the lesson, if there was one, is learnt
 news_come : (links : Announcements) (old : CoreState) (known : List ℕ) (core : Core) (news : NewsText) (frame : Option Frame) → IsShown links old known core →
-    MayCome links old known core news frame → Comes links (taught news.lesson old news.source) (known_after news.lesson known news.source) core news.source news.frame frame
+    MayCome links old known core news frame → Comes links (after_lesson news.lesson old news.source) (known_after news.lesson known news.source) core news.source news.frame frame
 news_come links old known core news frame shown may =
     record {
       both = met_holds links old known core news shown may.other may.untold;
@@ -201,5 +201,5 @@ news_are_shown laws links old known core news frame shown may =
     after : Effect
     after = heard_by_core core s frame
 
-    h : Hears links (taught news.lesson old s) learnt core s news.frame frame
-    h = any_taken laws links (taught news.lesson old s) learnt core s news.frame frame (news_come links old known core news frame shown may)
+    h : Hears links (after_lesson news.lesson old s) learnt core s news.frame frame
+    h = any_taken laws links (after_lesson news.lesson old s) learnt core s news.frame frame (news_come links old known core news frame shown may)

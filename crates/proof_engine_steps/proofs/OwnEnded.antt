@@ -16,11 +16,11 @@ use Rattle.perfect_queues.specs.Requests.{changed}
 use Rattle.perfect_queues.proofs.ListLemmas.{get_set_other}
 use Rattle.requests.specs.Table.{after_answer, progress_on_answer, slot_answered, slot_at}
 use Rattle.requests.specs.declared.outcome.Outcome.TheVariants as outcomes
-use Rattle.requests.specs.declared.table.Entry.{Entry}
-use Rattle.requests.specs.declared.table.Progress.{Progress}
-use Rattle.requests.specs.declared.table.Progress.TheVariants.{Finished, Receiving}
-use Rattle.requests.specs.declared.table.Progress.TheVariants as progresses
-use Rattle.rank_core.specs.CoreState.{CoreState}
+use Rattle.requests.specs.declared.table.TableEntry.{TableEntry}
+use Rattle.requests.specs.declared.table.RequestProgress.{RequestProgress}
+use Rattle.requests.specs.declared.table.RequestProgress.TheVariants.{Finished, Receiving}
+use Rattle.requests.specs.declared.table.RequestProgress.TheVariants as progresses
+use Rattle.point_to_point.specs.CoreState.{CoreState}
 use Rattle.proof_pure_network.proofs.Counts.{count_set, matched_taken, own_count, posted_some}
 use Rattle.proof_pure_network.specs.Claims.{ClaimsOnce, claims, count, is_own, is_own_body, one, taken_is}
 use Rattle.proof_pure_network.specs.Core.{Core, with_jobs}
@@ -114,7 +114,7 @@ messages_unclaimed from known p rows k new (m ∷ ms) other all =
     (from_unclaimed from known p rows k new m m.body other.0 all.0, messages_unclaimed from known p rows k new ms other.1 all.1)
 
 -- and all that were taken out
-slots_unclaimed : (from : Endpoint → List Transfer) (known : List ℕ) (p : Place) (rows : List Row) (slots : List (Option Entry)) (k key : ℕ) (d : Endpoint) → slice_get rows k ≡ Some (row_of key (Unmatched d)) →
+slots_unclaimed : (from : Endpoint → List Transfer) (known : List ℕ) (p : Place) (rows : List Row) (slots : List (Option TableEntry)) (k key : ℕ) (d : Endpoint) → slice_get rows k ≡ Some (row_of key (Unmatched d)) →
     AllByRecursion (λ j. taken_is (is_own k) j ≡ false) (jobs_of rows) → AreTaken from known p rows slots → AreTaken from known p (slice_set rows k (row_of key (Over ends.Sent))) slots
 slots_unclaimed from known p rows slots k key d at other taken place = by_slot (slot_at slots place) (taken place)
   where
@@ -131,14 +131,14 @@ slots_unclaimed from known p rows slots k key d at other taken place = by_slot (
               (at_place (λ j. taken_is (is_own k) j ≡ false) (jobs_of rows) serial (Probed group (Some (held_of from m))) other (job_at rows serial i.key (Probed group (Some (held_of from m))) i.row)) i.from_link;
         }
 
-    by_progress : (serial : ℕ) (g : Progress) → IsTakenBy from known p rows serial g → IsTakenBy from known p left serial g
+    by_progress : (serial : ℕ) (g : RequestProgress) → IsTakenBy from known p rows serial g → IsTakenBy from known p left serial g
     by_progress serial (Receiving w) i = tt
     by_progress serial (progresses.Collecting w) i = tt
     by_progress serial progresses.Offering i = tt
     by_progress serial (progresses.TakenOut t) i = if_there serial t.group t.message i
     by_progress serial (Finished o) i = tt
 
-    by_slot : (o : Option Entry) → IsTakenAt from known p rows o → IsTakenAt from known p left o
+    by_slot : (o : Option TableEntry) → IsTakenAt from known p rows o → IsTakenAt from known p left o
     by_slot None i = tt
     by_slot (Some e) i = by_progress e.serial e.progress i
 
@@ -152,7 +152,7 @@ own_ended links e known core rows k key h at none =
     record {
       jobs = matched_unmatched core.jobs k d job ∙ (ap (λ (js : List Job). slice_set js k (Over ends.Sent)) h.jobs ∙ sym (set_jobs rows k key (Over ends.Sent)));
       count = length-set rows k over ∙ h.count;
-      table = subst (λ (s : List (Option Entry)). IsTable s left) (sym written)
+      table = subst (λ (s : List (Option TableEntry)). IsTable s left) (sym written)
           (changed_table e.slots (slice_set e.slots key (Some after)) rows k key (Unmatched d) (Over ends.Sent) (Some after) h.table at (λ x. cc)
           (set_is_set e.slots key mine.entry (Some after) mine.there) (subst (λ (n : ℕ). Says (Some after) n (Over ends.Sent)) mine.serial_is (says_some mine.entry.serial (Finished outcomes.Sent) (Over ends.Sent) refl)));
       posted = h.posted ∙ posted_still rows k key (Unmatched d) (Over ends.Sent) at refl refl;
@@ -182,9 +182,9 @@ own_ended links e known core rows k key h at none =
     mine : Holds (slot_at e.slots key) k (Unmatched d)
     mine = held_at e.slots rows k key (Unmatched d) h.table at (λ x. cc)
 
-    after : Entry
+    after : TableEntry
     after = record mine.entry { progress = Finished outcomes.Sent }
 
     written : after_answer e.slots key ≡ slice_set e.slots key (Some after)
-    written = ap (λ (s : Option Entry). slot_answered s e.slots key) mine.there
-        ∙ ap (λ (g : Progress). slice_set e.slots key (Some (record mine.entry { progress = progress_on_answer g }))) (fits_unmatched mine.entry.progress d mine.fits)
+    written = ap (λ (s : Option TableEntry). slot_answered s e.slots key) mine.there
+        ∙ ap (λ (g : RequestProgress). slice_set e.slots key (Some (record mine.entry { progress = progress_on_answer g }))) (fits_unmatched mine.entry.progress d mine.fits)

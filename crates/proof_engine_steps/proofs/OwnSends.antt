@@ -20,18 +20,18 @@ use Rattle.match_queues.specs.declared.envelope.Message.{Message}
 use Rattle.match_queues.specs.declared.envelope.OwnSend.{OwnSend}
 use Rattle.requests.specs.Regions.{sent_from}
 use Rattle.requests.specs.Table.{IsSet}
-use Rattle.requests.specs.declared.table.Progress.TheVariants as progresses
+use Rattle.requests.specs.declared.table.RequestProgress.TheVariants as progresses
 use Rattle.requests.specs.declared.table.Request.{Request}
-use Rattle.rank_calls.specs.declared.call.Call.TheVariants as calls
-use Rattle.rank_calls.specs.declared.call.Reply.TheVariants as replies
-use Rattle.rank_calls.specs.declared.call.Send.{Send}
-use Rattle.rank_core.specs.CoreState.{CoreState}
-use Rattle.rank_core.specs.Sending as rank
-use Rattle.rank_calls.specs.Calls.{IsWithin}
-use Rattle.rank_calls.specs.Frames.{as_list}
-use Rattle.rank_calls.specs.Sending.{announced_to, destination, frame_to, frame_unless, is_announced, is_own, is_to_itself, offered_by, own_message, rank_to, rank_unless}
-use Rattle.rank_core.specs.Calls.{free_fault}
-use Rattle.rank_core.specs.Sending.{IsSending, arrived_at_itself, arrived_if, begun, frame_of, waiting_of}
+use Rattle.point_to_point_calls.specs.declared.call.CoreCall.TheVariants as calls
+use Rattle.point_to_point_calls.specs.declared.call.CoreReply.TheVariants as replies
+use Rattle.point_to_point_calls.specs.declared.call.CoreSend.{CoreSend}
+use Rattle.point_to_point.specs.CoreState.{CoreState}
+use Rattle.point_to_point.specs.Sending as rank
+use Rattle.point_to_point_calls.specs.Calls.{IsWithin}
+use Rattle.point_to_point_calls.specs.Frames.{as_list}
+use Rattle.point_to_point_calls.specs.Sending.{announced_to, destination, frame_to, frame_unless, is_announced, is_own, is_to_itself, offered_by, own_message, rank_to, rank_unless}
+use Rattle.point_to_point.specs.Calls.{free_fault}
+use Rattle.point_to_point.specs.Sending.{IsSending, arrived_at_itself, arrived_if, begun, frame_of, waiting_of}
 use Rattle.proof_pure_network.specs.Core.{Core, Effect}
 use Rattle.proof_pure_network.specs.Frames.{Frame}
 use Rattle.proof_pure_network.specs.Engine as cores
@@ -73,19 +73,19 @@ core_sends_own core own c tag basic values known =
     d = machine.receiver core.known own.rank
 
 -- nothing goes out of such a send
-own_frame : (old : CoreState) (s : Send) (to tag : ℕ) → s.target ≡ Rank to → s.tag ≡ Some tag → (to == old.place.endpoint.rank) ≡ true → frame_of old s ≡ None
+own_frame : (old : CoreState) (s : CoreSend) (to tag : ℕ) → s.target ≡ Rank to → s.tag ≡ Some tag → (to == old.place.endpoint.rank) ≡ true → frame_of old s ≡ None
 own_frame old s to tag target_is tag_is own =
     ap₂ (λ (t : Source) (g : Option ℕ). frame_to old.place old.transfers s.mode (destination t g s.context) (sent_from s.from)) target_is tag_is
     ∙ ap (λ (b : Bool). frame_unless b old.transfers s.mode (record { rank = to; tag = tag; context = s.context }) (sent_from s.from)) own
 
 -- and nothing is announced, however many bytes it has
-own_to_nobody : (p : Place) (s : Send) (to tag : ℕ) → s.target ≡ Rank to → s.tag ≡ Some tag → (to == p.endpoint.rank) ≡ true → announced_to p s ≡ None
+own_to_nobody : (p : Place) (s : CoreSend) (to tag : ℕ) → s.target ≡ Rank to → s.tag ≡ Some tag → (to == p.endpoint.rank) ≡ true → announced_to p s ≡ None
 own_to_nobody p s to tag target_is tag_is own =
     announced_nowhere p s
     (ap₂ (λ (t : Source) (g : Option ℕ). rank_to p (destination t g s.context)) target_is tag_is ∙ ap (λ (b : Bool). rank_unless b (record { rank = to; tag = tag; context = s.context })) own)
 
 -- such a standard send is that of its core: the request starts, finished, and then the message comes
-own_send_shown : ArrivalsMatch → OutcomesAgree → (links : Announcements) (old new : CoreState) (known : List ℕ) (core : Core) (s : Send) (q : Request) (to tag : ℕ) → IsShown links old known core → old.blocked ≡ None →
+own_send_shown : ArrivalsMatch → OutcomesAgree → (links : Announcements) (old new : CoreState) (known : List ℕ) (core : Core) (s : CoreSend) (q : Request) (to tag : ℕ) → IsShown links old known core → old.blocked ≡ None →
     s.mode ≡ Standard → s.target ≡ Rank to → s.tag ≡ Some tag → (to == old.place.endpoint.rank) ≡ true → KeepsRules old.place s → IsSending old s q new → IsCalled links old known core (calls.Isend s) (replies.Started q) new
 own_send_shown match agree links old new known core s q to tag shown free standard target_is tag_is own kept is_sent =
     send_started links old new known core s q came after.left shown free kept sent.serial
@@ -119,10 +119,10 @@ own_send_shown match agree links old new known core s q to tag shown free standa
     started : CoreState
     started = record old { slots = sent.started; serial = old.serial + 1 }
 
-    keeps : Keeps started (rank.arrived started m)
+    keeps : Keeps started (rank.after_arrival started m)
     keeps = arrived_keeps started m
 
-    rest : new ≡ rank.arrived started m
+    rest : new ≡ rank.after_arrival started m
     rest = sent.rest ∙ ap₂ (λ (t : Source) (g : Option ℕ). arrived_at_itself started (destination t g s.context) None c) target_is tag_is ∙
         ap (λ (b : Bool). arrived_if b started (record { rank = to; tag = tag; context = s.context }) None c) own
 
@@ -130,7 +130,7 @@ own_send_shown match agree links old new known core s q to tag shown free standa
     came : Effect
     came = arrived (pushed_over core) (held_of links.from m)
 
-    after : IsHeldAfter links (shown.rows ++ record { key = q.key; job = Over ends.Sent } ∷ []) (rank.arrived started m) known (pushed_over core) came
+    after : IsHeldAfter links (shown.rows ++ record { key = q.key; job = Over ends.Sent } ∷ []) (rank.after_arrival started m) known (pushed_over core) came
     after = message_holds match agree links started known (pushed_over core) (shown.rows ++ record { key = q.key; job = Over ends.Sent } ∷ []) m c refl (send_holds links old known core s q new shown sent)
 
     none : frame_of old s ≡ None
@@ -144,7 +144,7 @@ core_waits_own core own c tag basic values known =
     ∙ ap (λ (n : ℕ). arrived (pushed_own core (record { rank = own.rank; incarnation = n })) (cores.own_waiting own c tag basic values (length core.jobs))) known
 
 -- such a synchronous send is that of its core: the request starts, and waits for its match, and then the message comes
-own_waits_shown : ArrivalsMatch → OutcomesAgree → (links : Announcements) (old new : CoreState) (known : List ℕ) (core : Core) (s : Send) (q : Request) (to tag : ℕ) → IsShown links old known core → old.blocked ≡ None →
+own_waits_shown : ArrivalsMatch → OutcomesAgree → (links : Announcements) (old new : CoreState) (known : List ℕ) (core : Core) (s : CoreSend) (q : Request) (to tag : ℕ) → IsShown links old known core → old.blocked ≡ None →
     s.mode ≡ Synchronous → s.target ≡ Rank to → s.tag ≡ Some tag → (to == old.place.endpoint.rank) ≡ true → KeepsRules old.place s → IsSending old s q new → IsCalled links old known core (calls.Isend s) (replies.Started q) new
 own_waits_shown match agree links old new known core s q to tag shown free synchronous target_is tag_is own kept sent =
     send_started links old new known core s q came after.left shown free kept sent.serial
@@ -185,10 +185,10 @@ own_waits_shown match agree links old new known core s q to tag shown free synch
     entry : IsSet old.slots sent.started q.key (Some (record { serial = old.serial; progress = progresses.Offering }))
     entry = subst (λ (w : Option Request). IsSet old.slots sent.started q.key (Some (record { serial = old.serial; progress = begun w (announced_to old.place s) }))) waits sent.entry
 
-    keeps : Keeps started (rank.arrived started m)
+    keeps : Keeps started (rank.after_arrival started m)
     keeps = arrived_keeps started m
 
-    rest : new ≡ rank.arrived started m
+    rest : new ≡ rank.after_arrival started m
     rest = sent.rest
         ∙ (ap₂ (λ (a : Option ℕ) (w : Option Request). arrived_at_itself (record old { slots = sent.started; serial = old.serial + 1; transfers = offered_by old.transfers a q.key c }) (destination s.target s.tag s.context) w c)
         (own_to_nobody old.place s to tag target_is tag_is own) waits
@@ -209,7 +209,7 @@ own_waits_shown match agree links old new known core s q to tag shown free synch
     here : slice_get rows q.serial ≡ Some (own_row old q.key)
     here = ap (slice_get rows) (sent.serial ∙ sym shown.count) ∙ push_at shown.rows (own_row old q.key)
 
-    after : IsHeldAfter links rows (rank.arrived started m) known (pushed_own core e) came
+    after : IsHeldAfter links rows (rank.after_arrival started m) known (pushed_own core e) came
     after = own_message_holds match agree links started known (pushed_own core e) rows m o (own_begun links old known core sent.started q.key shown sent.fresh entry) refl here
         (own_unclaimed links old known core q.serial shown sent.serial)
 
@@ -217,7 +217,7 @@ own_waits_shown match agree links old new known core s q to tag shown free synch
     none = own_frame old s to tag target_is tag_is own
 
 -- a send to another rank, by whether it goes in one frame
-away_send_shown : (links : Announcements) (old new : CoreState) (known : List ℕ) (core : Core) (s : Send) (q : Request) (to tag : ℕ) → IsShown links old known core → old.blocked ≡ None →
+away_send_shown : (links : Announcements) (old new : CoreState) (known : List ℕ) (core : Core) (s : CoreSend) (q : Request) (to tag : ℕ) → IsShown links old known core → old.blocked ≡ None →
     s.target ≡ Rank to → s.tag ≡ Some tag → (to == old.place.endpoint.rank) ≡ false → KeepsRules old.place s → IsWithin (calls.Isend s) → free_fault old (calls.Isend s) ≡ None →
     IsSending old s q new → IsCalled links old known core (calls.Isend s) (replies.Started q) new
 away_send_shown links old new known core s q to tag shown free target_is tag_is other kept within fine sent = go (is_announced s.mode (sent_from s.from)) refl
@@ -227,7 +227,7 @@ away_send_shown links old new known core s q to tag shown free target_is tag_is 
     go true large = large_send_shown links old new known core s q to tag shown free target_is tag_is other kept within large fine sent
 
 -- a send that meets no rule, by where it goes
-pub send_shown : ArrivalsMatch → OutcomesAgree → (links : Announcements) (old new : CoreState) (known : List ℕ) (core : Core) (s : Send) (q : Request) → IsShown links old known core → old.blocked ≡ None →
+pub send_shown : ArrivalsMatch → OutcomesAgree → (links : Announcements) (old new : CoreState) (known : List ℕ) (core : Core) (s : CoreSend) (q : Request) → IsShown links old known core → old.blocked ≡ None →
     IsWithin (calls.Isend s) → free_fault old (calls.Isend s) ≡ None → IsSending old s q new → IsCalled links old known core (calls.Isend s) (replies.Started q) new
 send_shown match agree links old new known core s q shown free within fine sent = go s.target refl s.tag refl kept.inside kept.low
   where

@@ -17,12 +17,12 @@ use Rattle.match_queues.specs.declared.queues.Arrival.TheVariants.{Kept, Matched
 use Rattle.match_queues.specs.Arrivals.{arrival_of}
 use Rattle.match_queues.specs.State.{State, after_arrival}
 use Rattle.requests.specs.Table.{IsSet, after_finish, slot_at}
-use Rattle.requests.specs.declared.table.Entry.{Entry}
-use Rattle.requests.specs.declared.table.Progress.{Progress}
-use Rattle.requests.specs.declared.table.Progress.TheVariants as progresses
-use Rattle.rank_calls.specs.Receiving.{status_of}
-use Rattle.rank_core.specs.CoreState.{CoreState}
-use Rattle.rank_core.specs.Sending as rank
+use Rattle.requests.specs.declared.table.TableEntry.{TableEntry}
+use Rattle.requests.specs.declared.table.RequestProgress.{RequestProgress}
+use Rattle.requests.specs.declared.table.RequestProgress.TheVariants as progresses
+use Rattle.point_to_point_calls.specs.Receiving.{status_of}
+use Rattle.point_to_point.specs.CoreState.{CoreState}
+use Rattle.point_to_point.specs.Sending as rank
 use Rattle.perfect_queues.specs.Outcomes as ends
 use Rattle.perfect_queues.specs.Receives.{Receive}
 use Rattle.proof_pure_network.proofs.Counts.{count_append, count_set}
@@ -75,10 +75,10 @@ record IsMessageOf (from : Endpoint → List Transfer) (known : List ℕ) (p : P
   is : h ≡ held_of from message
   from_link : IsFromLink from known p rows message message.body
 
-message_of : (from : Endpoint → List Transfer) (known : List ℕ) (p : Place) (rows : List Row) (slots : List (Option Entry)) (k key : ℕ) (group : Option (List ℕ)) (h : Held) → IsTable slots rows → AreTaken from known p rows slots →
+message_of : (from : Endpoint → List Transfer) (known : List ℕ) (p : Place) (rows : List Row) (slots : List (Option TableEntry)) (k key : ℕ) (group : Option (List ℕ)) (h : Held) → IsTable slots rows → AreTaken from known p rows slots →
     slice_get rows k ≡ Some (row_of key (Probed group (Some h))) → IsMessageOf from known p rows h
 message_of from known p rows slots k key group h table taken at =
-    by_message found.taken.message found.alike.there (subst (λ (g : Progress). IsTakenBy from known p rows mine.entry.serial g) found.is (here (slot_at slots key) mine.there (taken key)))
+    by_message found.taken.message found.alike.there (subst (λ (g : RequestProgress). IsTakenBy from known p rows mine.entry.serial g) found.is (here (slot_at slots key) mine.there (taken key)))
   where
     mine : Holds (slot_at slots key) k (Probed group (Some h))
     mine = held_at slots rows k key (Probed group (Some h)) table at (λ e. cc)
@@ -86,9 +86,9 @@ message_of from known p rows slots k key group h table taken at =
     found : IsMessage mine.entry.progress group (Some h)
     found = fits_probed mine.entry.progress group (Some h) mine.fits
 
-    here : (o : Option Entry) → o ≡ Some mine.entry → IsTakenAt from known p rows o → IsTakenBy from known p rows mine.entry.serial mine.entry.progress
+    here : (o : Option TableEntry) → o ≡ Some mine.entry → IsTakenAt from known p rows o → IsTakenBy from known p rows mine.entry.serial mine.entry.progress
     here None x t = absurd (none-some mine.entry x)
-    here (Some y) x t = subst (λ (z : Entry). IsTakenBy from known p rows z.serial z.progress) (same_Some y mine.entry x) t
+    here (Some y) x t = subst (λ (z : TableEntry). IsTakenBy from known p rows z.serial z.progress) (same_Some y mine.entry x) t
 
     held_of_job : Job → Option Held
     held_of_job (Probed g x) = x
@@ -109,7 +109,7 @@ none_taken t (r ∷ rs) h =
     omega (arith, here, none_taken t rs (λ j x e. h (suc j) x e))
 
 -- and so do those that were taken out
-taken_fresh : (from : Endpoint → List Transfer) (known : List ℕ) (p : Place) (rows : List Row) (slots : List (Option Entry)) (k : ℕ) → length rows ≤ k → IsTable slots rows → AreTaken from known p rows slots →
+taken_fresh : (from : Endpoint → List Transfer) (known : List ℕ) (p : Place) (rows : List Row) (slots : List (Option TableEntry)) (k : ℕ) → length rows ≤ k → IsTable slots rows → AreTaken from known p rows slots →
     count (taken_is (is_own k)) (jobs_of rows) ≡ 0
 taken_fresh from known p rows slots k past table taken = none_taken (taken_is (is_own k)) rows (λ j r at. by_job j r.key r.job at)
   where
@@ -128,7 +128,7 @@ taken_fresh from known p rows slots k past table taken = none_taken (taken_is (i
 -- ---- THE REQUEST
 
 -- the rank once the request was started
-abbrev pub started_rank : CoreState → List (Option Entry) → CoreState
+abbrev pub started_rank : CoreState → List (Option TableEntry) → CoreState
 started_rank old slots = record old { slots = slots; serial = old.serial + 1 }
 
 -- its row
@@ -136,7 +136,7 @@ abbrev pub own_row : CoreState → (key : ℕ) → Row
 own_row old key = row_of key (Unmatched old.place.endpoint)
 
 -- the request waits for its match, in both
-pub own_begun : (links : Announcements) (old : CoreState) (known : List ℕ) (core : Core) (slots : List (Option Entry)) (key : ℕ) → (shown : IsShown links old known core) → slot_at old.slots key ≡ None →
+pub own_begun : (links : Announcements) (old : CoreState) (known : List ℕ) (core : Core) (slots : List (Option TableEntry)) (key : ℕ) → (shown : IsShown links old known core) → slot_at old.slots key ≡ None →
     IsSet old.slots slots key (Some (record { serial = old.serial; progress = progresses.Offering })) → Holding links (started_rank old slots) known (pushed_own core old.place.endpoint) (shown.rows ++ own_row old key ∷ [])
 own_begun links old known core slots key shown fresh set =
     holding_started links links old (started_rank old slots) known core (pushed_own core own) shown.rows key progresses.Offering (Unmatched own) (holding_of links old known core shown) fresh set tt refl refl
@@ -246,8 +246,8 @@ own_matched agree links e known core rows m o k key p h row none t =
 -- A rank takes the message of its own send that waits, and its core takes it too
 pub own_message_holds : ArrivalsMatch → OutcomesAgree → (links : Announcements) (e : CoreState) (known : List ℕ) (core : Core) (rows : List Row) (m : Message) (o : OwnSend) → Holding links e known core rows → m.sender ≡ e.place.endpoint →
     slice_get rows o.serial ≡ Some (row_of o.key (Unmatched e.place.endpoint)) → claims o.serial core ≡ 0 →
-    IsHeldAfter links rows (rank.arrived e (own_as m o)) known core (arrived core (held_of links.from (own_as m o)))
-unfolding rank.arrived
+    IsHeldAfter links rows (rank.after_arrival e (own_as m o)) known core (arrived core (held_of links.from (own_as m o)))
+unfolding rank.after_arrival
 own_message_holds match agree links e known core rows m o h sender row none = go (match links.from rows e.queues message h.posted)
   where
     message : Message
@@ -265,7 +265,7 @@ own_message_holds match agree links e known core rows m o h sender row none = go
         (subst (λ (q : State). IsHeldAfter links rows (arrived_so e became q) known core (arrived_at core (held_of links.from message) x)) (sym bq) i))
 
     go : IsKept links.from rows e.queues message ⊎ ((k : ℕ) × (key : ℕ) × (p : Receive) × IsMatchedTo links.from rows e.queues message k key p) →
-        IsHeldAfter links rows (rank.arrived e message) known core (arrived core (held_of links.from message))
+        IsHeldAfter links rows (rank.after_arrival e message) known core (arrived core (held_of links.from message))
     go (inl kept) = become Kept (record e.queues { unexpected = e.queues.unexpected ++ message ∷ [] }) None kept.arrival kept.queues kept.core (own_kept links e known core rows m o h sender row)
     go (inr t) =
         become (Matched (record { request = t.1; context = t.2.context; source = t.2.source; tag = t.2.tag }) message) (after_arrival e.queues message) (Some (t.0, t.2)) t.3.arrival refl t.3.core

@@ -18,9 +18,9 @@ use Rattle.perfect_queues.proofs.EndpointLemmas.{same_refl}
 use Rattle.perfect_queues.specs.Buffers.{Handed}
 use Rattle.perfect_queues.specs.Outcomes as machine
 use Rattle.perfect_queues.specs.Receives.{Receive}
-use Rattle.rank_calls.specs.Hearing.{bad_unless, delivered_by}
-use Rattle.rank_core.specs.CoreState.{CoreState}
-use Rattle.rank_core.specs.Hearing.{grown}
+use Rattle.point_to_point_calls.specs.Hearing.{bad_unless, delivered_by}
+use Rattle.point_to_point.specs.CoreState.{CoreState}
+use Rattle.point_to_point.specs.Arrivals.{after_piece}
 use Rattle.rendezvous.specs.Collected.{collected_of}
 use Rattle.rendezvous.specs.Collecting as rendezvous
 use Rattle.rendezvous.specs.Collecting.{is_whole}
@@ -29,10 +29,10 @@ use Rattle.rendezvous.specs.State.{blank, given_at, handed_out, is_due, put_back
 use Rattle.rendezvous.specs.declared.collection.Collected.{Collected}
 use Rattle.requests.specs.Outcomes.{outcome_of}
 use Rattle.requests.specs.Table.{after_delivery, progress_on_delivery, slot_at, slot_delivered}
-use Rattle.requests.specs.declared.table.Entry.{Entry}
-use Rattle.requests.specs.declared.table.Progress.{Progress}
-use Rattle.requests.specs.declared.table.Progress.TheVariants.{Receiving, Finished}
-use Rattle.requests.specs.declared.table.Progress.TheVariants as progresses
+use Rattle.requests.specs.declared.table.TableEntry.{TableEntry}
+use Rattle.requests.specs.declared.table.RequestProgress.{RequestProgress}
+use Rattle.requests.specs.declared.table.RequestProgress.TheVariants.{Receiving, Finished}
+use Rattle.requests.specs.declared.table.RequestProgress.TheVariants as progresses
 use Rattle.proof_pure_network.specs.Core.{Core, Effect, effect, with_jobs}
 use Rattle.proof_pure_network.specs.Engine.{came}
 use Rattle.proof_pure_network.specs.Frames.{Frame}
@@ -120,7 +120,7 @@ handed_is false c h = ap (λ (w : Bool). if w then Some (collected_of c) else No
 
 -- the piece makes this of the rank
 rank_gathers : (e : CoreState) (from : Endpoint → List Transfer) (known : List ℕ) (rows : List Row) (s : Endpoint) (t : DataText) (frame : Frame) (x : IsPieceOf from known rows e.transfers.collections s t frame) (b : Bool) →
-    is_whole (with_it x.collection t) ≡ b → grown e s.rank t.transfer t.bytes ≡ rank_with b e x.place (with_it x.collection t)
+    is_whole (with_it x.collection t) ≡ b → after_piece e s.rank t.transfer t.bytes ≡ rank_with b e x.place (with_it x.collection t)
 rank_gathers e from known rows s t frame x b whole =
     ap₂ (λ (o : Option Collected) (r : transfers.State). record e { slots = delivered_by e.slots o; transfers = r })
     (ap (λ (o : Option ℕ). given_at cs o t.bytes) x.found ∙ (ap (λ (c : rendezvous.Collecting). handed_out (with_it c t)) here ∙ handed_is b (with_it x.collection t) whole))
@@ -136,11 +136,11 @@ rank_gathers e from known rows s t frame x b whole =
 -- ---- A REQUEST THAT CHANGES AND ISN'T POSTED
 
 -- what its entry says, once that fits its job
-entry_says : (t : Entry) (k : ℕ) (j : Job) → t.serial ≡ k → Fits t.progress j → Says (Some t) k j
+entry_says : (t : TableEntry) (k : ℕ) (j : Job) → t.serial ≡ k → Fits t.progress j → Says (Some t) k j
 entry_says t k j e f = subst (λ (n : ℕ). Says (Some t) n j) e (says_some t.serial t.progress j f)
 
 -- both hold it
-changed_both : (links : Announcements) (e : CoreState) (known : List ℕ) (core : Core) (rows : List Row) (slots : List (Option Entry)) (t : transfers.State) (k key : ℕ) (job job' : Job) → Holding links e known core rows →
+changed_both : (links : Announcements) (e : CoreState) (known : List ℕ) (core : Core) (rows : List Row) (slots : List (Option TableEntry)) (t : transfers.State) (k key : ℕ) (job job' : Job) → Holding links e known core rows →
     slice_get rows k ≡ Some (row_of key job) → posted_job key job ≡ [] → posted_job key job' ≡ [] → IsTable slots (slice_set rows k (row_of key job')) →
     AreUnderWay links known e.place (slice_set rows k (row_of key job')) t e.queues.unexpected → AreTaken links.from known e.place (slice_set rows k (row_of key job')) slots →
     Holding links (record e { slots = slots; transfers = t }) known (core_with core k job') (slice_set rows k (row_of key job'))
@@ -159,7 +159,7 @@ changed_both links e known core rows slots t k key job job' h at a b table under
 -- ---- ONE MORE PIECE
 
 -- how far the request is says nothing of the values that it has
-fits_more : (g : Progress) (p : Receive) (h : Held) (got more : List ℕ) → Fits g (Collecting p h got) → Fits g (Collecting p h more)
+fits_more : (g : RequestProgress) (p : Receive) (h : Held) (got more : List ℕ) → Fits g (Collecting p h got) → Fits g (Collecting p h more)
 fits_more (Receiving r) p h got more f = absurd f
 fits_more (progresses.Collecting w) p h got more f = f
 fits_more progresses.Offering p h got more f = absurd f
@@ -167,7 +167,7 @@ fits_more (progresses.TakenOut taken) p h got more f = absurd f
 fits_more (Finished o) p h got more f = absurd f
 
 -- so its slot stays
-more_table : (slots : List (Option Entry)) (rows : List Row) (k key : ℕ) (p : Receive) (h : Held) (got more : List ℕ) → IsTable slots rows → slice_get rows k ≡ Some (row_of key (Collecting p h got)) →
+more_table : (slots : List (Option TableEntry)) (rows : List Row) (k key : ℕ) (p : Receive) (h : Held) (got more : List ℕ) → IsTable slots rows → slice_get rows k ≡ Some (row_of key (Collecting p h got)) →
     IsTable slots (slice_set rows k (row_of key (Collecting p h more)))
 more_table slots rows k key p h got more table at =
     changed_table slots slots rows k key (Collecting p h got) (Collecting p h more) (Some mine.entry) table at (λ z. cc) (record { changed = mine.there; others = λ other n. refl })
@@ -179,7 +179,7 @@ more_table slots rows k key p h got more table at =
 -- ---- THE LAST PIECE
 
 -- the receive ends with the elements as its core's does
-delivered_fits : OutcomesAgree → (g : Progress) (p : Receive) (h : Held) (got : List ℕ) (c : Contents) → Fits g (Collecting p h got) → c.basic ≡ h.basic → length c.values ≡ count_of h.body →
+delivered_fits : OutcomesAgree → (g : RequestProgress) (p : Receive) (h : Held) (got : List ℕ) (c : Contents) → Fits g (Collecting p h got) → c.basic ≡ h.basic → length c.values ≡ count_of h.body →
     Fits (progress_on_delivery g c) (Over (machine.outcome p (full h c.values)))
 delivered_fits agree (Receiving r) p h got c f basic count = absurd f
 delivered_fits agree (progresses.Collecting w) p h got c f basic count =
@@ -194,10 +194,10 @@ delivered_fits agree (progresses.TakenOut taken) p h got c f basic count = absur
 delivered_fits agree (Finished o) p h got c f basic count = absurd f
 
 -- in its slot too
-last_table : OutcomesAgree → (slots : List (Option Entry)) (rows : List Row) (k key : ℕ) (p : Receive) (h : Held) (got : List ℕ) (c : Contents) → IsTable slots rows → slice_get rows k ≡ Some (row_of key (Collecting p h got)) →
+last_table : OutcomesAgree → (slots : List (Option TableEntry)) (rows : List Row) (k key : ℕ) (p : Receive) (h : Held) (got : List ℕ) (c : Contents) → IsTable slots rows → slice_get rows k ≡ Some (row_of key (Collecting p h got)) →
     c.basic ≡ h.basic → length c.values ≡ count_of h.body → IsTable (after_delivery slots key c) (slice_set rows k (row_of key (Over (machine.outcome p (full h c.values)))))
 last_table agree slots rows k key p h got c table at basic count =
-    subst (λ (t : List (Option Entry)). IsTable t (slice_set rows k (row_of key over))) (sym written)
+    subst (λ (t : List (Option TableEntry)). IsTable t (slice_set rows k (row_of key over))) (sym written)
     (changed_table slots (slice_set slots key (Some after)) rows k key (Collecting p h got) over (Some after) table at (λ z. cc) (set_is_set slots key mine.entry (Some after) mine.there)
     (entry_says after k over mine.serial_is (delivered_fits agree mine.entry.progress p h got c mine.fits basic count)))
   where
@@ -207,18 +207,18 @@ last_table agree slots rows k key p h got c table at basic count =
     mine : Holds (slot_at slots key) k (Collecting p h got)
     mine = held_at slots rows k key (Collecting p h got) table at (λ z. cc)
 
-    after : Entry
+    after : TableEntry
     after = record mine.entry { progress = progress_on_delivery mine.entry.progress c }
 
     written : after_delivery slots key c ≡ slice_set slots key (Some after)
-    written = ap (λ (o : Option Entry). slot_delivered o slots key c) mine.there
+    written = ap (λ (o : Option TableEntry). slot_delivered o slots key c) mine.there
 
 -- and it is no message that was taken out, neither before nor after
-last_taken : OutcomesAgree → (from : Endpoint → List Transfer) (known : List ℕ) (place : Place) (slots : List (Option Entry)) (rows : List Row) (k key : ℕ) (p : Receive) (h : Held) (got : List ℕ) (c : Contents) → IsTable slots rows →
+last_taken : OutcomesAgree → (from : Endpoint → List Transfer) (known : List ℕ) (place : Place) (slots : List (Option TableEntry)) (rows : List Row) (k key : ℕ) (p : Receive) (h : Held) (got : List ℕ) (c : Contents) → IsTable slots rows →
     slice_get rows k ≡ Some (row_of key (Collecting p h got)) → c.basic ≡ h.basic → length c.values ≡ count_of h.body → AreTaken from known place rows slots →
     AreTaken from known place (slice_set rows k (row_of key (Over (machine.outcome p (full h c.values))))) (after_delivery slots key c)
 last_taken agree from known place slots rows k key p h got c table at basic count taken =
-    subst (λ (t : List (Option Entry)). AreTaken from known place (slice_set rows k (row_of key over)) t) (sym written)
+    subst (λ (t : List (Option TableEntry)). AreTaken from known place (slice_set rows k (row_of key over)) t) (sym written)
     (taken_changed from known place rows slots (slice_set slots key (Some after)) k key (Collecting p h got) over after taken at (λ i. i) (set_is_set slots key mine.entry (Some after) mine.there)
     (delivered_fits agree mine.entry.progress p h got c mine.fits basic count) tt)
   where
@@ -228,11 +228,11 @@ last_taken agree from known place slots rows k key p h got c table at basic coun
     mine : Holds (slot_at slots key) k (Collecting p h got)
     mine = held_at slots rows k key (Collecting p h got) table at (λ z. cc)
 
-    after : Entry
+    after : TableEntry
     after = record mine.entry { progress = progress_on_delivery mine.entry.progress c }
 
     written : after_delivery slots key c ≡ slice_set slots key (Some after)
-    written = ap (λ (o : Option Entry). slot_delivered o slots key c) mine.there
+    written = ap (λ (o : Option TableEntry). slot_delivered o slots key c) mine.there
 
 -- what is handed out are the values that the core has
 handed_values : (from : Endpoint → List Transfer) (known : List ℕ) (rows : List Row) (cs : List rendezvous.Collecting) (s : Endpoint) (t : DataText) (frame : Frame) (x : IsPieceOf from known rows cs s t frame) →
@@ -315,7 +315,7 @@ due_is false h = absurd cc
 pub pieces_are_taken : OutcomesAgree → PiecesAreTaken
 pieces_are_taken agree links e known core s t frame m =
     record {
-      both = subst (λ (c : Core). HoldBoth links (grown e s.rank t.transfer t.bytes) known c) (sym (ap (λ (f : Effect). f.core) core_is))
+      both = subst (λ (c : Core). HoldBoth links (after_piece e s.rank t.transfer t.bytes) known c) (sym (ap (λ (f : Effect). f.core) core_is))
           (subst (λ (c : CoreState). HoldBoth links c known (core_with core x.stands.serial (with_more x.stands.receive x.stands.message got))) (sym rank_is)
           (subst (λ (j : Job). HoldBoth links (rank_with whole e x.place (with_it x.collection t)) known (core_with core x.stands.serial j)) (sym (more_is whole x.stands.receive x.stands.message got refl))
           (gathered agree links e known core s t frame m.both x whole refl)));
@@ -339,5 +339,5 @@ pieces_are_taken agree links e known core s t frame m =
     core_is : came core s frame ≡ effect (core_with core x.stands.serial (with_more x.stands.receive x.stands.message got)) []
     core_is = core_gathers links.from known m.both.rows e.transfers.collections s t frame x core m.both.holding.jobs m.once
 
-    rank_is : grown e s.rank t.transfer t.bytes ≡ rank_with whole e x.place (with_it x.collection t)
+    rank_is : after_piece e s.rank t.transfer t.bytes ≡ rank_with whole e x.place (with_it x.collection t)
     rank_is = rank_gathers e links.from known m.both.rows s t frame x whole (whole_alike links.from known m.both.rows e.transfers.collections s t frame x)

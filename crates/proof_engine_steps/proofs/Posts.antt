@@ -14,7 +14,7 @@ use Rattle.perfect_queues.specs.Refusals as rules
 use Rattle.match_queues.specs.declared.envelope.Announcement.{Announcement}
 use Rattle.match_queues.specs.declared.envelope.Message.{Message}
 use Rattle.match_queues.specs.declared.envelope.OwnSend.{OwnSend}
-use Rattle.match_queues.specs.declared.envelope.Receive as queued
+use Rattle.match_queues.specs.declared.envelope.PostedReceive as queued
 use Rattle.match_queues.specs.State.{State, after_post, message_at, message_for}
 use Rattle.rendezvous.specs.State as transfers
 use Rattle.requests.specs.Outcomes.{outcome_of}
@@ -22,21 +22,21 @@ use Rattle.requests.specs.Regions.{handed_of, is_unfit_to_receive}
 use Rattle.requests.specs.Table.{IsSet, after_answer, has_room, is_full, matched_progress, slot_at}
 use Rattle.requests.specs.declared.outcome.Outcome.{Outcome}
 use Rattle.requests.specs.declared.outcome.Outcome.TheVariants as outcomes
-use Rattle.requests.specs.declared.table.Entry.{Entry}
-use Rattle.requests.specs.declared.table.Progress.TheVariants.{Finished, Receiving}
+use Rattle.requests.specs.declared.table.TableEntry.{TableEntry}
+use Rattle.requests.specs.declared.table.RequestProgress.TheVariants.{Finished, Receiving}
 use Rattle.requests.specs.declared.table.Request.{Request}
-use Rattle.rank_calls.specs.declared.call.Call.TheVariants as calls
-use Rattle.rank_calls.specs.declared.call.Receive.{Receive}
-use Rattle.rank_calls.specs.declared.call.Reply.TheVariants as replies
-use Rattle.rank_calls.specs.declared.refused.Refused.{Refused}
-use Rattle.rank_calls.specs.declared.refused.Refused.TheVariants as refusals
-use Rattle.rank_calls.specs.Frames.{FrameFor, as_list}
+use Rattle.point_to_point_calls.specs.declared.call.CoreCall.TheVariants as calls
+use Rattle.point_to_point_calls.specs.declared.call.CoreReceive.{CoreReceive}
+use Rattle.point_to_point_calls.specs.declared.call.CoreReply.TheVariants as replies
+use Rattle.point_to_point_calls.specs.declared.refusal.Refusal.{Refusal}
+use Rattle.point_to_point_calls.specs.declared.refusal.Refusal.TheVariants as refusals
+use Rattle.point_to_point_calls.specs.Frames.{FrameFor, as_list}
 use Rattle.match_queues.specs.declared.envelope.Body.TheVariants.{Announced}
-use Rattle.rank_calls.specs.Receiving.{answer_on_post, collection_on_match, transfers_with, posted_by, progress_on_post, status_of, transfers_on_post, waiting_by}
-use Rattle.shared_groups.specs.Statuses.{status_in}
-use Rattle.rank_core.specs.CoreState.{CoreState}
-use Rattle.rank_core.specs.Messages.{own_key_sent, own_send_of}
-use Rattle.rank_core.specs.Receiving.{IsPosting, IsReceiving, IsReceivingNothing, ReceivesFrom, found_by, receive_fault, receive_frame}
+use Rattle.point_to_point_calls.specs.Receiving.{answer_on_post, collection_on_match, transfers_with, posted_by, progress_on_post, status_of, transfers_on_post, waiting_by}
+use Rattle.communicator_members.specs.Statuses.{status_in}
+use Rattle.point_to_point.specs.CoreState.{CoreState}
+use Rattle.point_to_point.specs.Messages.{own_key_sent, own_send_of}
+use Rattle.point_to_point.specs.Receiving.{IsPosting, IsReceiving, IsReceivingNothing, ReceivesFrom, found_by, receive_fault, receive_frame}
 use Rattle.proof_pure_network.specs.Core.{Core, Effect, view}
 use Rattle.proof_pure_network.specs.Frames.{Frame}
 use Rattle.proof_pure_network.specs.Claims.{ClaimsOnce}
@@ -69,23 +69,23 @@ use Rattle.proof_engine_steps.proofs.Wholes.{announced_as, by_body, found_at, ow
 -- WHAT A RECEIVE THAT WAS TAKEN MET
 
 -- a region that data can be received into, a tag that is allowed, and a source that is there
-pub record KeepsRules (n : ℕ) (v : Receive) : Type 0 where
+pub record KeepsRules (n : ℕ) (v : CoreReceive) : Type 0 where
   pub fit : is_unfit_to_receive (handed_of v.into) ≡ false
   pub long : is_too_short (handed_of v.into) ≡ false
   pub low : rules.is_tag_above v.tag ≡ false
   pub inside : rules.is_source_beyond n v.source ≡ false
 
-pub receive_rules : (e : CoreState) (v : Receive) → receive_fault e v ≡ None → KeepsRules e.place.size v
+pub receive_rules : (e : CoreState) (v : CoreReceive) → receive_fault e v ≡ None → KeepsRules e.place.size v
 unfolding receive_fault
 receive_rules e v fine =
-    let last : Option Refused = if is_full e.slots e.serial then Some refusals.Limit else None in
+    let last : Option Refusal = if is_full e.slots e.serial then Some refusals.Limit else None in
     let t = two_tests (is_unfit_to_receive (handed_of v.into)) (is_too_short (handed_of v.into)) refusals.WrongType refusals.Count
     (if rules.is_tag_above v.tag then Some refusals.Tag else (if rules.is_source_beyond e.place.size v.source then Some refusals.Rank else last)) fine in
     let u = two_tests (rules.is_tag_above v.tag) (rules.is_source_beyond e.place.size v.source) refusals.Tag refusals.Rank last t.2 in
     record { fit = t.0; long = t.1; low = u.0; inside = u.1 }
 
 -- no rule of the machine is broken
-pub post_fit : (n : ℕ) (core : Core) (v : Receive) → core.blocked ≡ None → KeepsRules n v →
+pub post_fit : (n : ℕ) (core : Core) (v : CoreReceive) → core.blocked ≡ None → KeepsRules n v →
     queue_fault n (view blank core) (machine.Irecv (receive_seen v)) ≡ None
 post_fit n core v free kept =
     fault_free n core (machine.Irecv (receive_seen v)) free ∙
@@ -95,38 +95,38 @@ post_fit n core v free kept =
 -- BOTH
 
 -- It is posted, in both, where it doesn't name the null process; so what it found is answered
-pub record IsPosted (old : CoreState) (core : Core) (v : Receive) : Type 0 where
+pub record IsPosted (old : CoreState) (core : Core) (v : CoreReceive) : Type 0 where
   pub core_is : matching.receives core (receive_seen v) v.source ≡ posted core (receive_seen v)
   pub frame_is : receive_frame v.source old v ≡ answer_on_post v.into (found_by old v)
 
 -- what both have for the request, before an own send that waited for it is over
-entry_begun : (old new : CoreState) (v : Receive) (q : Request) (m : Option Message) → (h : IsPosting old v q new) → message_at old.queues.unexpected (message_for (posted_by q.key v) old.queues.unexpected) ≡ m →
+entry_begun : (old new : CoreState) (v : CoreReceive) (q : Request) (m : Option Message) → (h : IsPosting old v q new) → message_at old.queues.unexpected (message_for (posted_by q.key v) old.queues.unexpected) ≡ m →
     IsSet old.slots h.started q.key (Some (record { serial = old.serial; progress = progress_on_post (waiting_by v) m }))
 entry_begun old new v q m h e = subst (λ (x : Option Message). IsSet old.slots h.started q.key (Some (record { serial = old.serial; progress = progress_on_post (waiting_by v) x }))) e h.entry
 
 -- where none waited for it
-entry_of : (old new : CoreState) (v : Receive) (q : Request) (m : Option Message) → IsPosting old v q new → message_at old.queues.unexpected (message_for (posted_by q.key v) old.queues.unexpected) ≡ m → own_send_of m ≡ None →
+entry_of : (old new : CoreState) (v : CoreReceive) (q : Request) (m : Option Message) → IsPosting old v q new → message_at old.queues.unexpected (message_for (posted_by q.key v) old.queues.unexpected) ≡ m → own_send_of m ≡ None →
     IsSet old.slots new.slots q.key (Some (record { serial = old.serial; progress = progress_on_post (waiting_by v) m }))
 entry_of old new v q m h e none =
-    subst (λ (slots : List (Option Entry)). IsSet old.slots slots q.key (Some (record { serial = old.serial; progress = progress_on_post (waiting_by v) m })))
+    subst (λ (slots : List (Option TableEntry)). IsSet old.slots slots q.key (Some (record { serial = old.serial; progress = progress_on_post (waiting_by v) m })))
     (sym (ap (λ (c : CoreState). c.slots) h.rest ∙ (ap (λ (x : Option Message). own_key_sent (own_send_of x) h.started) e ∙ ap (λ (k : Option ℕ). own_key_sent k h.started) none)))
     (entry_begun old new v q m h e)
 
 -- one more request was started
-serial_of : (old new : CoreState) (v : Receive) (q : Request) → IsPosting old v q new → new.serial ≡ old.serial + 1
+serial_of : (old new : CoreState) (v : CoreReceive) (q : Request) → IsPosting old v q new → new.serial ≡ old.serial + 1
 serial_of old new v q h = ap (λ (e : CoreState). e.serial) h.rest
 
 -- it was posted
-queues_of : (old new : CoreState) (v : Receive) (q : Request) → IsPosting old v q new → new.queues ≡ after_post old.queues (posted_by q.key v)
+queues_of : (old new : CoreState) (v : CoreReceive) (q : Request) → IsPosting old v q new → new.queues ≡ after_post old.queues (posted_by q.key v)
 queues_of old new v q h = ap (λ (e : CoreState). e.queues) h.rest
 
 -- its transfers are as the message that was found leaves them
-transfers_of : (old new : CoreState) (v : Receive) (q : Request) (m : Option Message) → IsPosting old v q new → message_at old.queues.unexpected (message_for (posted_by q.key v) old.queues.unexpected) ≡ m →
+transfers_of : (old new : CoreState) (v : CoreReceive) (q : Request) (m : Option Message) → IsPosting old v q new → message_at old.queues.unexpected (message_for (posted_by q.key v) old.queues.unexpected) ≡ m →
     new.transfers ≡ transfers_on_post old.transfers v.into q.key m
 transfers_of old new v q m h e = ap (λ (c : CoreState). c.transfers) h.rest ∙ ap (transfers_on_post old.transfers v.into q.key) e
 
 -- the frame that it gives, by the message that was found
-frame_of : (old new : CoreState) (core : Core) (v : Receive) (q : Request) (m : Option Message) → IsPosted old core v →
+frame_of : (old new : CoreState) (core : Core) (v : CoreReceive) (q : Request) (m : Option Message) → IsPosted old core v →
     message_at old.queues.unexpected (message_for (posted_by q.key v) old.queues.unexpected) ≡ m → receive_frame v.source old v ≡ answer_on_post v.into m
 frame_of old new core v q m real e = real.frame_is ∙ ap (answer_on_post v.into) e
 
@@ -141,7 +141,7 @@ pub given_nothing : (links : Announcements) (known : List ℕ) (p : Place) (f : 
 given_nothing links known p f none = record { quiet = tt; sends = none_sent (after_out links []) known f none; leaves = none_leave p f none }
 
 -- a receive is started in both, by what the core makes of it
-receive_started : (links : Announcements) (old new : CoreState) (known : List ℕ) (core : Core) (v : Receive) (q : Request) (after : Effect) (rows : List Row) → IsShown links old known core →
+receive_started : (links : Announcements) (old new : CoreState) (known : List ℕ) (core : Core) (v : CoreReceive) (q : Request) (after : Effect) (rows : List Row) → IsShown links old known core →
     old.blocked ≡ None → receive_fault old v ≡ None → q.serial ≡ old.serial → matching.receives core (receive_seen v) v.source ≡ after → Holding links new known after.core rows →
     after.core.blocked ≡ core.blocked → Stays old new → IsGiven links known old.place (receive_frame v.source old v) after.out →
     IsCalled links old known core (calls.Irecv v) (replies.Started q) new
@@ -160,17 +160,17 @@ receive_started links old new known core v q after rows shown free fine serial i
     })
 
 -- what a posted receive leaves of the rank
-post_stays : (old new : CoreState) (v : Receive) (q : Request) → IsPosting old v q new → Stays old new
+post_stays : (old new : CoreState) (v : CoreReceive) (q : Request) → IsPosting old v q new → Stays old new
 post_stays old new v q h =
     record { place = ap (λ (e : CoreState). e.place) h.rest; completion = ap (λ (e : CoreState). e.completion) h.rest; blocked = ap (λ (e : CoreState). e.blocked) h.rest }
 
 -- the core's receive, by the message that was found
-core_posts : (links : Announcements) (core : Core) (old : CoreState) (v : Receive) (o : Option (List Held × Held × List Held)) → IsPosted old core v → core.held ≡ map (held_of links.from) old.queues.unexpected →
+core_posts : (links : Announcements) (core : Core) (old : CoreState) (v : CoreReceive) (o : Option (List Held × Held × List Held)) → IsPosted old core v → core.held ≡ map (held_of links.from) old.queues.unexpected →
     found (receive_seen v) (map (held_of links.from) old.queues.unexpected) ≡ o → matching.receives core (receive_seen v) v.source ≡ posted_at core (receive_seen v) o
 core_posts links core old v o real held is = real.core_is ∙ ap (posted_at core (receive_seen v)) (ap (found (receive_seen v)) held ∙ is)
 
 -- no message that waits is accepted: the receive waits
-post_waits : (links : Announcements) (old new : CoreState) (known : List ℕ) (core : Core) (v : Receive) (q : Request) → IsShown links old known core → old.blocked ≡ None → receive_fault old v ≡ None →
+post_waits : (links : Announcements) (old new : CoreState) (known : List ℕ) (core : Core) (v : CoreReceive) (q : Request) → IsShown links old known core → old.blocked ≡ None → receive_fault old v ≡ None →
     IsPosted old core v → IsPosting old v q new → FindsNone links.from old.queues v q.key → IsCalled links old known core (calls.Irecv v) (replies.Started q) new
 post_waits links old new known core v q shown free fine real h finds =
     let qs : new.queues ≡ record old.queues { posted = old.queues.posted ++ posted_by q.key v ∷ [] } = queues_of old new v q h ∙ finds.queues in
@@ -178,7 +178,7 @@ post_waits links old new known core v q shown free fine real h finds =
     (core_posts links core old v None real shown.held finds.core)
     (holding_started links links old new known core (posted_at core (receive_seen v) None).core shown.rows q.key (Receiving (waiting_by v)) (Waiting (receive_seen v)) (holding_of links old known core shown) h.fresh
     (entry_of old new v q None h finds.message refl) (record { into = refl; group = refl }) refl (serial_of old new v q h)
-    (ap (λ (s : State). s.posted) qs ∙ ap (λ (ps : List queued.Receive). ps ++ posted_by q.key v ∷ []) shown.posted)
+    (ap (λ (s : State). s.posted) qs ∙ ap (λ (ps : List queued.PostedReceive). ps ++ posted_by q.key v ∷ []) shown.posted)
     (shown.held ∙ ap (λ (s : State). map (held_of links.from) s.unexpected) (sym qs))
     (under_way_still links known old.place new.place shown.rows (shown.rows ++ row_of q.key (Waiting (receive_seen v)) ∷ []) old.transfers new.transfers old.queues.unexpected new.queues.unexpected shown.under_way
     (same_pushed shown.rows q.key (Waiting (receive_seen v)) (λ i. i)) stays.place (transfers_of old new v q None h finds.message) (ap (λ (s : State). s.unexpected) qs))
@@ -189,14 +189,14 @@ post_waits links old new known core v q shown free fine real h finds =
     stays = post_stays old new v q h
 
 -- the messages that are left once one was found go on to be from their links, beside one more request
-left_from_links : (links : Announcements) (old : CoreState) (known : List ℕ) (core : Core) (r : queued.Receive) (one : Row) → (shown : IsShown links old known core) →
+left_from_links : (links : Announcements) (old : CoreState) (known : List ℕ) (core : Core) (r : queued.PostedReceive) (one : Row) → (shown : IsShown links old known core) →
     AllByRecursion (λ (n : Message). IsFromLink links.from known old.place (shown.rows ++ one ∷ []) n n.body) (after_post old.queues r).unexpected
 left_from_links links old known core r one shown =
     post_leaves (λ (n : Message). IsFromLink links.from known old.place (shown.rows ++ one ∷ []) n n.body) old.queues r
     (messages_keep links.from known old.place shown.rows (shown.rows ++ one ∷ []) old.queues.unexpected (keeps_pushed shown.rows one) shown.under_way.messages)
 
 -- what is left of a rank and of its core where the oldest message that it accepts ended the receive
-record IsEnded (links : Announcements) (old : CoreState) (core : Core) (v : Receive) (key : ℕ) (o : Outcome) (x : ends.Outcome) (earlier later : List Held) (e : CoreState) (left : Core) : Type 0 where
+record IsEnded (links : Announcements) (old : CoreState) (core : Core) (v : CoreReceive) (key : ℕ) (o : Outcome) (x : ends.Outcome) (earlier later : List Held) (e : CoreState) (left : Core) : Type 0 where
   entry : IsSet old.slots e.slots key (Some (record { serial = old.serial; progress = Finished o }))
   alike : x ≡ outcome_seen o
   jobs : left.jobs ≡ core.jobs ++ Over x ∷ []
@@ -208,7 +208,7 @@ record IsEnded (links : Announcements) (old : CoreState) (core : Core) (v : Rece
   place : e.place ≡ old.place
 
 -- both hold it
-ended_holds : (links : Announcements) (old : CoreState) (known : List ℕ) (core : Core) (v : Receive) (key : ℕ) (m : Message) (o : Outcome) (x : ends.Outcome) (earlier later : List Held) (e : CoreState) (left : Core) → (shown : IsShown links old known core) →
+ended_holds : (links : Announcements) (old : CoreState) (known : List ℕ) (core : Core) (v : CoreReceive) (key : ℕ) (m : Message) (o : Outcome) (x : ends.Outcome) (earlier later : List Held) (e : CoreState) (left : Core) → (shown : IsShown links old known core) →
     slot_at old.slots key ≡ None → Finds links.from old.queues v key m earlier later → IsEnded links old core v key o x earlier later e left → Holding links e known left (shown.rows ++ row_of key (Over x) ∷ [])
 ended_holds links old known core v key m o x earlier later e left shown fresh finds h =
     holding_started links links old e known core left shown.rows key (Finished o) (Over x) (holding_of links old known core shown) fresh h.entry h.alike h.jobs h.serial
@@ -224,7 +224,7 @@ ended_holds links old known core v key m o x earlier later e left shown fresh fi
     rows' = shown.rows ++ row_of key (Over x) ∷ []
 
 -- the oldest message that it accepts is whole, and ends the receive
-post_ends : (links : Announcements) (old new : CoreState) (known : List ℕ) (core : Core) (v : Receive) (q : Request) (m : Message) (c : Contents) (earlier later : List Held) → OutcomesAgree →
+post_ends : (links : Announcements) (old new : CoreState) (known : List ℕ) (core : Core) (v : CoreReceive) (q : Request) (m : Message) (c : Contents) (earlier later : List Held) → OutcomesAgree →
     IsShown links old known core → old.blocked ≡ None → receive_fault old v ≡ None → IsPosted old core v → IsPosting old v q new → Finds links.from old.queues v q.key (whole m c) earlier later →
     IsCalled links old known core (calls.Irecv v) (replies.Started q) new
 post_ends links old new known core v q m c earlier later agree shown free fine real h finds =
@@ -258,7 +258,7 @@ post_ends links old new known core v q m c earlier later agree shown free fine r
 -- A MESSAGE OF THE RANK'S OWN THAT IS FOUND
 
 -- the oldest message that it accepts is one of the rank's own whose send waits for its match: the receive has ended, and so has the send
-post_ends_own : (links : Announcements) (old new : CoreState) (known : List ℕ) (core : Core) (v : Receive) (q : Request) (m : Message) (own : OwnSend) (earlier later : List Held) → OwnOutcomesAgree → ClaimsOnce core →
+post_ends_own : (links : Announcements) (old new : CoreState) (known : List ℕ) (core : Core) (v : CoreReceive) (q : Request) (m : Message) (own : OwnSend) (earlier later : List Held) → OwnOutcomesAgree → ClaimsOnce core →
     IsShown links old known core → old.blocked ≡ None → receive_fault old v ≡ None → IsPosted old core v → IsPosting old v q new → Finds links.from old.queues v q.key (own_as m own) earlier later →
     IsCalled links old known core (calls.Irecv v) (replies.Started q) new
 post_ends_own links old new known core v q m own earlier later agree once shown free fine real h finds =
@@ -317,31 +317,31 @@ post_ends_own links old new known core v q m own earlier later agree once shown 
 -- AN ANNOUNCED MESSAGE THAT IS FOUND
 
 -- the core, once it found the message
-abbrev found_part : (links : Announcements) → Core → Receive → Message → Announcement → (earlier later : List Held) → Effect
+abbrev found_part : (links : Announcements) → Core → CoreReceive → Message → Announcement → (earlier later : List Held) → Effect
 found_part links core v m a earlier later = posted_at core (receive_seen v) (Some (earlier, held_of links.from (announced_as m a), later))
 
 -- the rows, with the request that it leaves
-abbrev found_rows : (links : Announcements) → List Row → (key : ℕ) → Receive → Message → Announcement → List Row
+abbrev found_rows : (links : Announcements) → List Row → (key : ℕ) → CoreReceive → Message → Announcement → List Row
 found_rows links rows key v m a = rows ++ row_of key (left_by links.from (receive_seen v) m a) ∷ []
 
 -- the transfers, with what is collected if it is wanted
-abbrev found_transfers : transfers.State → (key : ℕ) → Receive → Message → Announcement → transfers.State
+abbrev found_transfers : transfers.State → (key : ℕ) → CoreReceive → Message → Announcement → transfers.State
 found_transfers t key v m a = transfers_with t (collection_on_match (has_room v.into a.basic a.count) (announced_as m a) (Announced a) key)
 
 -- it is from its link
-found_part_of : (links : Announcements) (old : CoreState) (known : List ℕ) (core : Core) (v : Receive) (key : ℕ) (m : Message) (a : Announcement) (earlier later : List Held) → IsShown links old known core →
+found_part_of : (links : Announcements) (old : CoreState) (known : List ℕ) (core : Core) (v : CoreReceive) (key : ℕ) (m : Message) (a : Announcement) (earlier later : List Held) → IsShown links old known core →
     Finds links.from old.queues v key (announced_as m a) earlier later → IsPartOf links.from known old.place (announced_as m a) a
 found_part_of links old known core v key m a earlier later shown finds =
     found_at (λ (n : Message). IsFromLink links.from known old.place shown.rows n n.body) old.queues.unexpected (message_for (posted_by key v) old.queues.unexpected) (announced_as m a)
     shown.under_way.messages finds.message
 
 -- both want it alike, and are left by it alike
-found_alike : AnnouncementsAgree → (links : Announcements) (old : CoreState) (v : Receive) (key : ℕ) (m : Message) (a : Announcement) (earlier later : List Held) →
+found_alike : AnnouncementsAgree → (links : Announcements) (old : CoreState) (v : CoreReceive) (key : ℕ) (m : Message) (a : Announcement) (earlier later : List Held) →
     Finds links.from old.queues v key (announced_as m a) earlier later → AnnouncedAlike links.from (receive_seen v) (waiting_by v) (announced_as m a) a
 found_alike agree links old v key m a earlier later finds = agree links.from (receive_seen v) (waiting_by v) (announced_as m a) a refl (record { into = refl; group = refl }) finds.accepts
 
 -- what is under way then
-found_under_way : (links : Announcements) (old : CoreState) (known : List ℕ) (core : Core) (v : Receive) (key : ℕ) (m : Message) (a : Announcement) → (shown : IsShown links old known core) →
+found_under_way : (links : Announcements) (old : CoreState) (known : List ℕ) (core : Core) (v : CoreReceive) (key : ℕ) (m : Message) (a : Announcement) → (shown : IsShown links old known core) →
     slot_at old.slots key ≡ None → IsPartOf links.from known old.place (announced_as m a) a → AnnouncedAlike links.from (receive_seen v) (waiting_by v) (announced_as m a) a →
     AreUnderWay links known old.place (found_rows links shown.rows key v m a) (found_transfers old.transfers key v m a) (after_post old.queues (posted_by key v)).unexpected
 found_under_way links old known core v key m a shown fresh part alike =
@@ -353,7 +353,7 @@ found_under_way links old known core v key m a shown fresh part alike =
     (left_from_links links old known core (posted_by key v) (row_of key (left_by links.from (receive_seen v) m a)) shown))
 
 -- what both hold then
-found_holds : (links : Announcements) (old new : CoreState) (known : List ℕ) (core : Core) (v : Receive) (q : Request) (m : Message) (a : Announcement) (earlier later : List Held) → (shown : IsShown links old known core) →
+found_holds : (links : Announcements) (old new : CoreState) (known : List ℕ) (core : Core) (v : CoreReceive) (q : Request) (m : Message) (a : Announcement) (earlier later : List Held) → (shown : IsShown links old known core) →
     IsPosting old v q new → Finds links.from old.queues v q.key (announced_as m a) earlier later → IsPartOf links.from known old.place (announced_as m a) a →
     AnnouncedAlike links.from (receive_seen v) (waiting_by v) (announced_as m a) a → Holding links new known (found_part links core v m a earlier later).core (found_rows links shown.rows q.key v m a)
 found_holds links old new known core v q m a earlier later shown h finds part alike =
@@ -363,7 +363,7 @@ found_holds links old new known core v q m a earlier later shown h finds part al
     left_waits q.key (receive_seen v) (held_of links.from (announced_as m a)) a.count (receives.has_room (receive_seen v) a.basic a.count) in
     holding_started links links old new known core (found_part links core v m a earlier later).core shown.rows q.key (matched_progress v.into (status_in v.group (status_of (announced_as m a))) a.basic)
     (left_by links.from (receive_seen v) m a) (holding_of links old known core shown) h.fresh (entry_of old new v q (Some (announced_as m a)) h finds.message refl) alike.fits refl (serial_of old new v q h)
-    (ap (λ (s : State). s.posted) qs ∙ (finds.posted ∙ (shown.posted ∙ (sym (append-nil (posted_rows shown.rows)) ∙ ap (λ (ps : List queued.Receive). posted_rows shown.rows ++ ps) (sym waits_not)))))
+    (ap (λ (s : State). s.posted) qs ∙ (finds.posted ∙ (shown.posted ∙ (sym (append-nil (posted_rows shown.rows)) ∙ ap (λ (ps : List queued.PostedReceive). posted_rows shown.rows ++ ps) (sym waits_not)))))
     (sym (ap (λ (s : State). map (held_of links.from) s.unexpected) qs ∙ finds.unexpected))
     (under_way_still links known old.place new.place rows' rows' (found_transfers old.transfers q.key v m a) new.transfers (after_post old.queues (posted_by q.key v)).unexpected new.queues.unexpected
     (found_under_way links old known core v q.key m a shown h.fresh part alike) (same_rows rows') (post_stays old new v q h).place
@@ -374,7 +374,7 @@ found_holds links old new known core v q m a earlier later shown h finds part al
     refl (post_stays old new v q h).place
 
 -- what is answered to its sender
-found_given : (links : Announcements) (old : CoreState) (known : List ℕ) (core : Core) (v : Receive) (m : Message) (a : Announcement) (earlier later : List Held) → IsPartOf links.from known old.place (announced_as m a) a →
+found_given : (links : Announcements) (old : CoreState) (known : List ℕ) (core : Core) (v : CoreReceive) (m : Message) (a : Announcement) (earlier later : List Held) → IsPartOf links.from known old.place (announced_as m a) a →
     AnnouncedAlike links.from (receive_seen v) (waiting_by v) (announced_as m a) a → IsGiven links known old.place (answer_on_post v.into (Some (announced_as m a))) (found_part links core v m a earlier later).out
 found_given links old known core v m a earlier later part alike =
     record {
@@ -384,7 +384,7 @@ found_given links old known core v m a earlier later part alike =
     }
 
 -- the oldest message that it accepts was announced: it is collected from then on, or used up
-post_matches : (links : Announcements) (old new : CoreState) (known : List ℕ) (core : Core) (v : Receive) (q : Request) (m : Message) (a : Announcement) (earlier later : List Held) → AnnouncementsAgree →
+post_matches : (links : Announcements) (old new : CoreState) (known : List ℕ) (core : Core) (v : CoreReceive) (q : Request) (m : Message) (a : Announcement) (earlier later : List Held) → AnnouncementsAgree →
     IsShown links old known core → old.blocked ≡ None → receive_fault old v ≡ None → IsPosted old core v → IsPosting old v q new → Finds links.from old.queues v q.key (announced_as m a) earlier later →
     IsCalled links old known core (calls.Irecv v) (replies.Started q) new
 post_matches links old new known core v q m a earlier later agree shown free fine real h finds =
@@ -399,7 +399,7 @@ post_matches links old new known core v q m a earlier later agree shown free fin
 -- WHATEVER IS FOUND
 
 -- a receive that is posted, by whether a message waits that it accepts
-posting_shown : PostsMatch → OutcomesAgree → OwnOutcomesAgree → AnnouncementsAgree → (links : Announcements) (old new : CoreState) (known : List ℕ) (core : Core) (v : Receive) (q : Request) → IsShown links old known core → ClaimsOnce core →
+posting_shown : PostsMatch → OutcomesAgree → OwnOutcomesAgree → AnnouncementsAgree → (links : Announcements) (old new : CoreState) (known : List ℕ) (core : Core) (v : CoreReceive) (q : Request) → IsShown links old known core → ClaimsOnce core →
     old.blocked ≡ None → receive_fault old v ≡ None → IsPosted old core v → IsPosting old v q new → IsCalled links old known core (calls.Irecv v) (replies.Started q) new
 posting_shown match agree own alike links old new known core v q shown once free fine real h = go (match links.from old.queues v q.key)
   where
@@ -419,7 +419,7 @@ posting_shown match agree own alike links old new known core v q shown once free
     go (inr t) = by_body_of t.0 t.1 t.2 t.3 (by_body t.0)
 
 -- a receive from the null process is over at once, and its buffer is as it was
-nothing_shown : (links : Announcements) (old new : CoreState) (known : List ℕ) (core : Core) (v : Receive) (q : Request) → IsShown links old known core → old.blocked ≡ None →
+nothing_shown : (links : Announcements) (old new : CoreState) (known : List ℕ) (core : Core) (v : CoreReceive) (q : Request) → IsShown links old known core → old.blocked ≡ None →
     receive_fault old v ≡ None → v.source ≡ sources.Null → IsReceivingNothing old v q new → IsCalled links old known core (calls.Irecv v) (replies.Started q) new
 nothing_shown links old new known core v q shown free fine null h =
     receive_started links old new known core v q after (shown.rows ++ row_of q.key (Over x) ∷ []) shown free fine h.serial
@@ -444,7 +444,7 @@ nothing_shown links old new known core v q shown free fine null h =
     stays = record { place = ap (λ (e : CoreState). e.place) h.rest; completion = ap (λ (e : CoreState). e.completion) h.rest; blocked = ap (λ (e : CoreState). e.blocked) h.rest }
 
 -- a receive that meets no rule, by whom it names
-pub post_shown : PostsMatch → OutcomesAgree → OwnOutcomesAgree → AnnouncementsAgree → (links : Announcements) (old new : CoreState) (known : List ℕ) (core : Core) (v : Receive) (q : Request) → IsShown links old known core → ClaimsOnce core →
+pub post_shown : PostsMatch → OutcomesAgree → OwnOutcomesAgree → AnnouncementsAgree → (links : Announcements) (old new : CoreState) (known : List ℕ) (core : Core) (v : CoreReceive) (q : Request) → IsShown links old known core → ClaimsOnce core →
     old.blocked ≡ None → receive_fault old v ≡ None → IsReceiving old v q new → IsCalled links old known core (calls.Irecv v) (replies.Started q) new
 post_shown match agree own alike links old new known core v q shown once free fine h = go v.source refl h
   where

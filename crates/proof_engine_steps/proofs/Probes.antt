@@ -17,24 +17,24 @@ use Rattle.match_queues.specs.Bodies as bodies
 use Rattle.match_queues.specs.declared.envelope.Body.{Body}
 use Rattle.match_queues.specs.declared.envelope.Body.TheVariants.{Announced, Own, Whole}
 use Rattle.match_queues.specs.declared.envelope.Message.{Message}
-use Rattle.match_queues.specs.declared.envelope.Receive as queued
+use Rattle.match_queues.specs.declared.envelope.PostedReceive as queued
 use Rattle.match_queues.specs.State.{State, after_take, message_for, taken_at}
-use Rattle.requests.specs.declared.awaited.Awaited.{Awaited}
-use Rattle.requests.specs.declared.table.Progress.TheVariants.{TakenOut}
+use Rattle.requests.specs.declared.awaited_requests.Awaited.{Awaited}
+use Rattle.requests.specs.declared.table.RequestProgress.TheVariants.{TakenOut}
 use Rattle.requests.specs.declared.table.Request.{Request}
-use Rattle.shared_groups.specs.Statuses.{status_in}
-use Rattle.rank_calls.specs.declared.call.Call.TheVariants as calls
-use Rattle.rank_calls.specs.declared.call.Probe.{Probe}
-use Rattle.rank_calls.specs.declared.call.Reply.{Reply}
-use Rattle.rank_calls.specs.declared.call.Reply.TheVariants as replies
-use Rattle.rank_calls.specs.declared.refused.Refused.{Refused}
-use Rattle.rank_calls.specs.declared.refused.Refused.TheVariants as refusals
-use Rattle.rank_calls.specs.Receiving.{status_of}
-use Rattle.rank_calls.specs.Hearing.{first_of}
-use Rattle.rank_calls.specs.Refusals.{number_of_refusal}
-use Rattle.rank_core.specs.Calls.{free_fault}
-use Rattle.rank_core.specs.CoreState.{CoreState}
-use Rattle.rank_core.specs.Messages.{IsTakingOut, Searches, SearchesFrom, TakesOut, found_for, looked, probe_rule, probed_by, search_limit}
+use Rattle.communicator_members.specs.Statuses.{status_in}
+use Rattle.point_to_point_calls.specs.declared.call.CoreCall.TheVariants as calls
+use Rattle.point_to_point_calls.specs.declared.call.CoreProbe.{CoreProbe}
+use Rattle.point_to_point_calls.specs.declared.call.CoreReply.{CoreReply}
+use Rattle.point_to_point_calls.specs.declared.call.CoreReply.TheVariants as replies
+use Rattle.point_to_point_calls.specs.declared.refusal.Refusal.{Refusal}
+use Rattle.point_to_point_calls.specs.declared.refusal.Refusal.TheVariants as refusals
+use Rattle.point_to_point_calls.specs.Receiving.{status_of}
+use Rattle.point_to_point_calls.specs.Hearing.{first_of}
+use Rattle.point_to_point_calls.specs.Refusals.{number_of_refusal}
+use Rattle.point_to_point.specs.Calls.{free_fault}
+use Rattle.point_to_point.specs.CoreState.{CoreState}
+use Rattle.point_to_point.specs.Messages.{IsTakingOut, Searches, SearchesFrom, TakesOut, found_for, looked, probe_rule, probed_by, search_limit}
 use Rattle.proof_pure_network.specs.Core.{Core, view}
 use Rattle.proof_pure_network.specs.Engine.{core_ready, core_settled, core_settled_by}
 use Rattle.proof_pure_network.specs.Held as held
@@ -68,12 +68,12 @@ count_seen ts (Own o) = refl
 count_seen ts (Announced a) = refl
 
 -- and the status is the same
-status_seen : (from : Endpoint → List Transfer) (p : Probe) (m : Message) → found_status (probe_seen p) (held_of from m) ≡ status_in p.group (status_of m)
+status_seen : (from : Endpoint → List Transfer) (p : CoreProbe) (m : Message) → found_status (probe_seen p) (held_of from m) ≡ status_in p.group (status_of m)
 status_seen from p m =
     ap (λ (n : ℕ). status_in p.group (record { source = sources.Rank m.sender.rank; tag = Some m.tag; count = n })) (count_seen (from m.sender) m.body)
 
 -- what a message that was found tells
-abbrev told_status : Probe → Option Message → Option Status
+abbrev told_status : CoreProbe → Option Message → Option Status
 told_status p o = option_map (λ (m : Message). status_in p.group (status_of m)) o
 
 -- ---- THE CORE
@@ -89,7 +89,7 @@ probed_settled core b x free ready = ap (core_settled_by (probing core b)) ready
 -- ---- LOOKS
 
 -- a look by what both make of it
-looked_by : (old : CoreState) (core : Core) (p : Probe) (b : Unanswered) (o : Option Status) → core.blocked ≡ None → looks core (probe_seen p) p.source ≡ probing core b →
+looked_by : (old : CoreState) (core : Core) (p : CoreProbe) (b : Unanswered) (o : Option Status) → core.blocked ≡ None → looks core (probe_seen p) p.source ≡ probing core b →
     answer_to (over_at core.jobs) b ≡ Some (completions.ForProbe o, []) → told_of old p ≡ o → (o ≡ None → HoldsNone core p) → IsLookedAt old core p
 looked_by old core p b o free is ready tells none =
     record {
@@ -100,12 +100,12 @@ looked_by old core p b o free is ready tells none =
     }
 
 -- a probe from a rank, or from any, asks for messages
-record Asks (old : CoreState) (core : Core) (p : Probe) : Type 0 where
+record Asks (old : CoreState) (core : Core) (p : CoreProbe) : Type 0 where
   look : looks core (probe_seen p) p.source ≡ looked_at core (probe_seen p) (found (receives.such_receive (probe_seen p)) core.held)
   tells : told_of old p ≡ told_status p (found_for old p.source p.tag p.context)
 
 -- such a look
-asked_shown : TakesMatch → (links : Announcements) (old : CoreState) (known : List ℕ) (core : Core) (p : Probe) → IsShown links old known core → core.blocked ≡ None → Asks old core p → IsLookedAt old core p
+asked_shown : TakesMatch → (links : Announcements) (old : CoreState) (known : List ℕ) (core : Core) (p : CoreProbe) → IsShown links old known core → core.blocked ≡ None → Asks old core p → IsLookedAt old core p
 asked_shown match links old known core p shown free asks = go (match links.from old.queues (probe_seen p))
   where
     such : receives.Receive
@@ -160,7 +160,7 @@ rules_same false true = refl
 rules_same false false = refl
 
 -- while no call is blocked
-judged_free : (links : Announcements) (old : CoreState) (known : List ℕ) (core : Core) (p : Probe) → IsShown links old known core → old.blocked ≡ None →
+judged_free : (links : Announcements) (old : CoreState) (known : List ℕ) (core : Core) (p : CoreProbe) → IsShown links old known core → old.blocked ≡ None →
     queue_fault old.place.size (view blank core) (machine.Iprobe (probe_seen p)) ≡ option_map number_of_refusal (probe_rule old.place.size p.source p.tag)
 unfolding probe_rule
 judged_free links old known core p shown free =
@@ -179,7 +179,7 @@ looks_are_judged links old known core p shown = go old.blocked refl shown.blocke
 -- ---- MATCHING PROBES
 
 -- the fault of a matching probe, but for its limit, is the machine's
-pub searches_judged : (links : Announcements) (old : CoreState) (known : List ℕ) (core : Core) (p : Probe) → IsShown links old known core → old.blocked ≡ None →
+pub searches_judged : (links : Announcements) (old : CoreState) (known : List ℕ) (core : Core) (p : CoreProbe) → IsShown links old known core → old.blocked ≡ None →
     queue_fault old.place.size (view blank core) (machine.Improbe (probe_seen p)) ≡ option_map number_of_refusal (probe_rule old.place.size p.source p.tag)
 unfolding probe_rule
 searches_judged links old known core p shown free =
@@ -187,18 +187,18 @@ searches_judged links old known core p shown free =
     ∙ rules_same (rules.is_tag_above p.tag) (rules.is_source_beyond old.place.size p.source)
 
 -- where two rules find nothing, the first one doesn't
-first_none : (a b : Option Refused) → first_of a b ≡ None → a ≡ None
+first_none : (a b : Option Refusal) → first_of a b ≡ None → a ≡ None
 first_none None b h = refl
 first_none (Some e) b h = absurd cc
 
 -- no rule of the machine is broken by one that meets none
-pub search_fit : (links : Announcements) (old : CoreState) (known : List ℕ) (core : Core) (p : Probe) → IsShown links old known core → old.blocked ≡ None → free_fault old (calls.Improbe p) ≡ None →
+pub search_fit : (links : Announcements) (old : CoreState) (known : List ℕ) (core : Core) (p : CoreProbe) → IsShown links old known core → old.blocked ≡ None → free_fault old (calls.Improbe p) ≡ None →
     queue_fault old.place.size (view blank core) (machine.Improbe (probe_seen p)) ≡ None
 search_fit links old known core p shown free fine =
     searches_judged links old known core p shown free ∙ ap (option_map number_of_refusal) (first_none (probe_rule old.place.size p.source p.tag) (search_limit p.source old p) fine)
 
 -- it takes nothing out
-search_kept : (links : Announcements) (old : CoreState) (known : List ℕ) (core : Core) (p : Probe) (b : Unanswered) (o : Option (Option Request × Status)) → IsShown links old known core → old.blocked ≡ None →
+search_kept : (links : Announcements) (old : CoreState) (known : List ℕ) (core : Core) (p : CoreProbe) (b : Unanswered) (o : Option (Option Request × Status)) → IsShown links old known core → old.blocked ≡ None →
     free_fault old (calls.Improbe p) ≡ None → searches core (probe_seen p) p.source ≡ probing core b → answer_to (over_at core.jobs) b ≡ Some (completions.ForMatch (match_seen o), []) →
     IsMeant links old known core (machine.Improbe (probe_seen p)) (replies.Matched o) old
 search_kept links old known core p b o shown free fine is ready =
@@ -223,16 +223,16 @@ taken_serial links old known core r shown serial =
     ap (λ (js : List Job). length js) shown.jobs ∙ (length-map shown.rows (λ (x : Row). x.job) ∙ (shown.count ∙ sym serial))
 
 -- a row of the message that was taken out
-abbrev taken_row : (links : Announcements) → Probe → (key : ℕ) → Message → Row
+abbrev taken_row : (links : Announcements) → CoreProbe → (key : ℕ) → Message → Row
 taken_row links p key m = row_of key (Probed p.group (Some (held_of links.from m)))
 
 -- the core once it was taken out, and the probe answered
-abbrev taken_core : (links : Announcements) → Core → Probe → Message → (earlier later : List Held) → Core
+abbrev taken_core : (links : Announcements) → Core → CoreProbe → Message → (earlier later : List Held) → Core
 taken_core links core p m earlier later =
     record core { jobs = core.jobs ++ Probed p.group (Some (held_of links.from m)) ∷ []; blocked = None; held = earlier ++ later }
 
 -- both hold it from then on
-taken_holds : (links : Announcements) (old new : CoreState) (known : List ℕ) (core : Core) (p : Probe) (m : Message) (r : Request) (earlier later : List Held) → (shown : IsShown links old known core) →
+taken_holds : (links : Announcements) (old new : CoreState) (known : List ℕ) (core : Core) (p : CoreProbe) (m : Message) (r : Request) (earlier later : List Held) → (shown : IsShown links old known core) →
     Takes links.from old.queues (probe_seen p) m earlier later → IsTakingOut old p m r new → Holding links new known (taken_core links core p m earlier later) (shown.rows ++ taken_row links p r.key m ∷ [])
 taken_holds links old new known core p m r earlier later shown takes out =
     holding_started links links old new known core (taken_core links core p m earlier later) shown.rows r.key (TakenOut (record { group = p.group; message = Some m }))
@@ -260,14 +260,14 @@ taken_holds links old new known core p m r earlier later shown takes out =
     left : List Row
     left = shown.rows ++ row ∷ []
 
-    such : queued.Receive
+    such : queued.PostedReceive
     such = probed_by p.source p.tag p.context
 
     grows : AnnouncementsGrow links links
     grows = record { to = λ d. ([], append-nil (links.to d)); from = λ s. ([], append-nil (links.from s)) }
 
 -- it takes a message out
-search_takes : (links : Announcements) (old new : CoreState) (known : List ℕ) (core : Core) (p : Probe) (m : Message) (r : Request) (earlier later : List Held) → (shown : IsShown links old known core) → old.blocked ≡ None →
+search_takes : (links : Announcements) (old new : CoreState) (known : List ℕ) (core : Core) (p : CoreProbe) (m : Message) (r : Request) (earlier later : List Held) → (shown : IsShown links old known core) → old.blocked ≡ None →
     free_fault old (calls.Improbe p) ≡ None → searches core (probe_seen p) p.source ≡ searched_at core (probe_seen p) (Some (earlier, held_of links.from m, later)) →
     Takes links.from old.queues (probe_seen p) m earlier later → IsTakingOut old p m r new →
     IsMeant links old known core (machine.Improbe (probe_seen p)) (replies.Matched (Some (Some r, status_in p.group (status_of m)))) new
@@ -286,12 +286,12 @@ search_takes links old new known core p m r earlier later shown free fine is tak
     }
 
 -- from a rank, or from any, it searches the messages
-record Seeks (old new : CoreState) (core : Core) (p : Probe) (reply : Reply) : Type 0 where
+record Seeks (old new : CoreState) (core : Core) (p : CoreProbe) (reply : CoreReply) : Type 0 where
   search : searches core (probe_seen p) p.source ≡ searched_at core (probe_seen p) (found (receives.such_receive (probe_seen p)) core.held)
   takes : TakesOut old p (found_for old p.source p.tag p.context) reply new
 
 -- such a one
-sought : TakesMatch → (links : Announcements) (old new : CoreState) (known : List ℕ) (core : Core) (p : Probe) (reply : Reply) → IsShown links old known core → old.blocked ≡ None →
+sought : TakesMatch → (links : Announcements) (old new : CoreState) (known : List ℕ) (core : Core) (p : CoreProbe) (reply : CoreReply) → IsShown links old known core → old.blocked ≡ None →
     free_fault old (calls.Improbe p) ≡ None → Seeks old new core p reply → IsMeant links old known core (machine.Improbe (probe_seen p)) reply new
 sought match links old new known core p reply shown free fine seeks = go (match links.from old.queues (probe_seen p))
   where
@@ -306,13 +306,13 @@ sought match links old new known core p reply shown free fine seeks = go (match 
 
     kept : TakesNone links.from old.queues (probe_seen p) → TakesOut old p None reply new → IsMeant links old known core c reply new
     kept none t =
-        subst (λ (x : Reply). IsMeant links old known core c x new) (sym t.0)
+        subst (λ (x : CoreReply). IsMeant links old known core c x new) (sym t.0)
         (subst (λ (x : CoreState). IsMeant links old known core c (replies.Matched None) x) (sym t.1)
         (search_kept links old known core p (completions.Searches (probe_seen p)) None shown free fine (by_core None none.core) refl))
 
     taken : (m : Message) (earlier later : List Held) → Takes links.from old.queues (probe_seen p) m earlier later → TakesOut old p (Some m) reply new → IsMeant links old known core c reply new
     taken m earlier later takes t =
-        subst (λ (x : Reply). IsMeant links old known core c x new) (sym t.1)
+        subst (λ (x : CoreReply). IsMeant links old known core c x new) (sym t.1)
         (search_takes links old new known core p m t.0 earlier later shown free fine (by_core (Some (earlier, held_of links.from m, later)) takes.core) takes t.2)
 
     go : TakesNone links.from old.queues (probe_seen p) ⊎ ((m : Message) × (earlier : List Held) × (later : List Held) × Takes links.from old.queues (probe_seen p) m earlier later) → IsMeant links old known core c reply new
@@ -320,7 +320,7 @@ sought match links old new known core p reply shown free fine seeks = go (match 
     go (inr t) = taken t.0 t.1 t.2 t.3 (subst (λ (o : Option Message). TakesOut old p o reply new) t.3.message seeks.takes)
 
 -- a matching probe that meets no rule, from whomever
-pub searches_shown : TakesMatch → (links : Announcements) (old new : CoreState) (known : List ℕ) (core : Core) (p : Probe) (reply : Reply) → IsShown links old known core → old.blocked ≡ None →
+pub searches_shown : TakesMatch → (links : Announcements) (old new : CoreState) (known : List ℕ) (core : Core) (p : CoreProbe) (reply : CoreReply) → IsShown links old known core → old.blocked ≡ None →
     free_fault old (calls.Improbe p) ≡ None → Searches old p reply new → IsCalled links old known core (calls.Improbe p) reply new
 searches_shown match links old new known core p reply shown free fine done = meant_called links old new known core (calls.Improbe p) reply refl (go p.source refl done)
   where
@@ -329,7 +329,7 @@ searches_shown match links old new known core p reply shown free fine done = mea
 
     go : (s : Source) → p.source ≡ s → SearchesFrom s old p reply new → IsMeant links old known core c reply new
     go sources.Null is d =
-        subst (λ (x : Reply). IsMeant links old known core c x new) (sym d.0)
+        subst (λ (x : CoreReply). IsMeant links old known core c x new) (sym d.0)
         (subst (λ (x : CoreState). IsMeant links old known core c (replies.Matched (Some (None, null_status))) x) (sym d.1)
         (search_kept links old known core p (completions.Took None null_status) (Some (None, null_status)) shown free fine (ap (searches core (probe_seen p)) is) refl))
     go sources.Any is d =

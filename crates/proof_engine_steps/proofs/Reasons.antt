@@ -2,10 +2,10 @@
 use Rattle.std.proofs.Common.{◌≡◌, Bool, true, false, [], ◌∷◌, Some, None, if◌then◌else◌, sym, subst, inl}
 use Rattle.perfect_queues.specs.Refusals.{first_fault}
 use Rattle.proof_pure_network.specs.Core.{Core}
-use Rattle.rank_calls.specs.declared.call.Call.{Call}
-use Rattle.rank_calls.specs.declared.refused.Refused.{Refused}
-use Rattle.rank_calls.specs.declared.refused.Refused.TheVariants as refusals
-use Rattle.rank_core.specs.CoreState.{CoreState}
+use Rattle.point_to_point_calls.specs.declared.call.CoreCall.{CoreCall}
+use Rattle.point_to_point_calls.specs.declared.refusal.Refusal.{Refusal}
+use Rattle.point_to_point_calls.specs.declared.refusal.Refusal.TheVariants as refusals
+use Rattle.point_to_point.specs.CoreState.{CoreState}
 use Rattle.proof_engine_steps.specs.Refused.{HasReason, IsOutOfRoom}
 
 -- THE MACHINE'S RULES
@@ -33,10 +33,10 @@ rank_fault a b c d e f ha hb hc hd he hf = rw (ha, hb, hc, hd, he, hf)
 -- BOTH
 
 -- where a rule was broken, the refusal is by it
-pub reason_is : (old : CoreState) (core : Core) (call : Call) (x y : Refused) → Some x ≡ Some y → HasReason old core call x → HasReason old core call y
-reason_is old core call x y h r = let e : x ≡ y = cc in subst (λ (z : Refused). HasReason old core call z) e r
+pub reason_is : (old : CoreState) (core : Core) (call : CoreCall) (x y : Refusal) → Some x ≡ Some y → HasReason old core call x → HasReason old core call y
+reason_is old core call x y h r = let e : x ≡ y = cc in subst (λ (z : Refusal). HasReason old core call z) e r
 
 -- where no rule was broken, it is the limit
-pub limit_met : (b : Bool) (why : Refused) → (if b then Some refusals.Limit else None) ≡ Some why → IsOutOfRoom why
+pub limit_met : (b : Bool) (why : Refusal) → (if b then Some refusals.Limit else None) ≡ Some why → IsOutOfRoom why
 limit_met true why h = let e : refusals.Limit ≡ why = cc in inl (sym e)
 limit_met false why h = absurd cc

@@ -16,18 +16,18 @@ use Rattle.match_queues.specs.declared.envelope.Message.{Message}
 use Rattle.rendezvous.specs.Collecting as rendezvous
 use Rattle.rendezvous.specs.State as transfers
 use Rattle.requests.specs.Table.{IsSet, as_request, progress_at, request_at, slot_at}
-use Rattle.requests.specs.declared.awaited.Awaited.TheVariants as awaiteds
+use Rattle.requests.specs.declared.awaited_requests.Awaited.TheVariants as awaiteds
 use Rattle.requests.specs.declared.outcome.Outcome.{Outcome}
-use Rattle.requests.specs.declared.table.Entry as entries
+use Rattle.requests.specs.declared.table.TableEntry as entries
 use Rattle.requests.specs.declared.table.Matched.{Matched}
-use Rattle.requests.specs.declared.table.Progress.{Progress}
-use Rattle.requests.specs.declared.table.Progress.TheVariants.{Finished, Receiving}
-use Rattle.requests.specs.declared.table.Progress.TheVariants as progresses
+use Rattle.requests.specs.declared.table.RequestProgress.{RequestProgress}
+use Rattle.requests.specs.declared.table.RequestProgress.TheVariants.{Finished, Receiving}
+use Rattle.requests.specs.declared.table.RequestProgress.TheVariants as progresses
 use Rattle.requests.specs.declared.table.Request.{Request}
-use Rattle.rank_calls.specs.declared.refused.Refused.TheVariants as refusals
-use Rattle.rank_calls.specs.Receiving.{collection_on_match, transfers_with}
-use Rattle.rank_core.specs.CoreState.{CoreState}
-use Rattle.rank_core.specs.Waiting.{wait_fault}
+use Rattle.point_to_point_calls.specs.declared.refusal.Refusal.TheVariants as refusals
+use Rattle.point_to_point_calls.specs.Receiving.{collection_on_match, transfers_with}
+use Rattle.point_to_point.specs.CoreState.{CoreState}
+use Rattle.point_to_point.specs.Waiting.{wait_fault}
 use Rattle.proof_pure_network.specs.Core.{Core, with_jobs}
 use Rattle.proof_pure_network.specs.Held.{Held, count_of, fits, full}
 use Rattle.proof_pure_network.specs.Jobs.{Closed, Collecting, Job, Offering, Over, Probed, Unmatched, Waiting, matched_part}
@@ -86,15 +86,15 @@ received_part p h n true = go (0 == count_of h.body)
 received_part p h n false = tt
 
 -- it can be waited for
-pub received_there : (slots : List (Option entries.Entry)) (rows : List Row) (k key : ℕ) (job : Job) → IsTable slots rows → slice_get rows k ≡ Some (row_of key job) → IsReceived job → is_some (request_at slots key k) ≡ true
+pub received_there : (slots : List (Option entries.TableEntry)) (rows : List Row) (k key : ℕ) (job : Job) → IsTable slots rows → slice_get rows k ≡ Some (row_of key job) → IsReceived job → is_some (request_at slots key k) ≡ true
 received_there slots rows k key (Waiting p) t at i = absurd i
 received_there slots rows k key (Collecting p h got) t at i =
     let x : (w : Matched) × (progress_at slots key k ≡ Some (progresses.Collecting w)) × IsMatched w p h = progress_collecting slots rows k key p h got t at in
-    ap (λ (o : Option Progress). is_some (as_request o)) x.1
+    ap (λ (o : Option RequestProgress). is_some (as_request o)) x.1
 received_there slots rows k key (Offering d basic values) t at i = absurd i
 received_there slots rows k key (Over x) t at i =
     let y : (o : Outcome) × (progress_at slots key k ≡ Some (Finished o)) × (x ≡ outcome_seen o) = progress_over slots rows k key x t at in
-    ap (λ (o : Option Progress). is_some (as_request o)) y.1
+    ap (λ (o : Option RequestProgress). is_some (as_request o)) y.1
 received_there slots rows k key Closed t at i = absurd i
 received_there slots rows k key (Unmatched d) t at i = absurd i
 received_there slots rows k key (Probed g h) t at i = absurd i
@@ -106,7 +106,7 @@ wait_free c q h = ap (λ (b : Bool). if (not b || false) || false then Some refu
 -- ---- BOTH, ONCE IT IS RECEIVED
 
 -- the messages that others hold stay
-others_stay : (from : Endpoint → List Transfer) (known : List ℕ) (p : Place) (rows : List Row) (slots : List (Option entries.Entry)) (k key : ℕ) (g : Option (List ℕ)) (o : Option Held) (job : Job) → IsTable slots rows →
+others_stay : (from : Endpoint → List Transfer) (known : List ℕ) (p : Place) (rows : List Row) (slots : List (Option entries.TableEntry)) (k key : ℕ) (g : Option (List ℕ)) (o : Option Held) (job : Job) → IsTable slots rows →
     slice_get rows k ≡ Some (row_of key (Probed g o)) → AreTaken from known p rows slots → (place : ℕ) → place ≢ key → IsTakenAt from known p (slice_set rows k (row_of key job)) (slot_at slots place)
 others_stay from known p rows slots k key g o job table at taken place apart = by_slot (slot_at slots place) refl (taken place)
   where
@@ -122,23 +122,23 @@ others_stay from known p rows slots k key g o job table at taken place apart = b
           from_link = from_forth from known p rows left m m.body (forth_set IsUnmatched rows k key (Probed g o) job at (λ x. x)) i.from_link;
         }
 
-    by_progress : (serial : ℕ) (x : Progress) → serial ≢ k → IsTakenBy from known p rows serial x → IsTakenBy from known p left serial x
+    by_progress : (serial : ℕ) (x : RequestProgress) → serial ≢ k → IsTakenBy from known p rows serial x → IsTakenBy from known p left serial x
     by_progress serial (Receiving w) n i = tt
     by_progress serial (progresses.Collecting w) n i = tt
     by_progress serial progresses.Offering n i = tt
     by_progress serial (progresses.TakenOut t) n i = if_there serial t.group t.message n i
     by_progress serial (Finished x) n i = tt
 
-    by_slot : (s : Option entries.Entry) → slot_at slots place ≡ s → IsTakenAt from known p rows s → IsTakenAt from known p left s
+    by_slot : (s : Option entries.TableEntry) → slot_at slots place ≡ s → IsTakenAt from known p rows s → IsTakenAt from known p left s
     by_slot None e i = tt
     by_slot (Some t) e i = by_progress t.serial t.progress ((set_change slots rows k key (Probed g o) job table at (λ x. cc)).apart place t apart e) i
 
 -- the rank once the request is that far, with these transfers
-abbrev pub with_progress : CoreState → Request → Progress → transfers.State → CoreState
+abbrev pub with_progress : CoreState → Request → RequestProgress → transfers.State → CoreState
 with_progress c q x t = record c { slots = slice_set c.slots q.key (Some (record { serial = q.serial; progress = x })); transfers = t }
 
 -- both hold the receive
-pub received_holds : (links : Announcements) (old : CoreState) (known : List ℕ) (core : Core) (rows : List Row) (q : Request) (g : Option (List ℕ)) (o : Option Held) (x : Progress) (job : Job) (t : transfers.State) →
+pub received_holds : (links : Announcements) (old : CoreState) (known : List ℕ) (core : Core) (rows : List Row) (q : Request) (g : Option (List ℕ)) (o : Option Held) (x : RequestProgress) (job : Job) (t : transfers.State) →
     Holding links old known core rows → slice_get rows q.serial ≡ Some (row_of q.key (Probed g o)) → Fits x job → IsReceived job →
     AreUnderWay links known old.place (slice_set rows q.serial (row_of q.key job)) t old.queues.unexpected →
     Holding links (with_progress old q x t) known (with_jobs core (slice_set core.jobs q.serial job)) (slice_set rows q.serial (row_of q.key job))
@@ -160,7 +160,7 @@ received_holds links old known core rows q g o x job t h at fits is under =
     mine : Holds (slot_at old.slots q.key) q.serial (Probed g o)
     mine = held_at old.slots rows q.serial q.key (Probed g o) h.table at (λ e. cc)
 
-    after : entries.Entry
+    after : entries.TableEntry
     after = record { serial = q.serial; progress = x }
 
     set : IsSet old.slots (slice_set old.slots q.key (Some after)) q.key (Some after)
@@ -185,7 +185,7 @@ over_under_way links known p rows t ms k key g o x u at =
     (messages_forth links.from known p rows (slice_set rows k (row_of key (Over x))) ms (forth_set IsUnmatched rows k key (Probed g o) (Over x) at (λ i. i)) u.messages)
 
 -- no message that was taken out collects
-not_both : (x : Progress) (g : Option (List ℕ)) (o : Option Held) (r : receives.Receive) (h : Held) (got : List ℕ) → Fits x (Probed g o) → Fits x (Collecting r h got) → ⊥
+not_both : (x : RequestProgress) (g : Option (List ℕ)) (o : Option Held) (r : receives.Receive) (h : Held) (got : List ℕ) → Fits x (Probed g o) → Fits x (Collecting r h got) → ⊥
 not_both (Receiving b) g o r h got f e = f
 not_both (progresses.Collecting w) g o r h got f e = f
 not_both progresses.Offering g o r h got f e = f
@@ -193,7 +193,7 @@ not_both (progresses.TakenOut t) g o r h got f e = e
 not_both (Finished x) g o r h got f e = f
 
 -- so no collection has its key
-taken_apart : (from : Endpoint → List Transfer) (known : List ℕ) (rows : List Row) (slots : List (Option entries.Entry)) (k key : ℕ) (g : Option (List ℕ)) (o : Option Held) (cs : List rendezvous.Collecting) → IsTable slots rows →
+taken_apart : (from : Endpoint → List Transfer) (known : List ℕ) (rows : List Row) (slots : List (Option entries.TableEntry)) (k key : ℕ) (g : Option (List ℕ)) (o : Option Held) (cs : List rendezvous.Collecting) → IsTable slots rows →
     slice_get rows k ≡ Some (row_of key (Probed g o)) → AllByRecursion (IsCollectionOf from known rows) cs → AllByRecursion (λ y. y ≡ key → ⊥) (collection_keys cs)
 taken_apart from known rows slots k key g o [] table row all = tt
 taken_apart from known rows slots k key g o (c ∷ cs) table row all = (other, taken_apart from known rows slots k key g o cs table row all.1)
@@ -206,10 +206,10 @@ taken_apart from known rows slots k key g o (c ∷ cs) table row all = (other, t
         let h : Holds (slot_at slots c.request) all.0.serial (Collecting all.0.receive all.0.message all.0.got) =
         table.stands all.0.serial (row_of c.request (Collecting all.0.receive all.0.message all.0.got)) all.0.row in
         let same : mine.entry ≡ h.entry = same_Some mine.entry h.entry (sym mine.there ∙ (sym (ap (slot_at slots) e) ∙ h.there)) in
-        not_both h.entry.progress g o all.0.receive all.0.message all.0.got (subst (λ (t : entries.Entry). Fits t.progress (Probed g o)) same mine.fits) h.fits
+        not_both h.entry.progress g o all.0.receive all.0.message all.0.got (subst (λ (t : entries.TableEntry). Fits t.progress (Probed g o)) same mine.fits) h.fits
 
 -- what is under way once an announced one is matched with its receive
-pub part_under_way : (links : Announcements) (known : List ℕ) (p : Place) (rows : List Row) (slots : List (Option entries.Entry)) (t : transfers.State) (ms : List Message) (k key : ℕ) (g : Option (List ℕ)) (o : Option Held) (m : Message) (a : Announcement) (r : receives.Receive)
+pub part_under_way : (links : Announcements) (known : List ℕ) (p : Place) (rows : List Row) (slots : List (Option entries.TableEntry)) (t : transfers.State) (ms : List Message) (k key : ℕ) (g : Option (List ℕ)) (o : Option Held) (m : Message) (a : Announcement) (r : receives.Receive)
     (wanted : Bool) → AreUnderWay links known p rows t ms → IsTable slots rows → slice_get rows k ≡ Some (row_of key (Probed g o)) → IsPartOf links.from known p m a →
     AreUnderWay links known p (slice_set rows k (row_of key (matched_part r (held_of links.from (announced_as m a)) a.count wanted))) (transfers_with t (collection_on_match wanted (announced_as m a) (bodies.Announced a) key)) ms
 part_under_way links known p rows slots t ms k key g o m a r wanted u table at part =

@@ -6,14 +6,14 @@ use Rattle.perfect_queues.specs.Refusals as rules
 use Rattle.proof_pure_network.specs.Core.{Core, view}
 use Rattle.proof_pure_network.specs.Held.{blank}
 use Rattle.proof_pure_network.specs.Jobs.{request_of}
-use Rattle.requests.specs.declared.awaited.Awaited as rank
-use Rattle.requests.specs.declared.awaited.Awaited.TheVariants as awaiteds
-use Rattle.rank_calls.specs.declared.call.Call.{Call}
-use Rattle.rank_calls.specs.declared.call.Call.TheVariants as calls
-use Rattle.rank_calls.specs.declared.refused.Refused.{Refused}
-use Rattle.rank_calls.specs.declared.refused.Refused.TheVariants as refusals
-use Rattle.rank_core.specs.Calls.{fault_at, free_fault}
-use Rattle.rank_core.specs.CoreState.{CoreState}
+use Rattle.requests.specs.declared.awaited_requests.Awaited as rank
+use Rattle.requests.specs.declared.awaited_requests.Awaited.TheVariants as awaiteds
+use Rattle.point_to_point_calls.specs.declared.call.CoreCall.{CoreCall}
+use Rattle.point_to_point_calls.specs.declared.call.CoreCall.TheVariants as calls
+use Rattle.point_to_point_calls.specs.declared.refusal.Refusal.{Refusal}
+use Rattle.point_to_point_calls.specs.declared.refusal.Refusal.TheVariants as refusals
+use Rattle.point_to_point.specs.Calls.{fault_at, free_fault}
+use Rattle.point_to_point.specs.CoreState.{CoreState}
 use Rattle.proof_engine_view.specs.Faults.{queue_fault, queue_fault_by}
 use Rattle.proof_engine_view.specs.Seen.{call_meant, call_seen}
 use Rattle.proof_engine_view.specs.Shown.{IsBlocked, IsShown}
@@ -26,7 +26,7 @@ use Rattle.proof_engine_steps.proofs.RefusedSends.{no_send_fault, send_faultless
 use Rattle.proof_engine_steps.proofs.RefusedWaits.{cancel_reason, cancel_without_fault, test_reason, test_without_fault, wait_reason, wait_without_fault, waitall_without_fault, waitany_without_fault}
 
 -- while an earlier call is blocked, the machine finds the first fault with every call
-blocked_fault : (links : Announcements) (old : CoreState) (known : List ℕ) (core : Core) (call : Call) (a : rank.Awaited) → IsShown links old known core → old.blocked ≡ Some a → fault_seen old core call ≡ Some 6
+blocked_fault : (links : Announcements) (old : CoreState) (known : List ℕ) (core : Core) (call : CoreCall) (a : rank.Awaited) → IsShown links old known core → old.blocked ≡ Some a → fault_seen old core call ≡ Some 6
 blocked_fault links old known core call a shown h =
     ap
     (λ (b : Option Unanswered).
@@ -36,7 +36,7 @@ blocked_fault links old known core call a shown h =
 -- ---- what meets a rule or a limit
 
 -- while no other call is blocked
-free_reason : (links : Announcements) (old : CoreState) (known : List ℕ) (core : Core) (call : Call) (why : Refused) → IsShown links old known core → old.blocked ≡ None →
+free_reason : (links : Announcements) (old : CoreState) (known : List ℕ) (core : Core) (call : CoreCall) (why : Refusal) → IsShown links old known core → old.blocked ≡ None →
     free_fault old call ≡ Some why → HasReason old core call why
 free_reason links old known core (calls.Isend s) why shown free fault = send_reason links old known core s why shown free fault
 free_reason links old known core (calls.Irecv v) why shown free fault = receive_reason links old known core v why shown free fault
@@ -58,7 +58,7 @@ faults_have_reasons links old known core call why shown fault = go old.blocked r
 -- ---- what meets none
 
 -- while no other call is blocked
-free_faultless : (links : Announcements) (old : CoreState) (known : List ℕ) (core : Core) (call : Call) → IsShown links old known core → old.blocked ≡ None → free_fault old call ≡ None →
+free_faultless : (links : Announcements) (old : CoreState) (known : List ℕ) (core : Core) (call : CoreCall) → IsShown links old known core → old.blocked ≡ None → free_fault old call ≡ None →
     IsFaultless (queue_fault old.place.size (view blank core) (call_seen call)) old call
 free_faultless links old known core (calls.Isend s) shown free fine =
     record { own = refl; none = send_faultless links old known core s shown free (no_send_fault old s fine) }

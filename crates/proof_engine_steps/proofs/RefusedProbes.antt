@@ -13,17 +13,17 @@ use Rattle.requests.specs.Regions.{handed_of, is_unfit_to_receive}
 use Rattle.requests.specs.Table as table
 use Rattle.requests.specs.Table.{is_full, progress_at}
 use Rattle.requests.specs.declared.region.Region.{Region}
-use Rattle.requests.specs.declared.table.Progress.{Progress}
+use Rattle.requests.specs.declared.table.RequestProgress.{RequestProgress}
 use Rattle.requests.specs.declared.table.Request.{Request}
-use Rattle.rank_calls.specs.declared.call.Call.TheVariants as calls
-use Rattle.rank_calls.specs.declared.call.Probe.{Probe}
-use Rattle.rank_calls.specs.declared.refused.Refused.{Refused}
-use Rattle.rank_calls.specs.declared.refused.Refused.TheVariants as refusals
-use Rattle.rank_calls.specs.Hearing.{first_of}
-use Rattle.rank_calls.specs.Refusals.{number_of_refusal}
-use Rattle.rank_core.specs.Calls.{free_fault}
-use Rattle.rank_core.specs.CoreState.{CoreState}
-use Rattle.rank_core.specs.Messages.{found_for, full_if, message_fault, probe_rule, region_rule, search_limit}
+use Rattle.point_to_point_calls.specs.declared.call.CoreCall.TheVariants as calls
+use Rattle.point_to_point_calls.specs.declared.call.CoreProbe.{CoreProbe}
+use Rattle.point_to_point_calls.specs.declared.refusal.Refusal.{Refusal}
+use Rattle.point_to_point_calls.specs.declared.refusal.Refusal.TheVariants as refusals
+use Rattle.point_to_point_calls.specs.Hearing.{first_of}
+use Rattle.point_to_point_calls.specs.Refusals.{number_of_refusal}
+use Rattle.point_to_point.specs.Calls.{free_fault}
+use Rattle.point_to_point.specs.CoreState.{CoreState}
+use Rattle.point_to_point.specs.Messages.{found_for, full_if, message_fault, probe_rule, region_rule, search_limit}
 use Rattle.proof_engine_view.specs.Faults.{queue_fault}
 use Rattle.proof_engine_view.specs.Seen.{call_seen, own_serial, request_by, serial_meant}
 use Rattle.proof_engine_view.specs.Shown.{IsShown}
@@ -37,26 +37,26 @@ use Rattle.proof_engine_steps.proofs.Starting.{core_free, fault_free, no_fault}
 -- ---- MATCHING PROBES
 
 -- the limit is met only where a message is found that can't be held
-full_met : (c : CoreState) (o : Option Message) (why : Refused) → full_if c o ≡ Some why → IsOutOfRoom why
+full_met : (c : CoreState) (o : Option Message) (why : Refusal) → full_if c o ≡ Some why → IsOutOfRoom why
 full_met c None why h = absurd cc
 full_met c (Some m) why h = limit_met (is_full c.slots c.serial) why h
 
-search_met : (s : Source) (c : CoreState) (p : Probe) (why : Refused) → search_limit s c p ≡ Some why → IsOutOfRoom why
+search_met : (s : Source) (c : CoreState) (p : CoreProbe) (why : Refusal) → search_limit s c p ≡ Some why → IsOutOfRoom why
 search_met sources.Null c p why h = absurd cc
 search_met sources.Any c p why h = full_met c (found_for c sources.Any p.tag p.context) why h
 search_met (sources.Rank r) c p why h = full_met c (found_for c (sources.Rank r) p.tag p.context) why h
 
 -- a matching probe that breaks a rule or meets the limit
-pub search_reason : (links : Announcements) (old : CoreState) (known : List ℕ) (core : Core) (p : Probe) (why : Refused) → IsShown links old known core → old.blocked ≡ None →
+pub search_reason : (links : Announcements) (old : CoreState) (known : List ℕ) (core : Core) (p : CoreProbe) (why : Refusal) → IsShown links old known core → old.blocked ≡ None →
     free_fault old (calls.Improbe p) ≡ Some why → HasReason old core (calls.Improbe p) why
 search_reason links old known core p why shown free fault = go (probe_rule old.place.size p.source p.tag) refl fault
   where
-    go : (o : Option Refused) → probe_rule old.place.size p.source p.tag ≡ o → first_of o (search_limit p.source old p) ≡ Some why → HasReason old core (calls.Improbe p) why
+    go : (o : Option Refusal) → probe_rule old.place.size p.source p.tag ≡ o → first_of o (search_limit p.source old p) ≡ Some why → HasReason old core (calls.Improbe p) why
     go (Some x) e h = reason_is old core (calls.Improbe p) x why h (MachinesFault (searches_judged links old known core p shown free ∙ ap (option_map number_of_refusal) e))
     go None e h = NoRoom (search_met p.source old p why h) (searches_judged links old known core p shown free ∙ ap (option_map number_of_refusal) e)
 
 -- one that meets none
-pub search_without_fault : (links : Announcements) (old : CoreState) (known : List ℕ) (core : Core) (p : Probe) → IsShown links old known core → old.blocked ≡ None → free_fault old (calls.Improbe p) ≡ None →
+pub search_without_fault : (links : Announcements) (old : CoreState) (known : List ℕ) (core : Core) (p : CoreProbe) → IsShown links old known core → old.blocked ≡ None → free_fault old (calls.Improbe p) ≡ None →
     IsFaultless (queue_fault old.place.size (view blank core) (call_seen (calls.Improbe p))) old (calls.Improbe p)
 search_without_fault links old known core p shown free fine = record { own = refl; none = search_fit links old known core p shown free fine }
 
@@ -95,10 +95,10 @@ unknown_fault : (b : Bool) (into : Region) → b ≡ true → message_rules b in
 unknown_fault b into h = rw h refl
 
 -- a receive that breaks a rule
-pub message_reason : (links : Announcements) (old : CoreState) (known : List ℕ) (core : Core) (q : Option Request) (into : Region) (why : Refused) → IsShown links old known core → old.blocked ≡ None →
+pub message_reason : (links : Announcements) (old : CoreState) (known : List ℕ) (core : Core) (q : Option Request) (into : Region) (why : Refusal) → IsShown links old known core → old.blocked ≡ None →
     free_fault old (calls.Mrecv q into) ≡ Some why → HasReason old core (calls.Mrecv q into) why
 unfolding region_rule
-message_reason links old known core q into why shown free fault = by_request (is_unknown old q) refl (sym (ap (λ (o : Option Refused). first_of o (region_rule into)) (unknown_is old q)) ∙ fault)
+message_reason links old known core q into why shown free fault = by_request (is_unknown old q) refl (sym (ap (λ (o : Option Refusal). first_of o (region_rule into)) (unknown_is old q)) ∙ fault)
   where
     unfit : Bool
     unfit = is_unfit_to_receive (handed_of into)
@@ -131,7 +131,7 @@ record KeepsRules (old : CoreState) (q : Option Request) (into : Region) : Type 
 
 message_kept : (old : CoreState) (q : Option Request) (into : Region) → free_fault old (calls.Mrecv q into) ≡ None → KeepsRules old q into
 unfolding region_rule
-message_kept old q into fine = go (is_unknown old q) refl (sym (ap (λ (o : Option Refused). first_of o (region_rule into)) (unknown_is old q)) ∙ fine)
+message_kept old q into fine = go (is_unknown old q) refl (sym (ap (λ (o : Option Refusal). first_of o (region_rule into)) (unknown_is old q)) ∙ fine)
   where
     one_test : (b : Bool) → (if b then Some refusals.Count else None) ≡ None → b ≡ false
     one_test true h = absurd cc
@@ -149,7 +149,7 @@ message_kept old q into fine = go (is_unknown old q) refl (sym (ap (λ (o : Opti
 message_there : (old : CoreState) (q : Request) → not (table.is_message (progress_at old.slots q.key q.serial)) ≡ false → IsPresent old q
 message_there old q h = go (progress_at old.slots q.key q.serial) refl h
   where
-    go : (o : Option Progress) → progress_at old.slots q.key q.serial ≡ o → not (table.is_message o) ≡ false → IsPresent old q
+    go : (o : Option RequestProgress) → progress_at old.slots q.key q.serial ≡ o → not (table.is_message o) ≡ false → IsPresent old q
     go None e f = absurd cc
     go (Some g) e f = (g, e)
 

@@ -6,12 +6,12 @@ use Rattle.proof_pure_network.specs.Core.{Core, view}
 use Rattle.proof_pure_network.specs.Held.{blank}
 use Rattle.requests.specs.Regions.{handed_of, is_unfit_to_receive}
 use Rattle.requests.specs.Table.{is_full}
-use Rattle.rank_calls.specs.declared.call.Call.TheVariants as calls
-use Rattle.rank_calls.specs.declared.call.Receive.{Receive}
-use Rattle.rank_calls.specs.declared.refused.Refused.{Refused}
-use Rattle.rank_calls.specs.declared.refused.Refused.TheVariants as refusals
-use Rattle.rank_core.specs.CoreState.{CoreState}
-use Rattle.rank_core.specs.Receiving.{receive_fault}
+use Rattle.point_to_point_calls.specs.declared.call.CoreCall.TheVariants as calls
+use Rattle.point_to_point_calls.specs.declared.call.CoreReceive.{CoreReceive}
+use Rattle.point_to_point_calls.specs.declared.refusal.Refusal.{Refusal}
+use Rattle.point_to_point_calls.specs.declared.refusal.Refusal.TheVariants as refusals
+use Rattle.point_to_point.specs.CoreState.{CoreState}
+use Rattle.point_to_point.specs.Receiving.{receive_fault}
 use Rattle.proof_engine_view.specs.Faults.{queue_fault}
 use Rattle.proof_engine_view.specs.Seen.{call_seen}
 use Rattle.proof_engine_view.specs.Shown.{IsShown}
@@ -22,12 +22,12 @@ use Rattle.proof_engine_steps.proofs.Reasons.{count_fault, limit_met, rank_fault
 use Rattle.proof_engine_steps.proofs.Starting.{core_free, fault_free}
 
 -- the machine finds no fault with a receive that meets no rule of the rank's
-pub receive_faultless : (links : Announcements) (old : CoreState) (known : List ℕ) (core : Core) (v : Receive) → IsShown links old known core → old.blocked ≡ None → receive_fault old v ≡ None →
+pub receive_faultless : (links : Announcements) (old : CoreState) (known : List ℕ) (core : Core) (v : CoreReceive) → IsShown links old known core → old.blocked ≡ None → receive_fault old v ≡ None →
     queue_fault old.place.size (view blank core) (call_seen (calls.Irecv v)) ≡ None
 receive_faultless links old known core v shown free fine = post_fit old.place.size core v (core_free links old known core shown free) (receive_rules old v fine)
 
 -- a receive that breaks a rule or meets the limit
-pub receive_reason : (links : Announcements) (old : CoreState) (known : List ℕ) (core : Core) (v : Receive) (why : Refused) → IsShown links old known core → old.blocked ≡ None →
+pub receive_reason : (links : Announcements) (old : CoreState) (known : List ℕ) (core : Core) (v : CoreReceive) (why : Refusal) → IsShown links old known core → old.blocked ≡ None →
     receive_fault old v ≡ Some why → HasReason old core (calls.Irecv v) why
 unfolding receive_fault
 receive_reason links old known core v why shown free fault = by_type unfit refl fault
@@ -51,7 +51,7 @@ receive_reason links old known core v why shown free fault = by_type unfit refl 
     beyond = rules.is_source_beyond n v.source
 
     -- what is left of the rules
-    last : Option Refused
+    last : Option Refusal
     last = if is_full old.slots old.serial then Some refusals.Limit else None
 
     by_rank : unfit ≡ false → short ≡ false → high ≡ false → (b : Bool) → beyond ≡ b → (if b then Some refusals.Rank else last) ≡ Some why → HasReason old core (calls.Irecv v) why

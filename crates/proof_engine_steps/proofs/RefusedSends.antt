@@ -9,13 +9,13 @@ use Rattle.proof_pure_network.specs.Core.{Core, view}
 use Rattle.proof_pure_network.specs.Held.{blank}
 use Rattle.requests.specs.Regions.{byte_count, handed_of}
 use Rattle.requests.specs.Table.{is_full}
-use Rattle.rank_calls.specs.declared.call.Call.TheVariants as calls
-use Rattle.rank_calls.specs.declared.call.Send.{Send}
-use Rattle.rank_calls.specs.declared.refused.Refused.{Refused}
-use Rattle.rank_calls.specs.declared.refused.Refused.TheVariants as refusals
-use Rattle.rank_core.specs.CoreState.{CoreState}
-use Rattle.rank_calls.specs.Sending.{announced_to, or_worn_out, send_fault}
-use Rattle.rank_core.specs.Sending.{or_full}
+use Rattle.point_to_point_calls.specs.declared.call.CoreCall.TheVariants as calls
+use Rattle.point_to_point_calls.specs.declared.call.CoreSend.{CoreSend}
+use Rattle.point_to_point_calls.specs.declared.refusal.Refusal.{Refusal}
+use Rattle.point_to_point_calls.specs.declared.refusal.Refusal.TheVariants as refusals
+use Rattle.point_to_point.specs.CoreState.{CoreState}
+use Rattle.point_to_point_calls.specs.Sending.{announced_to, or_worn_out, send_fault}
+use Rattle.point_to_point.specs.Sending.{or_full}
 use Rattle.rendezvous.specs.State.{is_full_to}
 use Rattle.proof_engine_view.specs.Faults.{queue_fault}
 use Rattle.proof_engine_view.specs.Seen.{call_seen}
@@ -27,7 +27,7 @@ use Rattle.proof_engine_steps.proofs.Sends.{send_count, send_fit, send_over, sen
 use Rattle.proof_engine_steps.proofs.Starting.{core_free, fault_free}
 
 -- a send that breaks a rule of the engine
-send_fault_reason : (old : CoreState) (core : Core) (s : Send) (x : Refused) → core.blocked ≡ None → send_fault old.place s ≡ Some x →
+send_fault_reason : (old : CoreState) (core : Core) (s : CoreSend) (x : Refusal) → core.blocked ≡ None → send_fault old.place s ≡ Some x →
     HasReason old core (calls.Isend s) x
 unfolding send_fault
 send_fault_reason old core s x free fault = by_type differs refl fault
@@ -52,7 +52,7 @@ send_fault_reason old core s x free fault = by_type differs refl fault
     beyond = rules.is_no_target n s.target
 
     -- what is left of the rules
-    last : Option Refused
+    last : Option Refusal
     last = if beyond then Some refusals.Rank else None
 
     by_rank : differs ≡ false → byte_count s.from ≤ send_limit → short ≡ false → high ≡ false → (b : Bool) → beyond ≡ b →
@@ -92,21 +92,21 @@ send_fault_reason old core s x free fault = by_type differs refl fault
     by_type false e h = by_count e (nat_lt send_limit (byte_count s.from)) refl h
 
 -- the machine finds no fault with a send that breaks no rule of the rank's
-pub send_faultless : (links : Announcements) (old : CoreState) (known : List ℕ) (core : Core) (s : Send) → IsShown links old known core → old.blocked ≡ None → send_fault old.place s ≡ None →
+pub send_faultless : (links : Announcements) (old : CoreState) (known : List ℕ) (core : Core) (s : CoreSend) → IsShown links old known core → old.blocked ≡ None → send_fault old.place s ≡ None →
     queue_fault old.place.size (view blank core) (call_seen (calls.Isend s)) ≡ None
 send_faultless links old known core s shown free fine = send_fit old.place core s (core_free links old known core shown free) (send_rules old.place s fine)
 
 -- a send that meets no limit breaks no rule
-pub no_send_fault : (old : CoreState) (s : Send) → or_worn_out (or_full (send_fault old.place s) old) (announced_to old.place s) old.transfers ≡ None →
+pub no_send_fault : (old : CoreState) (s : CoreSend) → or_worn_out (or_full (send_fault old.place s) old) (announced_to old.place s) old.transfers ≡ None →
     send_fault old.place s ≡ None
 no_send_fault old s h = go (send_fault old.place s) h
   where
-    go : (f : Option Refused) → or_worn_out (or_full f old) (announced_to old.place s) old.transfers ≡ None → f ≡ None
+    go : (f : Option Refusal) → or_worn_out (or_full f old) (announced_to old.place s) old.transfers ≡ None → f ≡ None
     go None e = refl
     go (Some x) e = absurd cc
 
 -- a send that breaks a rule or meets the limit
-pub send_reason : (links : Announcements) (old : CoreState) (known : List ℕ) (core : Core) (s : Send) (why : Refused) → IsShown links old known core → old.blocked ≡ None →
+pub send_reason : (links : Announcements) (old : CoreState) (known : List ℕ) (core : Core) (s : CoreSend) (why : Refusal) → IsShown links old known core → old.blocked ≡ None →
     or_worn_out (or_full (send_fault old.place s) old) (announced_to old.place s) old.transfers ≡ Some why → HasReason old core (calls.Isend s) why
 send_reason links old known core s why shown free fault = go (send_fault old.place s) refl fault
   where
@@ -116,7 +116,7 @@ send_reason links old known core s why shown free fault = go (send_fault old.pla
     room false None h = limit_met false why h
     room false (Some rank) h = limit_met (is_full_to old.transfers.numbers rank) why h
 
-    go : (f : Option Refused) → send_fault old.place s ≡ f → or_worn_out (or_full f old) (announced_to old.place s) old.transfers ≡ Some why →
+    go : (f : Option Refusal) → send_fault old.place s ≡ f → or_worn_out (or_full f old) (announced_to old.place s) old.transfers ≡ Some why →
         HasReason old core (calls.Isend s) why
     go (Some x) e h = reason_is old core (calls.Isend s) x why h (send_fault_reason old core s x (core_free links old known core shown free) e)
     go None e h = NoRoom (room (is_full old.slots old.serial) (announced_to old.place s) h) (send_faultless links old known core s shown free e)

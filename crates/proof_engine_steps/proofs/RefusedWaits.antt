@@ -10,15 +10,15 @@ use Rattle.requests.specs.Completions.{awaited_requests}
 use Rattle.requests.specs.Lists as lists
 use Rattle.requests.specs.Table as table
 use Rattle.requests.specs.Table.{progress_at}
-use Rattle.requests.specs.declared.awaited.Awaited.{Awaited}
-use Rattle.requests.specs.declared.awaited.Awaited.TheVariants as awaiteds
-use Rattle.requests.specs.declared.table.Progress.{Progress}
+use Rattle.requests.specs.declared.awaited_requests.Awaited.{Awaited}
+use Rattle.requests.specs.declared.awaited_requests.Awaited.TheVariants as awaiteds
+use Rattle.requests.specs.declared.table.RequestProgress.{RequestProgress}
 use Rattle.requests.specs.declared.table.Request.{Request}
-use Rattle.rank_calls.specs.declared.call.Call.TheVariants as calls
-use Rattle.rank_calls.specs.declared.refused.Refused.{Refused}
-use Rattle.rank_calls.specs.declared.refused.Refused.TheVariants as refusals
-use Rattle.rank_core.specs.CoreState.{CoreState}
-use Rattle.rank_core.specs.Waiting.{cancel_fault, wait_fault}
+use Rattle.point_to_point_calls.specs.declared.call.CoreCall.TheVariants as calls
+use Rattle.point_to_point_calls.specs.declared.refusal.Refusal.{Refusal}
+use Rattle.point_to_point_calls.specs.declared.refusal.Refusal.TheVariants as refusals
+use Rattle.point_to_point.specs.CoreState.{CoreState}
+use Rattle.point_to_point.specs.Waiting.{cancel_fault, wait_fault}
 use Rattle.proof_engine_view.specs.Faults.{queue_fault, queue_fault_by}
 use Rattle.proof_engine_view.specs.Seen.{awaited_by, awaited_seen, call_seen, own_serial, request_by, serial_meant}
 use Rattle.proof_engine_view.specs.Shown.{IsShown}
@@ -34,8 +34,8 @@ abbrev six_if : Bool → Option ℕ
 six_if b = if b then Some 6 else None
 
 -- both find it broken
-rule_broken : (b : Bool) (found : Option ℕ) (why : Refused) → found ≡ six_if b → (if b then Some refusals.Request else None) ≡ Some why → IsReason found why
-rule_broken true found why h f = let is : refusals.Request ≡ why = cc in subst (λ (x : Refused). IsReason found x) is (MachinesFault h)
+rule_broken : (b : Bool) (found : Option ℕ) (why : Refusal) → found ≡ six_if b → (if b then Some refusals.Request else None) ≡ Some why → IsReason found why
+rule_broken true found why h f = let is : refusals.Request ≡ why = cc in subst (λ (x : Refusal). IsReason found x) is (MachinesFault h)
 rule_broken false found why h f = absurd cc
 
 -- both find it kept
@@ -54,7 +54,7 @@ wait_found links old known core a shown free =
     ap six_if (wrong_same links old known core shown (awaited_requests a)))
 
 -- a wait that breaks a rule
-pub wait_reason : (links : Announcements) (old : CoreState) (known : List ℕ) (core : Core) (a : Awaited) (why : Refused) → IsShown links old known core → old.blocked ≡ None → wait_fault old a ≡ Some why →
+pub wait_reason : (links : Announcements) (old : CoreState) (known : List ℕ) (core : Core) (a : Awaited) (why : Refusal) → IsShown links old known core → old.blocked ≡ None → wait_fault old a ≡ Some why →
     IsReason (queue_fault old.place.size (view blank core) (machine.Wait (awaited_by (serial_meant old) a))) why
 wait_reason links old known core a why shown free fault =
     rule_broken (lists.is_one_absent old.slots (awaited_requests a) || lists.is_twice (awaited_requests a))
@@ -94,7 +94,7 @@ test_is_wait n core r free = fault_free n core (machine.Test r) free ∙ (go r �
     go None = refl
     go (Some k) = sym (ap six_if (or_nothing (rules.is_missing (standing_at core k))))
 
-pub test_reason : (links : Announcements) (old : CoreState) (known : List ℕ) (core : Core) (q : Option Request) (why : Refused) → IsShown links old known core → old.blocked ≡ None → wait_fault old (awaiteds.One q) ≡ Some why →
+pub test_reason : (links : Announcements) (old : CoreState) (known : List ℕ) (core : Core) (q : Option Request) (why : Refusal) → IsShown links old known core → old.blocked ≡ None → wait_fault old (awaiteds.One q) ≡ Some why →
     HasReason old core (calls.Test q) why
 test_reason links old known core q why shown free fault =
     subst (λ (x : Option ℕ). IsReason x why) (sym (test_is_wait old.place.size core (request_by (serial_meant old) q) (core_free links old known core shown free)))
@@ -119,7 +119,7 @@ cancel_found links old known core q shown free =
     fault_free old.place.size core (machine.Cancel (Some (serial_meant old q))) (core_free links old known core shown free) ∙
     ap (λ (b : Bool). six_if (not b)) (receive_seen links old known core q shown)
 
-pub cancel_reason : (links : Announcements) (old : CoreState) (known : List ℕ) (core : Core) (q : Option Request) (why : Refused) → IsShown links old known core → old.blocked ≡ None → cancel_fault old q ≡ Some why →
+pub cancel_reason : (links : Announcements) (old : CoreState) (known : List ℕ) (core : Core) (q : Option Request) (why : Refusal) → IsShown links old known core → old.blocked ≡ None → cancel_fault old q ≡ Some why →
     HasReason old core (calls.Cancel q) why
 cancel_reason links old known core None why shown free fault =
     rule_broken true (queue_fault old.place.size (view blank core) (machine.Cancel None)) why
@@ -133,7 +133,7 @@ receive_there : (old : CoreState) (q : Request) → (b : Bool) → table.is_rece
 receive_there old q false e f = absurd cc
 receive_there old q true e f = go (progress_at old.slots q.key q.serial) refl e
   where
-    go : (o : Option Progress) → progress_at old.slots q.key q.serial ≡ o → table.is_receive o ≡ true → IsPresent old q
+    go : (o : Option RequestProgress) → progress_at old.slots q.key q.serial ≡ o → table.is_receive o ≡ true → IsPresent old q
     go None h t = absurd cc
     go (Some g) h t = (g, h)
 

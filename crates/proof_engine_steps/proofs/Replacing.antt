@@ -6,10 +6,10 @@ use Rattle.datatypes.specs.Contents.{Contents}
 use Rattle.perfect_queues.specs.Buffers.{Handed}
 use Rattle.perfect_queues.specs.Outcomes as machine
 use Rattle.requests.specs.Table.{after_replace, after_replaces, replaced_entry, replaced_progress, slot_at, slot_replaced}
-use Rattle.requests.specs.declared.table.Entry.{Entry}
-use Rattle.requests.specs.declared.table.Progress.{Progress}
-use Rattle.requests.specs.declared.table.Progress.TheVariants.{Receiving, Finished}
-use Rattle.requests.specs.declared.table.Progress.TheVariants as progresses
+use Rattle.requests.specs.declared.table.TableEntry.{TableEntry}
+use Rattle.requests.specs.declared.table.RequestProgress.{RequestProgress}
+use Rattle.requests.specs.declared.table.RequestProgress.TheVariants.{Receiving, Finished}
+use Rattle.requests.specs.declared.table.RequestProgress.TheVariants as progresses
 use Rattle.proof_pure_network.specs.Jobs.{Job, Waiting, Collecting, Offering, Over, Closed, ended, Probed, Unmatched}
 use Rattle.proof_engine_view.specs.Rows.{Fits, Holds, IsRow, IsTable, Row, Stands}
 use Rattle.proof_engine_steps.proofs.Ending.{IsAmong, cases_among, ended_at, ended_row}
@@ -21,30 +21,30 @@ use Rattle.proof_engine_steps.proofs.Tables.{closed_stands, ended_or_held, held_
 -- ONE KEY
 
 -- what stands under it
-pub replace_here : (slots : List (Option Entry)) (key : ℕ) →
+pub replace_here : (slots : List (Option TableEntry)) (key : ℕ) →
     slot_at (after_replace slots key) key ≡ option_map replaced_entry (slot_at slots key)
 replace_here slots key = go (slot_at slots key) refl
   where
-    go : (s : Option Entry) → slot_at slots key ≡ s → slot_at (slot_replaced s slots key) key ≡ option_map replaced_entry s
+    go : (s : Option TableEntry) → slot_at slots key ≡ s → slot_at (slot_replaced s slots key) key ≡ option_map replaced_entry s
     go None e = e
     go (Some t) e = (set_is_set slots key t (Some (replaced_entry t)) e).changed
 
 -- what stands under another
-pub replace_other : (slots : List (Option Entry)) (key other : ℕ) → other ≢ key →
+pub replace_other : (slots : List (Option TableEntry)) (key other : ℕ) → other ≢ key →
     slot_at (after_replace slots key) other ≡ slot_at slots other
 replace_other slots key other n = go (slot_at slots key) refl
   where
-    go : (s : Option Entry) → slot_at slots key ≡ s → slot_at (slot_replaced s slots key) other ≡ slot_at slots other
+    go : (s : Option TableEntry) → slot_at slots key ≡ s → slot_at (slot_replaced s slots key) other ≡ slot_at slots other
     go None e = refl
     go (Some t) e = (set_is_set slots key t (Some (replaced_entry t)) e).others other n
 
 -- what has ended stays so
-twice : (s : Option Entry) → option_map replaced_entry (option_map replaced_entry s) ≡ option_map replaced_entry s
+twice : (s : Option TableEntry) → option_map replaced_entry (option_map replaced_entry s) ≡ option_map replaced_entry s
 twice None = refl
 twice (Some t) = go t.progress
   where
-    go : (g : Progress) →
-        ◌≡◌ {A = Option Entry} (Some (record { serial = t.serial; progress = replaced_progress (replaced_progress g) })) (Some (record { serial = t.serial; progress = replaced_progress g }))
+    go : (g : RequestProgress) →
+        ◌≡◌ {A = Option TableEntry} (Some (record { serial = t.serial; progress = replaced_progress (replaced_progress g) })) (Some (record { serial = t.serial; progress = replaced_progress g }))
     go (Receiving b) = refl
     go (progresses.Collecting w) = refl
     go progresses.Offering = refl
@@ -54,13 +54,13 @@ twice (Some t) = go t.progress
 -- ALL KEYS
 
 -- what stands under a key that is none of them
-pub replaces_apart : (keys : List ℕ) (slots : List (Option Entry)) (key : ℕ) → (IsAmong key keys → ⊥) →
+pub replaces_apart : (keys : List ℕ) (slots : List (Option TableEntry)) (key : ℕ) → (IsAmong key keys → ⊥) →
     slot_at (after_replaces slots keys) key ≡ slot_at slots key
 replaces_apart [] slots key n = refl
 replaces_apart (x ∷ xs) slots key n = replaces_apart xs (after_replace slots x) key (λ a. n (inr a)) ∙ replace_other slots x key (λ e. n (inl e))
 
 -- what stands under one of them
-pub replaces_among : (keys : List ℕ) (slots : List (Option Entry)) (key : ℕ) → IsAmong key keys →
+pub replaces_among : (keys : List ℕ) (slots : List (Option TableEntry)) (key : ℕ) → IsAmong key keys →
     slot_at (after_replaces slots keys) key ≡ option_map replaced_entry (slot_at slots key)
 replaces_among [] slots key h = absurd h
 replaces_among (x ∷ xs) slots key h = go (cases_eq key x) (cases_among key xs) (replaces_among xs (after_replace slots x) key) h
@@ -75,15 +75,15 @@ replaces_among (x ∷ xs) slots key h = go (cases_eq key x) (cases_among key xs)
     go : (key ≡ x) ⊎ (key ≡ x → ⊥) → IsAmong key xs ⊎ (IsAmong key xs → ⊥) →
         (IsAmong key xs → slot_at (after_replaces (after_replace slots x) xs) key ≡ option_map replaced_entry (slot_at (after_replace slots x) key)) →
         IsAmong key (x ∷ xs) → slot_at (after_replaces (after_replace slots x) xs) key ≡ option_map replaced_entry (slot_at slots key)
-    go (inl e) (inl a) rest g = rest a ∙ (ap (λ (s : Option Entry). option_map replaced_entry s) (here e) ∙ twice (slot_at slots key))
-    go (inr n) (inl a) rest g = rest a ∙ ap (λ (s : Option Entry). option_map replaced_entry s) (replace_other slots x key n)
+    go (inl e) (inl a) rest g = rest a ∙ (ap (λ (s : Option TableEntry). option_map replaced_entry s) (here e) ∙ twice (slot_at slots key))
+    go (inr n) (inl a) rest g = rest a ∙ ap (λ (s : Option TableEntry). option_map replaced_entry s) (replace_other slots x key n)
     go (inl e) (inr m) rest g = replaces_apart xs (after_replace slots x) key m ∙ here e
     go (inr n) (inr m) rest g = absurd (missing n m g)
 
 -- THE TABLE
 
 -- how far it is says that it has ended, where it ends
-fits_replaced : (g : Progress) (r i : ℕ) (job : Job) → Fits g job → ends_by r i job ≡ true → Fits (replaced_progress g) (ended r i job)
+fits_replaced : (g : RequestProgress) (r i : ℕ) (job : Job) → Fits g job → ends_by r i job ≡ true → Fits (replaced_progress g) (ended r i job)
 fits_replaced (Receiving b) r i (Waiting p) f e =
     subst (λ (x : Bool). Fits (replaced_progress (Receiving b)) (if x then Over (machine.Replaced (Some p.into.buffer)) else Waiting p)) (sym e)
     (ap (λ (h : Handed). machine.Replaced (Some h.buffer)) f.into ∙ ap (λ (c : Contents). machine.Replaced (Some c)) (handed_buffer b.into))
@@ -141,7 +141,7 @@ ended_kept r i (Probed g None) e = refl
 ended_kept r i (Probed g (Some h)) e = ap (λ (x : Bool). Probed g (if x then None else Some h)) e
 
 -- so how far it is says the same
-fits_kept : (g : Progress) (r i : ℕ) (job : Job) → Fits g job → ends_by r i job ≡ false → Fits g (ended r i job)
+fits_kept : (g : RequestProgress) (r i : ℕ) (job : Job) → Fits g job → ends_by r i job ≡ false → Fits g (ended r i job)
 fits_kept g r i job f e = subst (λ (j : Job). Fits g j) (sym (ended_kept r i job e)) f
 
 -- true is not false
@@ -156,7 +156,7 @@ ends_open r i job e c =
     absurd cc
 
 -- a request under one of the keys ends
-ends_true : (slots : List (Option Entry)) (rows : List Row) (r i k key : ℕ) (job : Job) (keys : List ℕ) → IsTable slots rows → AreEnding rows r i keys →
+ends_true : (slots : List (Option TableEntry)) (rows : List Row) (r i k key : ℕ) (job : Job) (keys : List ℕ) → IsTable slots rows → AreEnding rows r i keys →
     slice_get rows k ≡ Some (record { key = key; job = job }) → (job ≡ Closed → ⊥) → IsAmong key keys → ends_by r i job ≡ true
 ends_true slots rows r i k key job keys table are at live a =
     let n : IsEnding rows r i key = are.only key a in
@@ -169,7 +169,7 @@ pub ends_false : (rows : List Row) (r i k key : ℕ) (job : Job) (keys : List �
 ends_false rows r i k key job keys are at n = only_true (ends_by r i job) (λ e. n (are.each k key job at e))
 
 -- the slot of a row, by whether its key is one of them
-holds_replaced : (slots : List (Option Entry)) (rows : List Row) (r i k key : ℕ) (job : Job) (keys : List ℕ) → IsTable slots rows → AreEnding rows r i keys →
+holds_replaced : (slots : List (Option TableEntry)) (rows : List Row) (r i k key : ℕ) (job : Job) (keys : List ℕ) → IsTable slots rows → AreEnding rows r i keys →
     slice_get rows k ≡ Some (record { key = key; job = job }) → (job ≡ Closed → ⊥) → Holds (slot_at slots key) k job →
     Holds (slot_at (after_replaces slots keys) key) k (ended r i job)
 holds_replaced slots rows r i k key job keys table are at live h = go (cases_among key keys)
@@ -178,7 +178,7 @@ holds_replaced slots rows r i k key job keys table are at live h = go (cases_amo
     go (inl a) =
         record {
           entry = replaced_entry h.entry;
-          there = replaces_among keys slots key a ∙ ap (λ (s : Option Entry). option_map replaced_entry s) h.there;
+          there = replaces_among keys slots key a ∙ ap (λ (s : Option TableEntry). option_map replaced_entry s) h.there;
           serial_is = h.serial_is;
           fits = fits_replaced h.entry.progress r i job h.fits (ends_true slots rows r i k key job keys table are at live a);
         }
@@ -191,12 +191,12 @@ holds_replaced slots rows r i k key job keys table are at live h = go (cases_amo
         }
 
 -- a row's slot holds what has become of it
-stands_replaced : (slots : List (Option Entry)) (rows : List Row) (r i k key : ℕ) (job : Job) (keys : List ℕ) → IsTable slots rows → AreEnding rows r i keys →
+stands_replaced : (slots : List (Option TableEntry)) (rows : List Row) (r i k key : ℕ) (job : Job) (keys : List ℕ) → IsTable slots rows → AreEnding rows r i keys →
     slice_get rows k ≡ Some (record { key = key; job = job }) → Stands (slot_at (after_replaces slots keys) key) k (ended r i job)
 stands_replaced slots rows r i k key job keys table are at =
     go (ended_or_held (slot_at slots key) k job (table.stands k (record { key = key; job = job }) at))
   where
-    after : Option Entry
+    after : Option TableEntry
     after = slot_at (after_replaces slots keys) key
 
     go : (job ≡ Closed) ⊎ Holds (slot_at slots key) k job → Stands after k (ended r i job)
@@ -206,7 +206,7 @@ stands_replaced slots rows r i k key job keys table are at =
         (holds_replaced slots rows r i k key job keys table are at (λ e. open_of h.entry.progress (subst (λ (j : Job). Fits h.entry.progress j) e h.fits)) h)
 
 -- where these are the keys of the requests that end, the table stands for what has become of them
-pub replaced_table : (slots : List (Option Entry)) (rows : List Row) (r i : ℕ) (keys : List ℕ) → IsTable slots rows → AreEnding rows r i keys →
+pub replaced_table : (slots : List (Option TableEntry)) (rows : List Row) (r i : ℕ) (keys : List ℕ) → IsTable slots rows → AreEnding rows r i keys →
     IsTable (after_replaces slots keys) (map (ended_row r i) rows)
 replaced_table slots rows r i keys table are =
     record {
@@ -214,7 +214,7 @@ replaced_table slots rows r i keys table are =
       entries = λ key t h. entries key t (cases_among key keys) h;
     }
   where
-    after : List (Option Entry)
+    after : List (Option TableEntry)
     after = after_replaces slots keys
 
     stands : (k : ℕ) (row : Row) (o : Option Row) → slice_get rows k ≡ o → option_map (ended_row r i) o ≡ Some row →
@@ -223,10 +223,10 @@ replaced_table slots rows r i keys table are =
     stands k row (Some x) e h =
         subst (λ (y : Row). Stands (slot_at after y.key) k y.job) (same_Some (ended_row r i x) row h) (stands_replaced slots rows r i k x.key x.job keys table are e)
 
-    there : (key : ℕ) (t : Entry) (x : IsRow rows key t) → slice_get rows t.serial ≡ Some (record { key = key; job = x.row.job })
+    there : (key : ℕ) (t : TableEntry) (x : IsRow rows key t) → slice_get rows t.serial ≡ Some (record { key = key; job = x.row.job })
     there key t x = x.there ∙ ap (λ (n : ℕ). Some (record { key = n; job = x.row.job })) x.key_is
 
-    kept : (key : ℕ) (t : Entry) → (IsAmong key keys → ⊥) → IsRow rows key t → IsRow (map (ended_row r i) rows) key t
+    kept : (key : ℕ) (t : TableEntry) → (IsAmong key keys → ⊥) → IsRow rows key t → IsRow (map (ended_row r i) rows) key t
     kept key t n x =
         record {
           row = ended_row r i x.row;
@@ -235,7 +235,7 @@ replaced_table slots rows r i keys table are =
           fits = fits_kept t.progress r i x.row.job x.fits (ends_false rows r i t.serial key x.row.job keys are (there key t x) n);
         }
 
-    replaced : (key : ℕ) (t : Entry) → IsAmong key keys → IsRow rows key t → IsRow (map (ended_row r i) rows) key (replaced_entry t)
+    replaced : (key : ℕ) (t : TableEntry) → IsAmong key keys → IsRow rows key t → IsRow (map (ended_row r i) rows) key (replaced_entry t)
     replaced key t a x =
         record {
           row = ended_row r i x.row;
@@ -246,12 +246,12 @@ replaced_table slots rows r i keys table are =
               (λ e. open_of t.progress (subst (λ (j : Job). Fits t.progress j) e x.fits)) a);
         }
 
-    among : (key : ℕ) (t : Entry) (s : Option Entry) → slot_at slots key ≡ s → IsAmong key keys →
+    among : (key : ℕ) (t : TableEntry) (s : Option TableEntry) → slot_at slots key ≡ s → IsAmong key keys →
         option_map replaced_entry s ≡ Some t → IsRow (map (ended_row r i) rows) key t
     among key t None e a h = absurd (none-some t h)
-    among key t (Some u) e a h = subst (λ (x : Entry). IsRow (map (ended_row r i) rows) key x) (same_Some (replaced_entry u) t h) (replaced key u a (table.entries key u e))
+    among key t (Some u) e a h = subst (λ (x : TableEntry). IsRow (map (ended_row r i) rows) key x) (same_Some (replaced_entry u) t h) (replaced key u a (table.entries key u e))
 
-    entries : (key : ℕ) (t : Entry) → IsAmong key keys ⊎ (IsAmong key keys → ⊥) → slot_at after key ≡ Some t →
+    entries : (key : ℕ) (t : TableEntry) → IsAmong key keys ⊎ (IsAmong key keys → ⊥) → slot_at after key ≡ Some t →
         IsRow (map (ended_row r i) rows) key t
     entries key t (inl a) h = among key t (slot_at slots key) refl a (sym (replaces_among keys slots key a) ∙ h)
     entries key t (inr n) h = kept key t n (table.entries key t (sym (replaces_apart keys slots key n) ∙ h))

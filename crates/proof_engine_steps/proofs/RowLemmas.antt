@@ -3,7 +3,7 @@ use Rattle.std.proofs.Common.{◌≡◌, ℕ, List, [], ◌∷◌, ◌++◌, Opt
 use Rattle.std.proofs.lemmas.List.{map-append, map-set}
 use Rattle.std.proofs.lemmas.Option.{slice_get-map}
 use Rattle.perfect_queues.specs.Outcomes.{Outcome}
-use Rattle.match_queues.specs.declared.envelope.Receive as posted
+use Rattle.match_queues.specs.declared.envelope.PostedReceive as posted
 use Rattle.proof_pure_network.specs.Jobs.{Job, Over, job_outcome, over_at}
 use Rattle.proof_engine_view.specs.Rows.{Row, jobs_of, posted_job, posted_rows}
 
@@ -26,4 +26,4 @@ push_jobs rows key job = map-append (λ (r : Row). r.job) rows (record { key = k
 -- a new request stands behind the others
 pub posted_push : (rows : List Row) (key : ℕ) (job : Job) → posted_rows (rows ++ record { key = key; job = job } ∷ []) ≡ posted_rows rows ++ posted_job key job
 posted_push [] key job = append-nil (posted_job key job)
-posted_push (r ∷ rs) key job = ap (λ (ys : List posted.Receive). posted_job r.key r.job ++ ys) (posted_push rs key job) ∙ sym (append_assoc (posted_job r.key r.job) (posted_rows rs) (posted_job key job))
+posted_push (r ∷ rs) key job = ap (λ (ys : List posted.PostedReceive). posted_job r.key r.job ++ ys) (posted_push rs key job) ∙ sym (append_assoc (posted_job r.key r.job) (posted_rows rs) (posted_job key job))

@@ -21,24 +21,24 @@ use Rattle.proof_pure_network.specs.Held.{blank}
 use Rattle.proof_pure_network.specs.Jobs.{Over}
 use Rattle.requests.specs.Regions.{byte_count, handed_of, sent_from}
 use Rattle.requests.specs.declared.outcome.Outcome.TheVariants.{Sent}
-use Rattle.requests.specs.declared.table.Progress.TheVariants.{Finished}
+use Rattle.requests.specs.declared.table.RequestProgress.TheVariants.{Finished}
 use Rattle.requests.specs.declared.table.Request.{Request}
-use Rattle.rank_calls.specs.declared.call.Call.TheVariants as calls
-use Rattle.rank_calls.specs.declared.call.Reply.TheVariants as replies
-use Rattle.rank_calls.specs.declared.call.Send.{Send}
+use Rattle.point_to_point_calls.specs.declared.call.CoreCall.TheVariants as calls
+use Rattle.point_to_point_calls.specs.declared.call.CoreReply.TheVariants as replies
+use Rattle.point_to_point_calls.specs.declared.call.CoreSend.{CoreSend}
 use Rattle.incarnation.specs.declared.place.Place.{Place}
-use Rattle.rank_calls.specs.declared.refused.Refused.{Refused}
-use Rattle.rank_calls.specs.declared.refused.Refused.TheVariants as refusals
+use Rattle.point_to_point_calls.specs.declared.refusal.Refusal.{Refusal}
+use Rattle.point_to_point_calls.specs.declared.refusal.Refusal.TheVariants as refusals
 use Rattle.datatypes.specs.ContentLaws.{length-bytes_of, sizes, values_of-bytes_of}
 use Rattle.datatypes.specs.Contents.{AreWithin, Contents, bytes_of, values_of}
-use Rattle.rank_calls.specs.Calls.{IsWithin}
-use Rattle.rank_core.specs.CoreState.{CoreState}
-use Rattle.rank_calls.specs.Frames.{FrameFor, as_list}
-use Rattle.rank_calls.specs.Sending.{announced_to, destination, eager_frame, frame_to, frame_unless, is_announced, is_own, is_to_itself, offered_by, progress_of_send, rank_to, request_frame, send_fault}
-use Rattle.rank_core.specs.Sending.{IsSending, arrived_at_itself, arrived_if, begun, frame_of, waiting_of}
+use Rattle.point_to_point_calls.specs.Calls.{IsWithin}
+use Rattle.point_to_point.specs.CoreState.{CoreState}
+use Rattle.point_to_point_calls.specs.Frames.{FrameFor, as_list}
+use Rattle.point_to_point_calls.specs.Sending.{announced_to, destination, eager_frame, frame_to, frame_unless, is_announced, is_own, is_to_itself, offered_by, progress_of_send, rank_to, request_frame, send_fault}
+use Rattle.point_to_point.specs.Sending.{IsSending, arrived_at_itself, arrived_if, begun, frame_of, waiting_of}
 use Rattle.rendezvous.specs.State.{next_to}
 use Rattle.requests.specs.Table.{IsSet, slot_at}
-use Rattle.requests.specs.declared.table.Entry.{Entry}
+use Rattle.requests.specs.declared.table.TableEntry.{TableEntry}
 use Rattle.proof_engine_view.specs.Faults.{queue_fault}
 use Rattle.proof_engine_view.specs.Frames.{endpoint_of}
 use Rattle.proof_engine_view.specs.Rows.{Row, posted_rows}
@@ -57,23 +57,23 @@ use Rattle.proof_engine_steps.proofs.Waking.{Holding}
 -- WHAT A SEND THAT WAS TAKEN MET
 
 -- no fault: the test fails
-one_test : (b : Bool) (x : Refused) → (if b then Some x else None) ≡ None → b ≡ false
+one_test : (b : Bool) (x : Refusal) → (if b then Some x else None) ≡ None → b ≡ false
 one_test true x h = absurd cc
 one_test false x h = refl
 
 -- buffer and layout have one type, not too many bytes, a buffer that is long enough, a tag that is allowed, and a rank of the
 -- job or the null process
-pub record KeepsRules (p : Place) (s : Send) : Type 0 where
+pub record KeepsRules (p : Place) (s : CoreSend) : Type 0 where
   pub one_type : differs_in_type (handed_of s.from) ≡ false
   pub few : byte_count s.from ≤ send_limit
   pub long : is_too_short (handed_of s.from) ≡ false
   pub low : rules.is_no_tag s.tag ≡ false
   pub inside : rules.is_no_target p.size s.target ≡ false
 
-pub send_rules : (p : Place) (s : Send) → send_fault p s ≡ None → KeepsRules p s
+pub send_rules : (p : Place) (s : CoreSend) → send_fault p s ≡ None → KeepsRules p s
 unfolding send_fault
 send_rules p s fine =
-    let last : Option Refused = if rules.is_no_target p.size s.target then Some refusals.Rank else None in
+    let last : Option Refusal = if rules.is_no_target p.size s.target then Some refusals.Rank else None in
     let t = two_tests (differs_in_type (handed_of s.from)) (nat_lt send_limit (byte_count s.from)) refusals.WrongType refusals.Count
     (if is_too_short (handed_of s.from) then Some refusals.Count else (if rules.is_no_tag s.tag then Some refusals.Tag else last)) fine in
     let u = two_tests (is_too_short (handed_of s.from)) (rules.is_no_tag s.tag) refusals.Count refusals.Tag last t.2 in
@@ -86,7 +86,7 @@ send_rules p s fine =
     }
 
 -- so many bytes, in a buffer that is long enough or isn't, are as many as the machine allows
-pub send_count : (s : Send) (b : Bool) → byte_count s.from ≤ send_limit → is_too_short (handed_of s.from) ≡ b →
+pub send_count : (s : CoreSend) (b : Bool) → byte_count s.from ≤ send_limit → is_too_short (handed_of s.from) ≡ b →
     (nat_lt send_limit (length (data_of (handed_of s.from)) * size_of (handed_of s.from).buffer.basic) || is_too_short (handed_of s.from)) ≡ b
 send_count s b few long =
     ap₂ (λ (x y : Bool). x || y)
@@ -94,14 +94,14 @@ send_count s b few long =
     ∙ le-ltb send_limit (byte_count s.from) few) long
 
 -- too many bytes are more than the machine allows, whatever the buffer
-pub send_over : (s : Send) → nat_lt send_limit (byte_count s.from) ≡ true →
+pub send_over : (s : CoreSend) → nat_lt send_limit (byte_count s.from) ≡ true →
     (nat_lt send_limit (length (data_of (handed_of s.from)) * size_of (handed_of s.from).buffer.basic) || is_too_short (handed_of s.from)) ≡ true
 send_over s over =
     ap (λ (x : Bool). x || is_too_short (handed_of s.from))
     (ap (λ (c : Contents). nat_lt send_limit (length (data_of (handed_of s.from)) * size_of c.basic)) (handed_buffer s.from) ∙ over)
 
 -- no rule of the machine is broken
-pub send_fit : (p : Place) (core : Core) (s : Send) → core.blocked ≡ None → KeepsRules p s →
+pub send_fit : (p : Place) (core : Core) (s : CoreSend) → core.blocked ≡ None → KeepsRules p s →
     queue_fault p.size (view blank core) (call_seen (calls.Isend s)) ≡ None
 send_fit p core s free kept =
     fault_free p.size core (call_seen (calls.Isend s)) free ∙
@@ -139,7 +139,7 @@ core_sends mode core own to i context tag c other small known =
     d = machine.receiver core.known to
 
 -- what is sent of a region
-pub called_send : (core : Core) (own : Endpoint) (s : Send) →
+pub called_send : (core : Core) (own : Endpoint) (s : CoreSend) →
     sends_to s.mode own core s.context s.target s.tag (handed_of s.from).buffer.basic (data_of (handed_of s.from)) ≡ core_sent s.mode own core s.context s.target s.tag (sent_from s.from)
 called_send core own s =
     ap (λ (b : Contents). sends_to s.mode own core s.context s.target s.tag b.basic (data_of (handed_of s.from))) (handed_buffer s.from)
@@ -147,15 +147,15 @@ called_send core own s =
 -- THE RANK'S SEND
 
 -- what a send leaves whose message isn't announced: its request is finished
-pub record IsSmallSending (old : CoreState) (s : Send) (q : Request) (new : CoreState) : Type 0 where
+pub record IsSmallSending (old : CoreState) (s : CoreSend) (q : Request) (new : CoreState) : Type 0 where
   pub fresh : slot_at old.slots q.key ≡ None
   pub serial : q.serial ≡ old.serial
-  pub started : List (Option Entry)
+  pub started : List (Option TableEntry)
   pub entry : IsSet old.slots started q.key (Some (record { serial = old.serial; progress = Finished Sent }))
   pub rest : new ≡ arrived_at_itself (record old { slots = started; serial = old.serial + 1 }) (destination s.target s.tag s.context) None (sent_from s.from)
 
 -- each send whose message isn't announced, and that waits for no match, is such a one
-pub small_sending : (old new : CoreState) (s : Send) (q : Request) → announced_to old.place s ≡ None → waiting_of s.mode (is_to_itself old.place s) q ≡ None → IsSending old s q new → IsSmallSending old s q new
+pub small_sending : (old new : CoreState) (s : CoreSend) (q : Request) → announced_to old.place s ≡ None → waiting_of s.mode (is_to_itself old.place s) q ≡ None → IsSending old s q new → IsSmallSending old s q new
 small_sending old new s q none no_wait sent =
     record {
       fresh = sent.fresh;
@@ -170,11 +170,11 @@ small_sending old new s q none no_wait sent =
     }
 
 -- nothing is announced that goes in one frame
-pub announced_small : (p : Place) (s : Send) → is_announced s.mode (sent_from s.from) ≡ false → announced_to p s ≡ None
+pub announced_small : (p : Place) (s : CoreSend) → is_announced s.mode (sent_from s.from) ≡ false → announced_to p s ≡ None
 announced_small p s small = ap (λ (b : Bool). if b then rank_to p (destination s.target s.tag s.context) else None) small
 
 -- nor what goes to no other rank
-pub announced_nowhere : (p : Place) (s : Send) → rank_to p (destination s.target s.tag s.context) ≡ None → announced_to p s ≡ None
+pub announced_nowhere : (p : Place) (s : CoreSend) → rank_to p (destination s.target s.tag s.context) ≡ None → announced_to p s ≡ None
 announced_nowhere p s nowhere = go (is_announced s.mode (sent_from s.from))
   where
     go : (b : Bool) → (if b then rank_to p (destination s.target s.tag s.context) else None) ≡ None
@@ -182,7 +182,7 @@ announced_nowhere p s nowhere = go (is_announced s.mode (sent_from s.from))
     go false = refl
 
 -- its request is there, and is over
-pub send_holds : (links : Announcements) (old : CoreState) (known : List ℕ) (core : Core) (s : Send) (q : Request) (new : CoreState) → (shown : IsShown links old known core) → (sent : IsSmallSending old s q new) →
+pub send_holds : (links : Announcements) (old : CoreState) (known : List ℕ) (core : Core) (s : CoreSend) (q : Request) (new : CoreState) → (shown : IsShown links old known core) → (sent : IsSmallSending old s q new) →
     Holding links (record old { slots = sent.started; serial = old.serial + 1 }) known (pushed_over core) (shown.rows ++ record { key = q.key; job = Over ends.Sent } ∷ [])
 send_holds links old known core s q new shown sent =
     holding_started links links old (record old { slots = sent.started; serial = old.serial + 1 }) known core (pushed_over core) shown.rows q.key (Finished Sent) (Over ends.Sent)
@@ -199,7 +199,7 @@ pub record Stays (old new : CoreState) : Type 0 where
   pub blocked : new.blocked ≡ old.blocked
 
 -- A send that was started and announces nothing, by what the core makes of it
-pub send_started : (links : Announcements) (old new : CoreState) (known : List ℕ) (core : Core) (s : Send) (q : Request) (after : Effect) (rows : List Row) → IsShown links old known core → old.blocked ≡ None →
+pub send_started : (links : Announcements) (old new : CoreState) (known : List ℕ) (core : Core) (s : CoreSend) (q : Request) (after : Effect) (rows : List Row) → IsShown links old known core → old.blocked ≡ None →
     KeepsRules old.place s → q.serial ≡ old.serial → core_sent s.mode old.place.endpoint core s.context s.target s.tag (sent_from s.from) ≡ after → Holding links new known after.core rows →
     after.core.blocked ≡ core.blocked → Stays old new → AreQuiet after.out → AreSent (after_out links after.out) (all_gone known (as_list (frame_of old s))) after.out →
     AllByRecursion (CanLeave old.place) (as_list (frame_of old s)) → IsCalled links old known core (calls.Isend s) (replies.Started q) new
@@ -218,7 +218,7 @@ send_started links old new known core s q after rows shown free kept serial is h
     })
 
 -- the same, where nothing comes to the own rank
-away_shown : (links : Announcements) (old new : CoreState) (known : List ℕ) (core : Core) (s : Send) (q : Request) (after : Effect) → (shown : IsShown links old known core) → old.blocked ≡ None →
+away_shown : (links : Announcements) (old new : CoreState) (known : List ℕ) (core : Core) (s : CoreSend) (q : Request) (after : Effect) → (shown : IsShown links old known core) → old.blocked ≡ None →
     KeepsRules old.place s → (sent : IsSmallSending old s q new) → new ≡ record old { slots = sent.started; serial = old.serial + 1 } →
     core_sent s.mode old.place.endpoint core s.context s.target s.tag (sent_from s.from) ≡ after → after.core ≡ pushed_over core →
     AreQuiet after.out → AreSent (after_out links after.out) (all_gone known (as_list (frame_of old s))) after.out → AllByRecursion (CanLeave old.place) (as_list (frame_of old s)) →
@@ -233,7 +233,7 @@ away_shown links old new known core s q after shown free kept sent rest is left 
     quiet out leave
 
 -- a send to the null process
-pub null_send_shown : (links : Announcements) (old new : CoreState) (known : List ℕ) (core : Core) (s : Send) (q : Request) → IsShown links old known core → old.blocked ≡ None →
+pub null_send_shown : (links : Announcements) (old new : CoreState) (known : List ℕ) (core : Core) (s : CoreSend) (q : Request) → IsShown links old known core → old.blocked ≡ None →
     s.target ≡ Null → KeepsRules old.place s → IsSending old s q new → IsCalled links old known core (calls.Isend s) (replies.Started q) new
 null_send_shown links old new known core s q shown free is kept is_sent =
     away_shown links old new known core s q (effect (pushed_over core) []) shown free kept sent
@@ -255,7 +255,7 @@ abbrev eager_for : (to context tag : ℕ) → Contents → FrameFor
 eager_for to context tag c = record { rank = to; frame = eager_frame context tag c }
 
 -- elements that go in one frame go in an eager one
-small_frame : (old : CoreState) (s : Send) (to tag : ℕ) → s.target ≡ Rank to → s.tag ≡ Some tag → (to == old.place.endpoint.rank) ≡ false → is_announced s.mode (sent_from s.from) ≡ false →
+small_frame : (old : CoreState) (s : CoreSend) (to tag : ℕ) → s.target ≡ Rank to → s.tag ≡ Some tag → (to == old.place.endpoint.rank) ≡ false → is_announced s.mode (sent_from s.from) ≡ false →
     frame_of old s ≡ Some (eager_for to s.context tag (sent_from s.from))
 small_frame old s to tag target_is tag_is other small =
     ap₂ (λ (t : Source) (g : Option ℕ). frame_to old.place old.transfers s.mode (destination t g s.context) (sent_from s.from)) target_is tag_is
@@ -281,7 +281,7 @@ eager_stands : (context tag : ℕ) (c : Contents) → AreWithin (size_of c.basic
 eager_stands context tag c within = ap (λ (values : List ℕ). Some (Eager context tag c.basic values)) (values_of-bytes_of (size_of c.basic) c.values (sizes c.basic).positive within)
 
 -- a small send to another rank
-pub other_send_shown : (links : Announcements) (old new : CoreState) (known : List ℕ) (core : Core) (s : Send) (q : Request) (to tag : ℕ) → IsShown links old known core → old.blocked ≡ None →
+pub other_send_shown : (links : Announcements) (old new : CoreState) (known : List ℕ) (core : Core) (s : CoreSend) (q : Request) (to tag : ℕ) → IsShown links old known core → old.blocked ≡ None →
     s.target ≡ Rank to → s.tag ≡ Some tag → (to == old.place.endpoint.rank) ≡ false → KeepsRules old.place s → IsWithin (calls.Isend s) → is_announced s.mode (sent_from s.from) ≡ false → IsSending old s q new →
     IsCalled links old known core (calls.Isend s) (replies.Started q) new
 other_send_shown links old new known core s q to tag shown free target_is tag_is other kept within small is_sent =

@@ -14,15 +14,15 @@ use Rattle.requests.specs.Completions.{awaited_requests}
 use Rattle.requests.specs.Lists as lists
 use Rattle.requests.specs.Table as table
 use Rattle.requests.specs.Table.{progress_at, slot_at}
-use Rattle.requests.specs.declared.awaited.Awaited.{Awaited}
-use Rattle.requests.specs.declared.awaited.Awaited.TheVariants as awaiteds
+use Rattle.requests.specs.declared.awaited_requests.Awaited.{Awaited}
+use Rattle.requests.specs.declared.awaited_requests.Awaited.TheVariants as awaiteds
 use Rattle.requests.specs.declared.outcome.Outcome.{Outcome}
 use Rattle.requests.specs.declared.outcome.Outcome.TheVariants as outcomes
-use Rattle.requests.specs.declared.table.Progress.{Progress}
-use Rattle.requests.specs.declared.table.Progress.TheVariants.{Receiving, Finished}
-use Rattle.requests.specs.declared.table.Progress.TheVariants as progresses
+use Rattle.requests.specs.declared.table.RequestProgress.{RequestProgress}
+use Rattle.requests.specs.declared.table.RequestProgress.TheVariants.{Receiving, Finished}
+use Rattle.requests.specs.declared.table.RequestProgress.TheVariants as progresses
 use Rattle.requests.specs.declared.table.Request.{Request}
-use Rattle.rank_core.specs.CoreState.{CoreState}
+use Rattle.point_to_point.specs.CoreState.{CoreState}
 use Rattle.proof_engine_view.specs.Rows.{Row, Stands}
 use Rattle.proof_engine_view.specs.Seen.{awaited_by, is_foreign, outcome_seen, own_serial, request_by, requests_by, serial_meant}
 use Rattle.proof_engine_view.specs.Shown.{IsShown}
@@ -33,7 +33,7 @@ use Rattle.proof_engine_steps.proofs.Found.{CollectsFor, HasRow, HoldsMessage, O
 -- ---- one request
 
 -- what a call may do with a request that is so far
-abbrev pub standing_of : Option Progress → rules.Standing
+abbrev pub standing_of : Option RequestProgress → rules.Standing
 standing_of None = rules.Missing
 standing_of (Some (Receiving b)) = rules.Receiving
 standing_of (Some (progresses.Collecting w)) = rules.Receiving
@@ -61,7 +61,7 @@ outcome_no_message (ends.Cancelled b) = refl
 outcome_no_message ends.Empty = refl
 
 -- whether it is missing
-missing_of : (g : Option Progress) → rules.is_missing (standing_of g) ≡ not (is_some (table.as_request g))
+missing_of : (g : Option RequestProgress) → rules.is_missing (standing_of g) ≡ not (is_some (table.as_request g))
 missing_of None = refl
 missing_of (Some (Receiving b)) = refl
 missing_of (Some (progresses.Collecting w)) = refl
@@ -80,7 +80,7 @@ receives_of (outcomes.Cancelled b) = refl
 receives_of outcomes.Empty = refl
 
 -- whether it is a receive
-receive_of : (g : Option Progress) → rules.is_receive (standing_of g) ≡ table.is_receive g
+receive_of : (g : Option RequestProgress) → rules.is_receive (standing_of g) ≡ table.is_receive g
 receive_of None = refl
 receive_of (Some (Receiving b)) = refl
 receive_of (Some (progresses.Collecting w)) = refl
@@ -128,7 +128,7 @@ standing_seen links old known core q shown = go (progress_at old.slots q.key q.s
     absent true f e = at old.serial None (meant_foreign old q f) (slice_get_past shown.rows old.serial (omega (arith, shown.count)))
     absent false f e = own f e (slice_get shown.rows q.serial) refl
 
-    go : (g : Option Progress) → progress_at old.slots q.key q.serial ≡ g → standing_at core (serial_meant old q) ≡ standing_of g
+    go : (g : Option RequestProgress) → progress_at old.slots q.key q.serial ≡ g → standing_at core (serial_meant old q) ≡ standing_of g
     go None e = absent (is_foreign old.slots q) refl e
     go (Some (Receiving b)) e =
         let r : HasRow shown.rows q.serial q.key (Receiving b) = row_of old.slots shown.rows q.serial q.key (Receiving b) shown.table e in
@@ -168,7 +168,7 @@ pub receive_seen : (links : Announcements) (old : CoreState) (known : List ℕ) 
 receive_seen links old known core q shown = ap rules.is_receive (standing_seen links old known core q shown) ∙ receive_of (progress_at old.slots q.key q.serial)
 
 -- whether it is a message that was taken out
-message_of : (g : Option Progress) → rules.is_message (standing_of g) ≡ table.is_message g
+message_of : (g : Option RequestProgress) → rules.is_message (standing_of g) ≡ table.is_message g
 message_of None = refl
 message_of (Some (Receiving b)) = refl
 message_of (Some (progresses.Collecting w)) = refl
@@ -184,7 +184,7 @@ message_seen links old known core q shown = ap rules.is_message (standing_seen l
 
 -- the table tells how far it is
 abbrev pub IsPresent : CoreState → Request → Type 0
-IsPresent c q = (g : Progress) × (progress_at c.slots q.key q.serial ≡ Some g)
+IsPresent c q = (g : RequestProgress) × (progress_at c.slots q.key q.serial ≡ Some g)
 
 -- neither part of a disjunction holds
 pub neither : (a b : Bool) → (a || b) ≡ false → (a ≡ false) × (b ≡ false)
@@ -198,7 +198,7 @@ all_present c (q ∷ qs) h =
     let n : (lists.is_absent c.slots q ≡ false) × (lists.is_one_absent c.slots qs ≡ false) = neither (lists.is_absent c.slots q) (lists.is_one_absent c.slots qs) h in
     (there (progress_at c.slots q.key q.serial) refl n.0, all_present c qs n.1)
   where
-    there : (o : Option Progress) → progress_at c.slots q.key q.serial ≡ o → not (is_some (table.as_request o)) ≡ false → IsPresent c q
+    there : (o : Option RequestProgress) → progress_at c.slots q.key q.serial ≡ o → not (is_some (table.as_request o)) ≡ false → IsPresent c q
     there None e f = absurd cc
     there (Some g) e f = (g, e)
 

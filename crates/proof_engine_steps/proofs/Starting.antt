@@ -11,16 +11,16 @@ use Rattle.proof_pure_network.specs.Engine.{called, core_ready, core_settled}
 use Rattle.proof_pure_network.specs.Held.{blank}
 use Rattle.proof_pure_network.specs.Jobs.{Job, request_of}
 use Rattle.requests.specs.Table.{IsSet, slot_at}
-use Rattle.requests.specs.declared.table.Progress.{Progress}
-use Rattle.requests.specs.declared.awaited.Awaited as rank
+use Rattle.requests.specs.declared.table.RequestProgress.{RequestProgress}
+use Rattle.requests.specs.declared.awaited_requests.Awaited as rank
 use Rattle.requests.specs.declared.table.Request.{Request}
-use Rattle.rank_calls.specs.declared.call.Call.{Call}
-use Rattle.rank_calls.specs.declared.call.Reply.TheVariants as replies
-use Rattle.rank_calls.specs.declared.refused.Refused.{Refused}
-use Rattle.rank_calls.specs.Frames.{FrameFor, as_list}
+use Rattle.point_to_point_calls.specs.declared.call.CoreCall.{CoreCall}
+use Rattle.point_to_point_calls.specs.declared.call.CoreReply.TheVariants as replies
+use Rattle.point_to_point_calls.specs.declared.refusal.Refusal.{Refusal}
+use Rattle.point_to_point_calls.specs.Frames.{FrameFor, as_list}
 use Rattle.incarnation.specs.declared.place.Place.{Place}
-use Rattle.rank_core.specs.Calls.{call_frame}
-use Rattle.rank_core.specs.CoreState.{CoreState}
+use Rattle.point_to_point.specs.Calls.{call_frame}
+use Rattle.point_to_point.specs.CoreState.{CoreState}
 use Rattle.proof_engine_view.specs.Faults.{queue_fault, queue_fault_by}
 use Rattle.proof_engine_view.specs.Rows.{Fits, Row, held_of, posted_job, posted_rows}
 use Rattle.proof_engine_view.specs.Seen.{call_seen}
@@ -54,13 +54,13 @@ pub no_fault : (a b c d e f : Bool) → a ≡ false → b ≡ false → c ≡ fa
 no_fault a b c d e f ha hb hc hd he hf = rw (ha, hb, hc, hd, he, hf)
 
 -- a fault function's first two rules are kept where it finds no fault
-pub two_tests : (a b : Bool) (x y : Refused) (o : Option Refused) → (if a then Some x else (if b then Some y else o)) ≡ None → (a ≡ false) × (b ≡ false) × (o ≡ None)
+pub two_tests : (a b : Bool) (x y : Refusal) (o : Option Refusal) → (if a then Some x else (if b then Some y else o)) ≡ None → (a ≡ false) × (b ≡ false) × (o ≡ None)
 two_tests true b x y o h = absurd (grind arith)
 two_tests false true x y o h = absurd (grind arith)
 two_tests false false x y o h = (refl, refl, h)
 
 -- One more request, in both. It may have been announced, so that there is more on the links than before
-pub holding_started : (links links' : Announcements) (e e' : CoreState) (known : List ℕ) (core core' : Core) (rows : List Row) (key : ℕ) (g : Progress) (job : Job) → Holding links e known core rows → slot_at e.slots key ≡ None →
+pub holding_started : (links links' : Announcements) (e e' : CoreState) (known : List ℕ) (core core' : Core) (rows : List Row) (key : ℕ) (g : RequestProgress) (job : Job) → Holding links e known core rows → slot_at e.slots key ≡ None →
     IsSet e.slots e'.slots key (Some (record { serial = e.serial; progress = g })) → Fits g job → core'.jobs ≡ core.jobs ++ job ∷ [] → e'.serial ≡ e.serial + 1 →
     e'.queues.posted ≡ posted_rows rows ++ posted_job key job → core'.held ≡ map (held_of links'.from) e'.queues.unexpected →
     AreUnderWay links' known e'.place (rows ++ record { key = key; job = job } ∷ []) e'.transfers e'.queues.unexpected → AnnouncementsGrow links links' →
@@ -94,7 +94,7 @@ serial_told links e known core q s h =
     length-map core.jobs (request_of blank) ∙ (ap (λ (js : List Job). length js) s.jobs ∙ (length-map s.rows (λ (r : Row). r.job) ∙ (s.count ∙ sym h)))
 
 -- what a call that starts a request leaves, while no other is blocked
-pub record IsStart (links : Announcements) (old : CoreState) (known : List ℕ) (core : Core) (call : Call) (q : Request) (new : CoreState) (after : Effect) : Type 0 where
+pub record IsStart (links : Announcements) (old : CoreState) (known : List ℕ) (core : Core) (call : CoreCall) (q : Request) (new : CoreState) (after : Effect) : Type 0 where
   pub is : called old.place.endpoint core (call_seen call) ≡ after
   pub fit : queue_fault old.place.size (view blank core) (call_seen call) ≡ None
   pub place : new.place ≡ old.place
@@ -107,7 +107,7 @@ pub record IsStart (links : Announcements) (old : CoreState) (known : List ℕ) 
   pub reply : call_and_reply (view blank core) (Some (call_seen call)) ≡ Some (call_seen call, Some (machine.Started q.serial))
 
 -- such a call is answered by its serial
-pub started_call : (links : Announcements) (old new : CoreState) (known : List ℕ) (core : Core) (call : Call) (q : Request) (after : Effect) → IsStart links old known core call q new after →
+pub started_call : (links : Announcements) (old new : CoreState) (known : List ℕ) (core : Core) (call : CoreCall) (q : Request) (after : Effect) → IsStart links old known core call q new after →
     IsCalled links old known core call (replies.Started q) new
 started_call links old new known core call q after s =
     record {

@@ -7,7 +7,7 @@ use Rattle.datagram.specs.Spelling.{FrameText}
 use Rattle.incarnation.specs.declared.place.Place.{Place}
 use Rattle.match_queues.specs.declared.envelope.Message.{Message}
 use Rattle.perfect_queues.specs.Requests.{changed}
-use Rattle.rank_core.specs.CoreState.{CoreState}
+use Rattle.point_to_point.specs.CoreState.{CoreState}
 use Rattle.rendezvous.specs.State as transfers
 use Rattle.requests.specs.declared.table.Request.{Request}
 use Rattle.vocabulary.specs.Endpoints.{is_same}

@@ -8,7 +8,7 @@ use Rattle.incarnation.specs.declared.place.Place.{Place}
 use Rattle.match_queues.specs.declared.envelope.Body.{Body}
 use Rattle.match_queues.specs.declared.envelope.Body.TheVariants as bodies
 use Rattle.match_queues.specs.declared.envelope.Message.{Message}
-use Rattle.match_queues.specs.declared.envelope.Receive as posted
+use Rattle.match_queues.specs.declared.envelope.PostedReceive as posted
 use Rattle.rendezvous.specs.declared.offer.Offer.{Offer}
 use Rattle.rendezvous.specs.Collecting as rendezvous
 use Rattle.rendezvous.specs.State as transfers
@@ -117,8 +117,8 @@ pub posted_still : (rows : List Row) (k key : ℕ) (job job' : Job) → slice_ge
     posted_rows rows ≡ posted_rows (slice_set rows k (row_of key job'))
 posted_still [] k key job job' at old new = absurd (none-some (row_of key job) at)
 posted_still (r ∷ rs) zero key job job' at old new =
-    ap (λ (x : Row). posted_job x.key x.job ++ posted_rows rs) (same_Some r (row_of key job) at) ∙ ap (λ (ps : List posted.Receive). ps ++ posted_rows rs) (old ∙ sym new)
-posted_still (r ∷ rs) (suc k) key job job' at old new = ap (λ (ps : List posted.Receive). posted_job r.key r.job ++ ps) (posted_still rs k key job job' at old new)
+    ap (λ (x : Row). posted_job x.key x.job ++ posted_rows rs) (same_Some r (row_of key job) at) ∙ ap (λ (ps : List posted.PostedReceive). ps ++ posted_rows rs) (old ∙ sym new)
+posted_still (r ∷ rs) (suc k) key job job' at old new = ap (λ (ps : List posted.PostedReceive). posted_job r.key r.job ++ ps) (posted_still rs k key job job' at old new)
 
 -- ---- MESSAGES
 

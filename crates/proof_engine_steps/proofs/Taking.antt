@@ -4,9 +4,9 @@ use Rattle.std.specs.Prelude.{◌≡◌, ℕ, ◌<◌, List, None}
 use Rattle.std.specs.List.{AllByRecursion}
 use Rattle.datagram.specs.Spelling.{ClearFrame, ClearText, DataFrame, DataText, EagerFrame, EagerText, FrameIsWithinFields, FrameText, RequestFrame, RequestText}
 use Rattle.vocabulary.specs.declared.endpoint.Endpoint.{Endpoint}
-use Rattle.rank_calls.specs.Hearing.{frame_fault}
-use Rattle.rank_core.specs.CoreState.{CoreState}
-use Rattle.rank_core.specs.Hearing.{after_frame, frame_calls_for}
+use Rattle.point_to_point_calls.specs.Hearing.{frame_fault}
+use Rattle.point_to_point.specs.CoreState.{CoreState}
+use Rattle.point_to_point.specs.Arrivals.{after_frame, frame_calls_for}
 use Rattle.proof_pure_network.specs.Core.{Core}
 use Rattle.proof_pure_network.specs.Engine.{came}
 use Rattle.proof_pure_network.specs.Frames.{Frame}

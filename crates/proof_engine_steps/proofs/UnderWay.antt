@@ -7,11 +7,11 @@ use Rattle.incarnation.specs.declared.place.Place.{Place}
 use Rattle.match_queues.specs.declared.envelope.Body.{Body}
 use Rattle.match_queues.specs.declared.envelope.Body.TheVariants as bodies
 use Rattle.match_queues.specs.declared.envelope.Message.{Message}
-use Rattle.rank_core.specs.CoreState.{CoreState}
-use Rattle.requests.specs.declared.table.Entry.{Entry}
-use Rattle.requests.specs.declared.table.Progress.{Progress}
-use Rattle.requests.specs.declared.table.Progress.TheVariants.{Receiving, Finished}
-use Rattle.requests.specs.declared.table.Progress.TheVariants as progresses
+use Rattle.point_to_point.specs.CoreState.{CoreState}
+use Rattle.requests.specs.declared.table.TableEntry.{TableEntry}
+use Rattle.requests.specs.declared.table.RequestProgress.{RequestProgress}
+use Rattle.requests.specs.declared.table.RequestProgress.TheVariants.{Receiving, Finished}
+use Rattle.requests.specs.declared.table.RequestProgress.TheVariants as progresses
 use Rattle.requests.specs.declared.table.Request.{Request}
 use Rattle.requests.specs.Completions.{without}
 use Rattle.requests.specs.Table.{IsSet, slot_at}
@@ -95,23 +95,23 @@ taken_if_rows from known p rows rows' serial group None same i = tt
 taken_if_rows from known p rows rows' serial group (Some m) same i =
     record { key = i.key; row = same serial i.key (Probed group (Some (held_of from m))) tt i.row; from_link = from_rows from known p rows rows' m m.body same i.from_link }
 
-taken_by_rows : (from : Endpoint → List Transfer) (known : List ℕ) (p : Place) (rows rows' : List Row) (serial : ℕ) (g : Progress) → Keeps rows rows' → IsTakenBy from known p rows serial g → IsTakenBy from known p rows' serial g
+taken_by_rows : (from : Endpoint → List Transfer) (known : List ℕ) (p : Place) (rows rows' : List Row) (serial : ℕ) (g : RequestProgress) → Keeps rows rows' → IsTakenBy from known p rows serial g → IsTakenBy from known p rows' serial g
 taken_by_rows from known p rows rows' serial (Receiving w) same i = tt
 taken_by_rows from known p rows rows' serial (progresses.Collecting w) same i = tt
 taken_by_rows from known p rows rows' serial progresses.Offering same i = tt
 taken_by_rows from known p rows rows' serial (progresses.TakenOut t) same i = taken_if_rows from known p rows rows' serial t.group t.message same i
 taken_by_rows from known p rows rows' serial (Finished o) same i = tt
 
-taken_at_rows : (from : Endpoint → List Transfer) (known : List ℕ) (p : Place) (rows rows' : List Row) (o : Option Entry) → Keeps rows rows' → IsTakenAt from known p rows o → IsTakenAt from known p rows' o
+taken_at_rows : (from : Endpoint → List Transfer) (known : List ℕ) (p : Place) (rows rows' : List Row) (o : Option TableEntry) → Keeps rows rows' → IsTakenAt from known p rows o → IsTakenAt from known p rows' o
 taken_at_rows from known p rows rows' None same i = tt
 taken_at_rows from known p rows rows' (Some e) same i = taken_by_rows from known p rows rows' e.serial e.progress same i
 
 -- so are all of the table
-pub taken_same : (from : Endpoint → List Transfer) (known : List ℕ) (p : Place) (rows rows' : List Row) (slots : List (Option Entry)) → Keeps rows rows' → AreTaken from known p rows slots → AreTaken from known p rows' slots
+pub taken_same : (from : Endpoint → List Transfer) (known : List ℕ) (p : Place) (rows rows' : List Row) (slots : List (Option TableEntry)) → Keeps rows rows' → AreTaken from known p rows slots → AreTaken from known p rows' slots
 taken_same from known p rows rows' slots same all key = taken_at_rows from known p rows rows' (slot_at slots key) same (all key)
 
 -- and where one slot changes, those of all others
-pub taken_set : (from : Endpoint → List Transfer) (known : List ℕ) (p : Place) (rows : List Row) (slots slots' : List (Option Entry)) (key : ℕ) (s : Option Entry) → IsSet slots slots' key s → AreTaken from known p rows slots →
+pub taken_set : (from : Endpoint → List Transfer) (known : List ℕ) (p : Place) (rows : List Row) (slots slots' : List (Option TableEntry)) (key : ℕ) (s : Option TableEntry) → IsSet slots slots' key s → AreTaken from known p rows slots →
     IsTakenAt from known p rows s → AreTaken from known p rows slots'
 taken_set from known p rows slots slots' key s set all here k = go (cases_eq k key)
   where
@@ -120,7 +120,7 @@ taken_set from known p rows slots slots' key s set all here k = go (cases_eq k k
     go (inr n) = subst (IsTakenAt from known p rows) (sym (set.others k n)) (all k)
 
 -- a slot is set, whatever stood in it
-slot_set : (P : Option Entry → Type 0) (slots : List (Option Entry)) (key : ℕ) (s : Option Entry) → ((k : ℕ) → P (slot_at slots k)) → P s → (k : ℕ) → P (slot_at (slice_set slots key s) k)
+slot_set : (P : Option TableEntry → Type 0) (slots : List (Option TableEntry)) (key : ℕ) (s : Option TableEntry) → ((k : ℕ) → P (slot_at slots k)) → P s → (k : ℕ) → P (slot_at (slice_set slots key s) k)
 slot_set P [] key s all here k = all k
 slot_set P (x ∷ xs) zero s all here zero = here
 slot_set P (x ∷ xs) zero s all here (suc k) = all (suc k)
@@ -128,7 +128,7 @@ slot_set P (x ∷ xs) (suc i) s all here zero = all zero
 slot_set P (x ∷ xs) (suc i) s all here (suc k) = slot_set P xs i s (λ j. all (suc j)) here k
 
 -- requests are used up
-pub taken_without : (from : Endpoint → List Transfer) (known : List ℕ) (p : Place) (rows : List Row) (slots : List (Option Entry)) (used : List Request) → AreTaken from known p rows slots → AreTaken from known p rows (without slots used)
+pub taken_without : (from : Endpoint → List Transfer) (known : List ℕ) (p : Place) (rows : List Row) (slots : List (Option TableEntry)) (used : List Request) → AreTaken from known p rows slots → AreTaken from known p rows (without slots used)
 taken_without from known p rows slots [] all = all
 taken_without from known p rows slots (q ∷ qs) all =
     taken_without from known p rows (slice_set slots q.key None) qs (slot_set (IsTakenAt from known p rows) slots q.key None all tt)
@@ -166,7 +166,7 @@ IsUntaken (Unmatched d) = Unit {0}
 IsUntaken (Probed g h) = ⊥
 
 -- so how far it is says nothing of one
-pub untaken : (from : Endpoint → List Transfer) (known : List ℕ) (p : Place) (rows : List Row) (serial : ℕ) (g : Progress) (job : Job) → Fits g job → IsUntaken job → IsTakenBy from known p rows serial g
+pub untaken : (from : Endpoint → List Transfer) (known : List ℕ) (p : Place) (rows : List Row) (serial : ℕ) (g : RequestProgress) (job : Job) → Fits g job → IsUntaken job → IsTakenBy from known p rows serial g
 untaken from known p rows serial (Receiving w) job f u = tt
 untaken from known p rows serial (progresses.Collecting w) job f u = tt
 untaken from known p rows serial progresses.Offering job f u = tt
@@ -180,7 +180,7 @@ untaken from known p rows serial (progresses.TakenOut t) (Probed g h) f u = absu
 untaken from known p rows serial (Finished o) job f u = tt
 
 -- a request of none that becomes one of none, in its row and its slot
-pub taken_changed : (from : Endpoint → List Transfer) (known : List ℕ) (p : Place) (rows : List Row) (slots slots' : List (Option Entry)) (k key : ℕ) (job job' : Job) (after : Entry) → AreTaken from known p rows slots →
+pub taken_changed : (from : Endpoint → List Transfer) (known : List ℕ) (p : Place) (rows : List Row) (slots slots' : List (Option TableEntry)) (k key : ℕ) (job job' : Job) (after : TableEntry) → AreTaken from known p rows slots →
     slice_get rows k ≡ Some (row_of key job) → (IsOfMessage job → ⊥) → IsSet slots slots' key (Some after) → Fits after.progress job' → IsUntaken job' → AreTaken from known p (slice_set rows k (row_of key job')) slots'
 taken_changed from known p rows slots slots' k key job job' after taken at none set fits u =
     taken_set from known p (slice_set rows k (row_of key job')) slots slots' key (Some after) set
@@ -243,19 +243,19 @@ taken_if_more old new known p rows serial group (Some m) g i =
       from_link = from_more old new known p rows m m.body g i.from_link;
     }
 
-taken_by_more : (old new : Announcements) (known : List ℕ) (p : Place) (rows : List Row) (serial : ℕ) (x : Progress) → AnnouncementsGrow old new → IsTakenBy old.from known p rows serial x → IsTakenBy new.from known p rows serial x
+taken_by_more : (old new : Announcements) (known : List ℕ) (p : Place) (rows : List Row) (serial : ℕ) (x : RequestProgress) → AnnouncementsGrow old new → IsTakenBy old.from known p rows serial x → IsTakenBy new.from known p rows serial x
 taken_by_more old new known p rows serial (Receiving w) g i = tt
 taken_by_more old new known p rows serial (progresses.Collecting w) g i = tt
 taken_by_more old new known p rows serial progresses.Offering g i = tt
 taken_by_more old new known p rows serial (progresses.TakenOut t) g i = taken_if_more old new known p rows serial t.group t.message g i
 taken_by_more old new known p rows serial (Finished o) g i = tt
 
-taken_at_more : (old new : Announcements) (known : List ℕ) (p : Place) (rows : List Row) (o : Option Entry) → AnnouncementsGrow old new → IsTakenAt old.from known p rows o → IsTakenAt new.from known p rows o
+taken_at_more : (old new : Announcements) (known : List ℕ) (p : Place) (rows : List Row) (o : Option TableEntry) → AnnouncementsGrow old new → IsTakenAt old.from known p rows o → IsTakenAt new.from known p rows o
 taken_at_more old new known p rows None g i = tt
 taken_at_more old new known p rows (Some e) g i = taken_by_more old new known p rows e.serial e.progress g i
 
 -- so do all of the table
-pub taken_more : (old new : Announcements) (known : List ℕ) (p : Place) (rows : List Row) (slots : List (Option Entry)) → AnnouncementsGrow old new → AreTaken old.from known p rows slots → AreTaken new.from known p rows slots
+pub taken_more : (old new : Announcements) (known : List ℕ) (p : Place) (rows : List Row) (slots : List (Option TableEntry)) → AnnouncementsGrow old new → AreTaken old.from known p rows slots → AreTaken new.from known p rows slots
 taken_more old new known p rows slots g all key = taken_at_more old new known p rows (slot_at slots key) g (all key)
 
 -- whatever the numbers of the sessions become, where they count what is announced now

@@ -5,21 +5,21 @@ use Rattle.std.proofs.lemmas.Bool.{cases_eq}
 use Rattle.std.proofs.lemmas.Option.{none-some, same_Some}
 use Rattle.perfect_queues.specs.Outcomes as ends
 use Rattle.perfect_queues.specs.Requests.{all_changed, changed}
-use Rattle.match_queues.specs.declared.envelope.Receive as posted
+use Rattle.match_queues.specs.declared.envelope.PostedReceive as posted
 use Rattle.proof_pure_network.specs.Jobs.{Job, Waiting, Collecting, Offering, Over, Closed, closed, Probed, Unmatched}
 use Rattle.requests.specs.Completions as rank
 use Rattle.requests.specs.Lists.{named}
 use Rattle.requests.specs.Table.{progress_at, slot_at}
 use Rattle.requests.specs.declared.answer.Answer.{Answer}
 use Rattle.requests.specs.declared.answer.Answer.TheVariants as answers
-use Rattle.requests.specs.declared.awaited.Awaited.{Awaited}
-use Rattle.requests.specs.declared.awaited.Awaited.TheVariants as awaiteds
+use Rattle.requests.specs.declared.awaited_requests.Awaited.{Awaited}
+use Rattle.requests.specs.declared.awaited_requests.Awaited.TheVariants as awaiteds
 use Rattle.requests.specs.declared.outcome.Outcome.{Outcome}
 use Rattle.requests.specs.declared.outcome.Outcome.TheVariants as outcomes
-use Rattle.requests.specs.declared.table.Entry.{Entry}
-use Rattle.requests.specs.declared.table.Progress.{Progress}
-use Rattle.requests.specs.declared.table.Progress.TheVariants.{Receiving, Finished}
-use Rattle.requests.specs.declared.table.Progress.TheVariants as progresses
+use Rattle.requests.specs.declared.table.TableEntry.{TableEntry}
+use Rattle.requests.specs.declared.table.RequestProgress.{RequestProgress}
+use Rattle.requests.specs.declared.table.RequestProgress.TheVariants.{Receiving, Finished}
+use Rattle.requests.specs.declared.table.RequestProgress.TheVariants as progresses
 use Rattle.requests.specs.declared.table.Request.{Request}
 use Rattle.proof_engine_view.specs.Rows.{Holds, IsTable, Row, jobs_of, posted_job, posted_rows}
 use Rattle.proof_engine_view.specs.Seen.{outcome_seen}
@@ -72,8 +72,8 @@ closed_posts key (Probed g h) = refl
 
 closed_posted : (rows : List Row) (k : ℕ) → posted_rows (changed closed_row rows k) ≡ posted_rows rows
 closed_posted [] k = refl
-closed_posted (r ∷ rs) zero = ap (λ (ps : List posted.Receive). ps ++ posted_rows rs) (closed_posts r.key r.job)
-closed_posted (r ∷ rs) (suc k) = ap (λ (ps : List posted.Receive). posted_job r.key r.job ++ ps) (closed_posted rs k)
+closed_posted (r ∷ rs) zero = ap (λ (ps : List posted.PostedReceive). ps ++ posted_rows rs) (closed_posts r.key r.job)
+closed_posted (r ∷ rs) (suc k) = ap (λ (ps : List posted.PostedReceive). posted_job r.key r.job ++ ps) (closed_posted rs k)
 
 -- what is posted stays
 pub posted_without : (qs : List Request) (rows : List Row) → posted_rows (rows_without rows qs) ≡ posted_rows rows
@@ -113,13 +113,13 @@ closed_other (r ∷ rs) (suc k) (suc j) n = closed_other rs k j (λ e. n (ap suc
 -- ---- one slot
 
 -- nothing stands in a slot that is emptied
-emptied_here : (table : List (Option Entry)) (key : ℕ) → slot_at (slice_set table key None) key ≡ None
+emptied_here : (table : List (Option TableEntry)) (key : ℕ) → slot_at (slice_set table key None) key ≡ None
 emptied_here [] key = refl
 emptied_here (s ∷ ss) zero = refl
 emptied_here (s ∷ ss) (suc key) = emptied_here ss key
 
 -- where nothing stood, nothing stands
-emptied_none : (table : List (Option Entry)) (key other : ℕ) → slot_at table other ≡ None → slot_at (slice_set table key None) other ≡ None
+emptied_none : (table : List (Option TableEntry)) (key other : ℕ) → slot_at table other ≡ None → slot_at (slice_set table key None) other ≡ None
 emptied_none [] key other h = h
 emptied_none (s ∷ ss) zero zero h = refl
 emptied_none (s ∷ ss) zero (suc other) h = h
@@ -127,43 +127,43 @@ emptied_none (s ∷ ss) (suc key) zero h = h
 emptied_none (s ∷ ss) (suc key) (suc other) h = emptied_none ss key other h
 
 -- an empty slot stays as it is
-emptied_still : (table : List (Option Entry)) (key : ℕ) → slot_at table key ≡ None → slice_set table key None ≡ table
+emptied_still : (table : List (Option TableEntry)) (key : ℕ) → slot_at table key ≡ None → slice_set table key None ≡ table
 emptied_still [] key h = refl
-emptied_still (s ∷ ss) zero h = ap (λ (x : Option Entry). x ∷ ss) (sym h)
-emptied_still (s ∷ ss) (suc key) h = ap (λ (xs : List (Option Entry)). s ∷ xs) (emptied_still ss key h)
+emptied_still (s ∷ ss) zero h = ap (λ (x : Option TableEntry). x ∷ ss) (sym h)
+emptied_still (s ∷ ss) (suc key) h = ap (λ (xs : List (Option TableEntry)). s ∷ xs) (emptied_still ss key h)
 
 -- ---- requests that are used up
 
 -- the request is over, or was used up
-abbrev pub IsSpent : List (Option Entry) → List Row → Request → Type 0
+abbrev pub IsSpent : List (Option TableEntry) → List Row → Request → Type 0
 IsSpent table rows q =
     ((x : ends.Outcome) × (slice_get rows q.serial ≡ Some (record { key = q.key; job = Over x }))) ⊎
     ((slice_get rows q.serial ≡ Some (record { key = q.key; job = Closed })) × (slot_at table q.key ≡ None))
 
 -- its row is taken out of the table
-spent_table : (table : List (Option Entry)) (rows : List Row) (q : Request) → IsTable table rows → IsSpent table rows q → IsTable (slice_set table q.key None) (changed closed_row rows q.serial)
+spent_table : (table : List (Option TableEntry)) (rows : List Row) (q : Request) → IsTable table rows → IsSpent table rows q → IsTable (slice_set table q.key None) (changed closed_row rows q.serial)
 spent_table table rows q t (inl s) =
     let m : Holds (slot_at table q.key) q.serial (Over s.0) = held_at table rows q.serial q.key (Over s.0) t s.1 (λ e. cc) in
     subst (λ (ys : List Row). IsTable (slice_set table q.key None) ys) (sym (closed_over rows q.serial q.key s.0 s.1))
     (changed_table table (slice_set table q.key None) rows q.serial q.key (Over s.0) Closed None t s.1 (λ e. cc) (set_is_set table q.key m.entry None m.there) (says_none q.serial))
 spent_table table rows q t (inr s) =
     subst (λ (ys : List Row). IsTable (slice_set table q.key None) ys) (sym (closed_still rows q.serial q.key s.0))
-    (subst (λ (ss : List (Option Entry)). IsTable ss rows) (sym (emptied_still table q.key s.1)) t)
+    (subst (λ (ss : List (Option TableEntry)). IsTable ss rows) (sym (emptied_still table q.key s.1)) t)
 
 -- its row, whether it is over or was used up
-spent_row : (table : List (Option Entry)) (rows : List Row) (q : Request) → IsSpent table rows q → (j : Job) × (slice_get rows q.serial ≡ Some (record { key = q.key; job = j }))
+spent_row : (table : List (Option TableEntry)) (rows : List Row) (q : Request) → IsSpent table rows q → (j : Job) × (slice_get rows q.serial ≡ Some (record { key = q.key; job = j }))
 spent_row table rows q (inl s) = (Over s.0, s.1)
 spent_row table rows q (inr s) = (Closed, s.0)
 
 -- two that are one request have one key
-spent_key : (table : List (Option Entry)) (rows : List Row) (q p : Request) → IsSpent table rows q → IsSpent table rows p → p.serial ≡ q.serial → p.key ≡ q.key
+spent_key : (table : List (Option TableEntry)) (rows : List Row) (q p : Request) → IsSpent table rows q → IsSpent table rows p → p.serial ≡ q.serial → p.key ≡ q.key
 spent_key table rows q p hq hp e =
     let a : (j : Job) × (slice_get rows q.serial ≡ Some (record { key = q.key; job = j })) = spent_row table rows q hq in
     let b : (j : Job) × (slice_get rows p.serial ≡ Some (record { key = p.key; job = j })) = spent_row table rows p hp in
     ap (λ (r : Row). r.key) (same_Some (record { key = p.key; job = b.0 }) (record { key = q.key; job = a.0 }) (sym b.1 ∙ (ap (slice_get rows) e ∙ a.1)))
 
 -- another request is over or used up as it was, and the same one is used up
-spent_still : (table : List (Option Entry)) (rows : List Row) (q p : Request) → IsSpent table rows q → IsSpent table rows p → IsSpent (slice_set table q.key None) (changed closed_row rows q.serial) p
+spent_still : (table : List (Option TableEntry)) (rows : List Row) (q p : Request) → IsSpent table rows q → IsSpent table rows p → IsSpent (slice_set table q.key None) (changed closed_row rows q.serial) p
 spent_still table rows q p hq hp = go (cases_eq p.serial q.serial) hp
   where
     left : List Row
@@ -180,7 +180,7 @@ spent_still table rows q p hq hp = go (cases_eq p.serial q.serial) hp
     go (inr n) (inr s) = inr (closed_other rows q.serial p.serial n ∙ s.0, emptied_none table q.key p.key s.1)
 
 -- the table once they all are used up
-pub table_without : (qs : List Request) (table : List (Option Entry)) (rows : List Row) → IsTable table rows → AllByRecursion (IsSpent table rows) qs → IsTable (rank.without table qs) (rows_without rows qs)
+pub table_without : (qs : List Request) (table : List (Option TableEntry)) (rows : List Row) → IsTable table rows → AllByRecursion (IsSpent table rows) qs → IsTable (rank.without table qs) (rows_without rows qs)
 table_without [] table rows t h = t
 table_without (q ∷ qs) table rows t h =
     table_without qs (slice_set table q.key None) (changed closed_row rows q.serial) (spent_table table rows q t h.0)
@@ -249,17 +249,17 @@ every_uses f qs (Some os) h = h
 every_uses f qs None h = tt
 
 -- each answer uses up what is finished
-completion_uses : (table : List (Option Entry)) (a : Awaited) → Uses (rank.outcome_at table) (rank.completion table a)
+completion_uses : (table : List (Option TableEntry)) (a : Awaited) → Uses (rank.outcome_at table) (rank.completion table a)
 completion_uses table (awaiteds.One None) = tt
 completion_uses table (awaiteds.One (Some q)) = one_uses (rank.outcome_at table) q (rank.outcome_at table q) refl
 completion_uses table (awaiteds.AnyOf rs) = any_uses (rank.outcome_at table) (named rs) (rank.lowest_finished (rank.outcome_at table) 0 rs) (finds_finished (rank.outcome_at table) rs 0)
 completion_uses table (awaiteds.AllOf rs) = every_uses (rank.outcome_at table) (named rs) (rank.all_outcomes (rank.outcome_at table) rs) (are_finished (rank.outcome_at table) rs)
 
 -- a request that is finished is over
-finished_spent : (table : List (Option Entry)) (rows : List Row) → IsTable table rows → (q : Request) → IsFinishedAt (rank.outcome_at table) q → IsSpent table rows q
+finished_spent : (table : List (Option TableEntry)) (rows : List Row) → IsTable table rows → (q : Request) → IsFinishedAt (rank.outcome_at table) q → IsSpent table rows q
 finished_spent table rows t q h = go (progress_at table q.key q.serial) refl h.1
   where
-    go : (g : Option Progress) → progress_at table q.key q.serial ≡ g → rank.finished_with g ≡ Some h.0 → IsSpent table rows q
+    go : (g : Option RequestProgress) → progress_at table q.key q.serial ≡ g → rank.finished_with g ≡ Some h.0 → IsSpent table rows q
     go None e f = absurd (none-some h.0 f)
     go (Some (Receiving r)) e f = absurd (none-some h.0 f)
     go (Some (progresses.Collecting w)) e f = absurd (none-some h.0 f)
@@ -268,7 +268,7 @@ finished_spent table rows t q h = go (progress_at table q.key q.serial) refl h.1
     go (Some (Finished o)) e f = inl (outcome_seen o, finished_row table rows q o t e)
 
 -- what an answer uses up is over
-pub used_spent : (table : List (Option Entry)) (rows : List Row) (a : Awaited) (answer : Answer) (used : List Request) → IsTable table rows → rank.completion table a ≡ Some (answer, used) →
+pub used_spent : (table : List (Option TableEntry)) (rows : List Row) (a : Awaited) (answer : Answer) (used : List Request) → IsTable table rows → rank.completion table a ≡ Some (answer, used) →
     AllByRecursion (IsSpent table rows) used
 used_spent table rows a answer used t h =
     all_follow (IsFinishedAt (rank.outcome_at table)) (IsSpent table rows) (finished_spent table rows t) used

@@ -12,13 +12,13 @@ use Rattle.proof_pure_network.specs.Held.{blank}
 use Rattle.proof_pure_network.specs.Jobs.{over_at}
 use Rattle.requests.specs.Completions.{awaited_requests, completion, without}
 use Rattle.requests.specs.declared.answer.Answer.{Answer}
-use Rattle.requests.specs.declared.awaited.Awaited.{Awaited}
-use Rattle.requests.specs.declared.awaited.Awaited.TheVariants as awaiteds
+use Rattle.requests.specs.declared.awaited_requests.Awaited.{Awaited}
+use Rattle.requests.specs.declared.awaited_requests.Awaited.TheVariants as awaiteds
 use Rattle.requests.specs.declared.table.Request.{Request}
-use Rattle.rank_calls.specs.declared.call.Reply.{Reply}
-use Rattle.rank_calls.specs.declared.call.Reply.TheVariants as replies
-use Rattle.rank_core.specs.CoreState.{CoreState}
-use Rattle.rank_core.specs.Waiting.{Tests, TestsBy, Waits, WaitsBy, wait_fault}
+use Rattle.point_to_point_calls.specs.declared.call.CoreReply.{CoreReply}
+use Rattle.point_to_point_calls.specs.declared.call.CoreReply.TheVariants as replies
+use Rattle.point_to_point.specs.CoreState.{CoreState}
+use Rattle.point_to_point.specs.Waiting.{Tests, TestsBy, Waits, WaitsBy, wait_fault}
 use Rattle.proof_engine_view.specs.Seen.{answer_seen, awaited_seen, own_serial, request_by}
 use Rattle.proof_engine_view.specs.Shown.{IsNamed, IsShown}
 use Rattle.proof_engine_view.specs.Transfers.{Announcements}
@@ -102,7 +102,7 @@ wait_done links old known core a answer used shown free fine g =
     ready = answers_same links old known core a shown fine ∙ ap completion_seen g
 
 -- a wait that breaks no rule, whatever it waits for
-pub wait_meant : (links : Announcements) (old new : CoreState) (known : List ℕ) (core : Core) (a : Awaited) (reply : Reply) → IsShown links old known core → old.blocked ≡ None → wait_fault old a ≡ None → Waits old a reply new →
+pub wait_meant : (links : Announcements) (old new : CoreState) (known : List ℕ) (core : Core) (a : Awaited) (reply : CoreReply) → IsShown links old known core → old.blocked ≡ None → wait_fault old a ≡ None → Waits old a reply new →
     IsMeant links old known core (machine.Wait (awaited_seen a)) reply new
 wait_meant links old new known core a reply shown free fine waits = go (completion old.slots a) refl waits
   where
@@ -111,10 +111,10 @@ wait_meant links old new known core a reply shown free fine waits = go (completi
 
     go : (o : Option (Answer × List Request)) → completion old.slots a ≡ o → WaitsBy old a o reply new → IsMeant links old known core c reply new
     go None g w =
-        subst (λ (x : Reply). IsMeant links old known core c x new) (sym w.0)
+        subst (λ (x : CoreReply). IsMeant links old known core c x new) (sym w.0)
         (subst (λ (x : CoreState). IsMeant links old known core c replies.Blocked x) (sym w.1) (wait_blocked links old known core a shown free fine g))
     go (Some (answer, used)) g w =
-        subst (λ (x : Reply). IsMeant links old known core c x new) (sym w.0)
+        subst (λ (x : CoreReply). IsMeant links old known core c x new) (sym w.0)
         (subst (λ (x : CoreState). IsMeant links old known core c (replies.Done answer) x) (sym w.1) (wait_done links old known core a answer used shown free fine g))
 
 -- ---- tests
@@ -124,7 +124,7 @@ abbrev core_tests : Core → Option Request → Option (completions.Answer × Li
 core_tests core q = completions.completion (over_at core.jobs) (awaited_seen (awaiteds.One q))
 
 -- a test, by what it answers
-test_by : (links : Announcements) (old new : CoreState) (known : List ℕ) (core : Core) (q : Option Request) (o : Option (completions.Answer × List ℕ)) (reply : Reply) → IsShown links old known core → old.blocked ≡ None →
+test_by : (links : Announcements) (old new : CoreState) (known : List ℕ) (core : Core) (q : Option Request) (o : Option (completions.Answer × List ℕ)) (reply : CoreReply) → IsShown links old known core → old.blocked ≡ None →
     wait_fault old (awaiteds.One q) ≡ None → core_tests core q ≡ o → new.place ≡ old.place → new.completion ≡ old.completion → core_settled (core_tested core o) ≡ core_tested core o →
     IsShown links new known (core_tested core o) → ((c : machine.Call) → Called old.place.endpoint c (machine.test_reply o) ∷ [] ≡ told_by old.place.endpoint c reply) →
     IsMeant links old known core (machine.Test (request_by own_serial q)) reply new
@@ -140,7 +140,7 @@ test_by links old new known core q o reply shown free fine is pl co settled afte
     }
 
 -- a test that breaks no rule
-pub test_meant : (links : Announcements) (old new : CoreState) (known : List ℕ) (core : Core) (q : Option Request) (reply : Reply) → IsShown links old known core → old.blocked ≡ None → wait_fault old (awaiteds.One q) ≡ None →
+pub test_meant : (links : Announcements) (old new : CoreState) (known : List ℕ) (core : Core) (q : Option Request) (reply : CoreReply) → IsShown links old known core → old.blocked ≡ None → wait_fault old (awaiteds.One q) ≡ None →
     Tests old q reply new → IsMeant links old known core (machine.Test (request_by own_serial q)) reply new
 test_meant links old new known core q reply shown free fine tests = go (completion old.slots (awaiteds.One q)) refl tests
   where
@@ -167,6 +167,6 @@ test_meant links old new known core q reply shown free fine tests = go (completi
 
     go : (o : Option (Answer × List Request)) → completion old.slots (awaiteds.One q) ≡ o → TestsBy old o reply new → IsMeant links old known core c reply new
     go None g w =
-        subst (λ (x : Reply). IsMeant links old known core c x new) (sym w.0) (subst (λ (x : CoreState). IsMeant links old known core c replies.Pending x) (sym w.1) (pending g))
+        subst (λ (x : CoreReply). IsMeant links old known core c x new) (sym w.0) (subst (λ (x : CoreState). IsMeant links old known core c replies.Pending x) (sym w.1) (pending g))
     go (Some (answer, used)) g w =
-        subst (λ (x : Reply). IsMeant links old known core c x new) (sym w.0) (subst (λ (x : CoreState). IsMeant links old known core c (replies.Done answer) x) (sym w.1) (done answer used g))
+        subst (λ (x : CoreReply). IsMeant links old known core c x new) (sym w.0) (subst (λ (x : CoreState). IsMeant links old known core c (replies.Done answer) x) (sym w.1) (done answer used g))

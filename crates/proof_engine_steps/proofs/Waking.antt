@@ -13,11 +13,11 @@ use Rattle.proof_pure_network.specs.Engine.{core_ready, core_settled, core_settl
 use Rattle.proof_pure_network.specs.Jobs.{Job, closed, over_at}
 use Rattle.requests.specs.Completions.{awaited_requests, completion, outcome_at, without}
 use Rattle.requests.specs.declared.answer.Answer.{Answer}
-use Rattle.requests.specs.declared.awaited.Awaited.{Awaited}
-use Rattle.requests.specs.declared.table.Entry as slots
+use Rattle.requests.specs.declared.awaited_requests.Awaited.{Awaited}
+use Rattle.requests.specs.declared.table.TableEntry as slots
 use Rattle.requests.specs.declared.table.Request.{Request}
-use Rattle.rank_core.specs.CoreState.{CoreState}
-use Rattle.rank_core.specs.Waiting.{answered_by, woken, woken_by}
+use Rattle.point_to_point.specs.CoreState.{CoreState}
+use Rattle.point_to_point.specs.Waiting.{answered_by, after_wake, woken_by}
 use Rattle.proof_engine_view.specs.Rows.{IsTable, Row, held_of, jobs_of, posted_rows}
 use Rattle.proof_engine_view.specs.Seen.{answer_seen, awaited_seen, told_completion}
 use Rattle.proof_engine_view.specs.Shown.{IsBlocked, IsNamed, IsSettled, IsShown}
@@ -70,13 +70,13 @@ known_still p p' known at at' h ep ea =
 -- THE RANK
 
 -- no call is blocked
-woken_free : (e : CoreState) → e.blocked ≡ None → woken e ≡ e
-unfolding woken
+woken_free : (e : CoreState) → e.blocked ≡ None → after_wake e ≡ e
+unfolding after_wake
 woken_free e h = ap (woken_by e) h
 
 -- its answer isn't ready
-woken_pending : (e : CoreState) (a : Awaited) → e.blocked ≡ Some a → completion e.slots a ≡ None → woken e ≡ e
-unfolding woken
+woken_pending : (e : CoreState) (a : Awaited) → e.blocked ≡ Some a → completion e.slots a ≡ None → after_wake e ≡ e
+unfolding after_wake
 woken_pending e a h g = ap (woken_by e) h ∙ ap (answered_by e) g
 
 -- the rank once the blocked call was answered
@@ -84,8 +84,8 @@ abbrev pub answered : CoreState → Answer → List Request → CoreState
 answered e answer used = record e { slots = without e.slots used; blocked = None; completion = Some answer }
 
 -- its answer is ready
-woken_ready : (e : CoreState) (a : Awaited) (answer : Answer) (used : List Request) → e.blocked ≡ Some a → completion e.slots a ≡ Some (answer, used) → woken e ≡ answered e answer used
-unfolding woken
+woken_ready : (e : CoreState) (a : Awaited) (answer : Answer) (used : List Request) → e.blocked ≡ Some a → completion e.slots a ≡ Some (answer, used) → after_wake e ≡ answered e answer used
+unfolding after_wake
 woken_ready e a answer used h g = ap (woken_by e) h ∙ ap (answered_by e) g
 
 place_at : (e : CoreState) (o : Option (Answer × List Request)) → (answered_by e o).place ≡ e.place
@@ -97,8 +97,8 @@ place_by e None = refl
 place_by e (Some a) = place_at e (completion e.slots a)
 
 -- the rank stays at its place
-pub woken_place : (e : CoreState) → (woken e).place ≡ e.place
-unfolding woken
+pub woken_place : (e : CoreState) → (after_wake e).place ≡ e.place
+unfolding after_wake
 woken_place e = place_by e e.blocked
 
 -- BOTH
@@ -130,13 +130,13 @@ holding_used links e e' known core core' rows a answer used h g js hs kn sl se q
     record {
       jobs = js ∙ (ap (λ (ys : List Job). all_changed closed ys (serials_of used)) h.jobs ∙ sym (jobs_without used rows));
       count = length_without used rows ∙ (h.count ∙ sym se);
-      table = subst (λ (t : List (Option slots.Entry)). IsTable t (rows_without rows used)) (sym sl) (table_without used e.slots rows h.table (used_spent e.slots rows a answer used h.table g));
+      table = subst (λ (t : List (Option slots.TableEntry)). IsTable t (rows_without rows used)) (sym sl) (table_without used e.slots rows h.table (used_spent e.slots rows a answer used h.table g));
       posted = ap (λ (q : State). q.posted) qu ∙ (h.posted ∙ sym (posted_without used rows));
       held = hs ∙ (h.held ∙ ap (λ (q : State). map (held_of links.from) q.unexpected) (sym qu));
       under_way = under_way_still links known e.place e'.place rows (rows_without rows used) e.transfers e'.transfers e.queues.unexpected e'.queues.unexpected h.under_way
           (same_without used rows) pl tr (ap (λ (q : State). q.unexpected) qu);
       taken = subst (λ (x : Place). AreTaken links.from known x (rows_without rows used) e'.slots) (sym pl)
-          (subst (λ (t : List (Option slots.Entry)). AreTaken links.from known e.place (rows_without rows used) t) (sym sl)
+          (subst (λ (t : List (Option slots.TableEntry)). AreTaken links.from known e.place (rows_without rows used) t) (sym sl)
           (taken_without links.from known e.place (rows_without rows used) e.slots used (taken_same links.from known e.place rows (rows_without rows used) e.slots (keeps_same rows (rows_without rows used) (same_without used rows)) h.taken)));
       knowing = known_still e.place e'.place known core.known core'.known h.knowing pl kn;
     }
@@ -146,7 +146,7 @@ abbrev pub core_answered : Core → List ℕ → Core
 core_answered core ks = record core { jobs = all_changed closed core.jobs ks; blocked = None }
 
 -- both, by what they become
-settled_from : (links : Announcements) (e e' : CoreState) (known : List ℕ) (core core' : Core) (ready : Option (machine.Answer × List ℕ)) → woken e ≡ e' → core_settled core ≡ core' → core_ready core ≡ ready → IsShown links e' known core' →
+settled_from : (links : Announcements) (e e' : CoreState) (known : List ℕ) (core core' : Core) (ready : Option (machine.Answer × List ℕ)) → after_wake e ≡ e' → core_settled core ≡ core' → core_ready core ≡ ready → IsShown links e' known core' →
     ((a : Endpoint) → told a None ready ≡ told_completion a e'.completion) → IsWoken links e known core
 settled_from links e e' known core core' ready w s r shown tells =
     record {
@@ -160,7 +160,7 @@ settled_from links e e' known core core' ready w s r shown tells =
 pub settles : (links : Announcements) (e : CoreState) (known : List ℕ) (core : Core) (rows : List Row) → Holding links e known core rows → IsBlocked rows e.blocked core.blocked → e.completion ≡ None → IsWoken links e known core
 settles links e known core rows h b free = go e.blocked refl b
   where
-    still : woken e ≡ e → core_ready core ≡ None → IsWoken links e known core
+    still : after_wake e ≡ e → core_ready core ≡ None → IsWoken links e known core
     still w r = settled_from links e e known core core None w (ap (core_settled_by core) r) r (shown_with links e known core rows h b) (λ t. ap (told_completion t) (sym free))
 
     ready : (a : Awaited) (answer : Answer) (used : List Request) → e.blocked ≡ Some a → core_ready core ≡ completion_seen (completion e.slots a) → completion e.slots a ≡ Some (answer, used) →
@@ -206,10 +206,10 @@ pub wakes_are_shown : WakesAreShown
 wakes_are_shown links e known core shown free = settles links e known core shown.rows (holding_of links e known core shown) shown.blocked free
 
 -- where no answer is ready, nothing changes
-pub woken_still : (links : Announcements) (e : CoreState) (known : List ℕ) (core : Core) → IsShown links e known core → IsSettled core → woken e ≡ e
+pub woken_still : (links : Announcements) (e : CoreState) (known : List ℕ) (core : Core) → IsShown links e known core → IsSettled core → after_wake e ≡ e
 woken_still links e known core shown settled = go e.blocked refl shown.blocked
   where
-    go : (b : Option Awaited) → e.blocked ≡ b → IsBlocked shown.rows b core.blocked → woken e ≡ e
+    go : (b : Option Awaited) → e.blocked ≡ b → IsBlocked shown.rows b core.blocked → after_wake e ≡ e
     go None b c = woken_free e b
     go (Some a) b c =
         woken_pending e a b (unready (completion e.slots a) (sym (core_ready_is links e known core shown.rows a (holding_of links e known core shown) c.0 c.1) ∙ settled))

@@ -8,12 +8,12 @@ use Rattle.match_queues.specs.declared.envelope.Body.{Body}
 use Rattle.match_queues.specs.declared.envelope.Body.TheVariants.{Announced, Own, Whole}
 use Rattle.match_queues.specs.declared.envelope.Message.{Message}
 use Rattle.match_queues.specs.declared.envelope.OwnSend.{OwnSend}
-use Rattle.match_queues.specs.declared.envelope.Receive as queued
+use Rattle.match_queues.specs.declared.envelope.PostedReceive as queued
 use Rattle.match_queues.specs.State.{State, after_arrival, after_post, arrived_at, message_at, message_for, posted_at, receive_for}
 use Rattle.match_queues.specs.Arrivals.{arrival_at}
 use Rattle.rendezvous.specs.State as transfers
-use Rattle.requests.specs.declared.table.Entry.{Entry}
-use Rattle.rank_calls.specs.Receiving.{transfers_on_arrival}
+use Rattle.requests.specs.declared.table.TableEntry.{TableEntry}
+use Rattle.point_to_point_calls.specs.Receiving.{transfers_on_arrival}
 
 -- ---- one message
 
@@ -80,7 +80,7 @@ found_at P ms None m h e = absurd (none-some m e)
 found_at P ms (Some i) m h e = at_place P ms i m h e
 
 -- a receive is posted
-pub post_leaves : (P : Message → Type 0) (s : State) (r : queued.Receive) → AllByRecursion P s.unexpected → AllByRecursion P (after_post s r).unexpected
+pub post_leaves : (P : Message → Type 0) (s : State) (r : queued.PostedReceive) → AllByRecursion P s.unexpected → AllByRecursion P (after_post s r).unexpected
 post_leaves P s r h = go (message_for r s.unexpected)
   where
     go : (o : Option ℕ) → AllByRecursion P (posted_at o s r).unexpected
@@ -96,7 +96,7 @@ arrival_keeps P s m h w = go (receive_for m s.posted)
     go (Some i) = h
 
 -- a whole one leaves the transfers as they were
-pub arrival_leaves : (t : transfers.State) (slots : List (Option Entry)) (m : Message) (c : Contents) (o : Option queued.Receive) →
+pub arrival_leaves : (t : transfers.State) (slots : List (Option TableEntry)) (m : Message) (c : Contents) (o : Option queued.PostedReceive) →
     transfers_on_arrival t slots (arrival_at o (whole m c)) ≡ t
 arrival_leaves t slots m c None = refl
 arrival_leaves t slots m c (Some r) = refl

@@ -4,7 +4,7 @@ use Rattle.proof_engine_view.specs.Frames.{endpoint_of}
 use Rattle.proof_engine_view.specs.Shown.{IsShown}
 use Rattle.proof_engine_view.specs.Transfers.{Announcements, Transfer}
 use Rattle.proof_pure_network.specs.Core.{Core}
-use Rattle.rank_core.specs.CoreState.{CoreState}
+use Rattle.point_to_point.specs.CoreState.{CoreState}
 use Rattle.rendezvous.specs.State.{after_rts, is_full_to, next_to, with_begun}
 use Rattle.vocabulary.specs.Endpoints.{is_same}
 use Rattle.vocabulary.specs.declared.endpoint.Endpoint.{Endpoint}

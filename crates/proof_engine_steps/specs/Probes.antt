@@ -1,15 +1,15 @@
 -- What a look at the messages that came is to a rank's core in the pure network, and what is so where a probe finds none.
 use Rattle.std.specs.Prelude.{◌≡◌, ℕ, List, [], ◌∷◌, Option, Some, None, option_map}
-use Rattle.requests.specs.declared.awaited.Awaited.{Awaited}
-use Rattle.rank_calls.specs.declared.call.Call.TheVariants as calls
-use Rattle.rank_calls.specs.declared.call.Probe.{Probe}
-use Rattle.rank_calls.specs.declared.call.Reply.TheVariants as replies
-use Rattle.rank_calls.specs.declared.refused.Refused.{Refused}
-use Rattle.rank_calls.specs.declared.refused.Refused.TheVariants as refusals
-use Rattle.rank_calls.specs.Refusals.{number_of_refusal}
-use Rattle.rank_core.specs.Calls.{Answers}
-use Rattle.rank_core.specs.CoreState.{CoreState}
-use Rattle.rank_core.specs.Messages.{looked, probe_rule}
+use Rattle.requests.specs.declared.awaited_requests.Awaited.{Awaited}
+use Rattle.point_to_point_calls.specs.declared.call.CoreCall.TheVariants as calls
+use Rattle.point_to_point_calls.specs.declared.call.CoreProbe.{CoreProbe}
+use Rattle.point_to_point_calls.specs.declared.call.CoreReply.TheVariants as replies
+use Rattle.point_to_point_calls.specs.declared.refusal.Refusal.{Refusal}
+use Rattle.point_to_point_calls.specs.declared.refusal.Refusal.TheVariants as refusals
+use Rattle.point_to_point_calls.specs.Refusals.{number_of_refusal}
+use Rattle.point_to_point.specs.Calls.{Answers}
+use Rattle.point_to_point.specs.CoreState.{CoreState}
+use Rattle.point_to_point.specs.Messages.{looked, probe_rule}
 use Rattle.vocabulary.specs.declared.envelope.Status.{Status}
 use Rattle.perfect_queues.specs.Calls.{Done, Iprobe}
 use Rattle.perfect_queues.specs.Completions.{ForProbe}
@@ -25,15 +25,15 @@ use Rattle.proof_engine_view.specs.Shown.{IsShown}
 use Rattle.proof_engine_view.specs.Transfers.{Announcements}
 
 -- what the rank tells of a probe, whose source is a rank of the probe's group
-abbrev pub told_of : CoreState → Probe → Option Status
+abbrev pub told_of : CoreState → CoreProbe → Option Status
 told_of c p = looked c p.source p.tag p.context p.group
 
 -- the core holds no message that such a receive would take
-abbrev pub HoldsNone : Core → Probe → Type 0
+abbrev pub HoldsNone : Core → CoreProbe → Type 0
 HoldsNone core p = found (such_receive (probe_seen p)) core.held ≡ None
 
 -- A look at the rank's messages is a probe of its core in the network: it is answered at once, and changes nothing
-pub record IsLookedAt (old : CoreState) (core : Core) (p : Probe) : Type 0 where
+pub record IsLookedAt (old : CoreState) (core : Core) (p : CoreProbe) : Type 0 where
   pub stays : core_settled (called old.place.endpoint core (Iprobe (probe_seen p))).core ≡ core
   pub tells :
       told old.place.endpoint (call_and_reply (view blank core) (Some (Iprobe (probe_seen p))))
@@ -45,26 +45,26 @@ pub record IsLookedAt (old : CoreState) (core : Core) (p : Probe) : Type 0 where
 -- So it is while no call is blocked
 abbrev pub LooksAreShown : Type 0
 LooksAreShown =
-    (a : Announcements) (old : CoreState) (known : List ℕ) (core : Core) (p : Probe) →
+    (a : Announcements) (old : CoreState) (known : List ℕ) (core : Core) (p : CoreProbe) →
     IsShown a old known core → old.blocked ≡ None → IsLookedAt old core p
 
 -- the first rule that a look breaks: while a call is blocked every one does (6), and else the probe's (3 and 5)
-abbrev pub look_fault_at : Option Awaited → CoreState → Probe → Option Refused
+abbrev pub look_fault_at : Option Awaited → CoreState → CoreProbe → Option Refusal
 look_fault_at (Some a) c p = Some refusals.Request
 look_fault_at None c p = probe_rule c.place.size p.source p.tag
 
 -- by the call that is blocked
-abbrev pub look_fault : CoreState → Probe → Option Refused
+abbrev pub look_fault : CoreState → CoreProbe → Option Refusal
 look_fault c p = look_fault_at c.blocked c p
 
 -- It is the machine's fault, where there is one
 abbrev pub LooksAreJudged : Type 0
 LooksAreJudged =
-    (a : Announcements) (old : CoreState) (known : List ℕ) (core : Core) (p : Probe) → IsShown a old known core →
+    (a : Announcements) (old : CoreState) (known : List ℕ) (core : Core) (p : CoreProbe) → IsShown a old known core →
     queue_fault old.place.size (view blank core) (Iprobe (probe_seen p)) ≡ option_map number_of_refusal (look_fault old p)
 
 -- A matching probe answers none only where there is none
 abbrev pub SearchesFindAll : Type 0
 SearchesFindAll =
-    (a : Announcements) (old new : CoreState) (known : List ℕ) (core : Core) (p : Probe) → IsShown a old known core →
+    (a : Announcements) (old new : CoreState) (known : List ℕ) (core : Core) (p : CoreProbe) → IsShown a old known core →
     Answers old (calls.Improbe p) (replies.Matched None) new → HoldsNone core p

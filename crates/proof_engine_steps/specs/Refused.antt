@@ -1,11 +1,11 @@
 -- Why a rank refuses a call, and that it takes none with a fault.
 use Rattle.std.specs.Prelude.{◌≡◌, ℕ, ◌⊎◌, List, Option, Some, None}
-use Rattle.rank_calls.specs.declared.call.Call.{Call}
-use Rattle.rank_calls.specs.declared.refused.Refused.{Refused}
-use Rattle.rank_calls.specs.declared.refused.Refused.TheVariants as refusals
-use Rattle.rank_core.specs.Calls.{call_fault}
-use Rattle.rank_core.specs.CoreState.{CoreState}
-use Rattle.rank_calls.specs.Refusals.{number_of_refusal}
+use Rattle.point_to_point_calls.specs.declared.call.CoreCall.{CoreCall}
+use Rattle.point_to_point_calls.specs.declared.refusal.Refusal.{Refusal}
+use Rattle.point_to_point_calls.specs.declared.refusal.Refusal.TheVariants as refusals
+use Rattle.point_to_point.specs.Calls.{call_fault}
+use Rattle.point_to_point.specs.CoreState.{CoreState}
+use Rattle.point_to_point_calls.specs.Refusals.{number_of_refusal}
 use Rattle.proof_pure_network.specs.Core.{Core, view}
 use Rattle.proof_pure_network.specs.Held.{blank}
 use Rattle.proof_engine_view.specs.Faults.{queue_fault}
@@ -14,44 +14,44 @@ use Rattle.proof_engine_view.specs.Shown.{IsShown}
 use Rattle.proof_engine_view.specs.Transfers.{Announcements}
 
 -- the fault that the machine finds with what a call means at a rank, but for the rule on its communicator
-abbrev pub fault_seen : CoreState → Core → Call → Option ℕ
+abbrev pub fault_seen : CoreState → Core → CoreCall → Option ℕ
 fault_seen old core call = queue_fault old.place.size (view blank core) (call_meant old call)
 
 -- the number of a limit or of want of memory: 13 or 14
-abbrev pub IsOutOfRoom : Refused → Type 0
+abbrev pub IsOutOfRoom : Refusal → Type 0
 IsOutOfRoom why = (why ≡ refusals.Limit) ⊎ (why ≡ refusals.OutOfMemory)
 
 -- Why a call is refused, where the machine finds this fault with it or none
-pub data IsReason (found : Option ℕ) (why : Refused) : Type 0 where
+pub data IsReason (found : Option ℕ) (why : Refusal) : Type 0 where
   -- by the machine's fault: the number is the same
   MachinesFault : found ≡ Some (number_of_refusal why) → IsReason found why
   -- the machine finds none, and the number is 13 or 14
   NoRoom : IsOutOfRoom why → found ≡ None → IsReason found why
 
 -- a call is refused for such a reason, by the fault that the machine finds
-abbrev pub HasReason : CoreState → Core → Call → Refused → Type 0
+abbrev pub HasReason : CoreState → Core → CoreCall → Refusal → Type 0
 HasReason old core call why = IsReason (fault_seen old core call) why
 
 -- Every rule and limit of a rank's core that a call meets is such a reason
 abbrev pub FaultsHaveReasons : Type 0
 FaultsHaveReasons =
-    (a : Announcements) (old : CoreState) (known : List ℕ) (core : Core) (call : Call) (why : Refused) →
+    (a : Announcements) (old : CoreState) (known : List ℕ) (core : Core) (call : CoreCall) (why : Refusal) →
     IsShown a old known core → call_fault old call ≡ Some why → HasReason old core call why
 
 -- a call that names no request of another engine, and with which the machine finds no fault
-pub record IsFaultless (found : Option ℕ) (c : CoreState) (call : Call) : Type 0 where
+pub record IsFaultless (found : Option ℕ) (c : CoreState) (call : CoreCall) : Type 0 where
   pub own : call_meant c call ≡ call_seen call
   pub none : found ≡ None
 
 -- Every call that meets no rule and no limit of a rank's core is without a fault
 abbrev pub AllowedCallsAreFaultless : Type 0
 AllowedCallsAreFaultless =
-    (a : Announcements) (old : CoreState) (known : List ℕ) (core : Core) (call : Call) →
+    (a : Announcements) (old : CoreState) (known : List ℕ) (core : Core) (call : CoreCall) →
     IsShown a old known core → call_fault old call ≡ None →
     IsFaultless (queue_fault old.place.size (view blank core) (call_seen call)) old call
 
 -- So where a call is refused that meets none, for a limit or for want of memory, that is a reason
 abbrev pub RoomIsAReason : Type 0
 RoomIsAReason =
-    (a : Announcements) (old : CoreState) (known : List ℕ) (core : Core) (call : Call) (why : Refused) →
+    (a : Announcements) (old : CoreState) (known : List ℕ) (core : Core) (call : CoreCall) (why : Refusal) →
     IsShown a old known core → call_fault old call ≡ None → IsOutOfRoom why → HasReason old core call why

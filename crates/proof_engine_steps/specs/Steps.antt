@@ -4,15 +4,15 @@ use Rattle.std.specs.List.{AllByRecursion}
 use Rattle.datagram.specs.Spelling.{FrameIsWithinFields, FrameText}
 use Rattle.incarnation.specs.declared.place.Place.{Place}
 use Rattle.incarnation.specs.Knowing as knowing
-use Rattle.rank_calls.specs.declared.call.Call.{Call}
-use Rattle.rank_calls.specs.declared.call.Reply.{Reply}
-use Rattle.rank_calls.specs.Calls.{IsWithin}
-use Rattle.rank_core.specs.Calls.{Answers, call_fault, call_frame}
-use Rattle.rank_core.specs.CoreState.{CoreState, opening}
-use Rattle.rank_calls.specs.Frames.{as_list}
-use Rattle.rank_calls.specs.Hearing.{NewsText}
-use Rattle.rank_core.specs.Hearing.{after_news, news_fault, news_frames}
-use Rattle.rank_core.specs.Waiting.{woken}
+use Rattle.point_to_point_calls.specs.declared.call.CoreCall.{CoreCall}
+use Rattle.point_to_point_calls.specs.declared.call.CoreReply.{CoreReply}
+use Rattle.point_to_point_calls.specs.Calls.{IsWithin}
+use Rattle.point_to_point.specs.Calls.{Answers, call_fault, call_frame}
+use Rattle.point_to_point.specs.CoreState.{CoreState, opening}
+use Rattle.point_to_point_calls.specs.Frames.{as_list}
+use Rattle.point_to_point_calls.specs.Hearing.{NewsText}
+use Rattle.point_to_point.specs.Arrivals.{after_news, news_fault, news_frames}
+use Rattle.point_to_point.specs.Waiting.{after_wake}
 use Rattle.vocabulary.specs.declared.endpoint.Endpoint.{Endpoint}
 use Rattle.perfect_queues.specs.Events.{call_and_reply, told}
 use Rattle.proof_pure_network.specs.Claims.{ClaimsOnce}
@@ -42,7 +42,7 @@ OpeningIsSettled = (e : Endpoint) → IsSettled (new_core e)
 -- ---- calls
 
 -- a call of the rank is the call of its core in the network
-pub record IsCalled (a : Announcements) (old : CoreState) (known : List ℕ) (core : Core) (call : Call) (reply : Reply) (new : CoreState) : Type 0 where
+pub record IsCalled (a : Announcements) (old : CoreState) (known : List ℕ) (core : Core) (call : CoreCall) (reply : CoreReply) (new : CoreState) : Type 0 where
   pub fit : queue_fault old.place.size (view blank core) (call_seen call) ≡ None
   -- it leaves the rank's place, and the answer of an earlier call
   pub place : new.place ≡ old.place
@@ -65,7 +65,7 @@ pub record IsCalled (a : Announcements) (old : CoreState) (known : List ℕ) (co
 -- call of its core in the network; of which the network's laws say that no two messages name one of its own sends
 abbrev pub CallsAreShown : Type 0
 CallsAreShown =
-    (a : Announcements) (old new : CoreState) (known : List ℕ) (core : Core) (call : Call) (reply : Reply) →
+    (a : Announcements) (old new : CoreState) (known : List ℕ) (core : Core) (call : CoreCall) (reply : CoreReply) →
     IsShown a old known core → ClaimsOnce core → IsWithin call → call_fault old call ≡ None → Answers old call reply new →
     IsCalled a old known core call reply new
 
@@ -135,10 +135,10 @@ NewsAreShown =
 
 -- The rank is woken as its core in the network is settled: both answer the blocked call where its answer is ready, and alike
 pub record IsWoken (a : Announcements) (c : CoreState) (known : List ℕ) (core : Core) : Type 0 where
-  pub place : (woken c).place ≡ c.place
-  pub shown : IsShown a (woken c) known (core_settled core)
+  pub place : (after_wake c).place ≡ c.place
+  pub shown : IsShown a (after_wake c) known (core_settled core)
   pub settled : IsSettled (core_settled core)
-  pub tells : (e : Endpoint) → told e None (core_ready core) ≡ told_completion e (woken c).completion
+  pub tells : (e : Endpoint) → told e None (core_ready core) ≡ told_completion e (after_wake c).completion
 
 -- So it is at a rank that owes no answer, once an event is over, however many frames were handed up in it
 abbrev pub WakesAreShown : Type 0

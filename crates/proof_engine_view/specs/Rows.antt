@@ -1,18 +1,18 @@
 -- A rank's requests by their serials, each with the key under which it stands in the table.
 use Rattle.std.specs.Prelude.{◌≡◌, ℕ, true, List, [], ◌∷◌, ◌++◌, map, Option, Some, is_some, slice_get}
 use Rattle.vocabulary.specs.declared.endpoint.Endpoint.{Endpoint}
-use Rattle.match_queues.specs.declared.envelope.Receive as posted
+use Rattle.match_queues.specs.declared.envelope.PostedReceive as posted
 use Rattle.match_queues.specs.declared.envelope.Message.{Message}
 use Rattle.match_queues.specs.declared.envelope.Body.{Body}
 use Rattle.match_queues.specs.declared.envelope.Body.TheVariants as bodies
 use Rattle.match_queues.specs.Bodies.{basic_of}
-use Rattle.requests.specs.declared.table.Entry.{Entry}
+use Rattle.requests.specs.declared.table.TableEntry.{TableEntry}
 use Rattle.requests.specs.declared.table.Matched.{Matched}
 use Rattle.requests.specs.declared.table.Posted.{Posted}
 use Rattle.requests.specs.declared.table.TakenOut as table
-use Rattle.requests.specs.declared.table.Progress.{Progress}
-use Rattle.requests.specs.declared.table.Progress.TheVariants.{Receiving, TakenOut, Finished}
-use Rattle.requests.specs.declared.table.Progress.TheVariants as progresses
+use Rattle.requests.specs.declared.table.RequestProgress.{RequestProgress}
+use Rattle.requests.specs.declared.table.RequestProgress.TheVariants.{Receiving, TakenOut, Finished}
+use Rattle.requests.specs.declared.table.RequestProgress.TheVariants as progresses
 use Rattle.requests.specs.Regions.{handed_of}
 use Rattle.requests.specs.Table.{slot_at}
 use Rattle.perfect_queues.specs.Outcomes.{status_by}
@@ -51,7 +51,7 @@ pub record IsTaken (t : table.TakenOut) (group : Option (List ℕ)) (h : Option 
 
 -- how far the request is says what the job says; which data a receive has so far, and what a send offers, the transfers say; and
 -- which message was taken out, what is under way says
-abbrev pub Fits : Progress → Job → Type 0
+abbrev pub Fits : RequestProgress → Job → Type 0
 Fits (Receiving w) (Waiting p) = IsPosted w p
 Fits (Receiving w) (Collecting p h got) = ⊥
 Fits (Receiving w) (Offering d basic values) = ⊥
@@ -89,14 +89,14 @@ Fits (Finished o) (Unmatched d) = ⊥
 Fits (Finished o) (Probed g h) = ⊥
 
 -- the slot holds the request with this serial
-pub record Holds (slot : Option Entry) (serial : ℕ) (job : Job) : Type 0 where
-  pub entry : Entry
+pub record Holds (slot : Option TableEntry) (serial : ℕ) (job : Job) : Type 0 where
+  pub entry : TableEntry
   pub there : slot ≡ Some entry
   pub serial_is : entry.serial ≡ serial
   pub fits : Fits entry.progress job
 
 -- what stands in the slot of a request whose outcome wasn't answered
-abbrev pub Stands : Option Entry → (serial : ℕ) → Job → Type 0
+abbrev pub Stands : Option TableEntry → (serial : ℕ) → Job → Type 0
 Stands slot k (Waiting p) = Holds slot k (Waiting p)
 Stands slot k (Collecting p h got) = Holds slot k (Collecting p h got)
 Stands slot k (Offering d basic values) = Holds slot k (Offering d basic values)
@@ -106,19 +106,19 @@ Stands slot k (Unmatched d) = Holds slot k (Unmatched d)
 Stands slot k (Probed g h) = Holds slot k (Probed g h)
 
 -- a slot's entry is that of a row
-pub record IsRow (rows : List Row) (key : ℕ) (t : Entry) : Type 0 where
+pub record IsRow (rows : List Row) (key : ℕ) (t : TableEntry) : Type 0 where
   pub row : Row
   pub there : slice_get rows t.serial ≡ Some row
   pub key_is : row.key ≡ key
   pub fits : Fits t.progress row.job
 
 -- the table holds each request whose outcome wasn't answered under its key, and nothing else
-pub record IsTable (slots : List (Option Entry)) (rows : List Row) : Type 0 where
+pub record IsTable (slots : List (Option TableEntry)) (rows : List Row) : Type 0 where
   pub stands : (k : ℕ) (r : Row) → slice_get rows k ≡ Some r → Stands (slot_at slots r.key) k r.job
-  pub entries : (key : ℕ) (t : Entry) → slot_at slots key ≡ Some t → IsRow rows key t
+  pub entries : (key : ℕ) (t : TableEntry) → slot_at slots key ≡ Some t → IsRow rows key t
 
 -- the receive of a request that waits, under its key
-abbrev pub posted_job : (key : ℕ) → Job → List posted.Receive
+abbrev pub posted_job : (key : ℕ) → Job → List posted.PostedReceive
 posted_job key (Waiting p) = record { request = key; context = p.context; source = p.source; tag = p.tag } ∷ []
 posted_job key (Collecting p h got) = []
 posted_job key (Offering d basic values) = []
@@ -128,7 +128,7 @@ posted_job key (Unmatched d) = []
 posted_job key (Probed g h) = []
 
 -- the receives that wait, in the order of their serials
-abbrev pub posted_rows : List Row → List posted.Receive
+abbrev pub posted_rows : List Row → List posted.PostedReceive
 posted_rows [] = []
 posted_rows (r ∷ rs) = posted_job r.key r.job ++ posted_rows rs
 

@@ -5,23 +5,23 @@ use Rattle.vocabulary.specs.declared.endpoint.Endpoint.{Endpoint}
 use Rattle.vocabulary.specs.declared.envelope.Status.{Status}
 use Rattle.requests.specs.declared.answer.Answer.{Answer}
 use Rattle.requests.specs.declared.answer.Answer.TheVariants as answers
-use Rattle.requests.specs.declared.awaited.Awaited.{Awaited}
-use Rattle.requests.specs.declared.awaited.Awaited.TheVariants as awaiteds
+use Rattle.requests.specs.declared.awaited_requests.Awaited.{Awaited}
+use Rattle.requests.specs.declared.awaited_requests.Awaited.TheVariants as awaiteds
 use Rattle.requests.specs.declared.outcome.Outcome.{Outcome}
 use Rattle.requests.specs.declared.outcome.Outcome.TheVariants as outcomes
 use Rattle.requests.specs.Outcomes.{number_of_failure}
 use Rattle.requests.specs.Regions.{handed_of}
 use Rattle.requests.specs.Table.{slot_at}
-use Rattle.requests.specs.declared.table.Entry as table
+use Rattle.requests.specs.declared.table.TableEntry as table
 use Rattle.requests.specs.declared.table.Request.{Request}
-use Rattle.rank_calls.specs.declared.call.Send.{Send}
-use Rattle.rank_calls.specs.declared.call.Receive.{Receive}
-use Rattle.rank_calls.specs.declared.call.Probe.{Probe}
-use Rattle.rank_calls.specs.declared.call.Call.{Call}
-use Rattle.rank_calls.specs.declared.call.Call.TheVariants as calls
-use Rattle.rank_calls.specs.declared.call.Reply.{Reply}
-use Rattle.rank_calls.specs.declared.call.Reply.TheVariants as replies
-use Rattle.rank_core.specs.CoreState.{CoreState}
+use Rattle.point_to_point_calls.specs.declared.call.CoreSend.{CoreSend}
+use Rattle.point_to_point_calls.specs.declared.call.CoreReceive.{CoreReceive}
+use Rattle.point_to_point_calls.specs.declared.call.CoreProbe.{CoreProbe}
+use Rattle.point_to_point_calls.specs.declared.call.CoreCall.{CoreCall}
+use Rattle.point_to_point_calls.specs.declared.call.CoreCall.TheVariants as calls
+use Rattle.point_to_point_calls.specs.declared.call.CoreReply.{CoreReply}
+use Rattle.point_to_point_calls.specs.declared.call.CoreReply.TheVariants as replies
+use Rattle.point_to_point.specs.CoreState.{CoreState}
 use Rattle.perfect_queues.specs.Outcomes as machine_outcomes
 use Rattle.perfect_queues.specs.Receives as machine_receives
 use Rattle.perfect_queues.specs.Calls as machine
@@ -45,16 +45,16 @@ answer_seen answers.IndexUndefined = completions.ForAny None
 answer_seen (answers.All os) = completions.ForAll (map outcome_seen os)
 
 -- a receive, in the context of its communicator and with its group
-abbrev pub receive_seen : Receive → machine_receives.Receive
+abbrev pub receive_seen : CoreReceive → machine_receives.Receive
 receive_seen v =
     record { source = v.source; tag = v.tag; context = v.context; group = v.group; into = handed_of v.into }
 
 -- a probe, in the context of its communicator and with its group
-abbrev pub probe_seen : Probe → machine_receives.Probe
+abbrev pub probe_seen : CoreProbe → machine_receives.Probe
 probe_seen p = record { source = p.source; tag = p.tag; context = p.context; group = p.group }
 
 -- a send, in the context of its communicator
-abbrev pub send_seen : Send → machine.Call
+abbrev pub send_seen : CoreSend → machine.Call
 send_seen s = machine.Isend s.mode s.context s.target s.tag (handed_of s.from)
 
 -- a request is named by its serial; what that is may depend on the rank
@@ -74,7 +74,7 @@ awaited_by f (awaiteds.AnyOf qs) = completions.AnyOf (requests_by f qs)
 awaited_by f (awaiteds.AllOf qs) = completions.AllOf (requests_by f qs)
 
 -- a call, where requests are named so
-abbrev pub call_by : (Request → ℕ) → Call → machine.Call
+abbrev pub call_by : (Request → ℕ) → CoreCall → machine.Call
 call_by f (calls.Isend s) = send_seen s
 call_by f (calls.Irecv v) = machine.Irecv (receive_seen v)
 call_by f (calls.Wait q) = machine.Wait (awaited_by f (awaiteds.One q))
@@ -90,7 +90,7 @@ abbrev pub own_serial : Request → ℕ
 own_serial q = q.serial
 
 -- what is seen of a call: each request is named by its own serial
-abbrev pub call_seen : Call → machine.Call
+abbrev pub call_seen : CoreCall → machine.Call
 call_seen call = call_by own_serial call
 
 -- what is seen of what a call waits for
@@ -98,12 +98,12 @@ abbrev pub awaited_seen : Awaited → completions.Awaited
 awaited_seen a = awaited_by own_serial a
 
 -- whether a request with this serial stands in a slot of the table
-abbrev pub has_serial : (serial : ℕ) → Option table.Entry → Bool
+abbrev pub has_serial : (serial : ℕ) → Option table.TableEntry → Bool
 has_serial serial None = false
 has_serial serial (Some t) = t.serial == serial
 
 -- whether another engine gave the request: one with its serial stands in this rank's table, though not under its key
-abbrev pub is_foreign : (slots : List (Option table.Entry)) → Request → Bool
+abbrev pub is_foreign : (slots : List (Option table.TableEntry)) → Request → Bool
 is_foreign slots q = list_any (has_serial q.serial) slots && not (has_serial q.serial (slot_at slots q.key))
 
 -- the serial that a request stands for at a rank: its own; that of another engine's is the next one, which no request has
@@ -111,7 +111,7 @@ abbrev pub serial_meant : CoreState → Request → ℕ
 serial_meant c q = if is_foreign c.slots q then c.serial else q.serial
 
 -- what a call means at a rank: what is seen of it, but that a request of another engine is one that it never gave
-abbrev pub call_meant : CoreState → Call → machine.Call
+abbrev pub call_meant : CoreState → CoreCall → machine.Call
 call_meant c call = call_by (serial_meant c) call
 
 -- what a matching probe found: a message is named by its serial
@@ -119,7 +119,7 @@ abbrev pub match_seen : Option (Option Request × Status) → Option (Option ℕ
 match_seen found = option_map (λ t. (request_by own_serial t.0, t.1)) found
 
 -- what is seen of a call at an endpoint that was answered so; of a refused one nothing is
-abbrev pub told_call : Endpoint → Call → Option Reply → List Entry
+abbrev pub told_call : Endpoint → CoreCall → Option CoreReply → List Entry
 told_call e call None = []
 told_call e call (Some (replies.Started q)) = Called e (call_seen call) (machine.Started q.serial) ∷ []
 told_call e call (Some (replies.Done a)) = Called e (call_seen call) (machine.Done (answer_seen a)) ∷ []

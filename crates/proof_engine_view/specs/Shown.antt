@@ -1,9 +1,9 @@
 -- When a rank's core holds what a core of the pure network holds.
 use Rattle.std.specs.Prelude.{◌≡◌, ℕ, List, All, length, map, Option, Some, None, slice_get, slice_index}
-use Rattle.requests.specs.declared.awaited.Awaited as engine
+use Rattle.requests.specs.declared.awaited_requests.Awaited as engine
 use Rattle.requests.specs.declared.table.Request.{Request}
 use Rattle.requests.specs.Completions.{awaited_requests}
-use Rattle.rank_core.specs.CoreState.{CoreState}
+use Rattle.point_to_point.specs.CoreState.{CoreState}
 use Rattle.perfect_queues.specs.Completions.{Unanswered, Waits}
 use Rattle.proof_pure_network.specs.Core.{Core}
 use Rattle.proof_pure_network.specs.Engine.{core_ready}

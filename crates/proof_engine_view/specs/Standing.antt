@@ -8,7 +8,7 @@ use Rattle.datagram.specs.declared.kinds.Clearance.TheVariants.{Send, Drop}
 use Rattle.datagram.specs.declared.kinds.Plane.TheVariants.{PointToPoint}
 use Rattle.datagram.specs.Spelling.{ClearText, DataText, FrameFits, FrameIsWithinFields, FrameText, RequestText, EagerFrame, RequestFrame, ClearFrame, DataFrame}
 use Rattle.incarnation.specs.declared.place.Place.{Place}
-use Rattle.rank_calls.specs.Frames.{FrameFor}
+use Rattle.point_to_point_calls.specs.Frames.{FrameFor}
 use Rattle.proof_pure_network.specs.Frames.{Cts, Data, Frame, Rts}
 use Rattle.proof_engine_view.specs.Frames.{endpoint_of, message_seen}
 use Rattle.proof_engine_view.specs.Transfers.{Announcements, Transfer}

@@ -12,10 +12,10 @@ use Rattle.match_queues.specs.declared.envelope.Body.{Body}
 use Rattle.match_queues.specs.declared.envelope.Body.TheVariants as bodies
 use Rattle.match_queues.specs.declared.envelope.Announcement.{Announcement}
 use Rattle.match_queues.specs.declared.envelope.OwnSend.{OwnSend}
-use Rattle.requests.specs.declared.table.Entry.{Entry}
-use Rattle.requests.specs.declared.table.Progress.{Progress}
-use Rattle.requests.specs.declared.table.Progress.TheVariants.{Receiving, Finished}
-use Rattle.requests.specs.declared.table.Progress.TheVariants as progresses
+use Rattle.requests.specs.declared.table.TableEntry.{TableEntry}
+use Rattle.requests.specs.declared.table.RequestProgress.{RequestProgress}
+use Rattle.requests.specs.declared.table.RequestProgress.TheVariants.{Receiving, Finished}
+use Rattle.requests.specs.declared.table.RequestProgress.TheVariants as progresses
 use Rattle.requests.specs.Table.{slot_at}
 use Rattle.rendezvous.specs.declared.offer.Offer.{Offer}
 use Rattle.rendezvous.specs.declared.transfers.Numbers.{Numbers}
@@ -111,7 +111,7 @@ IsTakenIf from known p rows serial group None = Unit {0}
 IsTakenIf from known p rows serial group (Some m) = IsTakenOut from known p rows serial group m
 
 -- by how far a request is
-abbrev pub IsTakenBy : (from : Endpoint → List Transfer) → (known : List ℕ) → Place → List Row → (serial : ℕ) → Progress → Type 0
+abbrev pub IsTakenBy : (from : Endpoint → List Transfer) → (known : List ℕ) → Place → List Row → (serial : ℕ) → RequestProgress → Type 0
 IsTakenBy from known p rows serial (Receiving w) = Unit {0}
 IsTakenBy from known p rows serial (progresses.Collecting w) = Unit {0}
 IsTakenBy from known p rows serial progresses.Offering = Unit {0}
@@ -119,12 +119,12 @@ IsTakenBy from known p rows serial (progresses.TakenOut t) = IsTakenIf from know
 IsTakenBy from known p rows serial (Finished o) = Unit {0}
 
 -- by what stands under a key of the table
-abbrev pub IsTakenAt : (from : Endpoint → List Transfer) → (known : List ℕ) → Place → List Row → Option Entry → Type 0
+abbrev pub IsTakenAt : (from : Endpoint → List Transfer) → (known : List ℕ) → Place → List Row → Option TableEntry → Type 0
 IsTakenAt from known p rows None = Unit {0}
 IsTakenAt from known p rows (Some e) = IsTakenBy from known p rows e.serial e.progress
 
 -- all of the table
-abbrev pub AreTaken : (from : Endpoint → List Transfer) → (known : List ℕ) → Place → List Row → List (Option Entry) → Type 0
+abbrev pub AreTaken : (from : Endpoint → List Transfer) → (known : List ℕ) → Place → List Row → List (Option TableEntry) → Type 0
 AreTaken from known p rows slots = (key : ℕ) → IsTakenAt from known p rows (slot_at slots key)
 
 -- ALL OF THEM

@@ -3,21 +3,21 @@ use Rattle.std.proofs.Common.{◌≡◌, ℕ, ◌+◌, ◌-◌, ◌^◌, ◌<◌
 use Rattle.std.proofs.lemmas.Bool.{cases_lt, eqb-false, eqb-true, leb-false, ltb-false}
 use Rattle.vocabulary.specs.declared.endpoint.Endpoint.{Endpoint}
 use Rattle.datagram.specs.declared.datagram.Header.{Header}
-use Rattle.datagram.specs.declared.refused.Refused as lower
+use Rattle.datagram.specs.declared.refusal.DatagramRefusal as lower
 use Rattle.datagram.specs.Reading.{datagram_of}
 use Rattle.datagram.specs.Spelling.{AckBody, BodyText, DatagramText, FrameBody, FrameText, ResetBody}
 use Rattle.incarnation.specs.declared.judgement.Judgement.{Judgement}
 use Rattle.incarnation.specs.declared.judgement.Judgement.TheVariants.{Current, Learn}
 use Rattle.incarnation.specs.declared.place.Place.{Place}
-use Rattle.incarnation.specs.declared.refused.Refused as judging
-use Rattle.incarnation.specs.declared.refused.Refused.TheVariants as judgings
+use Rattle.incarnation.specs.declared.refusal.IncarnationRefusal as judging
+use Rattle.incarnation.specs.declared.refusal.IncarnationRefusal.TheVariants as judgings
 use Rattle.incarnation.specs.Judging.{judgement}
 use Rattle.reliable_link.specs.ReceiverState.{held_at}
 use Rattle.reliable_link.specs.SenderState.{out_end}
 use Rattle.sessions.specs.declared.heard.Unheard.{Unheard}
 use Rattle.sessions.specs.declared.peers.Peer.{Peer}
-use Rattle.sessions.specs.declared.refused.Refused.{Refused}
-use Rattle.sessions.specs.declared.refused.Refused.TheVariants as refusals
+use Rattle.sessions.specs.declared.refusal.SessionRefusal.{SessionRefusal}
+use Rattle.sessions.specs.declared.refusal.SessionRefusal.TheVariants as refusals
 use Rattle.sessions.specs.Events.{after_heard, answer_in, linked, taught}
 use Rattle.sessions.specs.Heard.{Acknowledges, EarlyText, Follows, Hands, HeardText, Holds, Nothing, Repeats, WordText, heard_by, heard_in, heard_of, said, session_met, unmeant, word_behind, word_of}
 use Rattle.sessions.specs.Peers.{peer_at}
@@ -79,17 +79,17 @@ is_coming n r number bytes sessions datagrams links current true_now there =
 pub heard_read : (old : SessionsState) (bytes : List ℕ) (d : DatagramText) → datagram_of bytes ≡ Ok d
     → heard_of old bytes ≡ heard_by (judgement (knowledge old) d.header) old d bytes
 unfolding heard_of
-heard_read old bytes d is = ap (λ (r : Result DatagramText lower.Refused). heard_in old r bytes) is
+heard_read old bytes d is = ap (λ (r : Result DatagramText lower.DatagramRefusal). heard_in old r bytes) is
 
 -- ---- what the link makes of it
 
 -- what was answered, or else this
-abbrev word_or : WordText → Result WordText Refused → WordText
+abbrev word_or : WordText → Result WordText SessionRefusal → WordText
 word_or w (Ok x) = x
 word_or w (Err e) = w
 
 -- a word that was answered
-abbrev answered : WordText → Result WordText Refused
+abbrev answered : WordText → Result WordText SessionRefusal
 answered x = Ok x
 
 -- words that are answered alike are the same
@@ -171,7 +171,7 @@ record IsSaid (old : SessionsState) (s d : Endpoint) (q : ℕ) (b : BodyText) (b
   heard : h ≡ record { source = s; lesson = lesson; word = word }
 
 -- a word that was found
-record IsFound (s : Endpoint) (lesson : Bool) (o : Result WordText Refused) (h : HeardText) : Type 0 where
+record IsFound (s : Endpoint) (lesson : Bool) (o : Result WordText SessionRefusal) (h : HeardText) : Type 0 where
   word : WordText
   says : o ≡ Ok word
   heard : h ≡ record { source = s; lesson = lesson; word = word }
@@ -182,12 +182,12 @@ heard_or h (Ok x) = x
 heard_or h (Err u) = h
 
 -- whatever is heard has a word
-is_found : (s : Endpoint) (lesson : Bool) (o : Result WordText Refused) (h : HeardText) → said s lesson o ≡ Ok h → IsFound s lesson o h
+is_found : (s : Endpoint) (lesson : Bool) (o : Result WordText SessionRefusal) (h : HeardText) → said s lesson o ≡ Ok h → IsFound s lesson o h
 is_found s lesson (Ok w) h is = record { word = w; says = refl; heard = sym (ap (heard_or h) is) }
 is_found s lesson (Err e) h is = absurd cc
 
 -- what isn't meant for the rank is not heard
-none_unmeant : (e : judging.Refused) (s : Endpoint) (b : BodyText) (h : HeardText) → unmeant {A = HeardText} e s b ≡ Ok h → ⊥
+none_unmeant : (e : judging.IncarnationRefusal) (s : Endpoint) (b : BodyText) (h : HeardText) → unmeant {A = HeardText} e s b ≡ Ok h → ⊥
 none_unmeant judgings.StaleTarget s (FrameBody t) h is = absurd cc
 none_unmeant judgings.StaleTarget s (AckBody held) h is = absurd cc
 none_unmeant judgings.StaleTarget s ResetBody h is = absurd cc
@@ -198,7 +198,7 @@ none_unmeant judgings.Limit s b h is = absurd cc
 none_unmeant judgings.OutOfMemory s b h is = absurd cc
 
 -- by how it is judged
-judged_says : (n : ℕ) (old : SessionsState) (s d : Endpoint) (q : ℕ) (b : BodyText) (bytes : List ℕ) (h : HeardText) (j : Result Judgement judging.Refused)
+judged_says : (n : ℕ) (old : SessionsState) (s d : Endpoint) (q : ℕ) (b : BodyText) (bytes : List ℕ) (h : HeardText) (j : Result Judgement judging.IncarnationRefusal)
     → judgement (knowledge old) (header_to (place_of n s) d q) ≡ j → heard_by j old (word n s d q b) bytes ≡ Ok h → IsSaid old s d q b bytes h
 judged_says n old s d q b bytes h (Ok Current) judged is =
     let c : IsCurrent (knowledge old) (header_to (place_of n s) d q) = is_current (knowledge old) (header_to (place_of n s) d q) judged in

@@ -10,7 +10,7 @@ use Rattle.datagram.specs.Spelling.{DatagramText, FrameText}
 use Rattle.incarnation.specs.declared.place.Place.{Place}
 use Rattle.reliable_link.specs.ReceiverState.{ReceiverState, advanced, discarded, held_bits}
 use Rattle.sessions.specs.declared.peers.Peer.{Peer}
-use Rattle.sessions.specs.declared.refused.Refused.TheVariants as refusals
+use Rattle.sessions.specs.declared.refusal.SessionRefusal.TheVariants as refusals
 use Rattle.sessions.specs.Events.{Sending, after_event, after_heard, after_send, after_sends, answer_in, heeded_by, is_worn_out, next_bytes, out_on_accept, sends_limit, taught_peers}
 use Rattle.sessions.specs.Following.{acknowledged_at, ready_from, turn_of, turn_of_body, turn_read, without_ready}
 use Rattle.sessions.specs.Heard.{Follows, Hands, HeardText, WordText, session_met}

@@ -6,7 +6,7 @@ use Rattle.std.proofs.lemmas.Option.{same_Some, slice_get_within}
 use Rattle.vocabulary.specs.declared.endpoint.Endpoint.{Endpoint}
 use Rattle.perfect_queues.proofs.ListLemmas.{get_set, get_set_other}
 use Rattle.reliable_link.proofs.Places.{place_of_push}
-use Rattle.datagram.specs.declared.refused.Refused as lower
+use Rattle.datagram.specs.declared.refusal.DatagramRefusal as lower
 use Rattle.datagram.specs.Reading.{datagram_of}
 use Rattle.datagram.specs.Spelling.{AckBody, BodyText, DatagramText, FrameBody, FrameText, ResetBody}
 use Rattle.sessions.specs.Peers.{peer_at}
@@ -36,7 +36,7 @@ among_moved ds q t old new there other a = elim (place_of_push ds new a.place t 
 -- ---- what bytes can't be
 
 -- what was read, or else this
-abbrev text_or : DatagramText → Result DatagramText lower.Refused → DatagramText
+abbrev text_or : DatagramText → Result DatagramText lower.DatagramRefusal → DatagramText
 text_or t (Ok d) = d
 text_or t e = t
 

@@ -6,7 +6,7 @@ use Rattle.datagram.specs.declared.frame.Frame.TheVariants as frames
 use Rattle.datagram.specs.declared.datagram.Content.{Content}
 use Rattle.datagram.specs.declared.datagram.Content.TheVariants as contents
 use Rattle.datagram.specs.declared.datagram.Datagram.{Datagram}
-use Rattle.datagram.specs.declared.refused.Refused as lower
+use Rattle.datagram.specs.declared.refusal.DatagramRefusal as lower
 use Rattle.datagram.specs.Reading.{datagram_of}
 use Rattle.datagram.specs.Spelling.{AckBody, BodyText, ClearFrame, DataFrame, DatagramFits, DatagramText, EagerFrame, FrameBody, FrameText, HeaderIsWithinFields, RequestFrame, ResetBody, content_text, datagram_text, frame_text, spelling}
 use Rattle.datagram.proofs.Grammar.{is_only}
@@ -40,7 +40,7 @@ said ResetBody = (contents.Reset, refl)
 pub spelled_is_read : (d : DatagramText) → DatagramFits d → datagram_of (spelling d) ≡ Ok d
 spelled_is_read d fits = go (datagram_of (spelling d)) refl
   where
-    go : (r : Result DatagramText lower.Refused) → datagram_of (spelling d) ≡ r → datagram_of (spelling d) ≡ Ok d
+    go : (r : Result DatagramText lower.DatagramRefusal) → datagram_of (spelling d) ≡ r → datagram_of (spelling d) ≡ Ok d
     go (Ok t) is =
         let c = said t.body in
         let x : Datagram = record { header = t.header; content = c.0 } in

@@ -6,11 +6,11 @@ use Rattle.datagram.specs.Spelling.{AckBody, BodyText, DatagramText, FrameBody, 
 use Rattle.incarnation.specs.declared.judgement.Judgement.{Judgement}
 use Rattle.incarnation.specs.declared.judgement.Judgement.TheVariants.{Current, Learn}
 use Rattle.incarnation.specs.declared.place.Place.{Place}
-use Rattle.incarnation.specs.declared.refused.Refused as judging
-use Rattle.incarnation.specs.declared.refused.Refused.TheVariants as judgings
+use Rattle.incarnation.specs.declared.refusal.IncarnationRefusal as judging
+use Rattle.incarnation.specs.declared.refusal.IncarnationRefusal.TheVariants as judgings
 use Rattle.incarnation.specs.Judging.{judgement}
 use Rattle.sessions.specs.declared.heard.Unheard.{Unheard}
-use Rattle.sessions.specs.declared.refused.Refused.{Refused}
+use Rattle.sessions.specs.declared.refusal.SessionRefusal.{SessionRefusal}
 use Rattle.sessions.specs.Events.{TurnedAway}
 use Rattle.sessions.specs.Heard.{HeardText, WordText, heard_by, said, session_met, unmeant, word_of}
 use Rattle.sessions.specs.Peers.{peer_at}
@@ -50,12 +50,12 @@ same_unheard : (e u : Unheard) → refused e ≡ Err u → e ≡ u
 same_unheard e u is = ap (unheard_or u) is
 
 -- a word of the link
-said_back : (s : Endpoint) (lesson : Bool) (o : Result WordText Refused) (u : Unheard) → said s lesson o ≡ Err u → IsBack s u.reset
+said_back : (s : Endpoint) (lesson : Bool) (o : Result WordText SessionRefusal) (u : Unheard) → said s lesson o ≡ Err u → IsBack s u.reset
 said_back s lesson (Ok w) u is = absurd cc
 said_back s lesson (Err e) u is = subst (λ (x : Unheard). IsBack s x.reset) (same_unheard (record { refused = _; reset = None }) u is) tt
 
 -- what isn't meant for the rank
-unmeant_back : (e : judging.Refused) (s : Endpoint) (b : BodyText) (u : Unheard) → unmeant {A = HeardText} e s b ≡ Err u → IsBack s u.reset
+unmeant_back : (e : judging.IncarnationRefusal) (s : Endpoint) (b : BodyText) (u : Unheard) → unmeant {A = HeardText} e s b ≡ Err u → IsBack s u.reset
 unmeant_back judgings.StaleTarget s (FrameBody t) u is = subst (λ (x : Unheard). IsBack s x.reset) (same_unheard _ u is) refl
 unmeant_back judgings.StaleTarget s (AckBody held) u is = subst (λ (x : Unheard). IsBack s x.reset) (same_unheard _ u is) refl
 unmeant_back judgings.StaleTarget s ResetBody u is = subst (λ (x : Unheard). IsBack s x.reset) (same_unheard _ u is) tt
@@ -66,7 +66,7 @@ unmeant_back judgings.Limit s b u is = subst (λ (x : Unheard). IsBack s x.reset
 unmeant_back judgings.OutOfMemory s b u is = subst (λ (x : Unheard). IsBack s x.reset) (same_unheard _ u is) tt
 
 -- whatever a datagram of s isn't heard for
-judged_back : (n : ℕ) (old : SessionsState) (s d : Endpoint) (q : ℕ) (b : BodyText) (bytes : List ℕ) (u : Unheard) (j : Result Judgement judging.Refused)
+judged_back : (n : ℕ) (old : SessionsState) (s d : Endpoint) (q : ℕ) (b : BodyText) (bytes : List ℕ) (u : Unheard) (j : Result Judgement judging.IncarnationRefusal)
     → heard_by j old (word n s d q b) bytes ≡ Err u → IsBack s u.reset
 judged_back n old s d q b bytes u (Ok Current) is = said_back s false (word_of (session_met false (peer_at old.peers s.rank)) q b bytes) u is
 judged_back n old s d q b bytes u (Ok (Learn i)) is = said_back s true (word_of (session_met true (peer_at old.peers s.rank)) q b bytes) u is
@@ -110,7 +110,7 @@ module _ (n r : ℕ) (sessions : List SessionsState) (datagrams : List (ℕ × L
       (stays n r sessions datagrams links current old (record old { out = old.out ++ (s.rank, reset_bytes old.place s) ∷ [] }) true_now tells (true_now.held r old stands.there) refl refl refl told)
 
   -- by whether a reset is to go out
-  turned_away : (to_whom : Option Endpoint) (e why : Refused) (new : SessionsState) → IsBack s to_whom → TurnedAway to_whom e old why new
+  turned_away : (to_whom : Option Endpoint) (e why : SessionRefusal) (new : SessionsState) → IsBack s to_whom → TurnedAway to_whom e old why new
       → LeavesTrue n sessions datagrams r new links current
   turned_away None e why new is gives = stays_true new gives.1
   turned_away (Some x) e why new is (inl gives) =

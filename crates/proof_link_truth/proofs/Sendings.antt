@@ -10,8 +10,8 @@ use Rattle.datagram.specs.Spelling.{FrameText}
 use Rattle.incarnation.specs.declared.place.Place.{Place}
 use Rattle.reliable_link.specs.SenderState.{SenderState, after_accept, next_number}
 use Rattle.sessions.specs.declared.peers.Peer.{Peer}
-use Rattle.sessions.specs.declared.refused.Refused.{Refused}
-use Rattle.sessions.specs.declared.refused.Refused.TheVariants as refusals
+use Rattle.sessions.specs.declared.refusal.SessionRefusal.{SessionRefusal}
+use Rattle.sessions.specs.declared.refusal.SessionRefusal.TheVariants as refusals
 use Rattle.sessions.specs.Events.{Sending, after_heard, after_send, after_sends, is_worn_out, next_bytes, out_on_accept, sends_limit}
 use Rattle.sessions.specs.Heard.{HeardText}
 use Rattle.sessions.specs.Peers.{peer_at}
@@ -188,7 +188,7 @@ goes_on n r sessions datagrams after current mid s gives =
     (append_assoc datagrams mid.out out) gives)
 
 -- a limit that wasn't met, and the rest
-passed : (t : Bool) (o : Option Refused) → cond t (Some refusals.Limit) o ≡ None → (t ≡ false) × (o ≡ None)
+passed : (t : Bool) (o : Option SessionRefusal) → cond t (Some refusals.Limit) o ≡ None → (t ≡ false) × (o ≡ None)
 passed false o h = (refl, h)
 passed true o h = absurd cc
 

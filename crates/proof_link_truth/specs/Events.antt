@@ -5,7 +5,7 @@ use Rattle.vocabulary.specs.declared.endpoint.Endpoint.{Endpoint}
 use Rattle.vocabulary.specs.Endpoints.{last_incarnation}
 use Rattle.perfect_queues.specs.State.{with_number}
 use Rattle.datagram.specs.Spelling.{FrameText}
-use Rattle.sessions.specs.declared.refused.Refused.{Refused}
+use Rattle.sessions.specs.declared.refusal.SessionRefusal.{SessionRefusal}
 use Rattle.sessions.specs.declared.heard.Unheard.{Unheard}
 use Rattle.sessions.specs.Events.{Sending, TurnedAway, after_event, after_heard, sends_limit}
 use Rattle.reliable_link.specs.ReceiverState.{held_at}
@@ -169,7 +169,7 @@ RestIsTrue =
 abbrev pub RefusalsAreTrue : Type 0
 RefusalsAreTrue =
     (n r number : ℕ) (bytes : List ℕ) (sessions : List SessionsState) (datagrams : List (ℕ × List ℕ)) (links : Links)
-    (current : ℕ → ℕ) (old new : SessionsState) (unheard : Unheard) (why : Refused) →
+    (current : ℕ → ℕ) (old new : SessionsState) (unheard : Unheard) (why : SessionRefusal) →
     AreTrue n sessions datagrams links current → IsAt sessions r old → slice_get datagrams number ≡ Some (r, bytes) →
     heard_of old bytes ≡ Err unheard → TurnedAway unheard.reset unheard.refused old why new →
     LeavesTrue n sessions datagrams r new links current

@@ -2,15 +2,15 @@
 use Rattle.std.proofs.Common.{◌≡◌, ℕ, ◌*◌, ◌<◌, List, [], ◌∷◌, ◌++◌, Some, None, Ok, length, refl, sym, subst, ◌∙◌, arith}
 use Rattle.std.specs.Prelude.{slice_get}
 use Rattle.std.specs.List.{AllByRecursion}
-use Rattle.collective_notes.specs.declared.message.Message.{Message}
+use Rattle.collective_messages.specs.declared.message.CollectiveMessage.{CollectiveMessage}
 use Rattle.collective_transfers.specs.Payloads.{Coming}
 use Rattle.collective_transfers.specs.State as payloads
 use Rattle.datagram.specs.Spelling.{ClearFrame, FrameText, RequestFrame, RequestText}
 use Rattle.datagram.specs.declared.kinds.Clearance.TheVariants.{Send}
 use Rattle.datagram.specs.declared.kinds.Plane.TheVariants as planes
 use Rattle.engine.specs.Datagrams.{AnnouncementGives, after_announcement, announcement_fault, answer_to, coming_by, frame_in, lesson_in, numbers_met, payloads_met}
-use Rattle.engine_parts.specs.EngineState.{EngineState}
-use Rattle.engine_parts.specs.Refusals.{fault_of_sessions}
+use Rattle.engine_calls.specs.EngineState.{EngineState}
+use Rattle.engine_calls.specs.Refusals.{fault_of_sessions}
 use Rattle.proof_engine_steps.proofs.Counting.{transfers_from_are_counted}
 use Rattle.proof_engine_view.specs.Shown.{IsShown}
 use Rattle.proof_group_network.specs.Carried.{Announces, Answers, BringsPart, Carried, OfMessages, OfNotices, Sessions}
@@ -19,7 +19,7 @@ use Rattle.proof_group_network.specs.Network.{GroupNetwork}
 use Rattle.proof_group_network.specs.NoticesStand.{heard_member}
 use Rattle.proof_group_network.specs.SessionLaws as carried_laws
 use Rattle.proof_link_truth.specs.Events.{IsNext, MaySendAll, all_addressed}
-use Rattle.proof_links.specs.Links.{LinksOf, accept_all, handed_on}
+use Rattle.endpoint_links.specs.Links.{LinksOf, accept_all, handed_on}
 use Rattle.proof_pure_network.specs.Network.{here}
 use Rattle.proof_session_carrying.proofs.Carrying.{next_stands}
 use Rattle.proof_session_carrying.proofs.EventSteps.{announcements_are_carried}
@@ -27,8 +27,8 @@ use Rattle.proof_session_carrying.specs.Announced.{LargeNotice, all_announced}
 use Rattle.proof_session_carrying.specs.Carrying.{IsRequest, Saying, StandsForCarried, bytes_of_message}
 use Rattle.proof_session_carrying.specs.CarryLaws as carrying
 use Rattle.proof_session_carrying.specs.EventLaws.{AreJoined}
-use Rattle.rank_calls.specs.Hearing.{bad_unless}
-use Rattle.rank_core.specs.CoreState.{with_numbers}
+use Rattle.point_to_point_calls.specs.Hearing.{bad_unless}
+use Rattle.point_to_point.specs.CoreState.{with_numbers}
 use Rattle.rendezvous.specs.Pieces.{piece_bytes}
 use Rattle.rendezvous.specs.State.{is_next, with_announced}
 use Rattle.rendezvous.specs.declared.transfers.Numbers.{Numbers}
@@ -52,7 +52,7 @@ use Rattle.proof_network_bridge.proofs.Worlds.{only_handed}
 -- number of its transfer
 record IsOfAnnouncement (said : Saying) (sessions : Sessions) (own s : Endpoint) (t : RequestText) : Type 0 where
   number : ℕ
-  message : Message
+  message : CollectiveMessage
   there : carried_laws.IsNext sessions s own (Announces number)
   stands : slice_get (said s own) number ≡ Some message
   named : slice_get (all_announced sessions s own) t.transfer ≡ Some (LargeNotice number)
@@ -80,7 +80,7 @@ one_more P [] x all one = (one, tt)
 one_more P (y ∷ ys) x all one = (all.0, one_more P ys x all.1 one)
 
 -- none of its pieces has come
-begins : (sessions : Sessions) (said : Saying) (own : Endpoint) (known : List ℕ) (h : HeardText) (t : RequestText) (i : ℕ) (m : Message) → slice_get (all_announced sessions h.source own) t.transfer ≡ Some (LargeNotice i) →
+begins : (sessions : Sessions) (said : Saying) (own : Endpoint) (known : List ℕ) (h : HeardText) (t : RequestText) (i : ℕ) (m : CollectiveMessage) → slice_get (all_announced sessions h.source own) t.transfer ≡ Some (LargeNotice i) →
     slice_get (said h.source own) i ≡ Some m → IsRequest m t → known_endpoint known h.source.rank ≡ h.source → IsComingPayload sessions said own known (coming_by h t)
 begins sessions said own known h t i m named there request source =
     record {

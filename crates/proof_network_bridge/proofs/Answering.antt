@@ -4,15 +4,15 @@ use Rattle.std.specs.Prelude.{option_map, slice_get}
 use Rattle.std.specs.List.{AllByRecursion}
 use Rattle.std.proofs.lemmas.Bool.{and_parts, eqb-false, eqb-true}
 use Rattle.std.proofs.lemmas.Option.{same_Some, slice_get-map}
-use Rattle.collective_notes.specs.declared.message.Message.{Message}
+use Rattle.collective_messages.specs.declared.message.CollectiveMessage.{CollectiveMessage}
 use Rattle.collective_transfers.specs.Payloads.{Announced, is_to}
 use Rattle.collective_transfers.specs.State as payloads
 use Rattle.collective_transfers.specs.State.{after_answer, announced_at, announced_to, place_to, without}
 use Rattle.datagram.specs.Spelling.{ClearFrame, ClearText, DataFrame, FrameText}
 use Rattle.engine.specs.Datagrams.{AnswerGives, after_answered, answer_fault, data_for, data_of, data_sent, ended_by, frame_in, groups_met, is_to_collective, payloads_met, unwanted}
-use Rattle.engine_parts.specs.EngineState.{EngineState, or_before}
-use Rattle.engine_parts.specs.Frames.{sending_of}
-use Rattle.engine_parts.specs.Refusals.{fault_of_sessions}
+use Rattle.engine_calls.specs.EngineState.{EngineState, or_before}
+use Rattle.engine_calls.specs.Frames.{sending_of}
+use Rattle.engine_calls.specs.Refusals.{fault_of_sessions}
 use Rattle.incarnation.specs.declared.place.Place.{Place}
 use Rattle.proof_engine_steps.proofs.ListsApart.{Passes, position_passes}
 use Rattle.proof_engine_steps.proofs.Wholes.{at_place, removed}
@@ -28,7 +28,7 @@ use Rattle.proof_group_network.specs.SessionLaws.{IsNext}
 use Rattle.proof_link_truth.specs.Events as below
 use Rattle.proof_link_truth.specs.Events.{MaySendAll, all_addressed}
 use Rattle.proof_link_truth.specs.Wire.{place_of}
-use Rattle.proof_links.specs.Links.{LinksOf, accept_all, handed_on}
+use Rattle.endpoint_links.specs.Links.{LinksOf, accept_all, handed_on}
 use Rattle.proof_pure_network.specs.Frames.{Cts, Frame}
 use Rattle.proof_pure_network.specs.Network.{here}
 use Rattle.proof_session_carrying.proofs.Carrying.{next_stands}
@@ -38,10 +38,10 @@ use Rattle.proof_session_carrying.specs.Announced.{LargeMessage, LargeNotice, al
 use Rattle.proof_session_carrying.specs.Carrying.{Saying, StandsForCarried, bytes_of_message}
 use Rattle.proof_session_carrying.specs.CarryLaws as carrying
 use Rattle.proof_session_carrying.specs.EventLaws.{AreJoined}
-use Rattle.rank_calls.specs.Hearing.{CanGo, data_frames}
-use Rattle.rank_core.proofs.Replies.{data_go}
-use Rattle.rank_core.specs.CoreState.{CoreState}
-use Rattle.rank_core.specs.Hearing as core
+use Rattle.point_to_point_calls.specs.Hearing.{CanGo, data_frames}
+use Rattle.point_to_point.proofs.Replies.{data_go}
+use Rattle.point_to_point.specs.CoreState.{CoreState}
+use Rattle.point_to_point.specs.Arrivals as core
 use Rattle.rendezvous.specs.Pieces.{piece_bytes, piece_count, pieces_of}
 use Rattle.sessions.specs.Events.{Sending, after_event, event_limit}
 use Rattle.sessions.specs.Heard.{HeardText}
@@ -100,7 +100,7 @@ is_asked false p rank transfer is = record { plain = refl; kept = is_kept p rank
 
 -- the notice of the session with the endpoint that asks for it, which the payload is
 record IsAskedFor (sessions : Sessions) (said : Saying) (own s : Endpoint) (transfer : ℕ) (bytes : List ℕ) : Type 0 where
-  message : Message
+  message : CollectiveMessage
   notice : IsLargeNotice sessions said own s transfer message
   bytes_are : bytes ≡ bytes_of_message message
   short : length bytes ≤ send_limit
@@ -206,7 +206,7 @@ stays old h t sendings plain are = record {
 }
   where
     core_is : (opened old h).core ≡ old.core
-    core_is = ap (λ (lesson : Bool). core.taught lesson old.core h.source) plain
+    core_is = ap (λ (lesson : Bool). core.after_lesson lesson old.core h.source) plain
 
 -- ---- an answer
 

@@ -5,11 +5,11 @@ use Rattle.std.specs.List.{AllByRecursion}
 use Rattle.std.proofs.lemmas.Bool.{cases_lt, eqb-false, eqb-true}
 use mathlib.Core.Path.{fun_ext}
 use Rattle.datagram.specs.Spelling.{FrameText}
-use Rattle.engine_parts.specs.Frames.{by_rank}
+use Rattle.engine_calls.specs.Frames.{by_rank}
 use Rattle.perfect_queues.proofs.EndpointLemmas.{same_eq}
 use Rattle.proof_link_truth.proofs.Lists.{All_append}
 use Rattle.proof_link_truth.specs.Events.{all_addressed}
-use Rattle.proof_links.specs.Links.{LinkOf, LinksOf, accept, accept_all}
+use Rattle.endpoint_links.specs.Links.{LinkOf, LinksOf, accept, accept_all}
 use Rattle.sessions.specs.Events.{Sending}
 use Rattle.sessions.specs.SessionsState.{known_endpoint}
 use Rattle.vocabulary.specs.Endpoints.{is_same}

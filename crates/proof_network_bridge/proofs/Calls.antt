@@ -1,16 +1,16 @@
 -- A world of engines follows the pure network through every call that is taken: what is said of each kind of calls, put together.
 use Rattle.std.proofs.Common.{◌≡◌, ℕ, List, ◌++◌, Option, Some, subst, sym}
 use Rattle.std.specs.Prelude.{slice_get}
-use Rattle.collective_notes.specs.declared.entry.Entry as collectives
+use Rattle.collective_messages.specs.declared.entry.Entry as collectives
 use Rattle.communicators.specs.declared.question.Question.{Question}
-use Rattle.engine_parts.specs.Calls.{AskingGives, CallGives, CoreGives, IsAnswered, IsEntered, IsLooked, IsTaken, IsTold, LookingGives}
-use Rattle.engine_parts.specs.EngineState.{EngineState, completion_of}
-use Rattle.engine_parts.specs.declared.call.Call.{Call}
-use Rattle.engine_parts.specs.declared.call.Call.TheVariants as calls
-use Rattle.engine_parts.specs.declared.call.Probe.{Probe}
-use Rattle.engine_parts.specs.declared.reply.Fact.{Fact}
-use Rattle.engine_parts.specs.declared.reply.Reply.{Reply}
-use Rattle.engine_parts.specs.declared.reply.Reply.TheVariants as replies
+use Rattle.engine_calls.specs.Calls.{AskingGives, CallGives, CoreGives, IsAnswered, IsEntered, IsLooked, IsTaken, IsTold, LookingGives}
+use Rattle.engine_calls.specs.EngineState.{EngineState, completion_of}
+use Rattle.engine_calls.specs.declared.call.Call.{Call}
+use Rattle.engine_calls.specs.declared.call.Call.TheVariants as calls
+use Rattle.engine_calls.specs.declared.call.Probe.{Probe}
+use Rattle.engine_calls.specs.declared.reply.Fact.{Fact}
+use Rattle.engine_calls.specs.declared.reply.Reply.{Reply}
+use Rattle.engine_calls.specs.declared.reply.Reply.TheVariants as replies
 use Rattle.perfect_groups.specs.Events.{Entry}
 use Rattle.proof_group_network.specs.Network.{Happening}
 use Rattle.proof_network_bridge.proofs.Followed.{followed}

@@ -5,8 +5,8 @@ use Rattle.std.proofs.lemmas.Bool.{and_parts}
 use Rattle.collective_steps.specs.declared.step.Ending.{Ending}
 use Rattle.datagram.specs.Spelling.{FrameText}
 use Rattle.engine.specs.Datagrams.{frame_in, numbers_met}
-use Rattle.engine_parts.specs.EngineState.{EngineState, GroupsState}
-use Rattle.engine_parts.specs.Refusals.{fault_of_sessions}
+use Rattle.engine_calls.specs.EngineState.{EngineState, GroupsState}
+use Rattle.engine_calls.specs.Refusals.{fault_of_sessions}
 use Rattle.perfect_queues.proofs.EndpointLemmas.{same_eq}
 use Rattle.proof_collective_steps.specs.Shown as collectives
 use Rattle.proof_engine_steps.proofs.UnderWay.{others_may_announce}
@@ -20,14 +20,14 @@ use Rattle.proof_group_network.specs.Midway.{unsettled}
 use Rattle.proof_group_network.specs.Network.{GroupNetwork}
 use Rattle.proof_group_network.specs.NoticesStand.{heard_member}
 use Rattle.proof_link_truth.specs.Events.{MaySendAll, all_addressed}
-use Rattle.proof_links.specs.Links.{LinksOf, accept, accept_all, handed_on}
+use Rattle.endpoint_links.specs.Links.{LinksOf, accept, accept_all, handed_on}
 use Rattle.proof_pure_network.specs.Core.{Core}
 use Rattle.proof_pure_network.specs.Network.{here}
 use Rattle.proof_session_carrying.proofs.Growing.{announced_append, same_begins}
 use Rattle.proof_session_carrying.specs.Announced.{Announced, all_announced, announced_by, announced_in, announcements_in, transfers_as}
 use Rattle.proof_session_carrying.specs.EventLaws.{AreJoined}
-use Rattle.rank_core.specs.CoreState.{CoreState}
-use Rattle.rank_core.specs.Hearing as core
+use Rattle.point_to_point.specs.CoreState.{CoreState}
+use Rattle.point_to_point.specs.Arrivals as core
 use Rattle.rendezvous.specs.State as transfers
 use Rattle.sessions.specs.Events as below_events
 use Rattle.sessions.specs.Events.{Sending, after_event, event_limit, heard_limit, sends_limit}
@@ -46,7 +46,7 @@ use Rattle.proof_network_bridge.proofs.Worlds.{only_handed}
 -- ---- the numbers of transfers
 
 -- they are those that the core has once it learnt the lesson
-pub numbers_there : (c : CoreState) (h : HeardText) → numbers_met c h ≡ (core.taught h.lesson c h.source).transfers.numbers
+pub numbers_there : (c : CoreState) (h : HeardText) → numbers_met c h ≡ (core.after_lesson h.lesson c h.source).transfers.numbers
 numbers_there c h = ap (λ (t : transfers.State). t.numbers) (sym (transfers_taught h.lesson c h.source))
 
 -- ---- what announces nothing

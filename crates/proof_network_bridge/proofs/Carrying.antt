@@ -4,8 +4,8 @@ use Rattle.std.specs.List.{AllByRecursion}
 use Rattle.std.proofs.lemmas.Bool.{ne_eqb}
 use Rattle.vocabulary.specs.declared.endpoint.Endpoint.{Endpoint}
 use Rattle.datagram.specs.Spelling.{FrameText}
-use Rattle.rank_calls.specs.Frames.{FrameFor}
-use Rattle.engine_parts.specs.Frames.{sending_of}
+use Rattle.point_to_point_calls.specs.Frames.{FrameFor}
+use Rattle.engine_calls.specs.Frames.{sending_of}
 use Rattle.proof_engine_view.specs.Standing.{CanLeave, all_gone, gone_to}
 use Rattle.proof_link_truth.specs.Events.{MaySendAll, all_addressed}
 use Rattle.proof_link_truth.specs.Wire.{place_of}

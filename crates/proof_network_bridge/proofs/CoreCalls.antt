@@ -6,19 +6,19 @@ use Rattle.collective_steps.specs.declared.step.Ending.{Ending}
 use Rattle.collective_transfers.specs.State as payloads
 use Rattle.communicators.specs.Routes.{RouteText, route_on}
 use Rattle.datagram.specs.Spelling.{FrameText}
-use Rattle.engine_parts.specs.EngineState.{EngineState, GroupsState, completion_by, completion_of, member_of}
-use Rattle.engine_parts.specs.Faults.{broken, fault_of, free_fault, group_limit, is_busy, is_replaced, look_rules, message_rules, on_route, probe_rules, receive_rules, routed_limit, send_rules}
-use Rattle.engine_parts.specs.Frames.{after_frame, frame_limit, sending_of, sendings_of}
-use Rattle.engine_parts.specs.Refusals.{first_fault}
-use Rattle.engine_parts.specs.Routing.{core_call, core_reply, probe_by, receive_by, route_at, send_by}
-use Rattle.engine_parts.specs.declared.call.Call.{Call}
-use Rattle.engine_parts.specs.declared.call.Call.TheVariants as calls
-use Rattle.engine_parts.specs.declared.call.Probe.{Probe}
-use Rattle.engine_parts.specs.declared.call.Receive.{Receive}
-use Rattle.engine_parts.specs.declared.call.Send.{Send}
-use Rattle.engine_parts.specs.declared.reply.Completion.{Completion}
-use Rattle.engine_parts.specs.declared.reply.Reply.{Reply}
-use Rattle.engine_parts.specs.declared.reply.Reply.TheVariants as replies
+use Rattle.engine_calls.specs.EngineState.{EngineState, GroupsState, completion_by, completion_of, member_of}
+use Rattle.engine_calls.specs.Faults.{broken, fault_of, free_fault, group_limit, is_busy, is_replaced, look_rules, message_rules, on_route, probe_rules, receive_rules, routed_limit, send_rules}
+use Rattle.engine_calls.specs.Frames.{after_frame, frame_limit, sending_of, sendings_of}
+use Rattle.engine_calls.specs.Refusals.{first_fault}
+use Rattle.engine_calls.specs.Routing.{core_call, core_reply, probe_by, receive_by, route_at, send_by}
+use Rattle.engine_calls.specs.declared.call.Call.{Call}
+use Rattle.engine_calls.specs.declared.call.Call.TheVariants as calls
+use Rattle.engine_calls.specs.declared.call.Probe.{Probe}
+use Rattle.engine_calls.specs.declared.call.Receive.{Receive}
+use Rattle.engine_calls.specs.declared.call.Send.{Send}
+use Rattle.engine_calls.specs.declared.reply.Completion.{Completion}
+use Rattle.engine_calls.specs.declared.reply.Reply.{Reply}
+use Rattle.engine_calls.specs.declared.reply.Reply.TheVariants as replies
 use Rattle.incarnation.specs.declared.place.Place.{Place}
 use Rattle.perfect_groups.specs.Calls as machine
 use Rattle.perfect_groups.specs.Calls.{OfRequests, held_at, queue_call, queue_reply, reply_at_once}
@@ -44,8 +44,8 @@ use Rattle.proof_group_network.specs.Carried.{Sessions, frames_carried}
 use Rattle.proof_group_network.specs.Happened.{IsAfter, QueueCallsHappen, reply_of}
 use Rattle.proof_group_network.specs.Network.{Ask, GroupNetwork, happens}
 use Rattle.proof_link_truth.specs.Events.{EventsAreTrue, LeavesTrue, MaySendAll, all_addressed}
-use Rattle.proof_links.specs.Links.{LinksOf}
-use Rattle.proof_links.specs.Links as carriers
+use Rattle.endpoint_links.specs.Links.{LinksOf}
+use Rattle.endpoint_links.specs.Links as carriers
 use Rattle.proof_link_truth.specs.Wire.{place_of}
 use Rattle.proof_pure_network.specs.Claims.{ClaimsOnce}
 use Rattle.proof_pure_network.specs.Core.{Core, view}
@@ -57,16 +57,16 @@ use Rattle.proof_pure_network.specs.Network.{here}
 use Rattle.proof_session_carrying.specs.EventLaws.{AreJoined}
 use Rattle.proof_session_carrying.specs.Announced.{announcements_in}
 use Rattle.proof_session_carrying.specs.MessageLaws.{FramesAreSent, QueueCallsAreCarried}
-use Rattle.rank_calls.specs.Frames.{FrameFor, as_list}
-use Rattle.rank_calls.specs.Hearing.{first_of}
-use Rattle.rank_calls.specs.declared.call.Call as core_asks
-use Rattle.rank_calls.specs.declared.call.Call.TheVariants as core_calls
-use Rattle.rank_calls.specs.declared.call.Reply as core_answers
-use Rattle.rank_calls.specs.declared.call.Reply.TheVariants as core_replies
-use Rattle.rank_calls.specs.declared.refused.Refused.{Refused}
-use Rattle.rank_calls.specs.declared.refused.Refused.TheVariants as refusals
-use Rattle.rank_core.specs.Calls.{argument_fault, call_fault, call_frame, free_request_fault, limit_fault}
-use Rattle.rank_core.specs.CoreState.{CoreState}
+use Rattle.point_to_point_calls.specs.Frames.{FrameFor, as_list}
+use Rattle.point_to_point_calls.specs.Hearing.{first_of}
+use Rattle.point_to_point_calls.specs.declared.call.CoreCall as core_asks
+use Rattle.point_to_point_calls.specs.declared.call.CoreCall.TheVariants as core_calls
+use Rattle.point_to_point_calls.specs.declared.call.CoreReply as core_answers
+use Rattle.point_to_point_calls.specs.declared.call.CoreReply.TheVariants as core_replies
+use Rattle.point_to_point_calls.specs.declared.refusal.Refusal.{Refusal}
+use Rattle.point_to_point_calls.specs.declared.refusal.Refusal.TheVariants as refusals
+use Rattle.point_to_point.specs.Calls.{argument_fault, call_fault, call_frame, free_request_fault, limit_fault}
+use Rattle.point_to_point.specs.CoreState.{CoreState}
 use Rattle.requests.specs.Regions.{handed_of}
 use Rattle.sessions.specs.Events.{Sending, after_event, sends_limit}
 use Rattle.sessions.specs.SessionsState.{SessionsState}
@@ -111,16 +111,16 @@ frame_keeps s (Some f) = record { place = refl; known = refl }
 -- ---- WHAT IS ALLOWED
 
 -- what a core is asked meets no rule and no limit of it, and its frame none of the sessions
-record IsAllowed (e : EngineState) (q : core_asks.Call) : Type 0 where
+record IsAllowed (e : EngineState) (q : core_asks.CoreCall) : Type 0 where
   core : call_fault e.core q ≡ None
   frame : frame_limit e.sessions (call_frame e.core q) ≡ None
 
 -- where its parts meet none
-allowed_by : (e : EngineState) (q : core_asks.Call) → e.core.blocked ≡ None → free_request_fault e.core q ≡ None → argument_fault e.core.place q ≡ None → routed_limit e q ≡ None → IsAllowed e q
+allowed_by : (e : EngineState) (q : core_asks.CoreCall) → e.core.blocked ≡ None → free_request_fault e.core q ≡ None → argument_fault e.core.place q ≡ None → routed_limit e q ≡ None → IsAllowed e q
 allowed_by e q idle requests arguments limits =
     let both = neither_fault (limit_fault e.core q) (frame_limit e.sessions (call_frame e.core q)) limits in
     record {
-      core = core_fault e.core q idle requests ∙ ap (λ (o : Option Refused). first_of o (limit_fault e.core q)) arguments ∙ both.0;
+      core = core_fault e.core q idle requests ∙ ap (λ (o : Option Refusal). first_of o (limit_fault e.core q)) arguments ∙ both.0;
       frame = both.1;
     }
 
@@ -149,20 +149,20 @@ probe_allowed e p r idle rules =
     allowed_by e (core_calls.Improbe (probe_by p r)) idle refl arguments.0 both.1
 
 -- the receive of a message
-message_allowed : (e : EngineState) (q : core_asks.Call) → e.core.blocked ≡ None → message_rules e q ≡ None → IsAllowed e q
+message_allowed : (e : EngineState) (q : core_asks.CoreCall) → e.core.blocked ≡ None → message_rules e q ≡ None → IsAllowed e q
 message_allowed e q idle rules =
     let requests = neither_fault (free_request_fault e.core q) _ rules in
     let arguments = neither_fault (argument_fault e.core.place q) (routed_limit e q) requests.1 in
     allowed_by e q idle requests.0 arguments.0 arguments.1
 
 -- a call on requests
-requests_allowed : (e : EngineState) (q : core_asks.Call) → e.core.blocked ≡ None → free_request_fault e.core q ≡ None → argument_fault e.core.place q ≡ None → limit_fault e.core q ≡ None → call_frame e.core q ≡ None → IsAllowed e q
+requests_allowed : (e : EngineState) (q : core_asks.CoreCall) → e.core.blocked ≡ None → free_request_fault e.core q ≡ None → argument_fault e.core.place q ≡ None → limit_fault e.core q ≡ None → call_frame e.core q ≡ None → IsAllowed e q
 requests_allowed e q idle requests arguments limits frame =
     allowed_by e q idle requests arguments
-    (ap (λ (o : Option Refused). first_fault o (frame_limit e.sessions (call_frame e.core q))) limits ∙ ap (frame_limit e.sessions) frame)
+    (ap (λ (o : Option Refusal). first_fault o (frame_limit e.sessions (call_frame e.core q))) limits ∙ ap (frame_limit e.sessions) frame)
 
 -- one that no fault is found with while no earlier call is blocked
-free_allowed : (e : EngineState) (call : Call) (asked : core_asks.Call) → e.core.blocked ≡ None → free_fault e call ≡ None → core_call e.groups call ≡ Some asked → IsAllowed e asked
+free_allowed : (e : EngineState) (call : Call) (asked : core_asks.CoreCall) → e.core.blocked ≡ None → free_fault e call ≡ None → core_call e.groups call ≡ Some asked → IsAllowed e asked
 free_allowed e (calls.Isend s) asked idle free routed = go (route_at e.groups s.comm s.target) free routed
   where
     go : (o : Option RouteText) → on_route o (send_rules e s) ≡ None → option_map (λ (r : RouteText). core_calls.Isend (send_by s r)) o ≡ Some asked → IsAllowed e asked
@@ -188,7 +188,7 @@ free_allowed e (calls.Mrecv q into) asked idle free routed = subst (IsAllowed e)
 free_allowed e (calls.Enter comm x) asked idle free routed = absurd cc
 free_allowed e (calls.Ask comm q) asked idle free routed = absurd cc
 
-allowed : (e : EngineState) (call : Call) (asked : core_asks.Call) → fault_of e call ≡ None → core_call e.groups call ≡ Some asked → IsAllowed e asked
+allowed : (e : EngineState) (call : Call) (asked : core_asks.CoreCall) → fault_of e call ≡ None → core_call e.groups call ≡ Some asked → IsAllowed e asked
 allowed e call asked fine routed =
     let both = neither_fault (broken (is_busy e) refusals.Request) (free_fault e call) fine in
     free_allowed e call asked (idle_by e.core.blocked (is_within (member_of e.groups).present) both.0) both.1 routed
@@ -196,7 +196,7 @@ allowed e call asked fine routed =
 -- ---- WHAT IT IS TO THE QUEUES
 
 -- what a core is asked is the call of the queues that the machine makes of the call
-queue_call_is : (g : GroupsState) (m : Membership) (call : Call) (asked : core_asks.Call) → m.held ≡ (member_of g).held → core_call g call ≡ Some asked →
+queue_call_is : (g : GroupsState) (m : Membership) (call : Call) (asked : core_asks.CoreCall) → m.held ≡ (member_of g).held → core_call g call ≡ Some asked →
     queue_call m (call_seen call) ≡ Some (in_queues.call_seen asked)
 queue_call_is g m (calls.Isend s) asked held routed = go (held_at (member_of g) s.comm) (named_same m (member_of g) s.comm held) routed
   where
@@ -205,7 +205,7 @@ queue_call_is g m (calls.Isend s) asked held routed = go (held_at (member_of g) 
     go None named is = absurd cc
     go (Some c) named is =
         ap (option_map (λ (c : Communicator). queues.Isend s.mode c.context (machine.in_world c s.target) s.tag (handed_of s.from))) named
-        ∙ ap (λ (q : core_asks.Call). Some (in_queues.call_seen q)) (same_Some (core_calls.Isend (send_by s (route_on s.target c))) asked is)
+        ∙ ap (λ (q : core_asks.CoreCall). Some (in_queues.call_seen q)) (same_Some (core_calls.Isend (send_by s (route_on s.target c))) asked is)
 queue_call_is g m (calls.Irecv v) asked held routed = go (held_at (member_of g) v.comm) (named_same m (member_of g) v.comm held) routed
   where
     go : (o : Option Communicator) → held_at m v.comm ≡ o → option_map (λ (r : RouteText). core_calls.Irecv (receive_by v r)) (option_map (route_on v.source) o) ≡ Some asked →
@@ -213,12 +213,12 @@ queue_call_is g m (calls.Irecv v) asked held routed = go (held_at (member_of g) 
     go None named is = absurd cc
     go (Some c) named is =
         ap (option_map (λ (c : Communicator). queues.Irecv (machine.receive_on c v.source v.tag (handed_of v.into)))) named
-        ∙ ap (λ (q : core_asks.Call). Some (in_queues.call_seen q)) (same_Some (core_calls.Irecv (receive_by v (route_on v.source c))) asked is)
-queue_call_is g m (calls.Wait q) asked held routed = ap (λ (c : core_asks.Call). Some (in_queues.call_seen c)) (same_Some (core_calls.Wait q) asked routed)
-queue_call_is g m (calls.Test q) asked held routed = ap (λ (c : core_asks.Call). Some (in_queues.call_seen c)) (same_Some (core_calls.Test q) asked routed)
-queue_call_is g m (calls.Waitany qs) asked held routed = ap (λ (c : core_asks.Call). Some (in_queues.call_seen c)) (same_Some (core_calls.Waitany qs) asked routed)
-queue_call_is g m (calls.Waitall qs) asked held routed = ap (λ (c : core_asks.Call). Some (in_queues.call_seen c)) (same_Some (core_calls.Waitall qs) asked routed)
-queue_call_is g m (calls.Cancel q) asked held routed = ap (λ (c : core_asks.Call). Some (in_queues.call_seen c)) (same_Some (core_calls.Cancel q) asked routed)
+        ∙ ap (λ (q : core_asks.CoreCall). Some (in_queues.call_seen q)) (same_Some (core_calls.Irecv (receive_by v (route_on v.source c))) asked is)
+queue_call_is g m (calls.Wait q) asked held routed = ap (λ (c : core_asks.CoreCall). Some (in_queues.call_seen c)) (same_Some (core_calls.Wait q) asked routed)
+queue_call_is g m (calls.Test q) asked held routed = ap (λ (c : core_asks.CoreCall). Some (in_queues.call_seen c)) (same_Some (core_calls.Test q) asked routed)
+queue_call_is g m (calls.Waitany qs) asked held routed = ap (λ (c : core_asks.CoreCall). Some (in_queues.call_seen c)) (same_Some (core_calls.Waitany qs) asked routed)
+queue_call_is g m (calls.Waitall qs) asked held routed = ap (λ (c : core_asks.CoreCall). Some (in_queues.call_seen c)) (same_Some (core_calls.Waitall qs) asked routed)
+queue_call_is g m (calls.Cancel q) asked held routed = ap (λ (c : core_asks.CoreCall). Some (in_queues.call_seen c)) (same_Some (core_calls.Cancel q) asked routed)
 queue_call_is g m (calls.Iprobe p) asked held routed = absurd cc
 queue_call_is g m (calls.Improbe p) asked held routed = go (held_at (member_of g) p.comm) (named_same m (member_of g) p.comm held) routed
   where
@@ -227,8 +227,8 @@ queue_call_is g m (calls.Improbe p) asked held routed = go (held_at (member_of g
     go None named is = absurd cc
     go (Some c) named is =
         ap (option_map (λ (c : Communicator). queues.Improbe (machine.probe_on c p.source p.tag))) named
-        ∙ ap (λ (q : core_asks.Call). Some (in_queues.call_seen q)) (same_Some (core_calls.Improbe (probe_by p (route_on p.source c))) asked is)
-queue_call_is g m (calls.Mrecv q into) asked held routed = ap (λ (c : core_asks.Call). Some (in_queues.call_seen c)) (same_Some (core_calls.Mrecv q into) asked routed)
+        ∙ ap (λ (q : core_asks.CoreCall). Some (in_queues.call_seen q)) (same_Some (core_calls.Improbe (probe_by p (route_on p.source c))) asked is)
+queue_call_is g m (calls.Mrecv q into) asked held routed = ap (λ (c : core_asks.CoreCall). Some (in_queues.call_seen c)) (same_Some (core_calls.Mrecv q into) asked routed)
 queue_call_is g m (calls.Enter comm x) asked held routed = absurd cc
 queue_call_is g m (calls.Ask comm q) asked held routed = absurd cc
 
@@ -251,12 +251,12 @@ same_reply : (d e : Endpoint) (p q : queues.Call) (x y : queues.Reply) → ◌�
 same_reply d e p q x y h = cc
 
 -- a reply that the queues' history tells of a call tells the machine's history of the call that it is
-replied : (e : Endpoint) (q : queues.Call) (call : Call) (reply : Reply) (asked : core_asks.Call) (answer : core_answers.Reply) (x : queues.Reply) → core_reply reply ≡ Some answer →
+replied : (e : Endpoint) (q : queues.Call) (call : Call) (reply : Reply) (asked : core_asks.CoreCall) (answer : core_answers.CoreReply) (x : queues.Reply) → core_reply reply ≡ Some answer →
     queue_events.Called e q x ∷ [] ≡ in_queues.told_call e asked (Some answer) → Called e (call_seen call) (OfRequests x) ∷ [] ≡ told_call e call (Some reply)
 replied e q call reply asked answer x is h = go reply is
   where
-    with : (y : core_answers.Reply) → Some y ≡ Some answer → queue_events.Called e q x ∷ [] ≡ in_queues.told_call e asked (Some y)
-    with y same = h ∙ ap (λ (z : core_answers.Reply). in_queues.told_call e asked (Some z)) (sym (same_Some y answer same))
+    with : (y : core_answers.CoreReply) → Some y ≡ Some answer → queue_events.Called e q x ∷ [] ≡ in_queues.told_call e asked (Some y)
+    with y same = h ∙ ap (λ (z : core_answers.CoreReply). in_queues.told_call e asked (Some z)) (sym (same_Some y answer same))
 
     seen : (y : queues.Reply) → queue_events.Called e q x ∷ [] ≡ queue_events.Called e (in_queues.call_seen asked) y ∷ [] → Called e (call_seen call) (OfRequests x) ∷ [] ≡ Called e (call_seen call) (OfRequests y) ∷ []
     seen y same = ap (λ (z : queues.Reply). Called e (call_seen call) (OfRequests z) ∷ []) (same_reply e e q (in_queues.call_seen asked) x y same)
@@ -274,7 +274,7 @@ replied e q call reply asked answer x is h = go reply is
     go (replies.Refused why back) k = absurd cc
 
 -- what is seen of a call that the queues tell so
-told_same : (e : Endpoint) (q : queues.Call) (call : Call) (reply : Reply) (asked : core_asks.Call) (answer : core_answers.Reply) (o : Option queues.Reply) (a : Option (completions.Answer × List ℕ)) →
+told_same : (e : Endpoint) (q : queues.Call) (call : Call) (reply : Reply) (asked : core_asks.CoreCall) (answer : core_answers.CoreReply) (o : Option queues.Reply) (a : Option (completions.Answer × List ℕ)) →
     core_reply reply ≡ Some answer → told e (Some (q, o)) a ≡ in_queues.told_call e asked (Some answer) →
     told_of e (Some (call_seen call, option_map OfRequests o)) (ready_by None a) ≡ told_call e call (Some reply)
 told_same e q call reply asked answer (Some x) a is h = replied e q call reply asked answer x is h
@@ -284,13 +284,13 @@ told_same e q call reply asked answer None None is h = replied e q call reply as
 -- ---- WHAT FOLLOWS
 
 -- what is said of a call, at its place
-record IsCalledAt (a : Announcements) (p : Place) (old : CoreState) (known : List ℕ) (core : Core) (call : core_asks.Call) (reply : core_answers.Reply) (new : CoreState) : Type 0 where
+record IsCalledAt (a : Announcements) (p : Place) (old : CoreState) (known : List ℕ) (core : Core) (call : core_asks.CoreCall) (reply : core_answers.CoreReply) (new : CoreState) : Type 0 where
   shown : IsShown (after_out a (called p.endpoint core (in_queues.call_seen call)).out) new known (core_settled (called p.endpoint core (in_queues.call_seen call)).core)
   sends : AreSent (after_out a (called p.endpoint core (in_queues.call_seen call)).out) (all_gone known (as_list (call_frame old call))) (called p.endpoint core (in_queues.call_seen call)).out
   leaves : AllByRecursion (CanLeave p) (as_list (call_frame old call))
   tells : told p.endpoint (call_and_reply (view blank core) (Some (in_queues.call_seen call))) (core_ready (called p.endpoint core (in_queues.call_seen call)).core) ≡ in_queues.told_call p.endpoint call (Some reply)
 
-called_at : (a : Announcements) (p : Place) (old : CoreState) (known : List ℕ) (core : Core) (call : core_asks.Call) (reply : core_answers.Reply) (new : CoreState) → old.place ≡ p →
+called_at : (a : Announcements) (p : Place) (old : CoreState) (known : List ℕ) (core : Core) (call : core_asks.CoreCall) (reply : core_answers.CoreReply) (new : CoreState) → old.place ≡ p →
     IsCalled a old known core call reply new → IsCalledAt a p old known core call reply new
 called_at a p old known core call reply new is c =
     subst (λ (q : Place). IsCalledAt a q old known core call reply new) is (record { shown = c.shown; sends = c.sends; leaves = c.leaves; tells = c.tells })

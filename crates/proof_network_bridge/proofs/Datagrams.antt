@@ -5,11 +5,11 @@ use Rattle.collective_transfers.specs.State as payloads
 use Rattle.datagram.specs.Spelling.{ClearFrame, DataFrame, EagerFrame, FrameText, RequestFrame}
 use Rattle.datagram.specs.declared.kinds.Plane.{Plane}
 use Rattle.datagram.specs.declared.kinds.Plane.TheVariants as planes
-use Rattle.engine.specs.Datagrams.{HeardGives, HeardGivesBy, NoticeText, OfAnnouncement, OfAnswer, OfMessage, OfPiece, announcement_on, frame_in, is_from_collective, is_to_collective, notice_in, notice_of_frame, notice_on}
-use Rattle.engine_parts.specs.EngineState.{EngineState}
+use Rattle.engine.specs.Datagrams.{HeardGives, HeardGivesBy, NoticeText, OfAnnouncement, OfAnswer, OfMessage, OfPiece, announcement_on, frame_in, is_from_collective, is_to_collective, notice_in, notice_of_frame, notice_of_message}
+use Rattle.engine_calls.specs.EngineState.{EngineState}
 use Rattle.proof_engine_steps.specs.Steps.{NewsAreShown}
 use Rattle.proof_group_network.specs.Network.{GroupNetwork}
-use Rattle.proof_links.specs.Links.{LinksOf}
+use Rattle.endpoint_links.specs.Links.{LinksOf}
 use Rattle.sessions.specs.Heard.{Acknowledges, Follows, Hands, HeardText, Holds, Nothing, Repeats, WordText}
 use Rattle.sessions.specs.SessionsState.{SessionsState}
 use Rattle.proof_network_bridge.proofs.Announcing.{announcement_step}
@@ -36,7 +36,7 @@ passed false x y is = absurd cc
 frame_by : (lesson : Bool) (p : payloads.State) (rank : ℕ) (f : FrameText) (x : NoticeText) → notice_of_frame lesson p rank f ≡ Some x → HandsBy lesson p rank (Some f) x
 frame_by lesson p rank (EagerFrame e) x is = go e.plane refl is
   where
-    go : (plane : Plane) → e.plane ≡ plane → notice_on plane e ≡ Some x → HandsBy lesson p rank (Some (EagerFrame e)) x
+    go : (plane : Plane) → e.plane ≡ plane → notice_of_message plane e ≡ Some x → HandsBy lesson p rank (Some (EagerFrame e)) x
     go planes.PointToPoint at is = absurd cc
     go planes.Collective at is = subst (HandsBy lesson p rank (Some (EagerFrame e))) (same_Some (OfMessage e) x is) (refl, at)
 frame_by lesson p rank (RequestFrame e) x is = go e.plane refl is

@@ -6,7 +6,7 @@ use Rattle.collectives.specs.Calls as collective_calls
 use Rattle.collective_steps.specs.declared.step.Ending.{Ending}
 use Rattle.datagram.specs.Spelling.{FrameText}
 use Rattle.engine.specs.Datagrams.{FollowGives, FollowedBy, HasFollowed, HeardGives, HearingGives, IsTakenIn, IsTakenInUnless, TurnGives, acknowledged, lesson_in, says_nothing, turn_from, without_next, woken_engine}
-use Rattle.engine_parts.specs.EngineState.{EngineState, completion_of, emptied, without_out}
+use Rattle.engine_calls.specs.EngineState.{EngineState, completion_of, emptied, without_out}
 use Rattle.incarnation.specs.declared.place.Place.{Place}
 use Rattle.perfect_groups.specs.Events.{Entry, ended_with, ready_by, told_of}
 use Rattle.perfect_groups.specs.Membership as membership
@@ -31,13 +31,13 @@ use Rattle.proof_link_truth.specs.Events as below
 use Rattle.proof_link_truth.specs.Events.{EventsAreTrue, HearingIsTrue, HearsTruth, IsFromDatagram, LeavesTrue, RestIsTrue}
 use Rattle.proof_link_truth.specs.Truth.{AreTrue}
 use Rattle.proof_link_truth.specs.Wire.{at}
-use Rattle.proof_links.specs.Links.{LinksOf}
+use Rattle.endpoint_links.specs.Links.{LinksOf}
 use Rattle.proof_pure_network.specs.Core.{Core}
 use Rattle.proof_pure_network.specs.Engine.{core_ready, core_settled, met}
 use Rattle.proof_pure_network.specs.Network.{here}
 use Rattle.proof_session_carrying.proofs.MessageSteps.{others_are_carried}
 use Rattle.proof_session_carrying.specs.Announced.{announcements_in}
-use Rattle.rank_core.specs.Waiting.{woken}
+use Rattle.point_to_point.specs.Waiting.{after_wake}
 use Rattle.sessions.specs.Following.{acknowledged_at, without_ready}
 use Rattle.sessions.specs.Heard.{Acknowledges, Follows, Hands, HeardText, Holds, Nothing, Repeats, WordText, heard_of}
 use Rattle.sessions.specs.SessionsState.{SessionsState}
@@ -220,7 +220,7 @@ first_opens shows n r engines datagrams history old h f there heard word =
     groups : collectives.IsShown own (opened old h).groups.collective (opened old h).groups.contexts (heard_member w r s) (opened old h).ended
     groups =
         subst (λ (given : Option Ending). collectives.IsShown own (opened old h).groups.collective (opened old h).groups.contexts (heard_member w r s) given) (sym (ended_alike old.groups (lesson_in h) old.ended clean.ended))
-        (subst (λ (l : Option Endpoint). collectives.IsShown own (collective_calls.met old.groups.collective old.groups.contexts l) old.groups.contexts (heard_member w r s) (lesson_ends old.groups.collective old.groups.contexts l)) same
+        (subst (λ (l : Option Endpoint). collectives.IsShown own (collective_calls.after_lesson old.groups.collective old.groups.contexts l) old.groups.contexts (heard_member w r s) (lesson_ends old.groups.collective old.groups.contexts l)) same
         (lessons_of_ranks_follow w r s old.groups.collective old.groups.contexts None held.groups))
 
 -- and it is taken in
@@ -418,7 +418,7 @@ ends wakes n r engines datagrams history old e s f there word d =
     told_is : entries ≡ told_completion old.sessions.place.endpoint (completion_of new)
     told_is =
         ap (λ (o : Option membership.Ending). told_of own None (ready_by o (core_ready (u.net.core own)))) settled.1
-        ∙ told_alike own e.ended (core_ready (u.net.core own)) (woken e.core).completion ((wakes_at 0).tells own)
+        ∙ told_alike own e.ended (core_ready (u.net.core own)) (after_wake e.core).completion ((wakes_at 0).tells own)
         ∙ ap (λ (p : Place). told_completion p.endpoint (completion_of new)) (sym (place_is n r engines datagrams w old f.joined there).1)
 
     -- what the others hold

@@ -4,13 +4,13 @@ use Rattle.std.proofs.Common.{◌≡◌, Bool, ◌||◌, Option, Some, None, is_
 use Rattle.std.specs.Prelude.{option_and_then}
 use Rattle.std.proofs.lemmas.Option.{same_Some}
 use Rattle.communicators.specs.Routes.{RouteText, route_on}
-use Rattle.engine_parts.specs.Calls.{CallGives, IsLooked}
-use Rattle.engine_parts.specs.EngineState.{EngineState, member_of}
-use Rattle.engine_parts.specs.Faults.{broken, free_fault, is_busy}
-use Rattle.engine_parts.specs.Routing.{probe_by}
-use Rattle.engine_parts.specs.declared.call.Call.TheVariants as calls
-use Rattle.engine_parts.specs.declared.call.Probe.{Probe}
-use Rattle.engine_parts.specs.declared.reply.Reply.TheVariants as replies
+use Rattle.engine_calls.specs.Calls.{CallGives, IsLooked}
+use Rattle.engine_calls.specs.EngineState.{EngineState, member_of}
+use Rattle.engine_calls.specs.Faults.{broken, free_fault, is_busy}
+use Rattle.engine_calls.specs.Routing.{probe_by}
+use Rattle.engine_calls.specs.declared.call.Call.TheVariants as calls
+use Rattle.engine_calls.specs.declared.call.Probe.{Probe}
+use Rattle.engine_calls.specs.declared.reply.Reply.TheVariants as replies
 use Rattle.perfect_groups.specs.Calls.{held_at, probe_on, queue_call}
 use Rattle.perfect_groups.specs.Communicators.{Communicator}
 use Rattle.perfect_groups.specs.Faults.{is_within}
@@ -23,15 +23,15 @@ use Rattle.proof_engine_view.specs.Shown.{IsShown}
 use Rattle.proof_engine_view.specs.Transfers.{Announcements}
 use Rattle.proof_pure_network.specs.Core.{Core}
 use Rattle.proof_pure_network.specs.Matching.{found}
-use Rattle.rank_calls.specs.declared.call.Call as core_asks
-use Rattle.rank_calls.specs.declared.call.Call.TheVariants as core_calls
-use Rattle.rank_calls.specs.declared.call.Probe as core_probes
-use Rattle.rank_calls.specs.declared.call.Reply as core_answers
-use Rattle.rank_calls.specs.declared.call.Reply.TheVariants as core_replies
-use Rattle.rank_calls.specs.declared.refused.Refused.TheVariants as refusals
-use Rattle.rank_core.specs.Calls.{Answers}
-use Rattle.rank_core.specs.Messages.{looked}
-use Rattle.requests.specs.declared.awaited.Awaited.{Awaited}
+use Rattle.point_to_point_calls.specs.declared.call.CoreCall as core_asks
+use Rattle.point_to_point_calls.specs.declared.call.CoreCall.TheVariants as core_calls
+use Rattle.point_to_point_calls.specs.declared.call.CoreProbe as core_probes
+use Rattle.point_to_point_calls.specs.declared.call.CoreReply as core_answers
+use Rattle.point_to_point_calls.specs.declared.call.CoreReply.TheVariants as core_replies
+use Rattle.point_to_point_calls.specs.declared.refusal.Refusal.TheVariants as refusals
+use Rattle.point_to_point.specs.Calls.{Answers}
+use Rattle.point_to_point.specs.Messages.{looked}
+use Rattle.requests.specs.declared.awaited_requests.Awaited.{Awaited}
 use Rattle.vocabulary.specs.declared.envelope.Status.{Status}
 use Rattle.proof_network_bridge.specs.Seen.{call_seen}
 use Rattle.proof_network_bridge.proofs.Halves.{neither_fault}
@@ -45,7 +45,7 @@ idle_by (Some a) within h = absurd cc
 
 -- what an engine tells of a probe its core told of this one, which the probe is in the machine
 pub record IsLookedFor (e : EngineState) (p : Probe) (found : Option Status) : Type 0 where
-  pub asked : core_probes.Probe
+  pub asked : core_probes.CoreProbe
   pub told : told_of_probe e.core asked ≡ found
   pub named : queue_call (member_of e.groups) (call_seen (calls.Iprobe p)) ≡ Some (queues.Iprobe (probe_seen asked))
   -- no earlier call is blocked
@@ -94,10 +94,10 @@ pub searches_in_vain : SearchesFindAll → (a : Announcements) (e mid : EngineSt
     queue_call (member_of e.groups) (call_seen (calls.Improbe p)) ≡ Some (queues.Improbe q) → CallGives e (calls.Improbe p) (replies.Matched None) mid → found (such_receive q) core.held ≡ None
 searches_in_vain finds a e mid core p q shown seen gives = go (held_at (member_of e.groups) p.comm) refl gives.routed seen
   where
-    answers : (asked : core_asks.Call) → asked ≡ gives.asked → Answers e.core asked (core_replies.Matched None) mid.core
+    answers : (asked : core_asks.CoreCall) → asked ≡ gives.asked → Answers e.core asked (core_replies.Matched None) mid.core
     answers asked is =
-        subst (λ (x : core_asks.Call). Answers e.core x (core_replies.Matched None) mid.core) (sym is)
-        (subst (λ (y : core_answers.Reply). Answers e.core gives.asked y mid.core) (sym (same_Some (core_replies.Matched None) gives.answer gives.told)) gives.core)
+        subst (λ (x : core_asks.CoreCall). Answers e.core x (core_replies.Matched None) mid.core) (sym is)
+        (subst (λ (y : core_answers.CoreReply). Answers e.core gives.asked y mid.core) (sym (same_Some (core_replies.Matched None) gives.answer gives.told)) gives.core)
 
     go : (o : Option Communicator) → held_at (member_of e.groups) p.comm ≡ o →
         option_map (λ (r : RouteText). core_calls.Improbe (probe_by p r)) (option_map (route_on p.source) o) ≡ Some gives.asked →

@@ -3,8 +3,8 @@ use Rattle.std.proofs.Common.{◌≡◌, ℕ, ◌<◌, false, List, [], ◌∷�
 use Rattle.std.specs.Prelude.{slice_get, slice_set}
 use Rattle.collective_transfers.specs.State as payloads
 use Rattle.datagram.specs.Spelling.{FrameText}
-use Rattle.engine_parts.specs.EngineState.{EngineState, GroupsState, completion_by, completion_of, emptied}
-use Rattle.engine_parts.specs.declared.reply.Completion.{Completion}
+use Rattle.engine_calls.specs.EngineState.{EngineState, GroupsState, completion_by, completion_of, emptied}
+use Rattle.engine_calls.specs.declared.reply.Completion.{Completion}
 use Rattle.collective_steps.specs.declared.step.Ending.{Ending}
 use Rattle.perfect_groups.specs.Events.{Entry}
 use Rattle.proof_collective_steps.specs.Shown as groups
@@ -16,14 +16,14 @@ use Rattle.proof_group_network.specs.Network.{GroupNetwork, Happening, NoticeLin
 use Rattle.proof_group_network.specs.Notices.{Member}
 use Rattle.proof_link_truth.specs.Events.{LeavesTrue}
 use Rattle.proof_link_truth.specs.Truth.{AreTrue}
-use Rattle.proof_links.specs.Links.{LinksOf}
+use Rattle.endpoint_links.specs.Links.{LinksOf}
 use Rattle.proof_pure_network.specs.Core.{Core}
 use Rattle.proof_pure_network.specs.Links.{Link}
 use Rattle.proof_pure_network.specs.Network.{here}
 use Rattle.proof_session_carrying.specs.Announced.{announcements_in}
 use Rattle.proof_session_carrying.specs.Carrying.{Saying}
 use Rattle.proof_session_carrying.specs.EventLaws.{AreJoined}
-use Rattle.rank_core.specs.CoreState.{CoreState}
+use Rattle.point_to_point.specs.CoreState.{CoreState}
 use Rattle.vocabulary.specs.Endpoints.{is_same}
 use Rattle.vocabulary.specs.declared.endpoint.Endpoint.{Endpoint}
 use Rattle.proof_network_bridge.specs.GoingOn.{Happened, IsFollowedBy, IsFollowedOn, LeavesFollowedOn, Stands}

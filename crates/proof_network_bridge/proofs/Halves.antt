@@ -3,12 +3,12 @@ use Rattle.std.proofs.Common.{◌≡◌, ℕ, zero, suc, List, [], ◌∷◌, �
 use Rattle.std.specs.Prelude.{option_map, slice_get, slice_set}
 use Rattle.std.proofs.lemmas.List.{map-set}
 use Rattle.std.proofs.lemmas.Option.{same_Some, slice_get-map}
-use Rattle.rank_calls.specs.declared.refused.Refused.{Refused}
-use Rattle.sessions.specs.declared.refused.Refused as lower
+use Rattle.point_to_point_calls.specs.declared.refusal.Refusal.{Refusal}
+use Rattle.sessions.specs.declared.refusal.SessionRefusal as lower
 use Rattle.sessions.specs.Events.{Sending, TurnedAway, after_send, after_sends}
 use Rattle.sessions.specs.SessionsState.{SessionsState}
-use Rattle.engine_parts.specs.EngineState.{EngineState, emptied}
-use Rattle.engine_parts.specs.Refusals.{fault_of_sessions, first_fault}
+use Rattle.engine_calls.specs.EngineState.{EngineState, emptied}
+use Rattle.engine_calls.specs.Refusals.{fault_of_sessions, first_fault}
 use Rattle.vocabulary.specs.declared.endpoint.Endpoint.{Endpoint}
 use Rattle.proof_link_truth.specs.Events.{LeavesTrue}
 use Rattle.proof_link_truth.specs.Links.{Links}
@@ -50,12 +50,12 @@ leaves_engines n r engines datagrams mid links current truth =
 -- ---- faults
 
 -- where neither of two is, the first is not
-pub neither_fault : (a b : Option Refused) → first_fault a b ≡ None → (a ≡ None) × (b ≡ None)
+pub neither_fault : (a b : Option Refusal) → first_fault a b ≡ None → (a ≡ None) × (b ≡ None)
 neither_fault None b h = (refl, h)
 neither_fault (Some e) b h = absurd cc
 
 -- where the engine meets none, the sessions meet none
-pub no_limit : (o : Option lower.Refused) → fault_of_sessions o ≡ None → o ≡ None
+pub no_limit : (o : Option lower.SessionRefusal) → fault_of_sessions o ≡ None → o ≡ None
 no_limit None h = refl
 no_limit (Some e) h = absurd cc
 
@@ -74,7 +74,7 @@ sends_keep s (f ∷ fs) =
     record { place = rest.place; known = rest.known }
 
 -- and where they turn something away
-pub away_keeps : (old new : SessionsState) (to : Option Endpoint) (e why : lower.Refused) → TurnedAway to e old why new → Keeps old new
+pub away_keeps : (old new : SessionsState) (to : Option Endpoint) (e why : lower.SessionRefusal) → TurnedAway to e old why new → Keeps old new
 away_keeps old new None e why gives = record { place = ap (λ (s : SessionsState). s.place) gives.1; known = ap (λ (s : SessionsState). s.known) gives.1 }
 away_keeps old new (Some x) e why (inl gives) = record { place = ap (λ (s : SessionsState). s.place) gives.1; known = ap (λ (s : SessionsState). s.known) gives.1 }
 away_keeps old new (Some x) e why (inr gives) = record { place = ap (λ (s : SessionsState). s.place) gives.1; known = ap (λ (s : SessionsState). s.known) gives.1 }

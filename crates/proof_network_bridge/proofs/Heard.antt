@@ -6,13 +6,13 @@ use Rattle.collectives.specs.Calls as collective_calls
 use Rattle.collective_steps.specs.declared.step.Ending.{Ending}
 use Rattle.datagram.specs.Spelling.{FrameText}
 use Rattle.engine.specs.Datagrams.{ended_by}
-use Rattle.engine_parts.specs.EngineState.{EngineState, GroupsState, completion_by, or_before}
+use Rattle.engine_calls.specs.EngineState.{EngineState, GroupsState, completion_by, or_before}
 use Rattle.incarnation.specs.declared.place.Place.{Place}
 use Rattle.perfect_groups.specs.Events.{ready_by, told_of}
 use Rattle.perfect_queues.specs.Completions as completions
 use Rattle.perfect_queues.specs.Events.{told}
-use Rattle.rank_calls.specs.Hearing.{NewsText}
-use Rattle.rank_core.specs.CoreState.{CoreState}
+use Rattle.point_to_point_calls.specs.Hearing.{NewsText}
+use Rattle.point_to_point.specs.CoreState.{CoreState}
 use Rattle.requests.specs.declared.answer.Answer.{Answer}
 use Rattle.sessions.specs.Events.{taught_known}
 use Rattle.vocabulary.specs.declared.endpoint.Endpoint.{Endpoint}

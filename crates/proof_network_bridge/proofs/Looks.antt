@@ -1,11 +1,11 @@
 -- A world of engines follows the pure network through probes that take nothing out: each is answered at once, and changes nothing.
 use Rattle.std.proofs.Common.{◌≡◌, ℕ, ◌<◌, List, [], ◌∷◌, ◌++◌, Option, Some, None, option_map, sym, ap, subst, ◌∙◌, append-nil, refl}
 use Rattle.collective_steps.specs.declared.step.Ending.{Ending}
-use Rattle.engine_parts.specs.EngineState.{EngineState, completion_by, completion_of, member_of}
-use Rattle.engine_parts.specs.declared.call.Call.TheVariants as calls
-use Rattle.engine_parts.specs.declared.call.Probe.{Probe}
-use Rattle.engine_parts.specs.declared.reply.Completion.{Completion}
-use Rattle.engine_parts.specs.declared.reply.Reply.TheVariants as replies
+use Rattle.engine_calls.specs.EngineState.{EngineState, completion_by, completion_of, member_of}
+use Rattle.engine_calls.specs.declared.call.Call.TheVariants as calls
+use Rattle.engine_calls.specs.declared.call.Probe.{Probe}
+use Rattle.engine_calls.specs.declared.reply.Completion.{Completion}
+use Rattle.engine_calls.specs.declared.reply.Reply.TheVariants as replies
 use Rattle.incarnation.specs.declared.place.Place.{Place}
 use Rattle.perfect_groups.specs.Calls as machine
 use Rattle.perfect_groups.specs.Calls.{OfRequests, probe_on, queue_call}

@@ -2,11 +2,11 @@
 use Rattle.std.proofs.Common.{◌≡◌, ℕ, zero, suc, ◌<◌, ◌≤◌, List, [], ◌∷◌, Option, Some, None, map, sym, ap, subst, ◌∙◌, inl, inr, arith, append-nil, refl}
 use Rattle.std.specs.Prelude.{slice_get, slice_index}
 use Rattle.std.proofs.lemmas.Option.{same_Some}
-use Rattle.engine_parts.specs.Calls.{CallGives, IsTaken}
-use Rattle.engine_parts.specs.EngineState.{EngineState, member_of}
-use Rattle.engine_parts.specs.declared.call.Call.{Call}
-use Rattle.engine_parts.specs.declared.reply.Reply.{Reply}
-use Rattle.engine_parts.specs.declared.reply.Reply.TheVariants as replies
+use Rattle.engine_calls.specs.Calls.{CallGives, IsTaken}
+use Rattle.engine_calls.specs.EngineState.{EngineState, member_of}
+use Rattle.engine_calls.specs.declared.call.Call.{Call}
+use Rattle.engine_calls.specs.declared.reply.Reply.{Reply}
+use Rattle.engine_calls.specs.declared.reply.Reply.TheVariants as replies
 use Rattle.incarnation.specs.declared.place.Place.{Place}
 use Rattle.perfect_groups.specs.Calls as machine_calls
 use Rattle.perfect_groups.specs.Calls.{held_at}
@@ -35,7 +35,7 @@ use Rattle.proof_pure_network.specs.Held.{blank}
 use Rattle.proof_pure_network.specs.Matching.{found}
 use Rattle.proof_pure_network.specs.Network.{IsQuiet, here}
 use Rattle.proof_session_carrying.specs.MessageLaws.{StillTextsAreQuiet}
-use Rattle.rank_calls.specs.declared.refused.Refused.{Refused}
+use Rattle.point_to_point_calls.specs.declared.refusal.Refusal.{Refusal}
 use Rattle.sessions.specs.SessionsState.{SessionsState}
 use Rattle.vocabulary.specs.declared.endpoint.Endpoint.{Endpoint}
 use Rattle.perfect_queues.specs.Receives as receives
@@ -58,7 +58,7 @@ fault_at w r c = fault (here w.net r) (view blank (w.net.core (here w.net r))) (
 -- a call that an engine refuses has a reason in the network
 abbrev pub RefusedHasReason : Type 0
 RefusedHasReason =
-    (n r : ℕ) (engines : List EngineState) (datagrams : List (ℕ × List ℕ)) (history : List machine_events.Entry) (e mid : EngineState) (call back : Call) (why : Refused) →
+    (n r : ℕ) (engines : List EngineState) (datagrams : List (ℕ × List ℕ)) (history : List machine_events.Entry) (e mid : EngineState) (call back : Call) (why : Refusal) →
     (f : IsFollowed n engines datagrams history) → slice_get engines r ≡ Some e → CallGives e call (replies.Refused why back) mid →
     IsReason (fault_at (network_after n f.happenings) r (call_meant e.core call)) why
 

@@ -1,11 +1,11 @@
 -- What an engine keeps of communicators is what the member of its rank's endpoint holds.
 use Rattle.std.proofs.Common.{◌≡◌, ℕ, ◌<◌, Bool, ◌||◌, List, [], ◌∷◌, map, Option, Some, None, is_some, slice_get, refl, sym, ap, ◌∙◌}
 use Rattle.std.specs.List.{AllByRecursion}
-use Rattle.collective_notes.specs.declared.entry.Inside.{Inside}
+use Rattle.collective_messages.specs.declared.entry.Inside.{Inside}
 use Rattle.communicators.specs.Members.{present_of}
 use Rattle.context_agreement.specs.Communicators.{ContextsState}
-use Rattle.engine_parts.specs.EngineState.{EngineState, GroupsState, member_of}
-use Rattle.engine_parts.specs.Faults.{is_busy}
+use Rattle.engine_calls.specs.EngineState.{EngineState, GroupsState, member_of}
+use Rattle.engine_calls.specs.Faults.{is_busy}
 use Rattle.perfect_groups.specs.Calls.{held_at}
 use Rattle.perfect_groups.specs.Communicators.{Communicator}
 use Rattle.perfect_groups.specs.Faults.{is_blocked, is_within}
@@ -24,7 +24,7 @@ use Rattle.proof_group_network.specs.NoticesStand.{IsOfWorld}
 use Rattle.proof_pure_network.specs.Core.{Core, view}
 use Rattle.proof_pure_network.specs.Held.{blank}
 use Rattle.proof_queue_calls.specs.Halves.{AreInWorld}
-use Rattle.requests.specs.declared.awaited.Awaited as rank
+use Rattle.requests.specs.declared.awaited_requests.Awaited as rank
 use Rattle.vocabulary.specs.declared.endpoint.Endpoint.{Endpoint}
 
 -- ---- what is held

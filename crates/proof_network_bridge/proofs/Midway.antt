@@ -3,7 +3,7 @@ use Rattle.std.proofs.Common.{◌≡◌, ℕ, zero, suc, ◌<◌, ◌≤◌, fal
 use Rattle.std.specs.Prelude.{◌==◌, slice_get, slice_index, slice_set}
 use Rattle.datagram.specs.Spelling.{FrameText}
 use Rattle.engine.specs.Datagrams.{ended_by, groups_met, lesson_in, payloads_met}
-use Rattle.engine_parts.specs.EngineState.{EngineState, or_before}
+use Rattle.engine_calls.specs.EngineState.{EngineState, or_before}
 use Rattle.perfect_groups.specs.Events.{Entry}
 use Rattle.proof_collective_steps.specs.Shown as collectives
 use Rattle.proof_engine_view.specs.Shown.{IsShown}
@@ -14,14 +14,14 @@ use Rattle.proof_group_network.specs.Network.{GroupNetwork, NoticeLink}
 use Rattle.proof_group_network.specs.Notices.{Member}
 use Rattle.proof_link_truth.specs.Events.{IsTrueWord, MaySendAll, all_addressed, links_heeded}
 use Rattle.proof_link_truth.specs.Wire.{at, place_of}
-use Rattle.proof_links.specs.Links.{LinksOf, accept_all}
+use Rattle.endpoint_links.specs.Links.{LinksOf, accept_all}
 use Rattle.proof_pure_network.specs.Core.{Core, new_core}
 use Rattle.proof_pure_network.specs.Links.{Link}
 use Rattle.proof_pure_network.specs.Network.{here}
 use Rattle.proof_session_carrying.specs.Announced.{announcements_in}
 use Rattle.proof_session_carrying.specs.Carrying.{Saying}
 use Rattle.proof_session_carrying.specs.EventLaws.{AreJoined}
-use Rattle.rank_core.specs.Hearing.{taught}
+use Rattle.point_to_point.specs.Arrivals.{after_lesson}
 use Rattle.sessions.specs.Events.{Sending, after_event, after_heard, sends_limit, taught_known}
 use Rattle.sessions.specs.Heard.{HeardText}
 use Rattle.sessions.specs.SessionsState.{SessionsState}
@@ -116,7 +116,7 @@ pub record IsOpen (n r : ℕ) (engines : List EngineState) (current : ℕ → �
 -- the engine once it learnt the lesson of what it hears, if there is one
 abbrev pub opened : EngineState → HeardText → EngineState
 opened e h = record {
-  core = taught h.lesson e.core h.source;
+  core = after_lesson h.lesson e.core h.source;
   groups = groups_met e.groups (lesson_in h);
   ended = or_before (ended_by e.groups (lesson_in h)) e.ended;
   payloads = payloads_met e.payloads (lesson_in h);

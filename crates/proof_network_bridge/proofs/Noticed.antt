@@ -3,12 +3,12 @@ use Rattle.std.proofs.Common.{◌≡◌, inl, inr, ℕ, zero, suc, Bool, true, f
 use Rattle.std.specs.Prelude.{slice_get, slice_index}
 use Rattle.std.proofs.lemmas.Bool.{and_parts, le-ltb}
 use Rattle.std.proofs.lemmas.Option.{same_Some}
-use Rattle.collective_notes.specs.Arrivals.{ArrivalGives}
-use Rattle.collective_notes.specs.Messages.{says}
-use Rattle.collective_notes.specs.declared.entry.Inside.{Inside}
-use Rattle.collective_notes.specs.declared.message.Message.{Message}
-use Rattle.collective_notes.specs.declared.note.Note.{Note}
-use Rattle.collective_notes.specs.declared.refused.Refused.{Refused}
+use Rattle.collective_messages.specs.Arrivals.{ArrivalGives}
+use Rattle.collective_messages.specs.Messages.{says}
+use Rattle.collective_messages.specs.declared.entry.Inside.{Inside}
+use Rattle.collective_messages.specs.declared.message.CollectiveMessage.{CollectiveMessage}
+use Rattle.collective_messages.specs.declared.note.Note.{Note}
+use Rattle.collective_messages.specs.declared.refusal.CollectiveRefusal.{CollectiveRefusal}
 use Rattle.collective_transfers.specs.Payloads.{Whole}
 use Rattle.collective_transfers.specs.State as payloads
 use Rattle.collectives.specs.Calls as collective_calls
@@ -21,8 +21,8 @@ use Rattle.datagram.specs.Spelling.{EagerFrame, EagerText, FrameText}
 use Rattle.datagram.specs.declared.kinds.Plane.{Plane}
 use Rattle.datagram.specs.declared.kinds.Plane.TheVariants as planes
 use Rattle.engine.specs.Datagrams.{IsNoticed, address_of, frame_in, lesson_in, met_by, numbers_met, payloads_met, whole_in}
-use Rattle.engine_parts.specs.EngineState.{EngineState, or_before}
-use Rattle.engine_parts.specs.Frames.{all_can_go, step_numbers, step_payloads, step_sendings}
+use Rattle.engine_calls.specs.EngineState.{EngineState, or_before}
+use Rattle.engine_calls.specs.Frames.{all_can_go, step_numbers, step_payloads, step_sendings}
 use Rattle.incarnation.specs.declared.place.Place.{Place}
 use Rattle.payload.specs.Reading.{payload_of}
 use Rattle.payload.specs.Spelling.{PayloadText}
@@ -47,7 +47,7 @@ use Rattle.proof_group_network.specs.SessionLaws.{IsNext}
 use Rattle.proof_link_truth.specs.Events.{all_addressed}
 use Rattle.proof_link_truth.specs.Links as lower
 use Rattle.proof_link_truth.specs.Wire.{place_of}
-use Rattle.proof_links.specs.Links.{LinksOf}
+use Rattle.endpoint_links.specs.Links.{LinksOf}
 use Rattle.proof_pure_network.specs.Core.{Core}
 use Rattle.proof_pure_network.specs.Network.{here}
 use Rattle.proof_session_carrying.proofs.Arriving.{brought_arrives}
@@ -58,7 +58,7 @@ use Rattle.proof_session_carrying.specs.Carrying.{AreBrought, IsBrought, Saying,
 use Rattle.proof_session_carrying.specs.CarryLaws as carrying
 use Rattle.proof_session_carrying.specs.CarryLaws.{ArrivesAs}
 use Rattle.proof_session_carrying.specs.EventLaws.{AreJoined, all_carried}
-use Rattle.rank_core.specs.CoreState.{CoreState, with_numbers}
+use Rattle.point_to_point.specs.CoreState.{CoreState, with_numbers}
 use Rattle.rendezvous.specs.declared.transfers.Numbers.{Numbers}
 use Rattle.sessions.specs.Events as below_events
 use Rattle.sessions.specs.Events.{after_event}
@@ -84,7 +84,7 @@ use Rattle.proof_network_bridge.proofs.Worlds.{only_handed}
 -- The notice that the session hands up next, which is this payload: its number, the message that it is, and what it says
 pub record IsOfNotices (w : GroupNetwork) (sessions : Sessions) (own s : Endpoint) (u : Whole) : Type 0 where
   pub number : ℕ
-  pub message : Message
+  pub message : CollectiveMessage
   pub notice : Notice
   pub there : IsNext sessions s own (OfNotices number)
   pub accepted : slice_get (w.notices s own).accepted number ≡ Some notice
@@ -94,10 +94,10 @@ pub record IsOfNotices (w : GroupNetwork) (sessions : Sessions) (own s : Endpoin
   pub brought : IsBrought s own message notice
 
 -- the notice that a message stands for
-pub brought_at : (s d : Endpoint) (ms : List Message) (xs : List Notice) (i : ℕ) (m : Message) → AreBrought s d ms xs → slice_get ms i ≡ Some m → (x : Notice) × (slice_get xs i ≡ Some x) × IsBrought s d m x
+pub brought_at : (s d : Endpoint) (ms : List CollectiveMessage) (xs : List Notice) (i : ℕ) (m : CollectiveMessage) → AreBrought s d ms xs → slice_get ms i ≡ Some m → (x : Notice) × (slice_get xs i ≡ Some x) × IsBrought s d m x
 brought_at s d [] xs i m all h = absurd (grind arith)
 brought_at s d (n ∷ ns) [] i m all h = absurd all
-brought_at s d (n ∷ ns) (x ∷ xs) zero m all h = (x, refl, subst (λ (y : Message). IsBrought s d y x) (same_Some n m h) all.0)
+brought_at s d (n ∷ ns) (x ∷ xs) zero m all h = (x, refl, subst (λ (y : CollectiveMessage). IsBrought s d y x) (same_Some n m h) all.0)
 brought_at s d (n ∷ ns) (x ∷ xs) (suc i) m all h = brought_at s d ns xs i m all.1 h
 
 -- so it is with one that stands in a frame
@@ -126,20 +126,20 @@ record HasNote (own s : Endpoint) (x : Notice) (state : State) (h : ContextsStat
   gives : MessageGives state h note (Ok (ending_of h step.outcome, step)) t k
 
 -- whatever the reading of its payload gives is a note of the notice
-payload_arrives : (own s : Endpoint) (u : Whole) (p : PayloadText) (m : Message) (x : Notice) → u.context ≡ m.context → u.number ≡ m.number → u.bytes ≡ bytes_of_message m → IsBrought s own m x → payload_of u.bytes ≡ Some p →
-    (result : Result (Option Note) Refused) → ArrivalGives s u.context u.number p result → ArrivesAs s own x result
+payload_arrives : (own s : Endpoint) (u : Whole) (p : PayloadText) (m : CollectiveMessage) (x : Notice) → u.context ≡ m.context → u.number ≡ m.number → u.bytes ≡ bytes_of_message m → IsBrought s own m x → payload_of u.bytes ≡ Some p →
+    (result : Result (Option Note) CollectiveRefusal) → ArrivalGives s u.context u.number p result → ArrivesAs s own x result
 payload_arrives own s u p m x context number bytes stands read result gives =
     arrives.1 result
     (subst (λ (k : ℕ). ArrivalGives s k m.number (says m) result) context
     (subst (λ (k : ℕ). ArrivalGives s u.context k (says m) result) number (subst (λ (q : PayloadText). ArrivalGives s u.context u.number q result) (sym same) gives)))
   where
-    arrives : (payload_of (bytes_of_message m) ≡ Some (says m)) × ((r : Result (Option Note) Refused) → ArrivalGives s m.context m.number (says m) r → ArrivesAs s own x r)
+    arrives : (payload_of (bytes_of_message m) ≡ Some (says m)) × ((r : Result (Option Note) CollectiveRefusal) → ArrivalGives s m.context m.number (says m) r → ArrivesAs s own x r)
     arrives = brought_arrives s own m x stands
 
     same : says m ≡ p
     same = same_Some (says m) p (sym arrives.0 ∙ (ap payload_of (sym bytes) ∙ read))
 
-has_note : (own : Endpoint) (old mid : EngineState) (before : payloads.State) (h : HeardText) (u : Whole) (m : Message) (x : Notice) → (i : IsNoticed old before h u mid) →
+has_note : (own : Endpoint) (old mid : EngineState) (before : payloads.State) (h : HeardText) (u : Whole) (m : CollectiveMessage) (x : Notice) → (i : IsNoticed old before h u mid) →
     u.context ≡ m.context → u.number ≡ m.number → u.bytes ≡ bytes_of_message m → IsBrought h.source own m x →
     HasNote own h.source x (met_by old h) old.groups.contexts i.ready.step mid.groups.collective mid.groups.contexts
 has_note own old mid before h u m x i context number bytes stands =
@@ -184,7 +184,7 @@ targets : (own self : Endpoint) (h : ContextsState) (given : Option Ending) (i :
 targets own self h given i p there notes step known ended knows is alike =
     each_one step.messages (targets_known own self h given i p there notes step ended knows is)
   where
-    each_one : (ms : List Message) → GoTo (IsKnownAs there) ms → GoTo (IsKnown known) ms
+    each_one : (ms : List CollectiveMessage) → GoTo (IsKnownAs there) ms → GoTo (IsKnown known) ms
     each_one [] all = tt
     each_one (m ∷ ms) all = (sym (alike m.target.rank) ∙ all.0, each_one ms all.1)
 
@@ -239,7 +239,7 @@ notice_taken n r engines u T old mid h before b t x is notice kept_before i =
     number : ℕ
     number = notice.number
 
-    messages : List Message
+    messages : List CollectiveMessage
     messages = i.ready.step.messages
 
     known : List ℕ
@@ -263,7 +263,7 @@ notice_taken n r engines u T old mid h before b t x is notice kept_before i =
     follows : Follows n u (unsettled u own s 0 (number ∷ [])) own (met_core u r s) u.net.link (noticed_on u.notices s own number) mid.groups.collective mid.groups.contexts given messages []
     follows = notices_of_ranks_follow n r u s number notice.notice note.note e.groups.collective old.groups.contexts e.ended (ending, i.ready.step) mid.groups.collective mid.groups.contexts
         (omega (arith, x.few)) o.told.there x.stands.notices o.held.groups notice.accepted note.noted
-        (subst (λ (l : Option Endpoint). MessageGives (collective_calls.met e.groups.collective old.groups.contexts l) old.groups.contexts note.note (Ok (ending, i.ready.step)) mid.groups.collective mid.groups.contexts) (sym taught_none) note.gives)
+        (subst (λ (l : Option Endpoint). MessageGives (collective_calls.after_lesson e.groups.collective old.groups.contexts l) old.groups.contexts note.note (Ok (ending, i.ready.step)) mid.groups.collective mid.groups.contexts) (sym taught_none) note.gives)
         (are_within messages i.whole)
 
     keeps : Keeps (below_events.after_heard old.sessions (Some h)) (after_event old.sessions (Some h) (step_sendings old.sessions.place ns messages))

@@ -7,7 +7,7 @@ use Rattle.std.proofs.lemmas.Option.{same_Some, slice_get_within}
 use Rattle.datagram.specs.Spelling.{ClearFrame, DataFrame, EagerFrame, FrameText, RequestFrame}
 use Rattle.datagram.specs.declared.kinds.Plane.{Plane}
 use Rattle.datagram.specs.declared.kinds.Plane.TheVariants.{Collective}
-use Rattle.engine_parts.specs.EngineState.{EngineState}
+use Rattle.engine_calls.specs.EngineState.{EngineState}
 use Rattle.perfect_queues.proofs.EndpointLemmas.{same_refl}
 use Rattle.proof_engine_steps.proofs.AnsweredOffers.{IsAnswered, offer_there}
 use Rattle.proof_engine_steps.proofs.DueData.{IsDueFor, collection_there}
@@ -20,7 +20,7 @@ use Rattle.proof_engine_view.specs.UnderWay.{IsCollectionOf, IsOfferOf}
 use Rattle.proof_group_network.specs.Carried.{Announces, Answers, BringsPart, Carried, OfMessages, OfNotices, Sessions}
 use Rattle.proof_group_network.specs.Network.{GroupNetwork}
 use Rattle.proof_group_network.specs.SessionLaws.{IsNext}
-use Rattle.proof_links.specs.Links.{LinksOf}
+use Rattle.endpoint_links.specs.Links.{LinksOf}
 use Rattle.proof_pure_network.specs.Announced.{IsIn, TransfersStand, transfers_of}
 use Rattle.proof_pure_network.specs.Core.{Core}
 use Rattle.proof_pure_network.specs.Frames.{Cts, Data, Eager, Frame, Rts}
@@ -31,9 +31,9 @@ use Rattle.proof_session_carrying.specs.Announced.{Announced, LargeNotice, all_a
 use Rattle.proof_session_carrying.specs.Carrying.{Saying, StandsForCarried}
 use Rattle.proof_session_carrying.specs.CarryLaws as carrying
 use Rattle.proof_session_carrying.specs.EventLaws.{AreJoined}
-use Rattle.rank_calls.specs.Hearing.{bad_unless, first_of, plane_fault}
-use Rattle.rank_calls.specs.declared.refused.Refused.{Refused}
-use Rattle.rank_core.specs.Hearing.{news_fault}
+use Rattle.point_to_point_calls.specs.Hearing.{bad_unless, first_of, plane_fault}
+use Rattle.point_to_point_calls.specs.declared.refusal.Refusal.{Refusal}
+use Rattle.point_to_point.specs.Arrivals.{news_fault}
 use Rattle.rendezvous.specs.State.{is_due, offered}
 use Rattle.rendezvous.specs.declared.offer.Offer.{Offer}
 use Rattle.vocabulary.specs.Endpoints.{is_same}
@@ -169,7 +169,7 @@ is_of_messages u said texts sessions own e j stand held s b known next taken = g
     next_is = next_stands out back (said s own) (texts s own) (sessions s own) b (j.alike s own) next
 
     -- what is of collectives isn't taken
-    not_collective : (p : Plane) (rest : Option Refused) → p ≡ Collective → first_of (plane_fault p) rest ≡ None → ⊥
+    not_collective : (p : Plane) (rest : Option Refusal) → p ≡ Collective → first_of (plane_fault p) rest ≡ None → ⊥
     not_collective p rest is h = let bad : first_of (plane_fault Collective) rest ≡ None = ap (λ (q : Plane). first_of (plane_fault q) rest) (sym is) ∙ h in absurd cc
 
     no_data : (number i offset : ℕ) (bytes : List ℕ) → slice_get out number ≡ Some (LargeNotice i) → bad_unless (is_due e.core.transfers.collections s.rank number offset bytes) ≡ None → ⊥
@@ -182,7 +182,7 @@ is_of_messages u said texts sessions own e j stand held s b known next taken = g
     go (EagerFrame t) (OfNotices i) at stands taken = absurd (not_collective t.plane None stands.2.plane (eager_fault t.plane taken))
       where
         eager_fault : (p : Plane) → plane_fault p ≡ None → first_of (plane_fault p) None ≡ None
-        eager_fault p h = ap (λ (o : Option Refused). first_of o None) h
+        eager_fault p h = ap (λ (o : Option Refusal). first_of o None) h
     go (RequestFrame t) (OfNotices i) at stands taken = absurd stands.2
     go (ClearFrame t) (OfNotices i) at stands taken = absurd stands.2
     go (DataFrame t) (OfNotices i) at stands taken = absurd (no_data t.transfer i t.offset t.bytes stands.2.2.announced taken)

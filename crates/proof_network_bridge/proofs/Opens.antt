@@ -3,7 +3,7 @@ use Rattle.std.proofs.Common.{◌≡◌, ℕ, zero, suc, ◌≤◌, Bool, true, 
 use Rattle.std.specs.Prelude.{slice_index, slice_set}
 use Rattle.std.proofs.lemmas.Bool.{eqb-false, le-ltb}
 use Rattle.datagram.specs.Spelling.{FrameText}
-use Rattle.engine_parts.specs.EngineState.{EngineState}
+use Rattle.engine_calls.specs.EngineState.{EngineState}
 use Rattle.incarnation.specs.declared.place.Place.{Place}
 use Rattle.proof_collective_steps.specs.Shown as collectives
 use Rattle.proof_engine_steps.proofs.Further.{met_known}
@@ -17,15 +17,15 @@ use Rattle.proof_group_network.specs.Notices.{Member}
 use Rattle.proof_group_network.specs.NoticesStand.{heard_member}
 use Rattle.proof_link_truth.specs.Events as below
 use Rattle.proof_link_truth.specs.Wire.{at, place_of}
-use Rattle.proof_links.specs.Links.{LinksOf}
+use Rattle.endpoint_links.specs.Links.{LinksOf}
 use Rattle.proof_pure_network.specs.Announced.{MeetingsStand}
 use Rattle.proof_pure_network.specs.Core.{Core}
 use Rattle.proof_pure_network.specs.Engine.{met}
 use Rattle.proof_pure_network.specs.Network.{here}
 use Rattle.proof_session_carrying.proofs.MessageSteps.{others_are_carried}
 use Rattle.proof_session_carrying.specs.Announced.{announcements_in}
-use Rattle.rank_calls.specs.Hearing.{NewsText}
-use Rattle.rank_core.specs.Hearing.{taught}
+use Rattle.point_to_point_calls.specs.Hearing.{NewsText}
+use Rattle.point_to_point.specs.Arrivals.{after_lesson}
 use Rattle.sessions.specs.Events.{taught_known}
 use Rattle.sessions.specs.Heard.{HeardText}
 use Rattle.vocabulary.specs.declared.endpoint.Endpoint.{Endpoint}
@@ -155,7 +155,7 @@ opens_by shows n r engines current u after texts old h meetings m told heard a g
     alone : (serial : ℕ) → IsHeard (announcements_in serial m.sessions own) old.core old.sessions.known (u.net.core own) heard_news None
     alone serial = heard_alone shows n r engines current u texts old s h.lesson meetings m told other serial
 
-    queues : (serial : ℕ) → IsShown (announcements_in serial m.sessions own) (taught h.lesson old.core s) (taught_known h.lesson old.sessions.known s) core
+    queues : (serial : ℕ) → IsShown (announcements_in serial m.sessions own) (after_lesson h.lesson old.core s) (taught_known h.lesson old.sessions.known s) core
     queues serial =
-        subst (λ (known : List ℕ). IsShown (announcements_in serial m.sessions own) (taught h.lesson old.core s) known core) (sym (known_alike h.lesson old.sessions.known s))
-        (shown_out serial m.sessions own [] (taught h.lesson old.core s) _ core (alone serial).shown)
+        subst (λ (known : List ℕ). IsShown (announcements_in serial m.sessions own) (after_lesson h.lesson old.core s) known core) (sym (known_alike h.lesson old.sessions.known s))
+        (shown_out serial m.sessions own [] (after_lesson h.lesson old.core s) _ core (alone serial).shown)

@@ -4,7 +4,7 @@ use Rattle.std.specs.Prelude.{slice_set}
 use Rattle.std.specs.List.{AllByRecursion}
 use Rattle.std.proofs.lemmas.Bool.{eqb-false}
 use Rattle.std.proofs.lemmas.List.{get_or-set_other}
-use Rattle.collective_notes.specs.declared.message.Message.{Message}
+use Rattle.collective_messages.specs.declared.message.CollectiveMessage.{CollectiveMessage}
 use Rattle.collective_transfers.specs.Payloads.{Announced, Coming}
 use Rattle.collective_transfers.specs.State as payloads
 use Rattle.engine.specs.Datagrams.{payloads_met}
@@ -23,7 +23,7 @@ abbrev pub SessionsGrow : Sessions → Sessions → Type 0
 SessionsGrow old new = (s d : Endpoint) → Begins (old s d).accepted (new s d).accepted
 
 -- a notice that was announced stays so
-pub large_grows : (old new : Sessions) (said after : Saying) (s d : Endpoint) (transfer : ℕ) (m : Message) → SessionsGrow old new → SaidGrows said after → IsLargeNotice old said s d transfer m → IsLargeNotice new after s d transfer m
+pub large_grows : (old new : Sessions) (said after : Saying) (s d : Endpoint) (transfer : ℕ) (m : CollectiveMessage) → SessionsGrow old new → SaidGrows said after → IsLargeNotice old said s d transfer m → IsLargeNotice new after s d transfer m
 large_grows old new said after s d transfer m grow more n = record {
   number = n.number;
   named = begins_at (all_announced old s d) (all_announced new s d) transfer (LargeNotice n.number) (announced_grow (old s d).accepted (new s d).accepted (grow s d)) n.named;

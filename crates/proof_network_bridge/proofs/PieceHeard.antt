@@ -4,14 +4,14 @@ use Rattle.std.specs.Prelude.{slice_get, take}
 use Rattle.std.specs.List.{AllByRecursion}
 use Rattle.std.proofs.lemmas.Bool.{eq-eqb, ne_eqb}
 use Rattle.std.proofs.lemmas.Option.{same_Some, slice_get-map}
-use Rattle.collective_notes.specs.declared.message.Message.{Message}
+use Rattle.collective_messages.specs.declared.message.CollectiveMessage.{CollectiveMessage}
 use Rattle.collective_steps.specs.declared.step.Ending.{Ending}
 use Rattle.collective_transfers.specs.Payloads.{Coming, Whole, is_whole, whole_of, with_piece}
 use Rattle.collective_transfers.specs.State as payloads
 use Rattle.collective_transfers.specs.State.{is_due, put_back, whole_with}
 use Rattle.datagram.specs.Spelling.{DataFrame, DataText, FrameText}
 use Rattle.engine.specs.Datagrams.{IsPieceTaken, PieceGives, PieceGivesBy, ended_by, frame_in, groups_met, is_from_collective, payloads_grown, payloads_met}
-use Rattle.engine_parts.specs.EngineState.{EngineState, GroupsState, or_before}
+use Rattle.engine_calls.specs.EngineState.{EngineState, GroupsState, or_before}
 use Rattle.proof_collective_steps.specs.Shown as collectives
 use Rattle.proof_engine_steps.proofs.UnderWay.{others_may_announce}
 use Rattle.proof_engine_view.specs.Frames.{endpoint_of}
@@ -27,7 +27,7 @@ use Rattle.proof_group_network.specs.Network.{GroupNetwork}
 use Rattle.proof_group_network.specs.NoticesStand.{heard_member}
 use Rattle.proof_group_network.specs.SessionLaws.{IsNext}
 use Rattle.proof_link_truth.specs.Events as below
-use Rattle.proof_links.specs.Links.{LinksOf, handed_on}
+use Rattle.endpoint_links.specs.Links.{LinksOf, handed_on}
 use Rattle.proof_pure_network.specs.Core.{Core}
 use Rattle.proof_pure_network.specs.Frames.{Cts, Data, Eager, Frame, Rts}
 use Rattle.proof_pure_network.specs.Network.{here}
@@ -38,8 +38,8 @@ use Rattle.proof_session_carrying.specs.Announced.{Announced, LargeMessage, Larg
 use Rattle.proof_session_carrying.specs.Carrying.{IsPiece, Saying, StandsForCarried, bytes_of_message}
 use Rattle.proof_session_carrying.specs.CarryLaws as carrying
 use Rattle.proof_session_carrying.specs.EventLaws.{AreJoined}
-use Rattle.rank_core.specs.CoreState.{CoreState}
-use Rattle.rank_core.specs.Hearing as core
+use Rattle.point_to_point.specs.CoreState.{CoreState}
+use Rattle.point_to_point.specs.Arrivals as core
 use Rattle.rendezvous.specs.Pieces.{piece_bytes, piece_count}
 use Rattle.sessions.specs.Events.{after_event}
 use Rattle.sessions.specs.Heard.{HeardText}
@@ -119,7 +119,7 @@ next_piece w said texts sessions own s known c t j next p source_is transfer_is 
     large = subst (λ (k : ℕ). IsLargeNotice sessions said s own k p.message) transfer_is (subst (λ (e : Endpoint). IsLargeNotice sessions said e own c.transfer p.message) source_is p.notice)
 
     -- a piece with this number is one of the payload's message
-    same_message : (i part : ℕ) (m : Message) → slice_get (said s own) i ≡ Some m → IsPiece out i part m t → m ≡ p.message
+    same_message : (i part : ℕ) (m : CollectiveMessage) → slice_get (said s own) i ≡ Some m → IsPiece out i part m t → m ≡ p.message
     same_message i part m there piece =
         let number_is : i ≡ large.number = ap number_of (same_Some (LargeNotice i) (LargeNotice large.number) (sym piece.announced ∙ large.named)) in
         same_Some m p.message (sym there ∙ ap (λ (k : ℕ). slice_get (said s own) k) number_is ∙ large.there)
@@ -173,13 +173,13 @@ next_piece w said texts sessions own s known c t j next p source_is transfer_is 
     go (OfMessages f) at stands = absurd (no_message out back t f large.number large.named stands)
     go (OfNotices i) at stands =
         let same : stands.0 ≡ p.message = same_message i stands.2.0 stands.0 stands.1 stands.2.2 in
-        inr (as_last i stands.2.0 at (stands.1 ∙ ap (λ (m : Message). Some m) same) (stands.2.1 ∙ ap (λ (m : Message). piece_count piece_bytes (bytes_of_message m)) same)
-        (subst (λ (m : Message). IsPiece out i stands.2.0 m t) same stands.2.2))
+        inr (as_last i stands.2.0 at (stands.1 ∙ ap (λ (m : CollectiveMessage). Some m) same) (stands.2.1 ∙ ap (λ (m : CollectiveMessage). piece_count piece_bytes (bytes_of_message m)) same)
+        (subst (λ (m : CollectiveMessage). IsPiece out i stands.2.0 m t) same stands.2.2))
     go (Announces i) at stands = absurd stands.2
     go (Answers i) at stands = absurd stands
     go (BringsPart i part) at stands =
         let same : stands.0 ≡ p.message = same_message i part stands.0 stands.1 stands.2.1 in
-        inl (as_part i part at (subst (λ (m : Message). suc part < piece_count piece_bytes (bytes_of_message m)) same stands.2.0) (subst (λ (m : Message). IsPiece out i part m t) same stands.2.1))
+        inl (as_part i part at (subst (λ (m : CollectiveMessage). suc part < piece_count piece_bytes (bytes_of_message m)) same stands.2.0) (subst (λ (m : CollectiveMessage). IsPiece out i part m t) same stands.2.1))
 
 -- ---- a piece that isn't the last one
 
@@ -239,7 +239,7 @@ part_step n r engines u T old h b p x is plain number part next kept =
 
     -- it teaches nothing
     core_is : e.core ≡ old.core
-    core_is = ap (λ (lesson : Bool). core.taught lesson old.core s) plain
+    core_is = ap (λ (lesson : Bool). core.after_lesson lesson old.core s) plain
 
     groups_are : e.groups ≡ old.groups
     groups_are = ap (λ (lesson : Bool). groups_met old.groups (taught s lesson)) plain

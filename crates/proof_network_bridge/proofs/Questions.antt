@@ -2,11 +2,11 @@
 use Rattle.std.proofs.Common.{◌≡◌, ◌<◌, List, ◌++◌, Option, Some, None, option_map, refl, sym, ap, subst, ◌∙◌, append-nil}
 use Rattle.collective_steps.specs.declared.step.Ending.{Ending}
 use Rattle.communicators.specs.Questions.{question_of}
-use Rattle.engine_parts.specs.Calls.{fact_said}
-use Rattle.engine_parts.specs.EngineState.{EngineState, completion_by, completion_of, member_of}
-use Rattle.engine_parts.specs.declared.call.Call.TheVariants as calls
-use Rattle.engine_parts.specs.declared.reply.Completion.{Completion}
-use Rattle.engine_parts.specs.declared.reply.Reply.TheVariants as replies
+use Rattle.engine_calls.specs.Calls.{fact_said}
+use Rattle.engine_calls.specs.EngineState.{EngineState, completion_by, completion_of, member_of}
+use Rattle.engine_calls.specs.declared.call.Call.TheVariants as calls
+use Rattle.engine_calls.specs.declared.reply.Completion.{Completion}
+use Rattle.engine_calls.specs.declared.reply.Reply.TheVariants as replies
 use Rattle.incarnation.specs.declared.place.Place.{Place}
 use Rattle.perfect_groups.specs.Calls as machine
 use Rattle.perfect_groups.specs.Calls.{Inquire, OfFact, fact_of, held_at}

@@ -1,18 +1,18 @@
 -- What an engine refuses it refuses for a reason of the network's too, and what it takes has no fault there.
 use Rattle.std.proofs.Common.{◌≡◌, ℕ, Bool, true, false, ◌||◌, List, Option, Some, None, refl, sym, ap, ◌∙◌, subst, is_some, arith}
 use Rattle.std.specs.Prelude.{slice_get}
-use Rattle.collective_notes.specs.declared.entry.Entry as collective
+use Rattle.collective_messages.specs.declared.entry.Entry as collective
 use Rattle.communicators.specs.declared.question.Question.{Question}
-use Rattle.engine_parts.specs.Calls.{AskingGives, CallGives, CoreGives, EnteringGives, IsAnswered, IsEntered, IsLooked, IsRefused, IsTaken, IsTold, LookingGives, WhyRefused}
-use Rattle.engine_parts.specs.EngineState.{EngineState, member_of}
-use Rattle.engine_parts.specs.Faults.{broken, fault_of, free_fault, is_busy}
-use Rattle.engine_parts.specs.Refusals.{first_fault}
-use Rattle.engine_parts.specs.declared.call.Call.{Call}
-use Rattle.engine_parts.specs.declared.call.Call.TheVariants as calls
-use Rattle.engine_parts.specs.declared.call.Probe.{Probe}
-use Rattle.engine_parts.specs.declared.reply.Fact.{Fact}
-use Rattle.engine_parts.specs.declared.reply.Reply.{Reply}
-use Rattle.engine_parts.specs.declared.reply.Reply.TheVariants as replies
+use Rattle.engine_calls.specs.Calls.{AskingGives, CallGives, CoreGives, EnteringGives, IsAnswered, IsEntered, IsLooked, IsRefused, IsTaken, IsTold, LookingGives, WhyRefused}
+use Rattle.engine_calls.specs.EngineState.{EngineState, member_of}
+use Rattle.engine_calls.specs.Faults.{broken, fault_of, free_fault, is_busy}
+use Rattle.engine_calls.specs.Refusals.{first_fault}
+use Rattle.engine_calls.specs.declared.call.Call.{Call}
+use Rattle.engine_calls.specs.declared.call.Call.TheVariants as calls
+use Rattle.engine_calls.specs.declared.call.Probe.{Probe}
+use Rattle.engine_calls.specs.declared.reply.Fact.{Fact}
+use Rattle.engine_calls.specs.declared.reply.Reply.{Reply}
+use Rattle.engine_calls.specs.declared.reply.Reply.TheVariants as replies
 use Rattle.incarnation.specs.declared.place.Place.{Place}
 use Rattle.perfect_groups.specs.Calls as machine
 use Rattle.perfect_groups.specs.Events.{Entry}
@@ -38,9 +38,9 @@ use Rattle.proof_pure_network.specs.Core.{Core, view}
 use Rattle.proof_pure_network.specs.Held.{blank}
 use Rattle.proof_pure_network.specs.Network.{here}
 use Rattle.proof_queue_calls.specs.Halves.{AreInWorld}
-use Rattle.rank_calls.specs.declared.refused.Refused.{Refused}
-use Rattle.rank_calls.specs.declared.refused.Refused.TheVariants as refusals
-use Rattle.requests.specs.declared.awaited.Awaited.{Awaited}
+use Rattle.point_to_point_calls.specs.declared.refusal.Refusal.{Refusal}
+use Rattle.point_to_point_calls.specs.declared.refusal.Refusal.TheVariants as refusals
+use Rattle.requests.specs.declared.awaited_requests.Awaited.{Awaited}
 use Rattle.vocabulary.specs.declared.endpoint.Endpoint.{Endpoint}
 use Rattle.vocabulary.specs.declared.envelope.Status.{Status}
 
@@ -124,7 +124,7 @@ allowed old new (calls.Enter comm x) reply taken gives = (entered old new comm x
 allowed old new (calls.Ask comm q) reply taken gives = (asked old new comm q reply taken gives).told.allowed
 
 -- what was refused was so for its first rule or limit, or for want of room
-refused : (old new : EngineState) (call : Call) (why : Refused) (back : Call) → CallGives old call (replies.Refused why back) new → IsRefused old call why back new
+refused : (old new : EngineState) (call : Call) (why : Refusal) (back : Call) → CallGives old call (replies.Refused why back) new → IsRefused old call why back new
 refused old new (calls.Isend s) why back gives = gives
 refused old new (calls.Irecv v) why back gives = gives
 refused old new (calls.Wait q) why back gives = gives
@@ -182,7 +182,7 @@ busy_fault a own e core m c h busy =
 -- ---- AN ENGINE ALONE
 
 -- a call that an engine refuses has the fault of its own part of the machine; or that finds none, and the number is 13 or 14
-refused_alone : (a : Announcements) (own : Endpoint) (e mid : EngineState) (core : Core) (m : Member) (call back : Call) (why : Refused) → IsHeldAs a own e core m → AreInWorld e.core.place.size m.membership →
+refused_alone : (a : Announcements) (own : Endpoint) (e mid : EngineState) (core : Core) (m : Member) (call back : Call) (why : Refusal) → IsHeldAs a own e core m → AreInWorld e.core.place.size m.membership →
     CallGives e call (replies.Refused why back) mid → IsReason (fault own (view blank core) m.membership (call_meant e.core call)) why
 refused_alone a own e mid core m call back why h inside gives = go (is_busy e) refl (refused e mid call why back gives).reason
   where
@@ -235,7 +235,7 @@ engines_are_ranks n r engines datagrams history e f there =
     }
 
 -- a call that the engine refuses has the network's first fault, by its number; or the network finds none, and the number is 13 or 14
-pub refused_reason : (n r : ℕ) (engines : List EngineState) (datagrams : List (ℕ × List ℕ)) (history : List Entry) (e mid : EngineState) (call back : Call) (why : Refused) →
+pub refused_reason : (n r : ℕ) (engines : List EngineState) (datagrams : List (ℕ × List ℕ)) (history : List Entry) (e mid : EngineState) (call back : Call) (why : Refusal) →
     (f : IsFollowed n engines datagrams history) → slice_get engines r ≡ Some e → CallGives e call (replies.Refused why back) mid →
     IsReason (fault (here (network_after n f.happenings).net r) (view blank ((network_after n f.happenings).net.core (here (network_after n f.happenings).net r)))
     ((network_after n f.happenings).member (here (network_after n f.happenings).net r)).membership (call_meant e.core call)) why

@@ -2,10 +2,10 @@
 use Rattle.std.proofs.Common.{◌≡◌, ℕ, Bool, true, false, ◌&&◌, ◌||◌, cond, if◌then◌else◌, List, [], ◌∷◌, Option, Some, None, option_map, refl, sym, ap, ◌∙◌, subst, inl, inr}
 use Rattle.std.specs.Prelude.{is_none, slice_get}
 use Rattle.std.specs.Option.{option_or}
-use Rattle.collective_blocks.specs.Rules.{number_of_rule}
-use Rattle.collective_blocks.specs.declared.rules.Rule.{Rule}
-use Rattle.collective_blocks.specs.declared.rules.Rule.TheVariants as entry_faults
-use Rattle.collective_notes.specs.declared.entry.Entry.{Entry}
+use Rattle.collective_progress.specs.Rules.{number_of_rule}
+use Rattle.collective_progress.specs.declared.rules.Rule.{Rule}
+use Rattle.collective_progress.specs.declared.rules.Rule.TheVariants as entry_faults
+use Rattle.collective_messages.specs.declared.entry.Entry.{Entry}
 use Rattle.communicators.proofs.Judging.{entry_judged, question_judged}
 use Rattle.communicators.specs.Members.{call_of, held_in}
 use Rattle.communicators.specs.Questions.{question_of}
@@ -13,16 +13,16 @@ use Rattle.communicators.specs.Routes.{RouteText, route_on}
 use Rattle.communicators.specs.Rules.{known_by, limit_in, rule_in}
 use Rattle.communicators.specs.declared.question.Question.{Question}
 use Rattle.communicators.specs.declared.question.Question.TheVariants as questions
-use Rattle.engine_parts.specs.Calls.{LacksRoom, WhyRefused}
-use Rattle.engine_parts.specs.EngineState.{EngineState, member_of}
-use Rattle.engine_parts.specs.Faults.{broken, free_fault, group_limit, is_replaced, on_route, probe_rules, receive_rules, routed_limit, send_rules}
-use Rattle.engine_parts.specs.Refusals.{first_fault, of_entry_rule}
-use Rattle.engine_parts.specs.Routing.{probe_by, receive_by, send_by}
-use Rattle.engine_parts.specs.declared.call.Call as engine
-use Rattle.engine_parts.specs.declared.call.Call.TheVariants as calls
-use Rattle.engine_parts.specs.declared.call.Probe.{Probe}
-use Rattle.engine_parts.specs.declared.call.Receive.{Receive}
-use Rattle.engine_parts.specs.declared.call.Send.{Send}
+use Rattle.engine_calls.specs.Calls.{LacksRoom, WhyRefused}
+use Rattle.engine_calls.specs.EngineState.{EngineState, member_of}
+use Rattle.engine_calls.specs.Faults.{broken, free_fault, group_limit, is_replaced, on_route, probe_rules, receive_rules, routed_limit, send_rules}
+use Rattle.engine_calls.specs.Refusals.{first_fault, of_entry_rule}
+use Rattle.engine_calls.specs.Routing.{probe_by, receive_by, send_by}
+use Rattle.engine_calls.specs.declared.call.Call as engine
+use Rattle.engine_calls.specs.declared.call.Call.TheVariants as calls
+use Rattle.engine_calls.specs.declared.call.Probe.{Probe}
+use Rattle.engine_calls.specs.declared.call.Receive.{Receive}
+use Rattle.engine_calls.specs.declared.call.Send.{Send}
 use Rattle.perfect_groups.specs.Calls.{Call, Cancel, Enter, Improbe, Inquire, Iprobe, Irecv, Isend, Mrecv, Test, Wait, held_at, in_world, probe_on, queue_call, receive_on}
 use Rattle.perfect_groups.specs.Collectives.{CollectiveCall, part_of}
 use Rattle.perfect_groups.specs.Communicators.{Communicator}
@@ -48,24 +48,24 @@ use Rattle.proof_network_bridge.specs.Following.{IsFaultless}
 use Rattle.proof_network_bridge.specs.Seen.{call_by, call_meant, call_seen}
 use Rattle.proof_pure_network.specs.Core.{Core, view}
 use Rattle.proof_pure_network.specs.Held.{blank}
-use Rattle.rank_calls.specs.Refusals.{number_of_refusal}
-use Rattle.rank_calls.specs.declared.call.Call as core_calls
-use Rattle.rank_calls.specs.declared.call.Call.TheVariants as cores_calls
-use Rattle.rank_calls.specs.declared.refused.Refused.{Refused}
-use Rattle.rank_calls.specs.declared.refused.Refused.TheVariants as refusals
-use Rattle.rank_calls.specs.Hearing.{first_of}
-use Rattle.rank_core.specs.Calls.{argument_fault, call_fault, fault_at, free_request_fault}
+use Rattle.point_to_point_calls.specs.Refusals.{number_of_refusal}
+use Rattle.point_to_point_calls.specs.declared.call.CoreCall as core_calls
+use Rattle.point_to_point_calls.specs.declared.call.CoreCall.TheVariants as cores_calls
+use Rattle.point_to_point_calls.specs.declared.refusal.Refusal.{Refusal}
+use Rattle.point_to_point_calls.specs.declared.refusal.Refusal.TheVariants as refusals
+use Rattle.point_to_point_calls.specs.Hearing.{first_of}
+use Rattle.point_to_point.specs.Calls.{argument_fault, call_fault, fault_at, free_request_fault}
 use Rattle.requests.specs.Regions.{handed_of}
 use Rattle.requests.specs.declared.region.Region.{Region}
-use Rattle.requests.specs.declared.awaited.Awaited.{Awaited}
-use Rattle.requests.specs.declared.awaited.Awaited.TheVariants as awaiteds
+use Rattle.requests.specs.declared.awaited_requests.Awaited.{Awaited}
+use Rattle.requests.specs.declared.awaited_requests.Awaited.TheVariants as awaiteds
 use Rattle.requests.specs.declared.table.Request.{Request}
 use Rattle.vocabulary.specs.declared.envelope.Source.{Source}
 use Rattle.vocabulary.specs.declared.endpoint.Endpoint.{Endpoint}
 
 -- what the machine finds is the refusal's number
-pub by_rule : (found : Option ℕ) (x why : Refused) → why ≡ x → found ≡ Some (number_of_refusal x) → IsReason found why
-by_rule found x why is h = MachinesFault (h ∙ ap (λ (y : Refused). Some (number_of_refusal y)) (sym is))
+pub by_rule : (found : Option ℕ) (x why : Refusal) → why ≡ x → found ≡ Some (number_of_refusal x) → IsReason found why
+by_rule found x why is h = MachinesFault (h ∙ ap (λ (y : Refusal). Some (number_of_refusal y)) (sym is))
 
 -- ---- CALLS ON REQUESTS
 
@@ -87,12 +87,12 @@ cancel_found : (n : ℕ) (own : Endpoint) (l : Local) (m : Membership) (r : Opti
 cancel_found n own l m r apart = ap (λ (b : Bool). fault_by b (λ k. standing (slice_get l.requests k)) own l.known m (Cancel r)) (held_alone l m apart)
 
 -- so the refusal has a reason
-requests_reason : (a : Announcements) (e : EngineState) (core : Core) (m : Membership) (call : engine.Call) (q : core_calls.Call) (found : Option ℕ) (why : Refused) → IsFree a e core m →
+requests_reason : (a : Announcements) (e : EngineState) (core : Core) (m : Membership) (call : engine.Call) (q : core_calls.CoreCall) (found : Option ℕ) (why : Refusal) → IsFree a e core m →
     call_fault e.core q ≡ free_fault e call → found ≡ queue_fault e.core.place.size (view blank core) (in_queues.call_meant e.core q) → (LacksRoom e call why → why ≡ refusals.OutOfMemory) →
     WhyRefused (free_fault e call) e call why → IsReason found why
 requests_reason a e core m call q found why free is same lacks reason = subst (λ (o : Option ℕ). IsReason o why) (sym same) (go (free_fault e call) is reason)
   where
-    go : (o : Option Refused) → call_fault e.core q ≡ o → WhyRefused o e call why → HasReason e.core core q why
+    go : (o : Option Refusal) → call_fault e.core q ≡ o → WhyRefused o e call why → HasReason e.core core q why
     go (Some x) at because = faults_have_reasons a e.core e.sessions.known core q why free.shown (at ∙ ap Some (sym because))
     go None at because = room_is_a_reason allowed_calls_are_faultless a e.core e.sessions.known core q why free.shown at (inr (lacks because))
 
@@ -108,7 +108,7 @@ as_call (queues.Improbe q) = Improbe None q.source q.tag
 as_call (queues.Mrecv message into) = Mrecv message into
 
 -- and a call that is taken has no fault
-requests_faultless : (a : Announcements) (e : EngineState) (core : Core) (m : Membership) (call : engine.Call) (q : core_calls.Call) (found : Option ℕ) → IsFree a e core m →
+requests_faultless : (a : Announcements) (e : EngineState) (core : Core) (m : Membership) (call : engine.Call) (q : core_calls.CoreCall) (found : Option ℕ) → IsFree a e core m →
     call_fault e.core q ≡ free_fault e call → found ≡ queue_fault e.core.place.size (view blank core) (in_queues.call_seen q) →
     ((f : Request → ℕ) → as_call (in_queues.call_by f q) ≡ call_by f call) → free_fault e call ≡ None → IsFaultless found e.core call
 requests_faultless a e core m call q found free is same as_is allowed =
@@ -121,9 +121,9 @@ requests_faultless a e core m call q found free is same as_is allowed =
 -- ---- POINT TO POINT
 
 -- a call with a route that is refused
-routed_reason : (a : Announcements) (own : Endpoint) (e : EngineState) (core : Core) (m : Membership) (call : engine.Call) (q : core_calls.Call) (c : Call) (five eleven : Bool) (limit : Option Refused)
-    (why : Refused) → IsFree a e core m → queue_call m c ≡ Some (in_queues.call_meant e.core q) → in_queues.call_meant e.core q ≡ in_queues.call_seen q → free_request_fault e.core q ≡ None →
-    wrong_rank m c ≡ five → wrong_incarnation core.known m c ≡ eleven → ((x : Refused) → limit ≡ Some x → x ≡ refusals.Limit) → (LacksRoom e call why → IsOutOfRoom why) →
+routed_reason : (a : Announcements) (own : Endpoint) (e : EngineState) (core : Core) (m : Membership) (call : engine.Call) (q : core_calls.CoreCall) (c : Call) (five eleven : Bool) (limit : Option Refusal)
+    (why : Refusal) → IsFree a e core m → queue_call m c ≡ Some (in_queues.call_meant e.core q) → in_queues.call_meant e.core q ≡ in_queues.call_seen q → free_request_fault e.core q ≡ None →
+    wrong_rank m c ≡ five → wrong_incarnation core.known m c ≡ eleven → ((x : Refusal) → limit ≡ Some x → x ≡ refusals.Limit) → (LacksRoom e call why → IsOutOfRoom why) →
     WhyRefused (first_fault (argument_fault e.core.place q) (first_fault (broken five refusals.Rank) (first_fault (broken eleven refusals.Replaced) limit))) e call why →
     IsReason (fault own (view blank core) m c) why
 routed_reason a own e core m call q c five eleven limit why free routed same requests is_five is_eleven full lacks reason = by_argument (argument_fault e.core.place q) refl reason
@@ -138,7 +138,7 @@ routed_reason a own e core m call q c five eleven limit why free routed same req
         ∙ ap (λ (b : Bool). or_fault o (rules.first_fault ((b, 5) ∷ (wrong_incarnation core.known m c, 11) ∷ []))) is_five
         ∙ ap (λ (b : Bool). or_fault o (rules.first_fault ((five, 5) ∷ (b, 11) ∷ []))) is_eleven
 
-    by_limit : (o : Option Refused) → ((x : Refused) → o ≡ Some x → x ≡ refusals.Limit) → found ≡ None → WhyRefused o e call why → IsReason found why
+    by_limit : (o : Option Refusal) → ((x : Refusal) → o ≡ Some x → x ≡ refusals.Limit) → found ≡ None → WhyRefused o e call why → IsReason found why
     by_limit (Some x) is none because = NoRoom (inl (because ∙ is x refl)) none
     by_limit None is none because = NoRoom (lacks because) none
 
@@ -148,13 +148,13 @@ routed_reason a own e core m call q c five eleven limit why free routed same req
     by_rank false true is because = by_rule found refusals.Replaced why because is
     by_rank false false is because = by_limit limit full is because
 
-    by_argument : (o : Option Refused) → argument_fault e.core.place q ≡ o →
+    by_argument : (o : Option Refusal) → argument_fault e.core.place q ≡ o →
         WhyRefused (first_fault o (first_fault (broken five refusals.Rank) (first_fault (broken eleven refusals.Replaced) limit))) e call why → IsReason found why
     by_argument (Some x) is because = by_rule found x why because (found_is (Some (number_of_refusal x)) (rule_broken a e core m q x free requests is))
     by_argument None is because = by_rank five eleven (found_is None (rule_kept a e core m q free requests same is)) because
 
 -- one that is taken
-routed_faultless : (a : Announcements) (own : Endpoint) (e : EngineState) (core : Core) (m : Membership) (q : core_calls.Call) (c : Call) (five eleven : Bool) (limit : Option Refused) →
+routed_faultless : (a : Announcements) (own : Endpoint) (e : EngineState) (core : Core) (m : Membership) (q : core_calls.CoreCall) (c : Call) (five eleven : Bool) (limit : Option Refusal) →
     IsFree a e core m → queue_call m c ≡ Some (in_queues.call_meant e.core q) → in_queues.call_meant e.core q ≡ in_queues.call_seen q → free_request_fault e.core q ≡ None →
     wrong_rank m c ≡ five → wrong_incarnation core.known m c ≡ eleven →
     first_fault (argument_fault e.core.place q) (first_fault (broken five refusals.Rank) (first_fault (broken eleven refusals.Replaced) limit)) ≡ None →
@@ -169,7 +169,7 @@ routed_faultless a own e core m q c five eleven limit free routed same requests 
     by_rank false true is h = absurd cc
     by_rank false false is h = is
 
-    by_argument : (o : Option Refused) → argument_fault e.core.place q ≡ o →
+    by_argument : (o : Option Refusal) → argument_fault e.core.place q ≡ o →
         first_fault o (first_fault (broken five refusals.Rank) (first_fault (broken eleven refusals.Replaced) limit)) ≡ None → found ≡ None
     by_argument (Some x) is h = absurd cc
     by_argument None is h = by_rank five eleven
@@ -200,7 +200,7 @@ lacking : (six four : Bool) (rest : List (Bool × ℕ)) → six ≡ false → fo
 lacking six four rest no_six is_four = rw (no_six, is_four)
 
 -- a call whose communicator the caller doesn't hold
-lacks_reason : (a : Announcements) (own : Endpoint) (e : EngineState) (core : Core) (m : Membership) (c : Call) (why : Refused) → IsFree a e core m →
+lacks_reason : (a : Announcements) (own : Endpoint) (e : EngineState) (core : Core) (m : Membership) (c : Call) (why : Refusal) → IsFree a e core m →
     wrong_request (λ k. standing (slice_get (view blank core).requests k)) c ≡ false → wrong_communicator m c ≡ true → why ≡ refusals.Communicator → IsReason (fault own (view blank core) m c) why
 lacks_reason a own e core m c why free requests lacks because =
     by_rule (fault own l m c) refusals.Communicator why because
@@ -224,7 +224,7 @@ send_routed : (a : Announcements) (e : EngineState) (core : Core) (m : Membershi
 send_routed a e core m s c free at =
     ap (λ (o : Option Communicator). option_map (λ c. queues.Isend s.mode c.context (in_world c s.target) s.tag (handed_of s.from)) o) (at_same a e core m s.comm free ∙ at)
 
-send_reason : (a : Announcements) (own : Endpoint) (e : EngineState) (core : Core) (m : Membership) (s : Send) (why : Refused) → IsFree a e core m →
+send_reason : (a : Announcements) (own : Endpoint) (e : EngineState) (core : Core) (m : Membership) (s : Send) (why : Refusal) → IsFree a e core m →
     WhyRefused (free_fault e (calls.Isend s)) e (calls.Isend s) why → IsReason (fault own (view blank core) m (Isend s.mode s.comm s.target s.tag (handed_of s.from))) why
 send_reason a own e core m s why free reason = go (held_at (member_of e.groups) s.comm) refl reason
   where
@@ -263,7 +263,7 @@ receive_routed : (a : Announcements) (e : EngineState) (core : Core) (m : Member
 receive_routed a e core m v c free at =
     ap (λ (o : Option Communicator). option_map (λ c. queues.Irecv (receive_on c v.source v.tag (handed_of v.into))) o) (at_same a e core m v.comm free ∙ at)
 
-receive_reason : (a : Announcements) (own : Endpoint) (e : EngineState) (core : Core) (m : Membership) (v : Receive) (why : Refused) → IsFree a e core m →
+receive_reason : (a : Announcements) (own : Endpoint) (e : EngineState) (core : Core) (m : Membership) (v : Receive) (why : Refusal) → IsFree a e core m →
     WhyRefused (free_fault e (calls.Irecv v)) e (calls.Irecv v) why → IsReason (fault own (view blank core) m (Irecv v.comm v.source v.tag (handed_of v.into))) why
 receive_reason a own e core m v why free reason = go (held_at (member_of e.groups) v.comm) refl reason
   where
@@ -305,15 +305,15 @@ probe_routed a e core m p c free at =
     ap (λ (o : Option Communicator). option_map (λ c. queues.Improbe (probe_on c p.source p.tag)) o) (at_same a e core m p.comm free ∙ at)
 
 -- the rules of a probe, and then more
-rules_first : (a b c d e : Option Refused) → first_fault (first_fault a (first_fault b (first_fault c d))) e ≡ first_fault a (first_fault b (first_fault c (first_fault d e)))
+rules_first : (a b c d e : Option Refusal) → first_fault (first_fault a (first_fault b (first_fault c d))) e ≡ first_fault a (first_fault b (first_fault c (first_fault d e)))
 rules_first (Some x) b c d e = refl
 rules_first None (Some x) c d e = refl
 rules_first None None (Some x) d e = refl
 rules_first None None None d e = refl
 
 -- a probe is refused for the machine's reasons, whatever limits it meets behind its rules
-probing_reason : (a : Announcements) (own : Endpoint) (e : EngineState) (core : Core) (m : Membership) (p : Probe) (call : engine.Call) (why : Refused) (limit : RouteText → Option Refused) → IsFree a e core m →
-    ((r : RouteText) (x : Refused) → limit r ≡ Some x → x ≡ refusals.Limit) → (LacksRoom e call why → IsOutOfRoom why) →
+probing_reason : (a : Announcements) (own : Endpoint) (e : EngineState) (core : Core) (m : Membership) (p : Probe) (call : engine.Call) (why : Refusal) (limit : RouteText → Option Refusal) → IsFree a e core m →
+    ((r : RouteText) (x : Refusal) → limit r ≡ Some x → x ≡ refusals.Limit) → (LacksRoom e call why → IsOutOfRoom why) →
     WhyRefused (on_route (option_map (route_on p.source) (held_at (member_of e.groups) p.comm)) (λ r.
     first_fault (argument_fault e.core.place (cores_calls.Improbe (probe_by p r))) (first_fault (broken (is_source_beyond (held_at (member_of e.groups) p.comm) p.source) refusals.Rank)
     (first_fault (broken (is_replaced e p.comm p.source) refusals.Replaced) (limit r))))) e call why →
@@ -338,7 +338,7 @@ probing_reason a own e core m p call why limit free full lacks reason = go (held
         (full r) lacks because
 
 -- and one that meets no rule has no fault
-probing_faultless : (a : Announcements) (own : Endpoint) (e : EngineState) (core : Core) (m : Membership) (p : Probe) (limit : RouteText → Option Refused) → IsFree a e core m →
+probing_faultless : (a : Announcements) (own : Endpoint) (e : EngineState) (core : Core) (m : Membership) (p : Probe) (limit : RouteText → Option Refusal) → IsFree a e core m →
     on_route (option_map (route_on p.source) (held_at (member_of e.groups) p.comm)) (λ r.
     first_fault (argument_fault e.core.place (cores_calls.Improbe (probe_by p r))) (first_fault (broken (is_source_beyond (held_at (member_of e.groups) p.comm) p.source) refusals.Rank)
     (first_fault (broken (is_replaced e p.comm p.source) refusals.Replaced) (limit r)))) ≡ None →
@@ -361,7 +361,7 @@ probing_faultless a own e core m p limit free allowed = go (held_at (member_of e
         (ap (λ (o : Option Communicator). is_source_beyond o p.source) (at_same a e core m p.comm free)) (named_alike a e core m p.comm p.source free) h
 
 -- a matching probe's limits are that of its group and those of the core
-abbrev search_limit_of : EngineState → Probe → RouteText → Option Refused
+abbrev search_limit_of : EngineState → Probe → RouteText → Option Refusal
 search_limit_of e p r = first_fault (group_limit r.group) (routed_limit e (cores_calls.Improbe (probe_by p r)))
 
 search_rules : (e : EngineState) (p : Probe) (o : Option RouteText) → on_route o (probe_rules e p) ≡
@@ -379,34 +379,34 @@ message_found : (n : ℕ) (own : Endpoint) (l : Local) (m : Membership) (message
 message_found n own l m message into apart = ap (λ (b : Bool). fault_by b (λ k. standing (slice_get l.requests k)) own l.known m (Mrecv message into)) (held_alone l m apart)
 
 -- its core's fault, by its requests and what it hands in
-message_cut : (a : Announcements) (e : EngineState) (core : Core) (m : Membership) (q : Option Request) (into : Region) (o : Option Refused) → IsFree a e core m →
+message_cut : (a : Announcements) (e : EngineState) (core : Core) (m : Membership) (q : Option Request) (into : Region) (o : Option Refusal) → IsFree a e core m →
     free_request_fault e.core (cores_calls.Mrecv q into) ≡ o → call_fault e.core (cores_calls.Mrecv q into) ≡ first_of o (argument_fault e.core.place (cores_calls.Mrecv q into))
 message_cut a e core m q into o free is =
     ap (λ (b : Option Awaited). fault_at b e.core (cores_calls.Mrecv q into)) free.idle
-    ∙ ap (λ (p : Option Refused). first_of p (argument_fault e.core.place (cores_calls.Mrecv q into))) is
+    ∙ ap (λ (p : Option Refusal). first_of p (argument_fault e.core.place (cores_calls.Mrecv q into))) is
 
-message_reason : (a : Announcements) (own : Endpoint) (e : EngineState) (core : Core) (m : Membership) (q : Option Request) (into : Region) (why : Refused) → IsFree a e core m →
+message_reason : (a : Announcements) (own : Endpoint) (e : EngineState) (core : Core) (m : Membership) (q : Option Request) (into : Region) (why : Refusal) → IsFree a e core m →
     WhyRefused (free_fault e (calls.Mrecv q into)) e (calls.Mrecv q into) why → IsReason (fault own (view blank core) m (call_meant e.core (calls.Mrecv q into))) why
 message_reason a own e core m q into why free reason =
     subst (λ (o : Option ℕ). IsReason o why) (sym (message_found e.core.place.size own (view blank core) m (in_queues.request_by (in_queues.serial_meant e.core) q) (handed_of into) free.apart))
     (by_requests (free_request_fault e.core asked) refl reason)
   where
-    asked : core_calls.Call
+    asked : core_calls.CoreCall
     asked = cores_calls.Mrecv q into
 
-    broken_by : (x : Refused) → call_fault e.core asked ≡ Some x → why ≡ x → HasReason e.core core asked why
+    broken_by : (x : Refusal) → call_fault e.core asked ≡ Some x → why ≡ x → HasReason e.core core asked why
     broken_by x at because = faults_have_reasons a e.core e.sessions.known core asked why free.shown (at ∙ ap Some (sym because))
 
-    by_limit : (o : Option Refused) → routed_limit e asked ≡ o → call_fault e.core asked ≡ None → WhyRefused o e (calls.Mrecv q into) why → HasReason e.core core asked why
+    by_limit : (o : Option Refusal) → routed_limit e asked ≡ o → call_fault e.core asked ≡ None → WhyRefused o e (calls.Mrecv q into) why → HasReason e.core core asked why
     by_limit (Some x) is none because = room_is_a_reason allowed_calls_are_faultless a e.core e.sessions.known core asked why free.shown none (inl (because ∙ routed_full e asked x is))
     by_limit None is none because = room_is_a_reason allowed_calls_are_faultless a e.core e.sessions.known core asked why free.shown none (inr because.0)
 
-    by_argument : (o : Option Refused) → argument_fault e.core.place asked ≡ o → free_request_fault e.core asked ≡ None →
+    by_argument : (o : Option Refusal) → argument_fault e.core.place asked ≡ o → free_request_fault e.core asked ≡ None →
         WhyRefused (first_fault o (routed_limit e asked)) e (calls.Mrecv q into) why → HasReason e.core core asked why
     by_argument (Some x) is requests because = broken_by x (message_cut a e core m q into None free requests ∙ is) because
     by_argument None is requests because = by_limit (routed_limit e asked) refl (message_cut a e core m q into None free requests ∙ is) because
 
-    by_requests : (o : Option Refused) → free_request_fault e.core asked ≡ o →
+    by_requests : (o : Option Refusal) → free_request_fault e.core asked ≡ o →
         WhyRefused (first_fault o (first_fault (argument_fault e.core.place asked) (routed_limit e asked))) e (calls.Mrecv q into) why → HasReason e.core core asked why
     by_requests (Some x) is because = broken_by x (message_cut a e core m q into (Some x) free is) because
     by_requests None is because = by_argument (argument_fault e.core.place asked) refl is because
@@ -414,7 +414,7 @@ message_reason a own e core m q into why free reason =
 message_faultless : (a : Announcements) (own : Endpoint) (e : EngineState) (core : Core) (m : Membership) (q : Option Request) (into : Region) → IsFree a e core m →
     free_fault e (calls.Mrecv q into) ≡ None → IsFaultless (fault own (view blank core) m (call_seen (calls.Mrecv q into))) e.core (calls.Mrecv q into)
 message_faultless a own e core m q into free allowed =
-    let asked : core_calls.Call = cores_calls.Mrecv q into in
+    let asked : core_calls.CoreCall = cores_calls.Mrecv q into in
     let requests = neither_fault (free_request_fault e.core asked) _ allowed in
     let arguments = neither_fault (argument_fault e.core.place asked) (routed_limit e asked) requests.1 in
     let fine = allowed_calls_are_faultless a e.core e.sessions.known core asked free.shown (message_cut a e core m q into None free requests.0 ∙ arguments.0) in
@@ -467,7 +467,7 @@ question_seen a own e core m comm q free =
     ∙ ap (λ (b : Bool). cond (is_none (held_at (member_of e.groups) comm) || b) (Some 4) None) (asks_same m (member_of e.groups) q free.held)
 
 -- the reason why an entry is refused
-entry_room : (e : EngineState) (comm : Option ℕ) (x : Entry) (why : Refused) → LacksRoom e (calls.Enter comm x) why → IsOutOfRoom why
+entry_room : (e : EngineState) (comm : Option ℕ) (x : Entry) (why : Refusal) → LacksRoom e (calls.Enter comm x) why → IsOutOfRoom why
 entry_room e comm x why (inl is) = inr is
 entry_room e comm x why (inr limited) = inl limited.0
 
@@ -478,7 +478,7 @@ rule_number entry_faults.WrongCount = refl
 rule_number entry_faults.NoRoot = refl
 rule_number entry_faults.NotDefined = refl
 
-entry_reason : (a : Announcements) (own : Endpoint) (e : EngineState) (core : Core) (m : Membership) (comm : Option ℕ) (x : Entry) (why : Refused) → IsFree a e core m → e.groups.collective.own ≡ own →
+entry_reason : (a : Announcements) (own : Endpoint) (e : EngineState) (core : Core) (m : Membership) (comm : Option ℕ) (x : Entry) (why : Refusal) → IsFree a e core m → e.groups.collective.own ≡ own →
     WhyRefused (free_fault e (calls.Enter comm x)) e (calls.Enter comm x) why → IsReason (fault own (view blank core) m (Enter comm (call_of x))) why
 entry_reason a own e core m comm x why free stands reason =
     subst (λ (o : Option ℕ). IsReason o why) (sym (entry_seen a own e core m comm x free stands))
@@ -511,7 +511,7 @@ entry_faultless a own e core m comm x free stands allowed =
     go false None false false h = refl
 
 -- the reason why a question is
-question_reason : (a : Announcements) (own : Endpoint) (e : EngineState) (core : Core) (m : Membership) (comm : Option ℕ) (q : Question) (why : Refused) → IsFree a e core m →
+question_reason : (a : Announcements) (own : Endpoint) (e : EngineState) (core : Core) (m : Membership) (comm : Option ℕ) (q : Question) (why : Refusal) → IsFree a e core m →
     WhyRefused (free_fault e (calls.Ask comm q)) e (calls.Ask comm q) why → IsReason (fault own (view blank core) m (Inquire comm (question_of q))) why
 question_reason a own e core m comm q why free reason =
     subst (λ (o : Option ℕ). IsReason o why) (sym (question_seen a own e core m comm q free))
@@ -533,11 +533,11 @@ question_faultless a own e core m comm q free allowed =
 -- ---- ALL CALLS
 
 -- the core's fault of a call on requests is the engine's
-free_is : (a : Announcements) (e : EngineState) (core : Core) (m : Membership) (q : core_calls.Call) → IsFree a e core m → call_fault e.core q ≡ fault_at None e.core q
+free_is : (a : Announcements) (e : EngineState) (core : Core) (m : Membership) (q : core_calls.CoreCall) → IsFree a e core m → call_fault e.core q ≡ fault_at None e.core q
 free_is a e core m q free = ap (λ (b : Option Awaited). fault_at b e.core q) free.idle
 
 -- a call that is refused has a reason
-pub free_reason : (a : Announcements) (own : Endpoint) (e : EngineState) (core : Core) (m : Membership) (call : engine.Call) (why : Refused) → IsFree a e core m → e.groups.collective.own ≡ own →
+pub free_reason : (a : Announcements) (own : Endpoint) (e : EngineState) (core : Core) (m : Membership) (call : engine.Call) (why : Refusal) → IsFree a e core m → e.groups.collective.own ≡ own →
     WhyRefused (free_fault e call) e call why → IsReason (fault own (view blank core) m (call_meant e.core call)) why
 free_reason a own e core m (calls.Isend s) why free stands reason = send_reason a own e core m s why free reason
 free_reason a own e core m (calls.Irecv v) why free stands reason = receive_reason a own e core m v why free reason
@@ -560,7 +560,7 @@ free_reason a own e core m (calls.Iprobe p) why free stands reason =
     probing_reason a own e core m p (calls.Iprobe p) why (λ r. group_limit r.group) free (λ r x h. group_full r.group x h) (λ lacks. absurd lacks) reason
 free_reason a own e core m (calls.Improbe p) why free stands reason =
     probing_reason a own e core m p (calls.Improbe p) why (search_limit_of e p) free (λ r x h. group_routed_full e r.group (cores_calls.Improbe (probe_by p r)) x h) (λ lacks. inr lacks.0)
-    (subst (λ (o : Option Refused). WhyRefused o e (calls.Improbe p) why) (search_rules e p (option_map (route_on p.source) (held_at (member_of e.groups) p.comm))) reason)
+    (subst (λ (o : Option Refusal). WhyRefused o e (calls.Improbe p) why) (search_rules e p (option_map (route_on p.source) (held_at (member_of e.groups) p.comm))) reason)
 free_reason a own e core m (calls.Mrecv q into) why free stands reason = message_reason a own e core m q into why free reason
 free_reason a own e core m (calls.Enter comm x) why free stands reason = entry_reason a own e core m comm x why free stands reason
 free_reason a own e core m (calls.Ask comm q) why free stands reason = question_reason a own e core m comm q why free reason

@@ -4,10 +4,10 @@ use Rattle.std.specs.List.{AllByRecursion}
 use Rattle.std.specs.Prelude.{slice_index_or}
 use Rattle.std.proofs.lemmas.Bool.{and_from, and_parts, cases_eq, eq-eqb, leb-true, lt-ltb, ltb-false, ltb-true}
 use Rattle.std.proofs.lemmas.List.{length-set}
-use Rattle.collective_notes.specs.Messages.{says}
-use Rattle.collective_notes.specs.declared.message.Message.{Message}
-use Rattle.engine_parts.specs.Frames.{AreWhole, IsWhole, all_can_go, can_go, is_large, is_sendable, messages_sent, numbers_after, payload_frame, sending_of_message, step_limit, step_sendings}
-use Rattle.engine_parts.specs.Refusals.{fault_of_sessions}
+use Rattle.collective_messages.specs.Messages.{says}
+use Rattle.collective_messages.specs.declared.message.CollectiveMessage.{CollectiveMessage}
+use Rattle.engine_calls.specs.Frames.{AreWhole, IsWhole, all_can_go, can_go, is_large, is_sendable, messages_sent, numbers_after, payload_frame, sending_of_message, step_limit, step_sendings}
+use Rattle.engine_calls.specs.Refusals.{fault_of_sessions}
 use Rattle.incarnation.specs.declared.place.Place.{Place}
 use Rattle.payload.proofs.Grammar.{payload_again}
 use Rattle.proof_collective_steps.specs.Sending.{AreWithinTypes, IsSendable}
@@ -16,16 +16,16 @@ use Rattle.proof_link_truth.specs.Events.{Comes, EventsAreTrue, IsAt, LeavesTrue
 use Rattle.proof_link_truth.specs.Links.{Links}
 use Rattle.proof_link_truth.specs.Truth.{AreTrue}
 use Rattle.proof_link_truth.specs.Wire.{CanBeSent, at, place_of}
-use Rattle.proof_links.specs.Links.{accept_all}
+use Rattle.endpoint_links.specs.Links.{accept_all}
 use Rattle.proof_session_carrying.specs.Carrying.{bytes_of_message}
 use Rattle.proof_session_carrying.specs.EventLaws.{Bring, Tells}
-use Rattle.rank_calls.specs.declared.refused.Refused.TheVariants as refusals
+use Rattle.point_to_point_calls.specs.declared.refusal.Refusal.TheVariants as refusals
 use Rattle.rendezvous.specs.State.{fresh, is_full_to, most_transfers, next_to, with_begun}
 use Rattle.rendezvous.specs.declared.transfers.Numbers.{Numbers}
 use Rattle.sessions.specs.Events.{Sending, after_event, after_heard, event_limit, first_limit, heard_limit, sends_limit}
 use Rattle.sessions.specs.Heard.{HeardText}
 use Rattle.sessions.specs.SessionsState.{SessionsState}
-use Rattle.sessions.specs.declared.refused.Refused.{Refused}
+use Rattle.sessions.specs.declared.refusal.SessionRefusal.{SessionRefusal}
 use Rattle.vocabulary.specs.Endpoints.{is_same}
 use Rattle.vocabulary.specs.Limits.{eager_limit, highest_tag, send_limit}
 use Rattle.vocabulary.specs.declared.endpoint.Endpoint.{Endpoint}
@@ -41,12 +41,12 @@ pub record AreBounded (n : ℕ) (ns : List Numbers) : Type 0 where
   pub most : (rank : ℕ) → next_to ns rank ≤ most_transfers
 
 -- what a message goes by: to a rank of the job, under a number that a tag can be; so many bytes can go
-pub record IsGoing (p : Place) (ns : List Numbers) (m : Message) : Type 0 where
+pub record IsGoing (p : Place) (ns : List Numbers) (m : CollectiveMessage) : Type 0 where
   pub there : m.target.rank < p.size
   pub tag : m.number ≤ highest_tag
   pub sendable : is_sendable ns m.target.rank (length (bytes_of_message m)) ≡ true
 
-pub is_going : (p : Place) (ns : List Numbers) (m : Message) → can_go p ns m ≡ true → IsGoing p ns m
+pub is_going : (p : Place) (ns : List Numbers) (m : CollectiveMessage) → can_go p ns m ≡ true → IsGoing p ns m
 is_going p ns m goes =
     let first = and_parts (nat_lt m.target.rank p.size) _ goes in
     let second = and_parts (nat_le m.number highest_tag) _ first.1 in
@@ -71,7 +71,7 @@ can_begin ns rank count large sendable = go (nat_le count eager_limit) refl send
         record { limit = leb-true count send_limit parts.0; free = rest (is_full_to ns rank) parts.1 }
 
 -- the numbers once one more transfer has begun, or none
-numbers_bounded : (n : ℕ) (ns : List Numbers) (m : Message) → AreBounded n ns → m.target.rank < n → is_sendable ns m.target.rank (length (bytes_of_message m)) ≡ true → (large : Bool) → is_large m ≡ large →
+numbers_bounded : (n : ℕ) (ns : List Numbers) (m : CollectiveMessage) → AreBounded n ns → m.target.rank < n → is_sendable ns m.target.rank (length (bytes_of_message m)) ≡ true → (large : Bool) → is_large m ≡ large →
     AreBounded n (if large then with_begun ns m.target.rank else ns)
 numbers_bounded n ns m b there sendable false is = b
 numbers_bounded n ns m b there sendable true is =
@@ -89,7 +89,7 @@ numbers_bounded n ns m b there sendable true is =
     free : is_full_to ns rank ≡ false
     free = (can_begin ns rank (length (bytes_of_message m)) (ltb-true eager_limit (length (bytes_of_message m)) is) sendable).free
 
-pub still_bounded : (n : ℕ) (own : Endpoint) (ns : List Numbers) (m : Message) → AreBounded n ns → can_go (place_of n own) ns m ≡ true → AreBounded n (numbers_after ns m)
+pub still_bounded : (n : ℕ) (own : Endpoint) (ns : List Numbers) (m : CollectiveMessage) → AreBounded n ns → can_go (place_of n own) ns m ≡ true → AreBounded n (numbers_after ns m)
 still_bounded n own ns m b goes =
     let g : IsGoing (place_of n own) ns m = is_going (place_of n own) ns m goes in
     numbers_bounded n ns m b g.there g.sendable (is_large m) refl
@@ -97,7 +97,7 @@ still_bounded n own ns m b goes =
 -- ---- each may be sent
 
 -- the frame of a message that can go can be spelled
-can_be_sent : (p : Place) (ns : List Numbers) (m : Message) → can_go p ns m ≡ true → IsWhole m → next_to ns m.target.rank ≤ most_transfers → CanBeSent (sending_of_message ns m).frame
+can_be_sent : (p : Place) (ns : List Numbers) (m : CollectiveMessage) → can_go p ns m ≡ true → IsWhole m → next_to ns m.target.rank ≤ most_transfers → CanBeSent (sending_of_message ns m).frame
 can_be_sent p ns m goes whole most = go (is_large m) refl
   where
     count : ℕ
@@ -131,7 +131,7 @@ other_rank a b alike other = go (a.rank == b.rank) refl
     go true h =
         absurd (let same : is_same a b ≡ true = and_from (a.rank == b.rank) (a.incarnation == b.incarnation) h (eq-eqb a.incarnation b.incarnation alike) in let no : true ≡ false = sym same ∙ other in cc)
 
-each_may_be_sent : (n : ℕ) (own : Endpoint) (ns : List Numbers) (ms : List Message) → AreBounded n ns → AllByRecursion (IsSendable n own) ms → AreWhole ms → all_can_go (place_of n own) ns ms ≡ true →
+each_may_be_sent : (n : ℕ) (own : Endpoint) (ns : List Numbers) (ms : List CollectiveMessage) → AreBounded n ns → AllByRecursion (IsSendable n own) ms → AreWhole ms → all_can_go (place_of n own) ns ms ≡ true →
     MaySendAll n own.rank (messages_sent ns ms)
 each_may_be_sent n own ns [] bounded sendable whole goes = tt
 each_may_be_sent n own ns (m ∷ ms) bounded sendable whole goes =
@@ -141,19 +141,19 @@ each_may_be_sent n own ns (m ∷ ms) bounded sendable whole goes =
     )
 
 -- What a step sends by rank may be sent
-pub may_be_sent : (n : ℕ) (own : Endpoint) (ns : List Numbers) (ms : List Message) → AreBounded n ns → AllByRecursion (IsSendable n own) ms → AreWhole ms → all_can_go (place_of n own) ns ms ≡ true →
+pub may_be_sent : (n : ℕ) (own : Endpoint) (ns : List Numbers) (ms : List CollectiveMessage) → AreBounded n ns → AllByRecursion (IsSendable n own) ms → AreWhole ms → all_can_go (place_of n own) ns ms ≡ true →
     MaySendAll n own.rank (step_sendings (place_of n own) ns ms)
 may_be_sent n own ns ms bounded sendable whole goes =
     all_by_rank (MaySend n own.rank) n (messages_sent ns ms) (each_may_be_sent n own ns ms bounded sendable whole goes)
 
-ranks_there : (n : ℕ) (own : Endpoint) (ns : List Numbers) (ms : List Message) → AllByRecursion (IsSendable n own) ms → AllByRecursion (λ (f : Sending). f.rank < n) (messages_sent ns ms)
+ranks_there : (n : ℕ) (own : Endpoint) (ns : List Numbers) (ms : List CollectiveMessage) → AllByRecursion (IsSendable n own) ms → AllByRecursion (λ (f : Sending). f.rank < n) (messages_sent ns ms)
 ranks_there n own ns [] sendable = tt
 ranks_there n own ns (m ∷ ms) sendable = (sendable.0.there, ranks_there n own (numbers_after ns m) ms sendable.1)
 
 -- ---- within its types
 
 -- each element of what is whole is within its type
-pub are_within : (ms : List Message) → AreWhole ms → AreWithinTypes ms
+pub are_within : (ms : List CollectiveMessage) → AreWhole ms → AreWithinTypes ms
 are_within [] whole = tt
 are_within (m ∷ ms) whole = (whole.0.within, are_within ms whole.1)
 
@@ -164,7 +164,7 @@ abbrev pub IsKnown : (known : List ℕ) → Endpoint → Type 0
 IsKnown known x = slice_index known x.rank ≡ x.incarnation
 
 -- the frame of a message brings it, or announces it
-tells_message : (ns : List Numbers) (m : Message) → Tells m (sending_of_message ns m).frame
+tells_message : (ns : List Numbers) (m : CollectiveMessage) → Tells m (sending_of_message ns m).frame
 tells_message ns m = go (is_large m) refl
   where
     go : (large : Bool) → is_large m ≡ large → Tells m (payload_frame (if large then Some (next_to ns m.target.rank) else None) m.context m.number (bytes_of_message m))
@@ -172,7 +172,7 @@ tells_message ns m = go (is_large m) refl
     go true is = record { mode = refl; plane = refl; basic = refl; context = refl; number = refl; count = refl; large = ltb-true eager_limit (length (bytes_of_message m)) is }
 
 -- The frames of messages that go to whoever is known bring the messages
-pub bring : (known : List ℕ) (ns : List Numbers) (ms : List Message) → AreWhole ms → GoTo (IsKnown known) ms → Bring ms (all_addressed known (messages_sent ns ms))
+pub bring : (known : List ℕ) (ns : List Numbers) (ms : List CollectiveMessage) → AreWhole ms → GoTo (IsKnown known) ms → Bring ms (all_addressed known (messages_sent ns ms))
 bring known ns [] whole known_all = tt
 bring known ns (m ∷ ms) whole known_all = (
   record {
@@ -186,14 +186,14 @@ bring known ns (m ∷ ms) whole known_all = (
 -- ---- what it leaves
 
 -- where a step meets no limit, its messages can go, and its frames meet none
-pub record MeetsNone (s : SessionsState) (ns : List Numbers) (heard : Option HeardText) (ms : List Message) : Type 0 where
+pub record MeetsNone (s : SessionsState) (ns : List Numbers) (heard : Option HeardText) (ms : List CollectiveMessage) : Type 0 where
   pub can : all_can_go s.place ns ms ≡ true
   pub free : sends_limit (after_heard s heard) (step_sendings s.place ns ms) ≡ None
 
-pub meets_none : (s : SessionsState) (ns : List Numbers) (heard : Option HeardText) (ms : List Message) → step_limit s ns heard ms ≡ None → MeetsNone s ns heard ms
+pub meets_none : (s : SessionsState) (ns : List Numbers) (heard : Option HeardText) (ms : List CollectiveMessage) → step_limit s ns heard ms ≡ None → MeetsNone s ns heard ms
 meets_none s ns heard ms none = tested (all_can_go s.place ns ms) refl none
   where
-    second : (a b : Option Refused) → first_limit a b ≡ None → b ≡ None
+    second : (a b : Option SessionRefusal) → first_limit a b ≡ None → b ≡ None
     second None b h = h
     second (Some x) b h = absurd cc
 
@@ -207,7 +207,7 @@ meets_none s ns heard ms none = tested (all_can_go s.place ns ms) refl none
 
 -- What an event that sends leaves true of the links it leaves true where it sends what a step does, by rank: they take it in in the
 -- order of the step
-pub step_leaves : (T : SessionsState → Links → Type 0) (n : ℕ) (own : Endpoint) (old : SessionsState) (heard : Option HeardText) (links : Links) (known : List ℕ) (ns : List Numbers) (ms : List Message) →
+pub step_leaves : (T : SessionsState → Links → Type 0) (n : ℕ) (own : Endpoint) (old : SessionsState) (heard : Option HeardText) (links : Links) (known : List ℕ) (ns : List Numbers) (ms : List CollectiveMessage) →
     ((sendings : List Sending) → MaySendAll n own.rank sendings → sends_limit (after_heard old heard) sendings ≡ None → T (after_event old heard sendings) (accept_all links own (all_addressed known sendings))) →
     old.place ≡ place_of n own → AreBounded n ns → AllByRecursion (IsSendable n own) ms → AreWhole ms → step_limit old ns heard ms ≡ None →
     T (after_event old heard (step_sendings old.place ns ms)) (accept_all links own (all_addressed known (messages_sent ns ms)))
@@ -223,7 +223,7 @@ step_leaves T n own old heard links known ns ms leaves place bounded sendable wh
     free = meets_none old ns heard ms none
 
 -- so it is with the links of a world
-pub step_is_true : EventsAreTrue → (n r : ℕ) (sessions : List SessionsState) (datagrams : List (ℕ × List ℕ)) (links : Links) (current : ℕ → ℕ) (old : SessionsState) (heard : Option HeardText) (ns : List Numbers) (ms : List Message) →
+pub step_is_true : EventsAreTrue → (n r : ℕ) (sessions : List SessionsState) (datagrams : List (ℕ × List ℕ)) (links : Links) (current : ℕ → ℕ) (old : SessionsState) (heard : Option HeardText) (ns : List Numbers) (ms : List CollectiveMessage) →
     AreTrue n sessions datagrams links current → IsAt sessions r old → Comes datagrams r old heard → old.place ≡ place_of n (at r (current r)) → AreBounded n ns →
     AllByRecursion (IsSendable n (at r (current r))) ms → AreWhole ms → step_limit old ns heard ms ≡ None →
     LeavesTrue n sessions datagrams r (after_event old heard (step_sendings old.place ns ms))

@@ -3,12 +3,12 @@ use Rattle.std.proofs.Common.{◌≡◌, ℕ, suc, ◌+◌, ◌<◌, Bool, true,
 use Rattle.std.specs.List.{AllByRecursion}
 use Rattle.std.proofs.lemmas.Bool.{and_parts, eqb-false, ltb-true}
 use Rattle.std.proofs.lemmas.List.{append_assoc, length-append, length-map, map-append}
-use Rattle.collective_notes.specs.declared.message.Message.{Message}
+use Rattle.collective_messages.specs.declared.message.CollectiveMessage.{CollectiveMessage}
 use Rattle.collective_transfers.specs.Payloads.{Announced}
 use Rattle.collective_transfers.specs.State as payloads
 use Rattle.collective_transfers.specs.State.{after_announcing}
 use Rattle.datagram.specs.Spelling.{FrameText}
-use Rattle.engine_parts.specs.Frames.{all_can_go, can_go, is_large, messages_sent, numbers_after, payload_frame, payload_kept, step_numbers, step_payloads, transfer_of}
+use Rattle.engine_calls.specs.Frames.{all_can_go, can_go, is_large, messages_sent, numbers_after, payload_frame, payload_kept, step_numbers, step_payloads, transfer_of}
 use Rattle.incarnation.specs.declared.place.Place.{Place}
 use Rattle.perfect_queues.proofs.EndpointLemmas.{same_eq, same_refl}
 use Rattle.proof_collective_steps.specs.Counterparts.{AreSaid}
@@ -25,7 +25,7 @@ use Rattle.proof_group_network.specs.Notices.{Notice}
 use Rattle.proof_link_truth.proofs.Lists.{All_append}
 use Rattle.proof_link_truth.specs.Events.{all_addressed}
 use Rattle.proof_link_truth.specs.Wire.{at, place_of}
-use Rattle.proof_links.specs.Links.{accept, accept_all}
+use Rattle.endpoint_links.specs.Links.{accept, accept_all}
 use Rattle.proof_pure_network.specs.Announced.{Begins}
 use Rattle.proof_pure_network.specs.Core.{Core}
 use Rattle.proof_session_carrying.proofs.Carrying.{accepted_begins}
@@ -34,7 +34,7 @@ use Rattle.proof_session_carrying.specs.Announced.{LargeNotice, all_announced, a
 use Rattle.proof_session_carrying.specs.Announced as sessions_announced
 use Rattle.proof_session_carrying.specs.Carrying.{AreBrought, Saying, bytes_of_message, say, say_all}
 use Rattle.proof_session_carrying.specs.EventLaws.{AreNumbered, HasNumber, all_carried, carried_by}
-use Rattle.rank_core.specs.CoreState.{CoreState, with_numbers}
+use Rattle.point_to_point.specs.CoreState.{CoreState, with_numbers}
 use Rattle.rendezvous.specs.State.{next_to, with_begun}
 use Rattle.rendezvous.specs.declared.transfers.Numbers.{Numbers}
 use Rattle.vocabulary.specs.Endpoints.{is_same}
@@ -118,7 +118,7 @@ shown_counted_in serial sessions e d i c known core h =
 -- ---- what is said
 
 -- what was said stays so
-said_more : (said : Saying) (e : Endpoint) (m : Message) → SaidGrows said (say said e m)
+said_more : (said : Saying) (e : Endpoint) (m : CollectiveMessage) → SaidGrows said (say said e m)
 said_more said e m s d = go (is_same s e && is_same d m.target) refl
   where
     go : (t : Bool) → (is_same s e && is_same d m.target) ≡ t → Begins (said s d) (if t then said e m.target ++ m ∷ [] else said s d)
@@ -131,22 +131,22 @@ said_more said e m s d = go (is_same s e && is_same d m.target) refl
 said_then : (a b c : Saying) → SaidGrows a b → SaidGrows b c → SaidGrows a c
 said_then a b c p q s d = longer (a s d) (b s d) (c s d) (p s d) (q s d)
   where
-    longer : (xs ys zs : List Message) → Begins xs ys → Begins ys zs → Begins xs zs
-    longer xs ys zs f g = (f.0 ++ g.0, sym (append_assoc xs f.0 g.0) ∙ ap (λ (l : List Message). l ++ g.0) f.1 ∙ g.1)
+    longer : (xs ys zs : List CollectiveMessage) → Begins xs ys → Begins ys zs → Begins xs zs
+    longer xs ys zs f g = (f.0 ++ g.0, sym (append_assoc xs f.0 g.0) ∙ ap (λ (l : List CollectiveMessage). l ++ g.0) f.1 ∙ g.1)
 
 -- the message stands behind all that were said to its target
-said_last : (said : Saying) (e : Endpoint) (m : Message) → slice_get (say said e m e m.target) (length (said e m.target)) ≡ Some m
-said_last said e m = ap (λ (ms : List Message). slice_get ms (length (said e m.target))) (at_here e m.target (said e m.target ++ m ∷ []) (said e m.target)) ∙ last_at (said e m.target) m
+said_last : (said : Saying) (e : Endpoint) (m : CollectiveMessage) → slice_get (say said e m e m.target) (length (said e m.target)) ≡ Some m
+said_last said e m = ap (λ (ms : List CollectiveMessage). slice_get ms (length (said e m.target))) (at_here e m.target (said e m.target ++ m ∷ []) (said e m.target)) ∙ last_at (said e m.target) m
 
 -- there are as many messages as notices
-pub as_many : (s d : Endpoint) (ms : List Message) (xs : List Notice) → AreBrought s d ms xs → length ms ≡ length xs
+pub as_many : (s d : Endpoint) (ms : List CollectiveMessage) (xs : List Notice) → AreBrought s d ms xs → length ms ≡ length xs
 as_many s d [] [] all = refl
 as_many s d [] (y ∷ ys) all = absurd all
 as_many s d (n ∷ ns) [] all = absurd all
 as_many s d (n ∷ ns) (y ∷ ys) all = ap suc (as_many s d ns ys all.1)
 
 -- and so there are once one more of each went out
-many_more : (said : Saying) (links : Endpoint → Endpoint → NoticeLink) (e : Endpoint) (m : Message) (x : Notice) (d : Endpoint) → ((z : Endpoint) → length (said e z) ≡ length (links e z).accepted) →
+many_more : (said : Saying) (links : Endpoint → Endpoint → NoticeLink) (e : Endpoint) (m : CollectiveMessage) (x : Notice) (d : Endpoint) → ((z : Endpoint) → length (said e z) ≡ length (links e z).accepted) →
     length (say said e m e d) ≡ length (notify links e (m.target, x) e d).accepted
 many_more said links e m x d many = go (is_same e e && is_same d m.target)
   where
@@ -171,22 +171,22 @@ numbers_bounded_by n own known core sessions said links ns c p h =
     record { width = (h.shown 0).under_way.numbered.width ∙ ap (λ (q : Place). q.size) h.placed; most = (h.shown 0).under_way.numbered.most }
 
 -- the frame of a message that is announced, or goes whole
-abbrev frame_by : (large : Bool) → List Numbers → Message → FrameText
+abbrev frame_by : (large : Bool) → List Numbers → CollectiveMessage → FrameText
 frame_by large ns m = payload_frame (if large then Some (next_to ns m.target.rank) else None) m.context m.number (bytes_of_message m)
 
 -- what goes out of it, as the next notice to its target
-abbrev carried_as : (large : Bool) → List Numbers → Message → (links : Endpoint → Endpoint → NoticeLink) → (own : Endpoint) → Endpoint × Carried
+abbrev carried_as : (large : Bool) → List Numbers → CollectiveMessage → (links : Endpoint → Endpoint → NoticeLink) → (own : Endpoint) → Endpoint × Carried
 carried_as large ns m links own = (m.target, carried_by (frame_by large ns m) (length (links own m.target).accepted))
 
 -- one message went out
-record IsSent (large : Bool) (n : ℕ) (own : Endpoint) (known : List ℕ) (core : Core) (sessions : Sessions) (said : Saying) (links : Endpoint → Endpoint → NoticeLink) (ns : List Numbers) (c : CoreState) (p : payloads.State) (m : Message) (x : Notice) : Type 0 where
+record IsSent (large : Bool) (n : ℕ) (own : Endpoint) (known : List ℕ) (core : Core) (sessions : Sessions) (said : Saying) (links : Endpoint → Endpoint → NoticeLink) (ns : List Numbers) (c : CoreState) (p : payloads.State) (m : CollectiveMessage) (x : Notice) : Type 0 where
   number : HasNumber (length (announced_in (sessions own m.target).accepted)) (frame_by large ns m)
   after : IsSending n own known core (accept sessions own (carried_as large ns m links own)) (say said own m) (notify links own (m.target, x))
       (with_numbers c (if large then with_begun ns m.target.rank else ns))
       (after_announcing p (payload_kept (if large then Some (next_to ns m.target.rank) else None) m.target.rank (bytes_of_message m)))
 
 -- a message that goes whole
-whole_sent : (n : ℕ) (own : Endpoint) (known : List ℕ) (core : Core) (sessions : Sessions) (said : Saying) (links : Endpoint → Endpoint → NoticeLink) (ns : List Numbers) (c : CoreState) (p : payloads.State) (m : Message) (x : Notice) →
+whole_sent : (n : ℕ) (own : Endpoint) (known : List ℕ) (core : Core) (sessions : Sessions) (said : Saying) (links : Endpoint → Endpoint → NoticeLink) (ns : List Numbers) (c : CoreState) (p : payloads.State) (m : CollectiveMessage) (x : Notice) →
     IsSending n own known core sessions said links (with_numbers c ns) p → IsSent false n own known core sessions said links ns c p m x
 whole_sent n own known core sessions said links ns c p m x h =
     record {
@@ -207,7 +207,7 @@ whole_sent n own known core sessions said links ns c p m x h =
     after = accept sessions own (m.target, OfNotices i)
 
 -- a message that is announced
-large_sent : (n : ℕ) (own : Endpoint) (known : List ℕ) (core : Core) (sessions : Sessions) (said : Saying) (links : Endpoint → Endpoint → NoticeLink) (ns : List Numbers) (c : CoreState) (p : payloads.State) (m : Message) (x : Notice) →
+large_sent : (n : ℕ) (own : Endpoint) (known : List ℕ) (core : Core) (sessions : Sessions) (said : Saying) (links : Endpoint → Endpoint → NoticeLink) (ns : List Numbers) (c : CoreState) (p : payloads.State) (m : CollectiveMessage) (x : Notice) →
     IsSending n own known core sessions said links (with_numbers c ns) p → IsGoing (place_of n own) ns m → IsSendable n own m → IsKnown known m.target → eager_limit < length (bytes_of_message m) → IsSent true n own known core sessions said links ns c p m x
 large_sent n own known core sessions said links ns c p m x h goes can known_is large =
     record {
@@ -270,7 +270,7 @@ large_sent n own known core sessions said links ns c p m x h goes can known_is l
     new_is : IsAnnouncedPayload after (say said own m) own known new
     new_is = record { message = m; notice = subst (λ (d : Endpoint). IsLargeNotice after (say said own m) own d (next_to ns rank) m) (sym target_is) notice; bytes = refl; short = begins.limit }
 
-one_sent : (n : ℕ) (own : Endpoint) (known : List ℕ) (core : Core) (sessions : Sessions) (said : Saying) (links : Endpoint → Endpoint → NoticeLink) (ns : List Numbers) (c : CoreState) (p : payloads.State) (m : Message) (x : Notice) →
+one_sent : (n : ℕ) (own : Endpoint) (known : List ℕ) (core : Core) (sessions : Sessions) (said : Saying) (links : Endpoint → Endpoint → NoticeLink) (ns : List Numbers) (c : CoreState) (p : payloads.State) (m : CollectiveMessage) (x : Notice) →
     IsSending n own known core sessions said links (with_numbers c ns) p → IsGoing (place_of n own) ns m → IsSendable n own m → IsKnown known m.target → (large : Bool) → is_large m ≡ large → IsSent large n own known core sessions said links ns c p m x
 one_sent n own known core sessions said links ns c p m x h goes can known_is false is = whole_sent n own known core sessions said links ns c p m x h
 one_sent n own known core sessions said links ns c p m x h goes can known_is true is =
@@ -279,11 +279,11 @@ one_sent n own known core sessions said links ns c p m x h goes can known_is tru
 -- ---- all that a step sends
 
 -- the texts of a step, each with the endpoint to which it goes
-abbrev pub texts_gone : (known : List ℕ) → List Numbers → List Message → List (Endpoint × FrameText)
+abbrev pub texts_gone : (known : List ℕ) → List Numbers → List CollectiveMessage → List (Endpoint × FrameText)
 texts_gone known ns ms = all_addressed known (messages_sent ns ms)
 
 -- What goes out of these notices bears the next numbers, and the engine holds then what one holds that sent them
-pub record IsStepSent (n : ℕ) (own : Endpoint) (known : List ℕ) (core : Core) (sessions : Sessions) (said : Saying) (links : Endpoint → Endpoint → NoticeLink) (ns : List Numbers) (c : CoreState) (p : payloads.State) (ms : List Message) (xs : List (Endpoint × Notice)) : Type 0 where
+pub record IsStepSent (n : ℕ) (own : Endpoint) (known : List ℕ) (core : Core) (sessions : Sessions) (said : Saying) (links : Endpoint → Endpoint → NoticeLink) (ns : List Numbers) (c : CoreState) (p : payloads.State) (ms : List CollectiveMessage) (xs : List (Endpoint × Notice)) : Type 0 where
   pub numbered : AreNumbered sessions own (texts_gone known ns ms) (all_carried links own xs (texts_gone known ns ms))
   pub after : IsSending n own known core (accept_all sessions own (all_carried links own xs (texts_gone known ns ms))) (say_all said own ms) (notify_all links own xs)
       (with_numbers c (step_numbers ns ms)) (after_announcing p (step_payloads ns ms))
@@ -295,7 +295,7 @@ kept_as : (n : ℕ) (own : Endpoint) (known : List ℕ) (core : Core) (sessions 
 kept_as n own known core sessions said links c p a b same h = subst (λ (ps : List Announced). IsSending n own known core sessions said links c (record { announced = ps; coming = p.coming })) same h
 
 -- one message, and then the rest
-then_sent : (n : ℕ) (own : Endpoint) (known : List ℕ) (core : Core) (sessions : Sessions) (said : Saying) (links : Endpoint → Endpoint → NoticeLink) (ns : List Numbers) (c : CoreState) (p : payloads.State) (m : Message) (x : Notice) (ms : List Message) (xs : List (Endpoint × Notice)) →
+then_sent : (n : ℕ) (own : Endpoint) (known : List ℕ) (core : Core) (sessions : Sessions) (said : Saying) (links : Endpoint → Endpoint → NoticeLink) (ns : List Numbers) (c : CoreState) (p : payloads.State) (m : CollectiveMessage) (x : Notice) (ms : List CollectiveMessage) (xs : List (Endpoint × Notice)) →
     IsSent (is_large m) n own known core sessions said links ns c p m x →
     IsStepSent n own known core (accept sessions own (carried_as (is_large m) ns m links own)) (say said own m) (notify links own (m.target, x)) (numbers_after ns m) c (after_announcing p (payload_kept (transfer_of ns m) m.target.rank (bytes_of_message m))) ms xs →
     IsStepSent n own known core sessions said links ns c p (m ∷ ms) ((m.target, x) ∷ xs)
@@ -310,7 +310,7 @@ then_sent n own known core sessions said links ns c p m x ms xs one rest = recor
 }
 
 -- A step's messages that can go, to other ranks at the incarnations at which they are known, are sent
-pub step_sent : (n : ℕ) (own : Endpoint) (known : List ℕ) (core : Core) (sessions : Sessions) (said : Saying) (links : Endpoint → Endpoint → NoticeLink) (ns : List Numbers) (c : CoreState) (p : payloads.State) (ms : List Message) (xs : List (Endpoint × Notice)) →
+pub step_sent : (n : ℕ) (own : Endpoint) (known : List ℕ) (core : Core) (sessions : Sessions) (said : Saying) (links : Endpoint → Endpoint → NoticeLink) (ns : List Numbers) (c : CoreState) (p : payloads.State) (ms : List CollectiveMessage) (xs : List (Endpoint × Notice)) →
     IsSending n own known core sessions said links (with_numbers c ns) p → all_can_go (place_of n own) ns ms ≡ true → AllByRecursion (IsSendable n own) ms → GoTo (IsKnown known) ms → AreSaid own ms xs →
     IsStepSent n own known core sessions said links ns c p ms xs
 step_sent n own known core sessions said links ns c p [] [] h goes can known_all are = record {

@@ -3,25 +3,25 @@ use Rattle.std.proofs.Common.{◌≡◌, ℕ, zero, suc, ◌*◌, ◌&&◌, ◌=
 use Rattle.std.specs.Prelude.{slice_get}
 use Rattle.std.specs.Option.{option_to_list}
 use Rattle.std.specs.List.{AllByRecursion}
-use Rattle.collective_blocks.specs.Blocks.{is_like}
-use Rattle.collective_notes.specs.Entering.{record_of}
-use Rattle.collective_notes.specs.Notes.{found_in, member_at}
-use Rattle.collective_notes.specs.Verdicts.{is_at, verdict}
-use Rattle.collective_notes.specs.Roles as roles
-use Rattle.member_trees.specs.Trees.{children, parent, turned, turned_back}
-use Rattle.collective_notes.specs.declared.entry.Entry.{Entry}
-use Rattle.collective_notes.specs.declared.entry.Entry.TheVariants as entries
-use Rattle.collective_notes.specs.declared.entry.Inside.{Inside}
-use Rattle.collective_notes.specs.declared.message.Given.{Given}
-use Rattle.collective_notes.specs.declared.message.Given.TheVariants as given
-use Rattle.collective_notes.specs.declared.message.Message.{Message}
-use Rattle.collective_notes.specs.declared.note.Note.{Note}
-use Rattle.collective_notes.specs.declared.note.Said.{Said}
-use Rattle.collective_notes.specs.declared.note.Said.TheVariants as said
-use Rattle.collective_notes.specs.declared.verdict.Verdict.{Verdict}
-use Rattle.collective_notes.specs.declared.verdict.Verdict.TheVariants as verdicts
-use Rattle.collective_steps.specs.Steps.{IsCarriedOut, IsDecided, IsHeard, IsPrepared, IsPreparedIn, Prepared, block_of, blocks_to, gathered, handed_in, leaving, leaving_on, leaving_with, message_to, no_step, ranks_at, ranks_of, reduced, scatter_step, telling_all, to_others, told_on, warned, word_given, word_messages, word_to}
-use Rattle.collective_steps.specs.declared.step.Outcome.TheVariants.{Leaves}
+use Rattle.collective_progress.specs.Blocks.{is_like}
+use Rattle.collective_messages.specs.Entering.{record_of}
+use Rattle.collective_messages.specs.Notes.{found_in, member_at}
+use Rattle.collective_messages.specs.Verdicts.{is_at, verdict}
+use Rattle.collective_messages.specs.Roles as roles
+use Rattle.binomial_trees.specs.Trees.{children, parent, rotate, rotate_back}
+use Rattle.collective_messages.specs.declared.entry.Entry.{Entry}
+use Rattle.collective_messages.specs.declared.entry.Entry.TheVariants as entries
+use Rattle.collective_messages.specs.declared.entry.Inside.{Inside}
+use Rattle.collective_messages.specs.declared.message.MessageContent.{MessageContent}
+use Rattle.collective_messages.specs.declared.message.MessageContent.TheVariants as given
+use Rattle.collective_messages.specs.declared.message.CollectiveMessage.{CollectiveMessage}
+use Rattle.collective_messages.specs.declared.note.Note.{Note}
+use Rattle.collective_messages.specs.declared.note.NoteContent.{NoteContent}
+use Rattle.collective_messages.specs.declared.note.NoteContent.TheVariants as said
+use Rattle.collective_messages.specs.declared.verdict.Verdict.{Verdict}
+use Rattle.collective_messages.specs.declared.verdict.Verdict.TheVariants as verdicts
+use Rattle.collective_steps.specs.Steps.{IsCarriedOut, IsDecided, IsHeard, IsPrepared, IsPreparedIn, Prepared, block_of, blocks_to, gather_blocks, handed_in, leaving, leaving_on, leaving_with, message_to, no_step, ranks_at, ranks_of, reduce_blocks, scatter_step, telling_all, to_others, passed_on, warned, word_given, word_messages, word_to}
+use Rattle.collective_steps.specs.declared.step.StepOutcome.TheVariants.{Leaves}
 use Rattle.context_agreement.specs.Communicators.{ContextsState}
 use Rattle.context_agreement.specs.declared.communicator.Communicator as held
 use Rattle.datatypes.specs.Contents.{Contents}
@@ -43,10 +43,10 @@ pub record AreTold (P : Endpoint → Type 0) (i : Inside) (ranks : List ℕ) : T
   pub onward : AreMembers P i i.role.onward
 
 -- these messages go to such
-abbrev pub GoTo : (Endpoint → Type 0) → List Message → Type 0
-GoTo P ms = AllByRecursion (λ (m : Message). P m.target) ms
+abbrev pub GoTo : (Endpoint → Type 0) → List CollectiveMessage → Type 0
+GoTo P ms = AllByRecursion (λ (m : CollectiveMessage). P m.target) ms
 
-others_go : (P : Endpoint → Type 0) (own : Endpoint) (i : Inside) (f : ℕ → Given) (ranks : List ℕ) → AreMembers P i ranks → GoTo P (to_others own i f ranks)
+others_go : (P : Endpoint → Type 0) (own : Endpoint) (i : Inside) (f : ℕ → MessageContent) (ranks : List ℕ) → AreMembers P i ranks → GoTo P (to_others own i f ranks)
 others_go P own i f [] all = tt
 others_go P own i f (r ∷ rs) all = go (is_same (member_at i.incarnation r) own) (others_go P own i f rs all.1)
   where
@@ -105,10 +105,10 @@ decided_go : (P : Endpoint → Type 0) (own : Endpoint) (i : Inside) (h : Contex
     IsDecided own i h ranks notes y step → GoTo P step.messages
 decided_go P own i h ranks notes entries.Barrier step told q = messages_go P step _ q (others_go P own i _ i.role.onward told.onward)
 decided_go P own i h ranks notes (entries.Bcast root b) step told q = messages_go P step _ q (others_go P own i _ i.role.onward told.onward)
-decided_go P own i h ranks notes (entries.Gather root b) step told q = messages_go P step _ q (leaving_goes P (is_at own i.incarnation ranks root) (gathered own i notes i.role.feeders b))
+decided_go P own i h ranks notes (entries.Gather root b) step told q = messages_go P step _ q (leaving_goes P (is_at own i.incarnation ranks root) (gather_blocks own i notes i.role.feeders b))
 decided_go P own i h ranks notes (entries.Scatter r b) step told q = messages_go P step _ q (scatter_goes P own i ranks r.root r.elements (handed_in r.elements b) told.all)
-decided_go P own i h ranks notes (entries.Reduce o root b) step told q = messages_go P step _ q (reduce_goes P own i (is_at own i.incarnation ranks root) (reduced own i notes i.role.feeders o b) told.onward)
-decided_go P own i h ranks notes (entries.Allreduce o b) step told q = messages_go P step _ q (telling_goes P own i i.role.onward (reduced own i notes i.role.feeders o b) told.onward)
+decided_go P own i h ranks notes (entries.Reduce o root b) step told q = messages_go P step _ q (reduce_goes P own i (is_at own i.incarnation ranks root) (reduce_blocks own i notes i.role.feeders o b) told.onward)
+decided_go P own i h ranks notes (entries.Allreduce o b) step told q = messages_go P step _ q (telling_goes P own i i.role.onward (reduce_blocks own i notes i.role.feeders o b) told.onward)
 decided_go P own i h ranks notes entries.Dup step told q = messages_go P step _ q (others_go P own i _ ranks told.all)
 decided_go P own i h ranks notes (entries.Split choice) step told q = messages_go P step _ q.2 (others_go P own i _ ranks told.all)
 
@@ -118,7 +118,7 @@ like_goes : (P : Endpoint → Type 0) (own : Endpoint) (i : Inside) (b : Content
 like_goes P own i b true all = others_go P own i (λ r. given.Elements FromRoot b) i.role.onward all
 like_goes P own i b false all = tt
 
-told_on_goes : (P : Endpoint → Type 0) (own : Endpoint) (i : Inside) (y : Entry) (w : Said) → AreMembers P i i.role.onward → GoTo P (told_on own i y w)
+told_on_goes : (P : Endpoint → Type 0) (own : Endpoint) (i : Inside) (y : Entry) (w : NoteContent) → AreMembers P i i.role.onward → GoTo P (passed_on own i y w)
 told_on_goes P own i entries.Barrier said.RecordsDiffer all = tt
 told_on_goes P own i entries.Barrier (said.Nothing way) all = others_go P own i (λ r. given.Nothing FromRoot) i.role.onward all
 told_on_goes P own i entries.Barrier (said.Elements way b) all = tt
@@ -160,7 +160,7 @@ warned_members P own i ranks t entries.Dup told = either_members P i ranks [] t 
 warned_members P own i ranks t (entries.Split a) told = either_members P i ranks [] t told.all tt
 
 -- its word goes to the one right above it
-word_to_goes : (P : Endpoint → Type 0) (own : Endpoint) (i : Inside) (o : Option ℕ) (g : Option Given) → AreMembers P i (option_to_list o) → GoTo P (word_to own i o g)
+word_to_goes : (P : Endpoint → Type 0) (own : Endpoint) (i : Inside) (o : Option ℕ) (g : Option MessageContent) → AreMembers P i (option_to_list o) → GoTo P (word_to own i o g)
 word_to_goes P own i None g all = tt
 word_to_goes P own i (Some r) None all = tt
 word_to_goes P own i (Some r) (Some g) all = others_go P own i (λ r. g) (r ∷ []) all
@@ -180,10 +180,10 @@ carried_go P own i h ranks notes verdicts.Breaks step told q =
 carried_go P own i h ranks notes verdicts.Waits step told q = messages_go P step _ q (word_goes P own i notes told.above)
 carried_go P own i h ranks notes verdicts.Decides step told q =
     messages_go P step _ q.2
-    (All_append (λ (m : Message). P m.target) (word_messages own i notes) q.0.messages (word_goes P own i notes told.above) (decided_go P own i h ranks notes i.entry q.0 told q.1))
+    (All_append (λ (m : CollectiveMessage). P m.target) (word_messages own i notes) q.0.messages (word_goes P own i notes told.above) (decided_go P own i h ranks notes i.entry q.0 told q.1))
 carried_go P own i h ranks notes (verdicts.Hears place) step told q =
     messages_go P step _ q.2
-    (All_append (λ (m : Message). P m.target) (word_messages own i notes) q.0.messages (word_goes P own i notes told.above)
+    (All_append (λ (m : CollectiveMessage). P m.target) (word_messages own i notes) q.0.messages (word_goes P own i notes told.above)
     (heard_go P own i ranks (slice_get notes place) q.0 told.onward q.1))
 
 -- ---- whom a rank tells by what it is: members too
@@ -216,8 +216,8 @@ below_of Q ranks (Some p) all = at_places Q ranks (children (length ranks) p) al
 onward_of : (Q : ℕ → Type 0) (top : ℕ) (ranks : List ℕ) (o : Option ℕ) → AllByRecursion Q ranks → AllByRecursion Q (roles.onward_place top ranks o)
 onward_of Q top ranks None all = tt
 onward_of Q top ranks (Some p) all =
-    some_of Q (roles.ranks_at ranks (map (turned_back top (length ranks)) (children (length ranks) (turned top (length ranks) p)))) (nat_lt top (length ranks))
-    (at_places Q ranks (map (turned_back top (length ranks)) (children (length ranks) (turned top (length ranks) p))) all)
+    some_of Q (roles.ranks_at ranks (map (rotate_back top (length ranks)) (children (length ranks) (rotate top (length ranks) p)))) (nat_lt top (length ranks))
+    (at_places Q ranks (map (rotate_back top (length ranks)) (children (length ranks) (rotate top (length ranks) p))) all)
 
 abbrev BothAre : (Q : ℕ → Type 0) → roles.RoleState → Type 0
 BothAre Q r = AllByRecursion Q (option_to_list r.above) × AllByRecursion Q r.onward

@@ -5,11 +5,11 @@ use Rattle.collective_transfers.specs.Payloads.{Whole}
 use Rattle.collective_transfers.specs.State.{is_due, whole_with}
 use Rattle.datagram.specs.Spelling.{DataText}
 use Rattle.engine.specs.Datagrams.{HeardGivesBy, HearingGives, NoticeText, OfAnnouncement, OfAnswer, OfMessage, OfPiece, PieceGivesBy, notice_in}
-use Rattle.engine_parts.specs.EngineState.{EngineState, completion_of, emptied}
+use Rattle.engine_calls.specs.EngineState.{EngineState, completion_of, emptied}
 use Rattle.engine.specs.Ticks.{after_tick}
 use Rattle.proof_group_network.specs.Network.{GroupNetwork}
 use Rattle.proof_link_truth.specs.Events.{IsAt, RefusalsAreTrue, RestIsTrue, TicksAreTrue}
-use Rattle.rank_calls.specs.declared.refused.Refused.{Refused}
+use Rattle.point_to_point_calls.specs.declared.refusal.Refusal.{Refusal}
 use Rattle.sessions.specs.Heard.{HeardText, heard_of}
 use Rattle.sessions.specs.declared.heard.Unheard.{Unheard}
 use Rattle.proof_network_bridge.specs.GoingOn.{IsFollowedBy, RefusalsStand, TicksStand}
@@ -32,12 +32,12 @@ ticks_stand truth n r now before engines datagrams history old mid by there give
 -- ---- a datagram that is refused
 
 -- a piece that is refused changes nothing
-piece_leaves : (due : Bool) (w : Option Whole) (old mid : EngineState) (h : HeardText) (t : DataText) (why : Refused) → PieceGivesBy due w old h t (Err why) mid → mid ≡ old
+piece_leaves : (due : Bool) (w : Option Whole) (old mid : EngineState) (h : HeardText) (t : DataText) (why : Refusal) → PieceGivesBy due w old h t (Err why) mid → mid ≡ old
 piece_leaves true w old mid h t why gives = gives.1
 piece_leaves false w old mid h t why gives = gives.1
 
 -- what was heard and is refused changes nothing, be it of a collective or anything else
-refused_leaves : (o : Option NoticeText) (old mid : EngineState) (h : HeardText) (why : Refused) → HeardGivesBy o old h (Err why) mid → mid ≡ old
+refused_leaves : (o : Option NoticeText) (old mid : EngineState) (h : HeardText) (why : Refusal) → HeardGivesBy o old h (Err why) mid → mid ≡ old
 refused_leaves None old mid h why gives = gives.2
 refused_leaves (Some (OfMessage t)) old mid h why gives = gives.1
 refused_leaves (Some (OfAnnouncement t)) old mid h why gives = gives.1

@@ -4,18 +4,18 @@ use Rattle.std.specs.List.{AllByRecursion}
 use Rattle.std.proofs.lemmas.Option.{same_Some}
 use Rattle.datagram.specs.Spelling.{FrameText}
 use Rattle.engine.specs.Datagrams.{after_heard, frame_in, heard_fault, hold_fault, news_of, replies}
-use Rattle.engine_parts.specs.EngineState.{EngineState}
-use Rattle.engine_parts.specs.Frames.{sending_of}
-use Rattle.engine_parts.specs.Refusals.{fault_of_sessions, first_fault}
+use Rattle.engine_calls.specs.EngineState.{EngineState}
+use Rattle.engine_calls.specs.Frames.{sending_of}
+use Rattle.engine_calls.specs.Refusals.{fault_of_sessions, first_fault}
 use Rattle.incarnation.specs.declared.place.Place.{Place}
-use Rattle.rank_calls.specs.Frames.{FrameFor}
-use Rattle.rank_calls.specs.Hearing as core_hearing
-use Rattle.rank_calls.specs.Hearing.{transfers_met}
-use Rattle.rank_core.specs.CoreState.{CoreState}
-use Rattle.rank_core.specs.Hearing as core
-use Rattle.rank_core.specs.Hearing.{after_any, after_news, called_for, news_fault, news_frames}
+use Rattle.point_to_point_calls.specs.Frames.{FrameFor}
+use Rattle.point_to_point_calls.specs.Hearing as core_hearing
+use Rattle.point_to_point_calls.specs.Hearing.{transfers_met}
+use Rattle.point_to_point.specs.CoreState.{CoreState}
+use Rattle.point_to_point.specs.Arrivals as core
+use Rattle.point_to_point.specs.Arrivals.{after_any, after_news, called_for, news_fault, news_frames}
 use Rattle.rendezvous.specs.State as rendezvous
-use Rattle.sessions.specs.declared.refused.Refused as below_refused
+use Rattle.sessions.specs.declared.refusal.SessionRefusal as below_refused
 use Rattle.sessions.specs.Events as below_events
 use Rattle.sessions.specs.Events.{Sending, after_event, event_limit, first_limit, heard_limit, sends_limit}
 use Rattle.sessions.specs.Heard.{Acknowledges, Follows, Hands, HeardText, Holds, Nothing, Repeats, WordText}
@@ -41,7 +41,7 @@ use Rattle.proof_link_truth.specs.Events as below
 use Rattle.proof_link_truth.specs.Events.{IsTrueWord, MaySendAll, all_addressed, links_heeded}
 use Rattle.proof_link_truth.specs.Links as lower
 use Rattle.proof_link_truth.specs.Wire.{at}
-use Rattle.proof_links.specs.Links.{LinksOf}
+use Rattle.endpoint_links.specs.Links.{LinksOf}
 use Rattle.proof_pure_network.specs.Announced.{MeetingsStand}
 use Rattle.proof_pure_network.specs.Core.{Effect}
 use Rattle.proof_pure_network.specs.Engine.{came, met}
@@ -91,7 +91,7 @@ hands_none texts s own (Follows f) is = absurd cc
 hands_none texts s own Nothing is = refl
 
 -- the transfers of a core that learnt a lesson are those that are met by it
-pub transfers_taught : (lesson : Bool) (c : CoreState) (s : Endpoint) → (core.taught lesson c s).transfers ≡ transfers_met lesson c.transfers s.rank
+pub transfers_taught : (lesson : Bool) (c : CoreState) (s : Endpoint) → (core.after_lesson lesson c s).transfers ≡ transfers_met lesson c.transfers s.rank
 transfers_taught true c s = refl
 transfers_taught false c s = refl
 
@@ -119,7 +119,7 @@ core_hears shows n r engines current u texts s e b y meetings o meant within tak
     own = at r (current r)
 
 -- what neither of two limits refuses, the second doesn't
-pub second_none : (a b : Option below_refused.Refused) → first_limit a b ≡ None → b ≡ None
+pub second_none : (a b : Option below_refused.SessionRefusal) → first_limit a b ≡ None → b ≡ None
 second_none None b h = h
 second_none (Some e) b h = absurd cc
 

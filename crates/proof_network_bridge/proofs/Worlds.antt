@@ -8,8 +8,8 @@ use Rattle.vocabulary.specs.Endpoints.{is_same}
 use Rattle.perfect_queues.specs.State.{with_number}
 use Rattle.vocabulary.specs.declared.endpoint.Endpoint.{Endpoint}
 use Rattle.perfect_queues.proofs.EndpointLemmas.{same_eq}
-use Rattle.rank_core.specs.CoreState.{CoreState}
-use Rattle.engine_parts.specs.EngineState.{EngineState}
+use Rattle.point_to_point.specs.CoreState.{CoreState}
+use Rattle.engine_calls.specs.EngineState.{EngineState}
 use Rattle.proof_pure_network.specs.Core.{Core}
 use Rattle.proof_pure_network.specs.Announced.{Begins}
 use Rattle.proof_pure_network.specs.Frames.{Cts, Data, Eager, Frame, Rts}
@@ -18,10 +18,10 @@ use Rattle.proof_engine_view.specs.Transfers.{announced_in as frames_announced}
 use Rattle.proof_engine_view.proofs.Growing.{announced_append as frames_append}
 use Rattle.proof_group_network.proofs.SessionParts.{same_accepted}
 use Rattle.proof_group_network.specs.Carried.{Carried, OfMessages, Session, Sessions, frames_carried}
-use Rattle.proof_links.specs.Links.{LinksOf, accept, accept_all, handed_on}
+use Rattle.endpoint_links.specs.Links.{LinksOf, accept, accept_all, handed_on}
 use Rattle.proof_session_carrying.proofs.Carrying.{accepted_begins}
 use Rattle.proof_session_carrying.proofs.Growing.{announced_append, announced_grow, at_here, same_begins, transfers_grow}
-use Rattle.collective_notes.specs.declared.message.Message.{Message}
+use Rattle.collective_messages.specs.declared.message.CollectiveMessage.{CollectiveMessage}
 use Rattle.datagram.specs.Spelling.{FrameText}
 use Rattle.proof_link_truth.specs.Sessions.{SessionsTell, is_pair}
 use Rattle.proof_session_carrying.specs.Announced.{Announced, all_announced, announced_in, announcements_in, transfer_as, transfers_as}
@@ -95,7 +95,7 @@ is_at n r engines datagrams w old j there = record { there = sessions_there engi
 -- ---- what was accepted nowhere
 
 -- where no text was accepted, nothing was
-nothing_stands : (out back : List Announced) (said : List Message) (texts : List FrameText) (xs : List Carried) → StandFor out back said texts xs → texts ≡ [] → xs ≡ []
+nothing_stands : (out back : List Announced) (said : List CollectiveMessage) (texts : List FrameText) (xs : List Carried) → StandFor out back said texts xs → texts ≡ [] → xs ≡ []
 nothing_stands out back said [] [] stand none = refl
 nothing_stands out back said [] (x ∷ xs) stand none = absurd stand
 nothing_stands out back said (t ∷ ts) xs stand none = absurd cc

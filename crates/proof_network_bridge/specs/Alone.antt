@@ -1,11 +1,11 @@
 -- An engine alone, without a world: why it refuses a call, and that it takes none with a fault, by its own part of the machine.
 use Rattle.std.specs.Prelude.{◌≡◌, ℕ, List, Option, Some, None, slice_get}
-use Rattle.engine_parts.specs.Calls.{CallGives, IsTaken}
-use Rattle.engine_parts.specs.EngineState.{EngineState}
-use Rattle.engine_parts.specs.Faults.{fault_of}
-use Rattle.engine_parts.specs.declared.call.Call.{Call}
-use Rattle.engine_parts.specs.declared.reply.Reply.{Reply}
-use Rattle.engine_parts.specs.declared.reply.Reply.TheVariants as replies
+use Rattle.engine_calls.specs.Calls.{CallGives, IsTaken}
+use Rattle.engine_calls.specs.EngineState.{EngineState}
+use Rattle.engine_calls.specs.Faults.{fault_of}
+use Rattle.engine_calls.specs.declared.call.Call.{Call}
+use Rattle.engine_calls.specs.declared.reply.Reply.{Reply}
+use Rattle.engine_calls.specs.declared.reply.Reply.TheVariants as replies
 use Rattle.perfect_groups.specs.Calls as machine
 use Rattle.perfect_groups.specs.Events.{Entry}
 use Rattle.perfect_groups.specs.Faults.{fault}
@@ -17,13 +17,13 @@ use Rattle.proof_group_network.specs.Notices.{Member}
 use Rattle.proof_pure_network.specs.Core.{Core, view}
 use Rattle.proof_pure_network.specs.Held.{blank}
 use Rattle.proof_queue_calls.specs.Halves.{AreInWorld}
-use Rattle.rank_calls.specs.declared.refused.Refused.{Refused}
+use Rattle.point_to_point_calls.specs.declared.refusal.Refusal.{Refusal}
 use Rattle.proof_network_bridge.specs.Following.{IsFaultless}
 use Rattle.proof_network_bridge.specs.Joined.{IsFollowed}
 use Rattle.proof_network_bridge.specs.Seen.{call_meant, call_seen}
 
 -- An engine is a rank: it holds the requests and messages that this core holds, and knows the ranks as the core does; it holds the
--- communicators that this member holds, and is in the same collective; and these are of ranks of its job. `announced` are the
+-- communicators that this member holds, and is in the same collective; and these are of ranks of its job. `progress_on_announcement` are the
 -- numbers of large messages
 pub record IsRank (e : EngineState) (core : Core) (m : Member) : Type 0 where
   pub announced : Announcements
@@ -39,7 +39,7 @@ fault_alone e core m call = fault e.sessions.place.endpoint (view blank core) m.
 -- a call that an engine refuses has the machine's first fault, by its number; or the machine finds none, and the number is 13 or 14
 abbrev pub EnginesRefuseAsTheMachine : Type 0
 EnginesRefuseAsTheMachine =
-    (e mid : EngineState) (core : Core) (m : Member) (call back : Call) (why : Refused) → IsRank e core m →
+    (e mid : EngineState) (core : Core) (m : Member) (call back : Call) (why : Refusal) → IsRank e core m →
     CallGives e call (replies.Refused why back) mid → IsReason (fault_alone e core m (call_meant e.core call)) why
 
 -- a call that it takes names no request of another engine, and the machine finds no fault with it

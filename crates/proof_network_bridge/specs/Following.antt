@@ -1,17 +1,17 @@
 -- A world of engines follows the pure network with communicators, event by event.
 use Rattle.std.specs.Prelude.{◌≡◌, ℕ, suc, ◌<◌, ◌≤◌, List, [], ◌∷◌, ◌++◌, Option, Some, None, Ok, Err, slice_get, slice_set, slice_index}
 use Rattle.incarnation.specs.declared.place.Place.{Place}
-use Rattle.rank_calls.specs.declared.refused.Refused.{Refused}
-use Rattle.rank_core.specs.CoreState.{CoreState}
-use Rattle.engine_parts.specs.Calls.{CallGives, IsTaken}
+use Rattle.point_to_point_calls.specs.declared.refusal.Refusal.{Refusal}
+use Rattle.point_to_point.specs.CoreState.{CoreState}
+use Rattle.engine_calls.specs.Calls.{CallGives, IsTaken}
 use Rattle.engine.specs.Datagrams.{DatagramGives}
-use Rattle.engine_parts.specs.EngineState.{EngineState, completion_of, emptied, member_of, opening}
+use Rattle.engine_calls.specs.EngineState.{EngineState, completion_of, emptied, member_of, opening}
 use Rattle.engine.specs.Ticks.{TickGives}
-use Rattle.engine_parts.specs.declared.call.Call.{Call}
-use Rattle.engine_parts.specs.declared.call.Call.TheVariants as calls
-use Rattle.engine_parts.specs.declared.call.Probe.{Probe}
-use Rattle.engine_parts.specs.declared.reply.Reply.{Reply}
-use Rattle.engine_parts.specs.declared.reply.Reply.TheVariants as replies
+use Rattle.engine_calls.specs.declared.call.Call.{Call}
+use Rattle.engine_calls.specs.declared.call.Call.TheVariants as calls
+use Rattle.engine_calls.specs.declared.call.Probe.{Probe}
+use Rattle.engine_calls.specs.declared.reply.Reply.{Reply}
+use Rattle.engine_calls.specs.declared.reply.Reply.TheVariants as replies
 use Rattle.perfect_groups.specs.Calls as machine_calls
 use Rattle.perfect_groups.specs.Calls.{held_at, queue_call}
 use Rattle.perfect_groups.specs.Communicators.{Communicator}
@@ -37,7 +37,7 @@ abbrev pub TakesDatagram : (old : EngineState) → (bytes : List ℕ) → (new :
 TakesDatagram old bytes new = DatagramGives old bytes (Ok tt) new
 
 -- the bytes are refused for this, and leave the engine so
-abbrev pub RefusesDatagram : (old : EngineState) → (bytes : List ℕ) → (why : Refused) → (new : EngineState) → Type 0
+abbrev pub RefusesDatagram : (old : EngineState) → (bytes : List ℕ) → (why : Refusal) → (new : EngineState) → Type 0
 RefusesDatagram old bytes why new = DatagramGives old bytes (Err why) new
 
 -- the engine's clock is set to this time, and what is due goes out again
@@ -45,7 +45,7 @@ abbrev pub TakesTick : (old : EngineState) → (now : ℕ) → (new : EngineStat
 TakesTick old now new = TickGives old now (Ok tt) new
 
 -- the tick is refused for this, and leaves the engine so
-abbrev pub RefusesTick : (old : EngineState) → (now : ℕ) → (why : Refused) → (new : EngineState) → Type 0
+abbrev pub RefusesTick : (old : EngineState) → (now : ℕ) → (why : Refusal) → (new : EngineState) → Type 0
 RefusesTick old now why new = TickGives old now (Err why) new
 
 -- ---- what it leaves
@@ -84,7 +84,7 @@ DatagramsFollow =
 abbrev pub RefusalsFollow : Type 0
 RefusalsFollow =
     (n r number : ℕ) (bytes : List ℕ) (engines : List EngineState) (datagrams : List (ℕ × List ℕ))
-    (history : List machine.Entry) (old mid : EngineState) (why : Refused) →
+    (history : List machine.Entry) (old mid : EngineState) (why : Refusal) →
     IsFollowed n engines datagrams history → slice_get engines r ≡ Some old →
     slice_get datagrams number ≡ Some (r, bytes) → RefusesDatagram old bytes why mid →
     LeavesFollowed n engines datagrams r mid history
@@ -154,7 +154,7 @@ pub record IsSeenOfMachine (n : ℕ) (engines : List EngineState) (history : Lis
   -- a call that the engine refuses has the machine's first fault there, by its number; or the machine finds none, and the number is
   -- 13 or 14
   pub refuses :
-      (r : ℕ) (e mid : EngineState) (call back : Call) (why : Refused) → slice_get engines r ≡ Some e →
+      (r : ℕ) (e mid : EngineState) (call back : Call) (why : Refusal) → slice_get engines r ≡ Some e →
       CallGives e call (replies.Refused why back) mid →
       IsReason (fault_in (after_run (machine_opening n) events) e.sessions.place.endpoint (call_meant e.core call)) why
   -- the machine finds no fault with a call that the engine takes

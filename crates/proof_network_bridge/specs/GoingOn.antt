@@ -1,16 +1,16 @@
 -- A world of engines follows the pure network with communicators and goes on from the happenings that it followed before: by one
 -- more at the rank of the event, or by none.
 use Rattle.std.specs.Prelude.{◌≡◌, ℕ, ◌<◌, ◌≤◌, List, [], ◌∷◌, ◌++◌, Some, slice_get, slice_set}
-use Rattle.engine_parts.specs.Calls.{CallGives, IsTaken}
-use Rattle.engine_parts.specs.EngineState.{EngineState, completion_of, emptied, member_of, opening}
-use Rattle.engine_parts.specs.declared.call.Call.{Call}
-use Rattle.engine_parts.specs.declared.reply.Reply.{Reply}
+use Rattle.engine_calls.specs.Calls.{CallGives, IsTaken}
+use Rattle.engine_calls.specs.EngineState.{EngineState, completion_of, emptied, member_of, opening}
+use Rattle.engine_calls.specs.declared.call.Call.{Call}
+use Rattle.engine_calls.specs.declared.reply.Reply.{Reply}
 use Rattle.perfect_groups.specs.Communicators.{Communicator}
 use Rattle.perfect_groups.specs.Events as machine
 use Rattle.perfect_groups.specs.Soundness.{IsAmong}
 use Rattle.proof_group_network.specs.Network.{Happening}
 use Rattle.proof_network_runs.specs.Runs.{GoesWith, rank_of}
-use Rattle.rank_calls.specs.declared.refused.Refused.{Refused}
+use Rattle.point_to_point_calls.specs.declared.refusal.Refusal.{Refusal}
 use Rattle.vocabulary.specs.Endpoints.{last_incarnation}
 use Rattle.proof_network_bridge.specs.Following.{IsSeenOfMachine, RefusesDatagram, TakesDatagram, TakesTick, next_place}
 use Rattle.proof_network_bridge.specs.Joined.{IsJoined, network_after, opening_engines}
@@ -64,7 +64,7 @@ DatagramsFollowOn =
 abbrev pub RefusalsStand : Type 0
 RefusalsStand =
     (n r number : ℕ) (bytes : List ℕ) (before : List Happening) (engines : List EngineState) (datagrams : List (ℕ × List ℕ))
-    (history : List machine.Entry) (old mid : EngineState) (why : Refused) →
+    (history : List machine.Entry) (old mid : EngineState) (why : Refusal) →
     IsFollowedBy n before engines datagrams history → slice_get engines r ≡ Some old → slice_get datagrams number ≡ Some (r, bytes) →
     RefusesDatagram old bytes why mid →
     IsFollowedBy n before (slice_set engines r (emptied mid)) (datagrams ++ mid.sessions.out) history

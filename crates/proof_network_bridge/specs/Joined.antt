@@ -1,7 +1,7 @@
 -- What joins a world of engines to the pure network with communicators.
 use Rattle.std.specs.Prelude.{◌≡◌, ℕ, zero, suc, ◌<◌, ◌≤◌, List, [], ◌∷◌, map, Some, None, slice_get}
 use Rattle.datagram.specs.Spelling.{FrameText}
-use Rattle.engine_parts.specs.EngineState.{EngineState, opening}
+use Rattle.engine_calls.specs.EngineState.{EngineState, opening}
 use Rattle.perfect_groups.specs.Events.{Entry}
 use Rattle.proof_collective_steps.specs.Shown as collectives
 use Rattle.proof_engine_view.specs.Shown.{IsShown}
@@ -9,7 +9,7 @@ use Rattle.proof_group_network.specs.Carried.{Sessions}
 use Rattle.proof_group_network.specs.Network.{GroupNetwork, Happening, new_group_network, run}
 use Rattle.proof_link_truth.specs.Truth.{AreTrue}
 use Rattle.proof_link_truth.specs.Wire.{at, place_of}
-use Rattle.proof_links.specs.Links.{LinksOf}
+use Rattle.endpoint_links.specs.Links.{LinksOf}
 use Rattle.proof_pure_network.specs.Core.{new_core}
 use Rattle.proof_pure_network.specs.Network.{here}
 use Rattle.proof_session_carrying.specs.Announced.{announcements_in}

@@ -1,7 +1,7 @@
 -- For what the payloads of collectives stand that an engine announced, and those that come to it in pieces.
 use Rattle.std.specs.Prelude.{◌≡◌, ℕ, ◌*◌, ◌<◌, ◌≤◌, List, Some, length, slice_get, take}
 use Rattle.std.specs.List.{AllByRecursion}
-use Rattle.collective_notes.specs.declared.message.Message.{Message}
+use Rattle.collective_messages.specs.declared.message.CollectiveMessage.{CollectiveMessage}
 use Rattle.collective_transfers.specs.Payloads.{Announced, Coming}
 use Rattle.collective_transfers.specs.State as payloads
 use Rattle.proof_engine_view.specs.Frames.{endpoint_of}
@@ -14,7 +14,7 @@ use Rattle.vocabulary.specs.Limits.{eager_limit, send_limit}
 use Rattle.vocabulary.specs.declared.endpoint.Endpoint.{Endpoint}
 
 -- A session of s with d announced a notice under the number of a transfer; this message is the notice, and is too long for a frame
-pub record IsLargeNotice (sessions : Sessions) (said : Saying) (s d : Endpoint) (transfer : ℕ) (m : Message) : Type 0 where
+pub record IsLargeNotice (sessions : Sessions) (said : Saying) (s d : Endpoint) (transfer : ℕ) (m : CollectiveMessage) : Type 0 where
   pub number : ℕ
   pub named : slice_get (all_announced sessions s d) transfer ≡ Some (LargeNotice number)
   pub there : slice_get (said s d) number ≡ Some m
@@ -22,7 +22,7 @@ pub record IsLargeNotice (sessions : Sessions) (said : Saying) (s d : Endpoint) 
 
 -- a payload that the endpoint announced is a notice of its session with the endpoint at which its rank is known
 pub record IsAnnouncedPayload (sessions : Sessions) (said : Saying) (own : Endpoint) (known : List ℕ) (a : Announced) : Type 0 where
-  pub message : Message
+  pub message : CollectiveMessage
   pub notice : IsLargeNotice sessions said own (endpoint_of known a.target) a.transfer message
   pub bytes : a.bytes ≡ bytes_of_message message
   -- it can be sent
@@ -30,7 +30,7 @@ pub record IsAnnouncedPayload (sessions : Sessions) (said : Saying) (own : Endpo
 
 -- a payload that comes to it is one of that endpoint's session with it, and its first pieces have come
 pub record IsComingPayload (sessions : Sessions) (said : Saying) (own : Endpoint) (known : List ℕ) (c : Coming) : Type 0 where
-  pub message : Message
+  pub message : CollectiveMessage
   pub notice : IsLargeNotice sessions said (endpoint_of known c.source) own c.transfer message
   pub context : c.context ≡ message.context
   pub number : c.number ≡ message.number

@@ -3,22 +3,22 @@ use Rattle.std.specs.Prelude.{ℕ, List, [], ◌∷◌, Option, Some, None}
 use Rattle.vocabulary.specs.declared.endpoint.Endpoint.{Endpoint}
 use Rattle.communicators.specs.Members.{call_of}
 use Rattle.communicators.specs.Questions.{question_of}
-use Rattle.engine_parts.specs.Calls.{fact_said}
-use Rattle.engine_parts.specs.declared.call.Call as engine
-use Rattle.engine_parts.specs.declared.call.Call.TheVariants as calls
-use Rattle.engine_parts.specs.declared.reply.Completion.{Completion}
-use Rattle.engine_parts.specs.declared.reply.Completion.TheVariants as completions
-use Rattle.engine_parts.specs.declared.reply.Reply as engine_replies
-use Rattle.engine_parts.specs.declared.reply.Reply.TheVariants as replies
+use Rattle.engine_calls.specs.Calls.{fact_said}
+use Rattle.engine_calls.specs.declared.call.Call as engine
+use Rattle.engine_calls.specs.declared.call.Call.TheVariants as calls
+use Rattle.engine_calls.specs.declared.reply.Completion.{Completion}
+use Rattle.engine_calls.specs.declared.reply.Completion.TheVariants as completions
+use Rattle.engine_calls.specs.declared.reply.Reply as engine_replies
+use Rattle.engine_calls.specs.declared.reply.Reply.TheVariants as replies
 use Rattle.perfect_groups.specs.Calls.{ByCollective, ByRequests, Call, Cancel, Enter, Improbe, Inquire, Iprobe, Irecv, Isend, Mrecv, OfCollective, OfFact, OfRequests, Test, Wait}
 use Rattle.perfect_groups.specs.Events.{Called, Completed, Entry}
 use Rattle.perfect_queues.specs.Calls as queues
 use Rattle.perfect_queues.specs.Completions.{ForMatch, ForProbe}
 use Rattle.proof_collective_steps.specs.Shown.{ending_is}
 use Rattle.proof_engine_view.specs.Seen.{answer_seen, awaited_by, match_seen, own_serial, request_by, serial_meant}
-use Rattle.rank_core.specs.CoreState.{CoreState}
+use Rattle.point_to_point.specs.CoreState.{CoreState}
 use Rattle.requests.specs.Regions.{handed_of}
-use Rattle.requests.specs.declared.awaited.Awaited.TheVariants as awaiteds
+use Rattle.requests.specs.declared.awaited_requests.Awaited.TheVariants as awaiteds
 use Rattle.requests.specs.declared.table.Request.{Request}
 
 -- a call, where requests are named so

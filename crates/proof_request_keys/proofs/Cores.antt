@@ -8,31 +8,31 @@ use Rattle.datagram.specs.Spelling.{ClearFrame, DataFrame, EagerFrame, FrameText
 use Rattle.requests.specs.Completions.{completion}
 use Rattle.requests.specs.Table.{message_in, progress_at}
 use Rattle.requests.specs.declared.answer.Answer.{Answer}
-use Rattle.requests.specs.declared.awaited.Awaited.{Awaited}
-use Rattle.requests.specs.declared.awaited.Awaited.TheVariants.{AllOf, AnyOf, One}
+use Rattle.requests.specs.declared.awaited_requests.Awaited.{Awaited}
+use Rattle.requests.specs.declared.awaited_requests.Awaited.TheVariants.{AllOf, AnyOf, One}
 use Rattle.requests.specs.declared.region.Region.{Region}
-use Rattle.requests.specs.declared.table.Progress.{Progress}
-use Rattle.requests.specs.declared.table.Progress.TheVariants.{Receiving, Collecting, Offering, TakenOut, Finished}
+use Rattle.requests.specs.declared.table.RequestProgress.{RequestProgress}
+use Rattle.requests.specs.declared.table.RequestProgress.TheVariants.{Receiving, Collecting, Offering, TakenOut, Finished}
 use Rattle.requests.specs.declared.table.Request.{Request}
-use Rattle.rank_calls.specs.Calls.{Starts}
-use Rattle.rank_calls.specs.Hearing.{NewsText, announced_of, message_of}
-use Rattle.rank_calls.specs.declared.call.Call.{Call}
-use Rattle.rank_calls.specs.declared.call.Call.TheVariants as calls
-use Rattle.rank_calls.specs.declared.call.Probe.{Probe}
-use Rattle.rank_calls.specs.declared.call.Receive.{Receive}
-use Rattle.rank_calls.specs.declared.call.Reply.{Reply}
-use Rattle.rank_calls.specs.declared.call.Reply.TheVariants as replies
-use Rattle.rank_calls.specs.declared.call.Send.{Send}
-use Rattle.rank_calls.specs.declared.sending.Destination.{Destination}
-use Rattle.rank_calls.specs.Sending.{announced_to, destination, is_to_itself, offered_by}
+use Rattle.point_to_point_calls.specs.Calls.{Starts}
+use Rattle.point_to_point_calls.specs.Hearing.{NewsText, announced_of, message_of}
+use Rattle.point_to_point_calls.specs.declared.call.CoreCall.{CoreCall}
+use Rattle.point_to_point_calls.specs.declared.call.CoreCall.TheVariants as calls
+use Rattle.point_to_point_calls.specs.declared.call.CoreProbe.{CoreProbe}
+use Rattle.point_to_point_calls.specs.declared.call.CoreReceive.{CoreReceive}
+use Rattle.point_to_point_calls.specs.declared.call.CoreReply.{CoreReply}
+use Rattle.point_to_point_calls.specs.declared.call.CoreReply.TheVariants as replies
+use Rattle.point_to_point_calls.specs.declared.call.CoreSend.{CoreSend}
+use Rattle.point_to_point_calls.specs.declared.sends.Destination.{Destination}
+use Rattle.point_to_point_calls.specs.Sending.{announced_to, destination, is_to_itself, offered_by}
 use Rattle.requests.specs.Regions.{sent_from}
-use Rattle.rank_core.specs.Calls.{Answers}
-use Rattle.rank_core.specs.CoreState.{CoreState}
-use Rattle.rank_core.specs.Hearing.{after_any, after_frame, after_news, keys_ending, taught}
-use Rattle.rank_core.specs.Messages.{Receives, Searches, SearchesFrom, TakesOut, found_for, own_send_of, received}
-use Rattle.rank_core.specs.Receiving.{IsPosting, IsReceiving, IsReceivingNothing, ReceivesFrom}
-use Rattle.rank_core.specs.Sending.{IsSending, arrived, arrived_at_itself, arrived_if, waiting_of}
-use Rattle.rank_core.specs.Waiting.{Cancels, Tests, TestsBy, Waits, WaitsBy, answered_by, cancelled, cancelled_at, woken, woken_by}
+use Rattle.point_to_point.specs.Calls.{Answers}
+use Rattle.point_to_point.specs.CoreState.{CoreState}
+use Rattle.point_to_point.specs.Arrivals.{after_any, after_frame, after_news, keys_ending, after_lesson}
+use Rattle.point_to_point.specs.Messages.{Receives, Searches, SearchesFrom, TakesOut, found_for, own_send_of, received}
+use Rattle.point_to_point.specs.Receiving.{IsPosting, IsReceiving, IsReceivingNothing, ReceivesFrom}
+use Rattle.point_to_point.specs.Sending.{IsSending, after_arrival, arrived_at_itself, arrived_if, waiting_of}
+use Rattle.point_to_point.specs.Waiting.{Cancels, Tests, TestsBy, Waits, WaitsBy, answered_by, cancelled, cancelled_at, after_wake, woken_by}
 use Rattle.vocabulary.specs.declared.endpoint.Endpoint.{Endpoint}
 use Rattle.vocabulary.specs.declared.envelope.Source.{Source}
 use Rattle.vocabulary.specs.declared.envelope.Source.TheVariants as sources
@@ -58,8 +58,8 @@ pub as_stays : (old mid new : CoreState) → new ≡ mid → StaysIn old mid →
 as_stays old mid new same stays = then_stays old mid new stays (same_stays mid new same)
 
 -- a message came
-arrived_stays : (c : CoreState) (m : Message) → StaysIn c (arrived c m)
-unfolding arrived
+arrived_stays : (c : CoreState) (m : Message) → StaysIn c (after_arrival c m)
+unfolding after_arrival
 arrived_stays c m = record { all = λ P all. arrival_stays P c.slots (arrival_of c.queues m) all; serial = refl; place = refl }
 
 itself_stays : (c : CoreState) (o : Option Destination) (waiting : Option Request) (elements : Contents) → StaysIn c (arrived_at_itself c o waiting elements)
@@ -71,7 +71,7 @@ itself_stays c (Some d) waiting elements = go (d.rank == c.place.endpoint.rank)
     go false = same_stays c c refl
 
 -- what was heard
-taught_stays : (lesson : Bool) (c : CoreState) (s : Endpoint) → StaysIn c (taught lesson c s)
+taught_stays : (lesson : Bool) (c : CoreState) (s : Endpoint) → StaysIn c (after_lesson lesson c s)
 taught_stays false c s = same_stays c c refl
 taught_stays true c s = record { all = λ P all. replaces_stay P c.slots (keys_ending c s) all; serial = refl; place = refl }
 
@@ -86,7 +86,7 @@ any_stays c s None = same_stays c c refl
 any_stays c s (Some f) = frame_stays c s f
 
 pub news_stay : (c : CoreState) (n : NewsText) → StaysIn c (after_news c n)
-news_stay c n = then_stays c (taught n.lesson c n.source) (after_news c n) (taught_stays n.lesson c n.source) (any_stays (taught n.lesson c n.source) n.source n.frame)
+news_stay c n = then_stays c (after_lesson n.lesson c n.source) (after_news c n) (taught_stays n.lesson c n.source) (any_stays (after_lesson n.lesson c n.source) n.source n.frame)
 
 -- the blocked call is answered
 woken_by_stays : (c : CoreState) (o : Option Awaited) → StaysIn c (woken_by c o)
@@ -97,14 +97,14 @@ woken_by_stays c (Some a) = go (completion c.slots a)
     go None = same_stays c c refl
     go (Some (answer, used)) = record { all = λ P all. use_stays P c.slots used all; serial = refl; place = refl }
 
-pub woken_stays : (c : CoreState) → StaysIn c (woken c)
-unfolding woken
+pub woken_stays : (c : CoreState) → StaysIn c (after_wake c)
+unfolding after_wake
 woken_stays c = woken_by_stays c c.blocked
 
 -- ---- what a call starts
 
 -- the request that a reply of the core gives, if it does
-abbrev pub request_in : Reply → Option Request
+abbrev pub request_in : CoreReply → Option Request
 request_in (replies.Started q) = Some q
 request_in (replies.Done a) = None
 request_in replies.Pending = None
@@ -119,20 +119,20 @@ pub record IsNext (old new : CoreState) (q : Request) : Type 0 where
   pub later : new.serial ≡ old.serial + 1
 
 -- A call leaves what is so of each request, where it is so of the one that it starts
-pub record GoesOn (old : CoreState) (reply : Reply) (new : CoreState) : Type 1 where
+pub record GoesOn (old : CoreState) (reply : CoreReply) (new : CoreState) : Type 1 where
   pub all : (P : ℕ → ℕ → Type 0) → ((q : Request) → request_in reply ≡ Some q → P q.key old.serial) → All P old.slots → All P new.slots
   pub grows : old.serial ≤ new.serial
   pub next : (q : Request) → request_in reply ≡ Some q → IsNext old new q
   pub place : new.place ≡ old.place
 
 -- what starts nothing
-stays_on : (old new : CoreState) (reply : Reply) → ((q : Request) → request_in reply ≡ Some q → ⊥) → StaysIn old new → GoesOn old reply new
+stays_on : (old new : CoreState) (reply : CoreReply) → ((q : Request) → request_in reply ≡ Some q → ⊥) → StaysIn old new → GoesOn old reply new
 stays_on old new reply none stays =
     let same : new.serial ≡ old.serial = stays.serial in
     record { all = λ P start all. stays.all P all; grows = omega (arith, same); next = λ q is. absurd (none q is); place = stays.place }
 
 -- what starts a request
-starts_on : (old new : CoreState) (reply : Reply) (r : Request) → request_in reply ≡ Some r → r.serial ≡ old.serial → new.serial ≡ old.serial + 1 → new.place ≡ old.place →
+starts_on : (old new : CoreState) (reply : CoreReply) (r : Request) → request_in reply ≡ Some r → r.serial ≡ old.serial → new.serial ≡ old.serial + 1 → new.place ≡ old.place →
     ((P : ℕ → ℕ → Type 0) → P r.key old.serial → All P old.slots → All P new.slots) → GoesOn old reply new
 starts_on old new reply r is serial later place all =
     record {
@@ -143,12 +143,12 @@ starts_on old new reply r is serial later place all =
     }
 
 -- what answers with no request
-quiet_on : (old new : CoreState) (reply r : Reply) → reply ≡ r → request_in r ≡ None → StaysIn old new → GoesOn old reply new
+quiet_on : (old new : CoreState) (reply r : CoreReply) → reply ≡ r → request_in r ≡ None → StaysIn old new → GoesOn old reply new
 quiet_on old new reply r same none stays =
     stays_on old new reply (λ q is. (let no : None ≡ Some q = sym none ∙ ap request_in (sym same) ∙ is in absurd cc)) stays
 
 -- what goes on where nothing was started before
-then_goes_on : (a b c : CoreState) (reply : Reply) → StaysIn a b → GoesOn b reply c → GoesOn a reply c
+then_goes_on : (a b c : CoreState) (reply : CoreReply) → StaysIn a b → GoesOn b reply c → GoesOn a reply c
 then_goes_on a b c reply first second =
     let same : b.serial ≡ a.serial = first.serial in
     let grows : b.serial ≤ c.serial = second.grows in
@@ -161,14 +161,14 @@ then_goes_on a b c reply first second =
 
 -- ---- calls that start nothing
 
-waits_go_on : (old new : CoreState) (a : Awaited) (reply : Reply) → Waits old a reply new → GoesOn old reply new
+waits_go_on : (old new : CoreState) (a : Awaited) (reply : CoreReply) → Waits old a reply new → GoesOn old reply new
 waits_go_on old new a reply given = go (completion old.slots a) given
   where
     go : (o : Option (Answer × List Request)) → WaitsBy old a o reply new → GoesOn old reply new
     go None g = quiet_on old new reply replies.Blocked g.0 refl (as_stays old _ new g.1 (record { all = λ P all. all; serial = refl; place = refl }))
     go (Some (answer, used)) g = quiet_on old new reply (replies.Done answer) g.0 refl (as_stays old _ new g.1 (record { all = λ P all. use_stays P old.slots used all; serial = refl; place = refl }))
 
-tests_go_on : (old new : CoreState) (q : Option Request) (reply : Reply) → Tests old q reply new → GoesOn old reply new
+tests_go_on : (old new : CoreState) (q : Option Request) (reply : CoreReply) → Tests old q reply new → GoesOn old reply new
 tests_go_on old new q reply given = go (completion old.slots (One q)) given
   where
     go : (o : Option (Answer × List Request)) → TestsBy old o reply new → GoesOn old reply new
@@ -179,7 +179,7 @@ cancelled_stays : (old : CoreState) (q : Option Request) → StaysIn old (cancel
 cancelled_stays old None = same_stays old old refl
 cancelled_stays old (Some q) = go (progress_at old.slots q.key q.serial)
   where
-    go : (o : Option Progress) → StaysIn old (cancelled_at old q o)
+    go : (o : Option RequestProgress) → StaysIn old (cancelled_at old q o)
     go None = same_stays old old refl
     go (Some (Receiving r)) = record { all = λ P all. cancel_stays P old.slots q all; serial = refl; place = refl }
     go (Some (Collecting w)) = same_stays old old refl
@@ -187,11 +187,11 @@ cancelled_stays old (Some q) = go (progress_at old.slots q.key q.serial)
     go (Some (TakenOut t)) = same_stays old old refl
     go (Some (Finished o)) = same_stays old old refl
 
-cancels_go_on : (old new : CoreState) (q : Option Request) (reply : Reply) → Cancels old q reply new → GoesOn old reply new
+cancels_go_on : (old new : CoreState) (q : Option Request) (reply : CoreReply) → Cancels old q reply new → GoesOn old reply new
 cancels_go_on old new q reply given = quiet_on old new reply replies.Accepted given.0 refl (as_stays old _ new given.1 (cancelled_stays old q))
 
 -- the receive of a message
-receives_go_on : (old new : CoreState) (q : Option Request) (into : Region) (reply : Reply) → Receives old q into reply new → GoesOn old reply new
+receives_go_on : (old new : CoreState) (q : Option Request) (into : Region) (reply : CoreReply) → Receives old q into reply new → GoesOn old reply new
 receives_go_on old new None into reply given = quiet_on old new reply _ given.0 refl (same_stays old new given.1)
 receives_go_on old new (Some q) into reply given =
     then_goes_on old (received old q into) new reply
@@ -200,7 +200,7 @@ receives_go_on old new (Some q) into reply given =
 
 -- ---- calls that start a request
 
-send_goes_on : (old new : CoreState) (s : Send) (r : Request) → IsSending old s r new → GoesOn old (replies.Started r) new
+send_goes_on : (old new : CoreState) (s : CoreSend) (r : Request) → IsSending old s r new → GoesOn old (replies.Started r) new
 send_goes_on old new s r given =
     starts_on old new (replies.Started r) r refl given.serial stays.serial stays.place (λ P start before. stays.all P (start_stays P old.slots given.started r.key _ before start given.entry))
   where
@@ -216,17 +216,17 @@ send_goes_on old new s r given =
         as_stays begun _ new given.rest
         (itself_stays begun (destination s.target s.tag s.context) (waiting_of s.mode (is_to_itself old.place s) r) (sent_from s.from))
 
-post_goes_on : (old new : CoreState) (v : Receive) (r : Request) → IsPosting old v r new → GoesOn old (replies.Started r) new
+post_goes_on : (old new : CoreState) (v : CoreReceive) (r : Request) → IsPosting old v r new → GoesOn old (replies.Started r) new
 post_goes_on old new v r given =
     starts_on old new (replies.Started r) r refl given.serial (ap (λ (c : CoreState). c.serial) given.rest) (ap (λ (c : CoreState). c.place) given.rest)
     (λ P start before. subst (λ (c : CoreState). All P c.slots) (sym given.rest) (own_sent_stays P given.started _ (start_stays P old.slots given.started r.key _ before start given.entry)))
 
-nothing_goes_on : (old new : CoreState) (v : Receive) (r : Request) → IsReceivingNothing old v r new → GoesOn old (replies.Started r) new
+nothing_goes_on : (old new : CoreState) (v : CoreReceive) (r : Request) → IsReceivingNothing old v r new → GoesOn old (replies.Started r) new
 nothing_goes_on old new v r given =
     starts_on old new (replies.Started r) r refl given.serial (ap (λ (c : CoreState). c.serial) given.rest) (ap (λ (c : CoreState). c.place) given.rest)
     (λ P start before. start_stays P old.slots new.slots r.key _ before start given.entry)
 
-receive_goes_on : (old new : CoreState) (v : Receive) (r : Request) → IsReceiving old v r new → GoesOn old (replies.Started r) new
+receive_goes_on : (old new : CoreState) (v : CoreReceive) (r : Request) → IsReceiving old v r new → GoesOn old (replies.Started r) new
 receive_goes_on old new v r given = go v.source given
   where
     go : (source : Source) → ReceivesFrom source old v r new → GoesOn old (replies.Started r) new
@@ -235,25 +235,25 @@ receive_goes_on old new v r given = go v.source given
     go sources.Null g = nothing_goes_on old new v r g
 
 -- a matching probe
-search_goes_on : (old new : CoreState) (p : Probe) (reply : Reply) → Searches old p reply new → GoesOn old reply new
+search_goes_on : (old new : CoreState) (p : CoreProbe) (reply : CoreReply) → Searches old p reply new → GoesOn old reply new
 search_goes_on old new p reply given = go p.source given
   where
     takes : (o : Option Message) → TakesOut old p o reply new → GoesOn old reply new
-    takes None g = subst (λ (x : Reply). GoesOn old x new) (sym g.0) (stays_on old new (replies.Matched None) (λ q is. absurd cc) (same_stays old new g.1))
+    takes None g = subst (λ (x : CoreReply). GoesOn old x new) (sym g.0) (stays_on old new (replies.Matched None) (λ q is. absurd cc) (same_stays old new g.1))
     takes (Some m) (r, is, g) =
-        subst (λ (x : Reply). GoesOn old x new) (sym is)
+        subst (λ (x : CoreReply). GoesOn old x new) (sym is)
         (starts_on old new (replies.Matched (Some (Some r, _))) r refl g.serial (ap (λ (c : CoreState). c.serial) g.rest) (ap (λ (c : CoreState). c.place) g.rest)
         (λ P start before. start_stays P old.slots new.slots r.key _ before start g.entry))
 
     go : (source : Source) → SearchesFrom source old p reply new → GoesOn old reply new
-    go sources.Null g = subst (λ (x : Reply). GoesOn old x new) (sym g.0) (stays_on old new (replies.Matched _) (λ q is. absurd cc) (same_stays old new g.1))
+    go sources.Null g = subst (λ (x : CoreReply). GoesOn old x new) (sym g.0) (stays_on old new (replies.Matched _) (λ q is. absurd cc) (same_stays old new g.1))
     go sources.Any g = takes (found_for old sources.Any p.tag p.context) g
     go (sources.Rank r) g = takes (found_for old (sources.Rank r) p.tag p.context) g
 
 -- ---- every call
 
 -- what starts a request is answered with it
-started : (old new : CoreState) (reply : Reply) (start : Request → Type 0) → ((r : Request) → start r → GoesOn old (replies.Started r) new) → Starts start reply → GoesOn old reply new
+started : (old new : CoreState) (reply : CoreReply) (start : Request → Type 0) → ((r : Request) → start r → GoesOn old (replies.Started r) new) → Starts start reply → GoesOn old reply new
 started old new (replies.Started r) start on given = on r given
 started old new (replies.Refused why back) start on given = absurd given
 started old new (replies.Done a) start on given = absurd given
@@ -262,7 +262,7 @@ started old new replies.Accepted start on given = absurd given
 started old new (replies.Matched m) start on given = absurd given
 started old new replies.Blocked start on given = absurd given
 
-pub call_goes_on : (old new : CoreState) (call : Call) (reply : Reply) → Answers old call reply new → GoesOn old reply new
+pub call_goes_on : (old new : CoreState) (call : CoreCall) (reply : CoreReply) → Answers old call reply new → GoesOn old reply new
 call_goes_on old new (calls.Isend s) reply given = started old new reply (λ r. IsSending old s r new) (send_goes_on old new s) given
 call_goes_on old new (calls.Irecv v) reply given = started old new reply (λ r. IsReceiving old v r new) (receive_goes_on old new v) given
 call_goes_on old new (calls.Wait q) reply given = waits_go_on old new (One q) reply given

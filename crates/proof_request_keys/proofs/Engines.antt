@@ -4,7 +4,7 @@ use Rattle.std.specs.Prelude.{Result, Ok, Err}
 use Rattle.std.specs.List.{list_any}
 use Rattle.std.proofs.lemmas.Bool.{eqb-true}
 use Rattle.std.proofs.lemmas.Option.{same_Some}
-use Rattle.collective_notes.specs.declared.entry.Entry as collectives
+use Rattle.collective_messages.specs.declared.entry.Entry as collectives
 use Rattle.collective_transfers.specs.Payloads.{Whole}
 use Rattle.collective_transfers.specs.State.{is_due, whole_with}
 use Rattle.collective_transfers.specs.State as payloads
@@ -12,20 +12,20 @@ use Rattle.communicators.specs.declared.question.Question.{Question}
 use Rattle.datagram.specs.Spelling.{DataText}
 use Rattle.engine.specs.Datagrams.{FollowGives, FollowedBy, HasFollowed, HeardGives, HeardGivesBy, HearingGives, IsNoticed, IsPieceTaken, IsTakenInUnless, NoticeText, OfAnnouncement, OfAnswer, OfMessage, OfPiece, PieceGivesBy, TurnGives, acknowledged, lesson_alone, news_of, notice_in, says_nothing, turn_from}
 use Rattle.collective_steps.specs.declared.step.Ending.{Ending}
-use Rattle.engine_parts.specs.Calls.{AskingGives, CoreGives, EnteringGives, IsAnswered, IsEntered, LookingGives, reply_on_entry}
-use Rattle.engine_parts.specs.EngineState.{EngineState}
-use Rattle.engine_parts.specs.Routing.{core_reply}
-use Rattle.engine_parts.specs.declared.call.Call.{Call}
-use Rattle.engine_parts.specs.declared.call.Call.TheVariants as calls
-use Rattle.engine_parts.specs.declared.call.Probe.{Probe}
-use Rattle.engine_parts.specs.declared.reply.Reply.{Reply}
-use Rattle.engine_parts.specs.declared.reply.Reply.TheVariants as replies
+use Rattle.engine_calls.specs.Calls.{AskingGives, CoreGives, EnteringGives, IsAnswered, IsEntered, LookingGives, reply_on_entry}
+use Rattle.engine_calls.specs.EngineState.{EngineState}
+use Rattle.engine_calls.specs.Routing.{core_reply}
+use Rattle.engine_calls.specs.declared.call.Call.{Call}
+use Rattle.engine_calls.specs.declared.call.Call.TheVariants as calls
+use Rattle.engine_calls.specs.declared.call.Probe.{Probe}
+use Rattle.engine_calls.specs.declared.reply.Reply.{Reply}
+use Rattle.engine_calls.specs.declared.reply.Reply.TheVariants as replies
 use Rattle.proof_engine_view.specs.Seen.{has_serial}
-use Rattle.rank_calls.specs.declared.call.Reply as core_answers
-use Rattle.rank_calls.specs.declared.call.Reply.TheVariants as core_replies
-use Rattle.rank_core.specs.CoreState.{CoreState}
+use Rattle.point_to_point_calls.specs.declared.call.CoreReply as core_answers
+use Rattle.point_to_point_calls.specs.declared.call.CoreReply.TheVariants as core_replies
+use Rattle.point_to_point.specs.CoreState.{CoreState}
 use Rattle.requests.specs.Table.{slot_at}
-use Rattle.requests.specs.declared.table.Entry.{Entry}
+use Rattle.requests.specs.declared.table.TableEntry.{TableEntry}
 use Rattle.requests.specs.declared.table.Request.{Request}
 use Rattle.sessions.specs.Heard.{Acknowledges, Follows, Hands, HeardText, Holds, Nothing, Repeats, WordText, heard_of}
 use Rattle.sessions.specs.declared.heard.Unheard.{Unheard}
@@ -40,11 +40,11 @@ use Rattle.proof_request_keys.proofs.Tables.{All, At}
 abbrev Apart : Request → ℕ → ℕ → Type 0
 Apart q key serial = serial ≡ q.serial → key ≡ q.key
 
-apart_at : (q : Request) (key : ℕ) (slot : Option Entry) → At (Apart q) key slot → IsApart q key slot
+apart_at : (q : Request) (key : ℕ) (slot : Option TableEntry) → At (Apart q) key slot → IsApart q key slot
 apart_at q key None here = tt
 apart_at q key (Some t) here = here
 
-at_apart : (q : Request) (key : ℕ) (slot : Option Entry) → IsApart q key slot → At (Apart q) key slot
+at_apart : (q : Request) (key : ℕ) (slot : Option TableEntry) → IsApart q key slot → At (Apart q) key slot
 at_apart q key None here = tt
 at_apart q key (Some t) here = here
 
@@ -66,7 +66,7 @@ stays_named old new s = record { place = s.place; named = each }
         all_named new q (omega (arith, given, same)) (s.all (Apart q) (named_all old q n))
 
 -- and so does a call: what that starts has a later serial
-goes_named : (old new : CoreState) (reply : core_answers.Reply) → GoesOn old reply new → KeepsKeys old new
+goes_named : (old new : CoreState) (reply : core_answers.CoreReply) → GoesOn old reply new → KeepsKeys old new
 goes_named old new reply g = record { place = g.place; named = each }
   where
     each : (q : Request) → IsNamed old q → IsNamed new q
@@ -76,11 +76,11 @@ goes_named old new reply g = record { place = g.place; named = each }
         all_named new q (omega (arith, given, grows)) (g.all (Apart q) (λ r is same. absurd (omega (arith, given, same))) (named_all old q n))
 
 -- what it starts is named
-below_apart : (n : ℕ) (q : Request) (key : ℕ) (slot : Option Entry) → q.serial ≡ n → IsBelow n slot → At (Apart q) key slot
+below_apart : (n : ℕ) (q : Request) (key : ℕ) (slot : Option TableEntry) → q.serial ≡ n → IsBelow n slot → At (Apart q) key slot
 below_apart n q key None is below = tt
 below_apart n q key (Some t) is below = λ same. absurd (omega (arith, is, below, same))
 
-started_named : (old new : CoreState) (reply : core_answers.Reply) (q : Request) → AreGiven old → GoesOn old reply new → request_in reply ≡ Some q → IsNamed new q
+started_named : (old new : CoreState) (reply : core_answers.CoreReply) (q : Request) → AreGiven old → GoesOn old reply new → request_in reply ≡ Some q → IsNamed new q
 started_named old new reply q given g is =
     let next : IsNext old new q = g.next q is in
     let serial : q.serial ≡ old.serial = next.serial in
@@ -169,9 +169,9 @@ calls_keep_keys old mid (calls.Ask comm question) reply g = core_same old mid (a
 -- ---- what a call gives
 
 -- a reply of the core that gives a request is the reply that gives it
-given_in : (reply : Reply) (answer : core_answers.Reply) (q : Request) → core_reply reply ≡ Some answer → request_given reply ≡ Some q → request_in answer ≡ Some q
-given_in (replies.Started r) answer q told is = subst (λ (a : core_answers.Reply). request_in a ≡ Some q) (same_Some (core_replies.Started r) answer told) is
-given_in (replies.Matched found) answer q told is = subst (λ (a : core_answers.Reply). request_in a ≡ Some q) (same_Some (core_replies.Matched found) answer told) is
+given_in : (reply : Reply) (answer : core_answers.CoreReply) (q : Request) → core_reply reply ≡ Some answer → request_given reply ≡ Some q → request_in answer ≡ Some q
+given_in (replies.Started r) answer q told is = subst (λ (a : core_answers.CoreReply). request_in a ≡ Some q) (same_Some (core_replies.Started r) answer told) is
+given_in (replies.Matched found) answer q told is = subst (λ (a : core_answers.CoreReply). request_in a ≡ Some q) (same_Some (core_replies.Matched found) answer told) is
 given_in (replies.Done a) answer q told is = absurd cc
 given_in replies.Pending answer q told is = absurd cc
 given_in replies.Accepted answer q told is = absurd cc
@@ -332,11 +332,11 @@ ticks_keep_keys old mid now g = core_same old mid (ap (λ (e : EngineState). e.c
 -- ---- whose it is
 
 -- a serial that stands in a table stands under some key
-record IsSomewhere (serial : ℕ) (slots : List (Option Entry)) : Type 0 where
+record IsSomewhere (serial : ℕ) (slots : List (Option TableEntry)) : Type 0 where
   key : ℕ
   there : has_serial serial (slot_at slots key) ≡ true
 
-somewhere : (serial : ℕ) (slots : List (Option Entry)) → list_any (has_serial serial) slots ≡ true → IsSomewhere serial slots
+somewhere : (serial : ℕ) (slots : List (Option TableEntry)) → list_any (has_serial serial) slots ≡ true → IsSomewhere serial slots
 somewhere serial [] is = absurd cc
 somewhere serial (x ∷ xs) is = go (has_serial serial x) refl is (λ h. somewhere serial xs h)
   where
@@ -345,7 +345,7 @@ somewhere serial (x ∷ xs) is = go (has_serial serial x) refl is (λ h. somewhe
     go false here h rest = let s : IsSomewhere serial xs = rest h in record { key = suc s.key; there = s.there }
 
 -- there the request stands, so under its key
-own_key : (q : Request) (key : ℕ) (slot : Option Entry) → IsApart q key slot → has_serial q.serial slot ≡ true → key ≡ q.key
+own_key : (q : Request) (key : ℕ) (slot : Option TableEntry) → IsApart q key slot → has_serial q.serial slot ≡ true → key ≡ q.key
 own_key q key None apart is = absurd cc
 own_key q key (Some t) apart is = apart (eqb-true t.serial q.serial is)
 

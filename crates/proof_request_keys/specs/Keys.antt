@@ -2,14 +2,14 @@
 use Rattle.std.specs.Prelude.{◌≡◌, ◌<◌, ℕ, false, List, Option, Some, None, Ok}
 use Rattle.vocabulary.specs.declared.envelope.Status.{Status}
 use Rattle.requests.specs.Table.{slot_at}
-use Rattle.requests.specs.declared.table.Entry.{Entry}
+use Rattle.requests.specs.declared.table.TableEntry.{TableEntry}
 use Rattle.requests.specs.declared.table.Request.{Request}
-use Rattle.rank_core.specs.CoreState.{CoreState}
-use Rattle.engine_parts.specs.Calls.{CallGives}
-use Rattle.engine_parts.specs.EngineState.{EngineState}
-use Rattle.engine_parts.specs.declared.call.Call.{Call}
-use Rattle.engine_parts.specs.declared.reply.Reply.{Reply}
-use Rattle.engine_parts.specs.declared.reply.Reply.TheVariants as replies
+use Rattle.point_to_point.specs.CoreState.{CoreState}
+use Rattle.engine_calls.specs.Calls.{CallGives}
+use Rattle.engine_calls.specs.EngineState.{EngineState}
+use Rattle.engine_calls.specs.declared.call.Call.{Call}
+use Rattle.engine_calls.specs.declared.reply.Reply.{Reply}
+use Rattle.engine_calls.specs.declared.reply.Reply.TheVariants as replies
 use Rattle.engine.specs.Datagrams.{DatagramGives}
 use Rattle.engine.specs.Ticks.{TickGives}
 use Rattle.proof_engine_view.specs.Seen.{is_foreign}
@@ -37,7 +37,7 @@ request_given (replies.Refused why back) = None
 -- ---- where it stands
 
 -- what stands under a key has another serial than the request, or it is the request's key
-abbrev pub IsApart : Request → (key : ℕ) → Option Entry → Type 0
+abbrev pub IsApart : Request → (key : ℕ) → Option TableEntry → Type 0
 IsApart q key None = Unit {0}
 IsApart q key (Some t) = t.serial ≡ q.serial → key ≡ q.key
 
@@ -47,7 +47,7 @@ pub record IsNamed (c : CoreState) (q : Request) : Type 0 where
   pub stands : (key : ℕ) → IsApart q key (slot_at c.slots key)
 
 -- what stands under a key has a serial below this one
-abbrev pub IsBelow : (serial : ℕ) → Option Entry → Type 0
+abbrev pub IsBelow : (serial : ℕ) → Option TableEntry → Type 0
 IsBelow serial None = Unit {0}
 IsBelow serial (Some t) = t.serial < serial
 

@@ -1,11 +1,11 @@
 -- The message of a notice is read, and its note stands for the notice.
 use Rattle.std.proofs.Common.{◌≡◌, ℕ, Option, Some, None, Result, Ok, Err, ap, subst, ◌∙◌}
-use Rattle.collective_notes.specs.Arrivals.{ArrivalGives}
-use Rattle.collective_notes.specs.Messages.{says}
-use Rattle.collective_notes.specs.declared.message.Message.{Message}
-use Rattle.collective_notes.specs.declared.note.Note.{Note}
-use Rattle.collective_notes.specs.declared.refused.Refused.{Refused}
-use Rattle.collective_notes.specs.declared.refused.Refused.TheVariants as refusals
+use Rattle.collective_messages.specs.Arrivals.{ArrivalGives}
+use Rattle.collective_messages.specs.Messages.{says}
+use Rattle.collective_messages.specs.declared.message.CollectiveMessage.{CollectiveMessage}
+use Rattle.collective_messages.specs.declared.note.Note.{Note}
+use Rattle.collective_messages.specs.declared.refusal.CollectiveRefusal.{CollectiveRefusal}
+use Rattle.collective_messages.specs.declared.refusal.CollectiveRefusal.TheVariants as refusals
 use Rattle.payload.specs.Reading.{payload_of}
 use Rattle.proof_collective_steps.proofs.Arriving.{messages_arrive}
 use Rattle.proof_collective_steps.specs.Counterparts.{IsSaid}
@@ -15,7 +15,7 @@ use Rattle.proof_session_carrying.specs.CarryLaws.{ArrivesAs, MessagesArrive, No
 use Rattle.vocabulary.specs.declared.endpoint.Endpoint.{Endpoint}
 
 -- a message that can be read becomes a note, or memory is lacking
-sent_arrives : (s d : Endpoint) (sent : Message) (x : Notice) → s.incarnation ≡ d.incarnation → IsSaid s sent (d, x) → IsReadable sent.entered sent.given → (result : Result (Option Note) Refused) → ArrivalGives s sent.context sent.number (says sent) result → ArrivesAs s d x result
+sent_arrives : (s d : Endpoint) (sent : CollectiveMessage) (x : Notice) → s.incarnation ≡ d.incarnation → IsSaid s sent (d, x) → IsReadable sent.entered sent.given → (result : Result (Option Note) CollectiveRefusal) → ArrivalGives s sent.context sent.number (says sent) result → ArrivesAs s d x result
 sent_arrives s d sent x alike said can (Ok (Some n)) gives = messages_arrive s d sent (d, x) n alike said can.within gives
 sent_arrives s d sent x alike said can (Ok None) gives = gives.1 can.once
 sent_arrives s d sent x alike said can (Err refusals.OutOfMemory) gives = tt

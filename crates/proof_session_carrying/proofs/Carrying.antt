@@ -3,13 +3,13 @@ use Rattle.std.proofs.Common.{◌≡◌, ℕ, zero, suc, Bool, true, false, ◌&
 use Rattle.std.proofs.lemmas.Bool.{and_parts}
 use Rattle.std.proofs.lemmas.List.{append_assoc}
 use Rattle.std.proofs.lemmas.Option.{same_Some}
-use Rattle.collective_notes.specs.declared.message.Message.{Message}
+use Rattle.collective_messages.specs.declared.message.CollectiveMessage.{CollectiveMessage}
 use Rattle.datagram.specs.Spelling.{ClearFrame, DataFrame, DataText, EagerFrame, FrameText, RequestFrame}
 use Rattle.perfect_queues.proofs.EndpointLemmas.{same_eq}
 use Rattle.proof_engine_view.proofs.Growing.{stands_more}
 use Rattle.proof_group_network.proofs.SessionParts.{same_accepted}
 use Rattle.proof_group_network.specs.Carried.{Announces, Answers, BringsPart, Carried, OfMessages, OfNotices, Session, Sessions}
-use Rattle.proof_links.specs.Links.{LinkOf, LinksOf, accept, accept_all, handed_on, in_flight}
+use Rattle.endpoint_links.specs.Links.{LinkOf, LinksOf, accept, accept_all, handed_on, in_flight}
 use Rattle.proof_pure_network.specs.Announced.{Begins}
 use Rattle.proof_session_carrying.proofs.Growing.{announced_grow, begins_at, same_begins, transfers_grow}
 use Rattle.proof_session_carrying.specs.Announced.{Announced, LargeNotice, all_announced, announced_in, transfers_as}
@@ -21,12 +21,12 @@ use Rattle.vocabulary.specs.declared.endpoint.Endpoint.{Endpoint}
 -- ---- lists of texts
 
 -- at a place of the list stands something for which the text there stands
-record IsMeant (out back : List Announced) (said : List Message) (xs : List Carried) (k : ℕ) (text : FrameText) : Type 0 where
+record IsMeant (out back : List Announced) (said : List CollectiveMessage) (xs : List Carried) (k : ℕ) (text : FrameText) : Type 0 where
   carried : Carried
   there : slice_get xs k ≡ Some carried
   stands : StandsForCarried out back said text carried
 
-stand_at : (out back : List Announced) (said : List Message) (texts : List FrameText) (xs : List Carried) (k : ℕ) (text : FrameText) → StandFor out back said texts xs → slice_get texts k ≡ Some text → IsMeant out back said xs k text
+stand_at : (out back : List Announced) (said : List CollectiveMessage) (texts : List FrameText) (xs : List Carried) (k : ℕ) (text : FrameText) → StandFor out back said texts xs → slice_get texts k ≡ Some text → IsMeant out back said xs k text
 stand_at out back said [] xs k text stand there = absurd (grind arith)
 stand_at out back said (t ∷ ts) [] k text stand there = absurd stand
 stand_at out back said (t ∷ ts) (x ∷ xs) zero text stand there =
@@ -36,7 +36,7 @@ stand_at out back said (t ∷ ts) (x ∷ xs) (suc k) text stand there =
     record { carried = m.carried; there = m.there; stands = m.stands }
 
 -- one text more
-stand_push : (out back : List Announced) (said : List Message) (texts : List FrameText) (xs : List Carried) (text : FrameText) (x : Carried) → StandFor out back said texts xs → StandsForCarried out back said text x
+stand_push : (out back : List Announced) (said : List CollectiveMessage) (texts : List FrameText) (xs : List Carried) (text : FrameText) (x : Carried) → StandFor out back said texts xs → StandsForCarried out back said text x
     → StandFor out back said (texts ++ text ∷ []) (xs ++ x ∷ [])
 stand_push out back said [] [] text x stand one = (one, tt)
 stand_push out back said [] (y ∷ ys) text x stand one = absurd stand
@@ -44,14 +44,14 @@ stand_push out back said (t ∷ ts) [] text x stand one = absurd stand
 stand_push out back said (t ∷ ts) (y ∷ ys) text x stand one = (stand.0, stand_push out back said ts ys text x stand.1 one)
 
 -- what is left behind the first k
-stand_drop : (out back : List Announced) (said : List Message) (k : ℕ) (texts : List FrameText) (xs : List Carried) → StandFor out back said texts xs → StandFor out back said (drop k texts) (drop k xs)
+stand_drop : (out back : List Announced) (said : List CollectiveMessage) (k : ℕ) (texts : List FrameText) (xs : List Carried) → StandFor out back said texts xs → StandFor out back said (drop k texts) (drop k xs)
 stand_drop out back said zero texts xs stand = stand
 stand_drop out back said (suc k) [] [] stand = tt
 stand_drop out back said (suc k) [] (x ∷ xs) stand = absurd stand
 stand_drop out back said (suc k) (t ∷ ts) [] stand = absurd stand
 stand_drop out back said (suc k) (t ∷ ts) (x ∷ xs) stand = stand_drop out back said k ts xs stand.1
 
-none_stand : (out back : List Announced) (said : List Message) (texts : List FrameText) (xs : List Carried) → StandFor out back said texts xs → texts ≡ [] → xs ≡ []
+none_stand : (out back : List Announced) (said : List CollectiveMessage) (texts : List FrameText) (xs : List Carried) → StandFor out back said texts xs → texts ≡ [] → xs ≡ []
 none_stand out back said [] [] stand none = refl
 none_stand out back said [] (x ∷ xs) stand none = absurd stand
 none_stand out back said (t ∷ ts) xs stand none = absurd cc
@@ -59,22 +59,22 @@ none_stand out back said (t ∷ ts) xs stand none = absurd cc
 -- ---- more was announced, and more said
 
 -- a piece of a message goes on to be one
-piece_more : (out out' : List Announced) (i part : ℕ) (m : Message) (t : DataText) → Begins out out' → IsPiece out i part m t → IsPiece out' i part m t
+piece_more : (out out' : List Announced) (i part : ℕ) (m : CollectiveMessage) (t : DataText) → Begins out out' → IsPiece out i part m t → IsPiece out' i part m t
 piece_more out out' i part m t b p = record { announced = begins_at out out' t.transfer (LargeNotice i) b p.announced; place = p.place; bytes = p.bytes }
 
-whole_more : (out out' : List Announced) (i : ℕ) (m : Message) (text : FrameText) → Begins out out' → MakesWhole out i m text → MakesWhole out' i m text
+whole_more : (out out' : List Announced) (i : ℕ) (m : CollectiveMessage) (text : FrameText) → Begins out out' → MakesWhole out i m text → MakesWhole out' i m text
 whole_more out out' i m (EagerFrame t) b h = h
 whole_more out out' i m (RequestFrame t) b h = h
 whole_more out out' i m (ClearFrame t) b h = h
 whole_more out out' i m (DataFrame t) b h = (h.0, h.1, piece_more out out' i h.0 m t b h.2)
 
-known_more : (out out' : List Announced) (i : ℕ) (m : Message) (text : FrameText) → Begins out out' → MakesKnown out i m text → MakesKnown out' i m text
+known_more : (out out' : List Announced) (i : ℕ) (m : CollectiveMessage) (text : FrameText) → Begins out out' → MakesKnown out i m text → MakesKnown out' i m text
 known_more out out' i m (EagerFrame t) b h = h
 known_more out out' i m (RequestFrame t) b h = (begins_at out out' t.transfer (LargeNotice i) b h.0, h.1)
 known_more out out' i m (ClearFrame t) b h = h
 known_more out out' i m (DataFrame t) b h = h
 
-part_more : (out out' : List Announced) (i part : ℕ) (m : Message) (text : FrameText) → Begins out out' → MakesPart out i part m text → MakesPart out' i part m text
+part_more : (out out' : List Announced) (i part : ℕ) (m : CollectiveMessage) (text : FrameText) → Begins out out' → MakesPart out i part m text → MakesPart out' i part m text
 part_more out out' i part m (EagerFrame t) b h = h
 part_more out out' i part m (RequestFrame t) b h = h
 part_more out out' i part m (ClearFrame t) b h = h
@@ -86,7 +86,7 @@ asks_more back back' i (RequestFrame t) b h = h
 asks_more back back' i (ClearFrame t) b h = (begins_at back back' t.transfer (LargeNotice i) b h.0, h.1)
 asks_more back back' i (DataFrame t) b h = h
 
-one_more : (out out' back back' : List Announced) (said said' : List Message) (text : FrameText) (x : Carried) → Begins out out' → Begins back back' → Begins said said' → StandsForCarried out back said text x → StandsForCarried out' back' said' text x
+one_more : (out out' back back' : List Announced) (said said' : List CollectiveMessage) (text : FrameText) (x : Carried) → Begins out out' → Begins back back' → Begins said said' → StandsForCarried out back said text x → StandsForCarried out' back' said' text x
 one_more out out' back back' said said' text (OfMessages f) b c s h =
     λ serial. stands_more (transfers_as serial out) (transfers_as serial out') (transfers_as serial back) (transfers_as serial back') text f (transfers_grow serial out out' b) (transfers_grow serial back back' c) (h serial)
 one_more out out' back back' said said' text (OfNotices i) b c s h = (h.0, begins_at said said' i h.0 s h.1, whole_more out out' i h.0 text b h.2)
@@ -94,7 +94,7 @@ one_more out out' back back' said said' text (Announces i) b c s h = (h.0, begin
 one_more out out' back back' said said' text (Answers i) b c s h = asks_more back back' i text c h
 one_more out out' back back' said said' text (BringsPart i part) b c s h = (h.0, begins_at said said' i h.0 s h.1, part_more out out' i part h.0 text b h.2)
 
-stand_more : (out out' back back' : List Announced) (said said' : List Message) (texts : List FrameText) (xs : List Carried) → Begins out out' → Begins back back' → Begins said said' → StandFor out back said texts xs → StandFor out' back' said' texts xs
+stand_more : (out out' back back' : List Announced) (said said' : List CollectiveMessage) (texts : List FrameText) (xs : List Carried) → Begins out out' → Begins back back' → Begins said said' → StandFor out back said texts xs → StandFor out' back' said' texts xs
 stand_more out out' back back' said said' [] [] b c s stand = tt
 stand_more out out' back back' said said' [] (x ∷ xs) b c s stand = absurd stand
 stand_more out out' back back' said said' (t ∷ ts) [] b c s stand = absurd stand

@@ -2,7 +2,7 @@
 use Rattle.std.proofs.Common.{◌≡◌, ℕ, zero, suc, ◌+◌, ◌-◌, ◌<◌, ◌&&◌, Bool, true, false, List, [], ◌∷◌, ◌++◌, length, map, Some, if◌then◌else◌, slice_get, refl, sym, ap, subst, ◌∙◌, arith}
 use Rattle.std.specs.List.{AllByRecursion, range_with_len}
 use Rattle.std.proofs.lemmas.Bool.{and_parts}
-use Rattle.collective_notes.specs.declared.message.Message.{Message}
+use Rattle.collective_messages.specs.declared.message.CollectiveMessage.{CollectiveMessage}
 use Rattle.datagram.specs.Spelling.{ClearFrame, DataFrame, EagerFrame, FrameText, RequestFrame}
 use Rattle.datagram.specs.declared.kinds.Clearance.TheVariants.{Send}
 use Rattle.perfect_queues.proofs.EndpointLemmas.{same_eq}
@@ -12,7 +12,7 @@ use Rattle.proof_group_network.proofs.SessionParts.{announcement_answered, answe
 use Rattle.proof_group_network.specs.Carried.{Announces, Answers, AreAllParts, Carried, GoesOut, Sessions, in_parts, parts_from}
 use Rattle.proof_group_network.specs.Network.{GroupNetwork, NoticeLink, also, noticed_on, notify, notify_all}
 use Rattle.proof_group_network.specs.Notices.{Notice}
-use Rattle.proof_links.specs.Links.{LinkOf, LinksOf, accept, accept_all, handed_on}
+use Rattle.endpoint_links.specs.Links.{LinkOf, LinksOf, accept, accept_all, handed_on}
 use Rattle.proof_pure_network.specs.Announced.{Begins}
 use Rattle.proof_pure_network.specs.Links.{Link}
 use Rattle.proof_session_carrying.proofs.Carrying.{announced_begins, announced_handed, as_it_is, handed_is_carried, out_is_carried}
@@ -30,21 +30,21 @@ use Rattle.vocabulary.specs.declared.endpoint.Endpoint.{Endpoint}
 -- ---- the messages of notices
 
 -- one more of each
-brought_push : (s d : Endpoint) (ms : List Message) (xs : List Notice) (m : Message) (x : Notice) → AreBrought s d ms xs → IsBrought s d m x → AreBrought s d (ms ++ m ∷ []) (xs ++ x ∷ [])
+brought_push : (s d : Endpoint) (ms : List CollectiveMessage) (xs : List Notice) (m : CollectiveMessage) (x : Notice) → AreBrought s d ms xs → IsBrought s d m x → AreBrought s d (ms ++ m ∷ []) (xs ++ x ∷ [])
 brought_push s d [] [] m x all one = (one, tt)
 brought_push s d [] (y ∷ ys) m x all one = absurd all
 brought_push s d (n ∷ ns) [] m x all one = absurd all
 brought_push s d (n ∷ ns) (y ∷ ys) m x all one = (all.0, brought_push s d ns ys m x all.1 one)
 
 -- there are as many of each
-as_many : (s d : Endpoint) (ms : List Message) (xs : List Notice) → AreBrought s d ms xs → length ms ≡ length xs
+as_many : (s d : Endpoint) (ms : List CollectiveMessage) (xs : List Notice) → AreBrought s d ms xs → length ms ≡ length xs
 as_many s d [] [] all = refl
 as_many s d [] (y ∷ ys) all = absurd all
 as_many s d (n ∷ ns) [] all = absurd all
 as_many s d (n ∷ ns) (y ∷ ys) all = ap suc (as_many s d ns ys all.1)
 
 -- what was said stays so
-say_goes_on : (said : Saying) (e : Endpoint) (m : Message) → GoesOn said (say said e m)
+say_goes_on : (said : Saying) (e : Endpoint) (m : CollectiveMessage) → GoesOn said (say said e m)
 say_goes_on said e m s d = go (is_same s e && is_same d m.target) refl
   where
     go : (t : Bool) → (is_same s e && is_same d m.target) ≡ t → Begins (said s d) (if t then said e m.target ++ m ∷ [] else said s d)
@@ -54,7 +54,7 @@ say_goes_on said e m s d = go (is_same s e && is_same d m.target) refl
     go false is = same_begins (said s d) (said s d) refl
 
 -- a message to its target stands for the notice that goes there
-brought_said : (said : Saying) (ns : Endpoint → Endpoint → NoticeLink) (e : Endpoint) (m : Message) (x : Notice) → AreAllBrought said ns → IsBrought e m.target m x → AreAllBrought (say said e m) (notify ns e (m.target, x))
+brought_said : (said : Saying) (ns : Endpoint → Endpoint → NoticeLink) (e : Endpoint) (m : CollectiveMessage) (x : Notice) → AreAllBrought said ns → IsBrought e m.target m x → AreAllBrought (say said e m) (notify ns e (m.target, x))
 brought_said said ns e m x all one s d = go (is_same s e && is_same d m.target) refl
   where
     go : (t : Bool) → (is_same s e && is_same d m.target) ≡ t → AreBrought s d (if t then said e m.target ++ m ∷ [] else said s d) (if t then record { accepted = (ns e m.target).accepted ++ x ∷ []; handed = (ns e m.target).handed } else ns s d).accepted
@@ -66,9 +66,9 @@ brought_said said ns e m x all one s d = go (is_same s e && is_same d m.target) 
     go false is = all s d
 
 -- its number is that of the notice
-said_there : (said : Saying) (ns : Endpoint → Endpoint → NoticeLink) (e : Endpoint) (m : Message) → AreAllBrought said ns → slice_get (say said e m e m.target) (length (ns e m.target).accepted) ≡ Some m
+said_there : (said : Saying) (ns : Endpoint → Endpoint → NoticeLink) (e : Endpoint) (m : CollectiveMessage) → AreAllBrought said ns → slice_get (say said e m e m.target) (length (ns e m.target).accepted) ≡ Some m
 said_there said ns e m all =
-    ap (λ (ms : List Message). slice_get ms (length (ns e m.target).accepted)) (at_here e m.target (said e m.target ++ m ∷ []) (said e m.target))
+    ap (λ (ms : List CollectiveMessage). slice_get ms (length (ns e m.target).accepted)) (at_here e m.target (said e m.target ++ m ∷ []) (said e m.target))
     ∙ ap (slice_get (said e m.target ++ m ∷ [])) (sym (as_many e m.target (said e m.target) (ns e m.target).accepted (all e m.target))) ∙ last_at (said e m.target) m
 
 -- ---- what a rank sends
@@ -87,7 +87,7 @@ goes_out (ClearFrame t) i = refl
 goes_out (DataFrame t) i = refl
 
 -- a text that brings a message, or announces it under the next number, stands for what goes out
-stands_next : (sessions : Sessions) (e d : Endpoint) (said back : List Announced) (ms : List Message) (i : ℕ) (m : Message) (text : FrameText) → Tells m text → HasNumber (length (announced_in (sessions e d).accepted)) text → slice_get ms i ≡ Some m →
+stands_next : (sessions : Sessions) (e d : Endpoint) (said back : List Announced) (ms : List CollectiveMessage) (i : ℕ) (m : CollectiveMessage) (text : FrameText) → Tells m text → HasNumber (length (announced_in (sessions e d).accepted)) text → slice_get ms i ≡ Some m →
     StandsForCarried (announced_in ((sessions e d).accepted ++ carried_by text i ∷ [])) back ms text (carried_by text i)
 stands_next sessions e d said back ms i m (EagerFrame t) tells number there = (m, there, tells)
 stands_next sessions e d said back ms i m (RequestFrame t) tells number there = (m, there, (named, tells))
@@ -101,7 +101,7 @@ stands_next sessions e d said back ms i m (ClearFrame t) tells number there = ab
 stands_next sessions e d said back ms i m (DataFrame t) tells number there = absurd tells
 
 -- one message goes out to its target
-one_told : (n : ℕ) (ls : Endpoint → Endpoint → Link) (ns : Endpoint → Endpoint → NoticeLink) (said : Saying) (texts : LinksOf FrameText) (sessions : Sessions) (e : Endpoint) (m : Message) (x : Notice) (text : Endpoint × FrameText) →
+one_told : (n : ℕ) (ls : Endpoint → Endpoint → Link) (ns : Endpoint → Endpoint → NoticeLink) (said : Saying) (texts : LinksOf FrameText) (sessions : Sessions) (e : Endpoint) (m : CollectiveMessage) (x : Notice) (text : Endpoint × FrameText) →
     Holds ls ns said texts sessions → IsSaid e m (m.target, x) → IsSendable n e m → Brings m text → HasNumber (length (announced_in (sessions e m.target).accepted)) text.1 →
     Holds ls (notify ns e (m.target, x)) (say said e m) (accept texts e text) (accept sessions e (m.target, carried_by text.1 (length (ns e m.target).accepted)))
 one_told n ls ns said texts sessions e m x text h said_is can b number =
@@ -127,7 +127,7 @@ one_told n ls ns said texts sessions e m x text h said_is can b number =
         (stands_next sessions e m.target (all_announced after m.target e) (all_announced after m.target e) (say said e m e m.target) i m text.1 b.tells number (said_there said ns e m h.brought))
 
 -- all that a rank sends
-all_told : (n : ℕ) (ls : Endpoint → Endpoint → Link) (ns : Endpoint → Endpoint → NoticeLink) (said : Saying) (texts : LinksOf FrameText) (sessions : Sessions) (e : Endpoint) (ms : List Message) (xs : List (Endpoint × Notice)) (ts : List (Endpoint × FrameText)) →
+all_told : (n : ℕ) (ls : Endpoint → Endpoint → Link) (ns : Endpoint → Endpoint → NoticeLink) (said : Saying) (texts : LinksOf FrameText) (sessions : Sessions) (e : Endpoint) (ms : List CollectiveMessage) (xs : List (Endpoint × Notice)) (ts : List (Endpoint × FrameText)) →
     Holds ls ns said texts sessions → AreSaid e ms xs → AllByRecursion (IsSendable n e) ms → Bring ms ts → AreNumbered sessions e ts (all_carried ns e xs ts) →
     Holds ls (notify_all ns e xs) (say_all said e ms) (accept_all texts e ts) (accept_all sessions e (all_carried ns e xs ts))
 all_told n ls ns said texts sessions e [] [] [] h s can b number = h
@@ -210,7 +210,7 @@ announcements_are_carried w after said texts sessions s e core m entries i trans
         (begins_at (all_announced sessions s e) (all_announced (handed_on sessions s e) s e) transfer (LargeNotice i) (announced_handed sessions s e s e) named)
 
 -- the pieces of a message stand for the parts of its notice
-pieces_stand : (told : Endpoint → Endpoint → List Announced) (said : Saying) (e d : Endpoint) (i transfer : ℕ) (message : Message) (part more : ℕ) → slice_get (told e d) transfer ≡ Some (LargeNotice i) → slice_get (said e d) i ≡ Some message →
+pieces_stand : (told : Endpoint → Endpoint → List Announced) (said : Saying) (e d : Endpoint) (i transfer : ℕ) (message : CollectiveMessage) (part more : ℕ) → slice_get (told e d) transfer ≡ Some (LargeNotice i) → slice_get (said e d) i ≡ Some message →
     part + suc more ≡ piece_count piece_bytes (bytes_of_message message) →
     AreSent told said e (map (λ (p : ℕ × List ℕ). (d, DataFrame (record { transfer = transfer; offset = p.0; bytes = p.1 }))) (map (piece_at piece_bytes (bytes_of_message message)) (range_with_len part (suc more)))) (map (λ (c : Carried). (d, c)) (parts_from i part more))
 pieces_stand told said e d i transfer message part zero named there count =

@@ -6,7 +6,7 @@ use Rattle.proof_engine_view.specs.Transfers.{Announcements}
 use Rattle.proof_group_network.proofs.SessionParts.{message_handed, messages_accepted, still_is_quiet}
 use Rattle.proof_group_network.specs.Carried.{AreAllParts, Sessions, frames_carried}
 use Rattle.proof_group_network.specs.Network.{GroupNetwork, NoticeLink}
-use Rattle.proof_links.specs.Links.{LinksOf, accept_all, handed_on}
+use Rattle.endpoint_links.specs.Links.{LinksOf, accept_all, handed_on}
 use Rattle.proof_pure_network.specs.Frames.{Frame}
 use Rattle.proof_pure_network.specs.Links.{Link}
 use Rattle.proof_session_carrying.proofs.Carrying.{as_it_is, handed_is_carried, out_is_carried, still_is_still}

@@ -1,11 +1,11 @@
 -- How what sessions carry goes on.
 use Rattle.std.specs.Prelude.{◌≡◌, List, [], Option, Some, None, Result, Ok, Err, slice_get}
-use Rattle.collective_notes.specs.Arrivals.{ArrivalGives}
-use Rattle.collective_notes.specs.Messages.{says}
-use Rattle.collective_notes.specs.declared.message.Message.{Message}
-use Rattle.collective_notes.specs.declared.note.Note.{Note}
-use Rattle.collective_notes.specs.declared.refused.Refused.{Refused}
-use Rattle.collective_notes.specs.declared.refused.Refused.TheVariants as refusals
+use Rattle.collective_messages.specs.Arrivals.{ArrivalGives}
+use Rattle.collective_messages.specs.Messages.{says}
+use Rattle.collective_messages.specs.declared.message.CollectiveMessage.{CollectiveMessage}
+use Rattle.collective_messages.specs.declared.note.Note.{Note}
+use Rattle.collective_messages.specs.declared.refusal.CollectiveRefusal.{CollectiveRefusal}
+use Rattle.collective_messages.specs.declared.refusal.CollectiveRefusal.TheVariants as refusals
 use Rattle.datagram.specs.Spelling.{EagerText, FrameText}
 use Rattle.datagram.specs.declared.kinds.Plane.TheVariants.{Collective}
 use Rattle.payload.specs.Reading.{payload_of}
@@ -13,7 +13,7 @@ use Rattle.payload.specs.Spelling.{PayloadText}
 use Rattle.proof_collective_steps.specs.Counterparts.{IsNoted}
 use Rattle.proof_group_network.specs.Carried.{Carried, Session, Sessions}
 use Rattle.proof_group_network.specs.Notices.{Notice}
-use Rattle.proof_links.specs.Links.{LinkOf, LinksOf, accept_all, handed_on, in_flight}
+use Rattle.endpoint_links.specs.Links.{LinkOf, LinksOf, accept_all, handed_on, in_flight}
 use Rattle.proof_pure_network.specs.Announced.{Begins}
 use Rattle.proof_session_carrying.specs.Announced.{Announced, all_announced}
 use Rattle.proof_session_carrying.specs.Carrying.{AreCarried, AreSent, IsBrought, IsCarried, IsEager, Saying, StandsForCarried, bytes_of_message}
@@ -31,7 +31,7 @@ OutIsCarried =
     AreCarried after (accept_all texts e sent) (accept_all sessions e out)
 
 -- the next of what a session carries, for which a text stands
-pub record IsNext (out back : List Announced) (said : List Message) (session : Session) (text : FrameText) : Type 0 where
+pub record IsNext (out back : List Announced) (said : List CollectiveMessage) (session : Session) (text : FrameText) : Type 0 where
   pub carried : Carried
   pub there : slice_get session.accepted session.handed ≡ Some carried
   pub stands : StandsForCarried out back said text carried
@@ -39,7 +39,7 @@ pub record IsNext (out back : List Announced) (said : List Message) (session : S
 -- the text that is handed up next stands for it
 abbrev pub NextStands : Type 0
 NextStands =
-    (out back : List Announced) (said : List Message) (texts : LinkOf FrameText) (session : Session) (text : FrameText) →
+    (out back : List Announced) (said : List CollectiveMessage) (texts : LinkOf FrameText) (session : Session) (text : FrameText) →
     IsCarried out back said texts session → slice_get texts.accepted texts.handed ≡ Some text → IsNext out back said session text
 
 -- once it was handed up all is carried on
@@ -51,11 +51,11 @@ HandedIsCarried =
 -- where no text is under way, nothing is
 abbrev pub StillIsStill : Type 0
 StillIsStill =
-    (out back : List Announced) (said : List Message) (texts : LinkOf FrameText) (session : Session) →
+    (out back : List Announced) (said : List CollectiveMessage) (texts : LinkOf FrameText) (session : Session) →
     IsCarried out back said texts session → in_flight texts ≡ [] → in_flight session ≡ []
 
 -- what comes of the message of a notice: a note of it, or memory is lacking
-abbrev pub ArrivesAs : (s d : Endpoint) → Notice → Result (Option Note) Refused → Type 0
+abbrev pub ArrivesAs : (s d : Endpoint) → Notice → Result (Option Note) CollectiveRefusal → Type 0
 ArrivesAs s d x (Ok (Some n)) = IsNoted d n (record { sender = s; notice = x })
 ArrivesAs s d x (Ok None) = ⊥
 ArrivesAs s d x (Err refusals.OutOfMemory) = Unit {0}
@@ -65,14 +65,14 @@ ArrivesAs s d x (Err _) = ⊥
 -- lacking
 abbrev pub MessagesArrive : Type 0
 MessagesArrive =
-    (s d : Endpoint) (m : Message) (x : Notice) → IsBrought s d m x →
+    (s d : Endpoint) (m : CollectiveMessage) (x : Notice) → IsBrought s d m x →
     (payload_of (bytes_of_message m) ≡ Some (says m))
-    × ((result : Result (Option Note) Refused) → ArrivalGives s m.context m.number (says m) result → ArrivesAs s d x result)
+    × ((result : Result (Option Note) CollectiveRefusal) → ArrivalGives s m.context m.number (says m) result → ArrivesAs s d x result)
 
 -- so it is where an eager frame brings it, which is of collectives
 abbrev pub NoticesArrive : Type 0
 NoticesArrive =
-    (s d : Endpoint) (t : EagerText) (m : Message) (x : Notice) → IsEager m t → IsBrought s d m x →
+    (s d : Endpoint) (t : EagerText) (m : CollectiveMessage) (x : Notice) → IsEager m t → IsBrought s d m x →
     (t.plane ≡ Collective)
     × ((p : PayloadText) × (payload_of t.elements ≡ Some p)
-    × ((result : Result (Option Note) Refused) → ArrivalGives s t.context t.tag p result → ArrivesAs s d x result))
+    × ((result : Result (Option Note) CollectiveRefusal) → ArrivalGives s t.context t.tag p result → ArrivesAs s d x result))

@@ -1,7 +1,7 @@
 -- What sessions carry once an event of a collective happened: what a rank sends goes out as notices, each whole or announced.
 use Rattle.std.specs.Prelude.{◌≡◌, ℕ, ◌-◌, ◌<◌, List, [], ◌∷◌, Option, Some, length, map, slice_get}
-use Rattle.collective_notes.specs.declared.message.Message.{Message}
-use Rattle.collective_notes.specs.Messages.{says}
+use Rattle.collective_messages.specs.declared.message.CollectiveMessage.{CollectiveMessage}
+use Rattle.collective_messages.specs.Messages.{says}
 use Rattle.collectives.specs.State.{State}
 use Rattle.collective_steps.specs.declared.step.Ending.{Ending}
 use Rattle.context_agreement.specs.Communicators.{ContextsState}
@@ -15,7 +15,7 @@ use Rattle.proof_group_network.specs.Happened.{IsAfter}
 use Rattle.proof_group_network.specs.Network.{GroupNetwork, NoticeLink, noticed_on, notify}
 use Rattle.proof_group_network.specs.Notices.{Member, Notice}
 use Rattle.proof_group_network.specs.SessionLaws.{IsNext}
-use Rattle.proof_links.specs.Links.{LinksOf, accept, accept_all, handed_on}
+use Rattle.endpoint_links.specs.Links.{LinksOf, accept, accept_all, handed_on}
 use Rattle.proof_pure_network.specs.Core.{Core}
 use Rattle.proof_session_carrying.specs.Announced.{LargeNotice, all_announced, announced_in}
 use Rattle.proof_session_carrying.specs.Carrying.{AreAllBrought, AreCarried, IsEager, IsRequest, Saying, bytes_of_message, say_all}
@@ -33,19 +33,19 @@ pub record AreJoined (w : GroupNetwork) (said : Saying) (texts : LinksOf FrameTe
 -- ---- what a rank sends
 
 -- a frame brings a message, or announces it
-abbrev pub Tells : Message → FrameText → Type 0
+abbrev pub Tells : CollectiveMessage → FrameText → Type 0
 Tells m (EagerFrame t) = IsEager m t
 Tells m (RequestFrame t) = IsRequest m t
 Tells m _ = ⊥
 
 -- a text to an endpoint brings a message or announces it, and goes to its target; the bytes of the message say what it says
-pub record Brings (m : Message) (sent : Endpoint × FrameText) : Type 0 where
+pub record Brings (m : CollectiveMessage) (sent : Endpoint × FrameText) : Type 0 where
   pub target : sent.0 ≡ m.target
   pub tells : Tells m sent.1
   pub spelled : payload_of (bytes_of_message m) ≡ Some (says m)
 
 -- one text for each message, in their order
-abbrev pub Bring : List Message → List (Endpoint × FrameText) → Type 0
+abbrev pub Bring : List CollectiveMessage → List (Endpoint × FrameText) → Type 0
 Bring [] [] = Unit {0}
 Bring [] (t ∷ ts) = ⊥
 Bring (m ∷ ms) [] = ⊥
@@ -76,14 +76,14 @@ AreNumbered sessions e (t ∷ ts) ((d, c) ∷ cs) = HasNumber (length (announced
 -- All is joined once a rank entered a collective, and its texts went out
 abbrev pub EntriesAreCarried : Type 0
 EntriesAreCarried =
-    (n : ℕ) (w after : GroupNetwork) (said : Saying) (texts : LinksOf FrameText) (sessions : Sessions) (e : Endpoint) (core : Core) (t : State) (k : ContextsState) (given : Option Ending) (sent : List Message) (entries : List Entry) (gone : List (Endpoint × FrameText)) →
+    (n : ℕ) (w after : GroupNetwork) (said : Saying) (texts : LinksOf FrameText) (sessions : Sessions) (e : Endpoint) (core : Core) (t : State) (k : ContextsState) (given : Option Ending) (sent : List CollectiveMessage) (entries : List Entry) (gone : List (Endpoint × FrameText)) →
     AreJoined w said texts sessions → (f : Follows n w after e core w.net.link w.notices t k given sent entries) → Bring sent gone → AreNumbered sessions e gone (all_carried w.notices e f.out gone) →
     AreJoined after (say_all said e sent) (accept_all texts e gone) (accept_all sessions e (all_carried w.notices e f.out gone))
 
 -- and once it was handed what made a notice of s whole
 abbrev pub NoticesAreCarried : Type 0
 NoticesAreCarried =
-    (n : ℕ) (w after : GroupNetwork) (said : Saying) (texts : LinksOf FrameText) (sessions : Sessions) (s e : Endpoint) (core : Core) (t : State) (k : ContextsState) (given : Option Ending) (sent : List Message) (entries : List Entry) (gone : List (Endpoint × FrameText)) (i : ℕ) →
+    (n : ℕ) (w after : GroupNetwork) (said : Saying) (texts : LinksOf FrameText) (sessions : Sessions) (s e : Endpoint) (core : Core) (t : State) (k : ContextsState) (given : Option Ending) (sent : List CollectiveMessage) (entries : List Entry) (gone : List (Endpoint × FrameText)) (i : ℕ) →
     AreJoined w said texts sessions → IsNext sessions s e (OfNotices i) →
     (f : Follows n w after e core w.net.link (noticed_on w.notices s e i) t k given sent entries) → Bring sent gone →
     AreNumbered (handed_on sessions s e) e gone (all_carried (noticed_on w.notices s e i) e f.out gone) →
@@ -100,13 +100,13 @@ AnnouncementsAreCarried =
     AreJoined after said (accept (handed_on texts s e) e (s, ClearFrame (record { transfer = transfer; clearance = Send }))) (accept (handed_on sessions s e) e (s, Answers i))
 
 -- the pieces of a message to an endpoint, under the number of its transfer
-abbrev pub all_pieces : (transfer : ℕ) → Endpoint → Message → List (Endpoint × FrameText)
+abbrev pub all_pieces : (transfer : ℕ) → Endpoint → CollectiveMessage → List (Endpoint × FrameText)
 all_pieces transfer d m = map (λ p. (d, DataFrame (record { transfer = transfer; offset = p.0; bytes = p.1 }))) (pieces_of (bytes_of_message m))
 
 -- where a CTS asked for it, all its pieces go out
 abbrev pub AnswersAreCarried : Type 0
 AnswersAreCarried =
-    (w after : GroupNetwork) (said : Saying) (texts : LinksOf FrameText) (sessions : Sessions) (d e : Endpoint) (core : Core) (m : Member) (entries : List Entry) (i transfer : ℕ) (message : Message) →
+    (w after : GroupNetwork) (said : Saying) (texts : LinksOf FrameText) (sessions : Sessions) (d e : Endpoint) (core : Core) (m : Member) (entries : List Entry) (i transfer : ℕ) (message : CollectiveMessage) →
     AreJoined w said texts sessions → IsNext sessions d e (Answers i) → slice_get (all_announced sessions e d) transfer ≡ Some (LargeNotice i) → slice_get (said e d) i ≡ Some message → 0 < length (bytes_of_message message) →
     IsAfter w after e core w.net.link m w.notices entries →
     AreJoined after said (accept_all (handed_on texts d e) e (all_pieces transfer d message))

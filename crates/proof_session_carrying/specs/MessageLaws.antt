@@ -8,7 +8,7 @@ use Rattle.proof_group_network.specs.Happened.{IsAfter}
 use Rattle.proof_group_network.specs.Network.{GroupNetwork, NoticesAreHanded}
 use Rattle.proof_group_network.specs.Notices.{Member}
 use Rattle.proof_group_network.specs.SessionLaws.{IsNext}
-use Rattle.proof_links.specs.Links.{LinksOf, accept_all, handed_on, in_flight}
+use Rattle.endpoint_links.specs.Links.{LinksOf, accept_all, handed_on, in_flight}
 use Rattle.proof_pure_network.specs.Core.{Core}
 use Rattle.proof_pure_network.specs.Frames.{Frame}
 use Rattle.proof_pure_network.specs.Network.{IsQuiet}

@@ -11,7 +11,7 @@ mod rank_fault_rows;
 mod rows;
 
 use crate::rows::run_rows;
-use keeping::Word;
+use launch_keeper::Word;
 use std::alloc::AllocError;
 use std::net::Net;
 use std::os::fd::AsRawFd;

@@ -1,6 +1,6 @@
 //! The clock of the host.
 
-use rank_drive::Clock;
+use event_loop::Clock;
 use std::io;
 use std::time::{Clock as Host, Instant};
 

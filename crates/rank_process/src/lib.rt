@@ -3,8 +3,8 @@
 #![tactic(auto)]
 
 mod clock;
-mod running;
-mod telling;
+mod command;
+mod error_lines;
 mod udp;
 
-pub use crate::running::{run, run_words};
+pub use crate::command::{run, run_words};

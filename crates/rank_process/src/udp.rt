@@ -1,12 +1,12 @@
 //! Datagrams over UDP on the loopback, and lines on the standard output.
 
 ghost use Rattle.std.specs.Prelude.{◌≡◌, ◌+◌, ◌<◌, ◌^◌, ◌≤◌, length, IfOk};
-ghost use Rattle.rank_drive.specs.Exchanges.{FailsWith};
+ghost use Rattle.event_loop.specs.Exchanges.{FailsWith};
 
-use kept_acknowledgements::{Acknowledgement, Delay, Kept, going, is_urgent, kept_of};
+use delayed_acknowledgements::{Acknowledgement, Delay, DelayedAcknowledgement, sent_before, is_urgent, delayed_of};
 use mio::net::UdpSocket;
 use mio::{Events, Interest, Poll, Token};
-use rank_drive::{LONGEST, Transport, TransportFault};
+use event_loop::{LONGEST, Transport, TransportFault};
 use std::alloc::Global;
 use std::io;
 use std::io::{ErrorKind, Write};
@@ -41,7 +41,7 @@ pub struct Udp<'a, R: Print + Clock> {
     /// How long that datagram is, until it is handed out.
     held: Option<usize>,
     /// The acknowledgement that was handed over last, until it goes or a later one takes its place.
-    kept: Option<Kept>,
+    kept: Option<DelayedAcknowledgement>,
     /// How long it has been kept back.
     delay: Delay,
     /// What the acknowledgement said that was handed over last.
@@ -61,7 +61,7 @@ fn address(port: u16) -> SocketAddr {
 }
 
 /// Copies the first bytes of the room to the front of the buffer, as many as there are and fit, and answers how many.
-fn put(buffer: &mut [u8], room: &[u8], len: usize) -> usize
+fn copy_front(buffer: &mut [u8], room: &[u8], len: usize) -> usize
     ensures { result ≤ length buffer.new }
 {
     let len = len.min(buffer.len()).min(room.len());
@@ -79,7 +79,7 @@ fn is_late<R: Clock>(rt: &R, delay: Option<Delay>) -> bool {
 
 /// The length of the next datagram, which is put into the room, if one comes while others run. It gives up early where what is
 /// kept back, with this delay, is late.
-fn come<R: Clock>(
+fn await_datagram<R: Clock>(
     rt: &R,
     socket: &UdpSocket,
     room: &mut [u8],
@@ -98,16 +98,16 @@ fn come<R: Clock>(
 }
 
 /// Whether an error says no more than that nothing can be done now.
-fn is_passing(error: &io::Error) -> bool {
+fn is_transient(error: &io::Error) -> bool {
     matches!(error.kind(), ErrorKind::WouldBlock | ErrorKind::Interrupted)
 }
 
 /// A datagram goes to a port. Where the system has no room for it now it is lost.
-fn put_out(socket: &UdpSocket, port: u16, bytes: &[u8]) -> Result<(), TransportFault> {
+fn send_to_port(socket: &UdpSocket, port: u16, bytes: &[u8]) -> Result<(), TransportFault> {
     match socket.send_to(bytes, address(port)) {
         Ok(_) => Ok(()),
         Err(e) => {
-            if is_passing(&e) {
+            if is_transient(&e) {
                 Ok(())
             } else {
                 Err(TransportFault)
@@ -146,7 +146,7 @@ impl<'a, R: Print + Clock> Udp<'a, R> {
             room: vec![in alloc; 0u8; LONGEST]?,
             held: None,
             kept: None,
-            delay: Delay::begun(Instant::now(rt).ok()),
+            delay: Delay::start(Instant::now(rt).ok()),
             last: None,
             has_carried: false,
             text: Vec::new(alloc),
@@ -168,14 +168,14 @@ impl<'a, R: Print + Clock> Udp<'a, R> {
         requires { self.old.failures + 1 < 2 ^ 64 }
         ensures { FailsWith result self.old.failures self.new.failures }
     {
-        match put_out(&self.socket, self.first_port.saturating_add(target), bytes) {
+        match send_to_port(&self.socket, self.first_port.saturating_add(target), bytes) {
             Ok(_) => Ok(()),
             Err(_) => Err(self.fault()),
         }
     }
 
     /// An acknowledgement goes, if there is one.
-    fn carry_kept(&mut self, kept: Option<Kept>) -> Result<(), TransportFault>
+    fn carry_kept(&mut self, kept: Option<DelayedAcknowledgement>) -> Result<(), TransportFault>
         requires { self.old.failures + 1 < 2 ^ 64 }
         ensures { FailsWith result self.old.failures self.new.failures }
     {
@@ -207,12 +207,12 @@ impl<'a, R: Print + Clock> Udp<'a, R> {
 
     /// Keeps an acknowledgement back, or lets it go at once. The former one goes before it, unless this one says all that it
     /// says.
-    fn keep(&mut self, next: Kept) -> Result<(), TransportFault>
+    fn keep(&mut self, next: DelayedAcknowledgement) -> Result<(), TransportFault>
         requires { self.old.failures + 1 < 2 ^ 64 }
         ensures { FailsWith result self.old.failures self.new.failures }
     {
         let former = self.kept.take();
-        let leaves = going(former, next);
+        let leaves = sent_before(former, next);
         let is_urgent = is_urgent(self.last, next.said);
         self.last = Some(next.said);
         if is_urgent {
@@ -223,10 +223,10 @@ impl<'a, R: Print + Clock> Udp<'a, R> {
         }
         self.kept = Some(next);
         if former.is_some() && leaves.is_none() {
-            self.delay = self.delay.of_one_more();
+            self.delay = self.delay.with_one_more();
             return self.flush_if_over();
         }
-        self.delay = Delay::begun(Instant::now(self.rt).ok());
+        self.delay = Delay::start(Instant::now(self.rt).ok());
         self.carry_kept(leaves)
     }
 
@@ -260,7 +260,7 @@ impl<'a, R: Print + Clock> Udp<'a, R> {
         if is_late(self.rt, delay) {
             return self.flush();
         }
-        self.held = come(self.rt, &self.socket, &mut self.room, delay);
+        self.held = await_datagram(self.rt, &self.socket, &mut self.room, delay);
         if self.held.is_none() {
             return self.flush();
         }
@@ -272,10 +272,10 @@ impl<'a, R: Print + Clock> Udp<'a, R> {
         self.has_lost_line
     }
 
-    /// The same at the end, behind which nothing else is asked of it.
+    /// Sends what is kept back, and flushes the output; nothing else is asked of it afterwards.
     pub fn finish(&mut self) -> Result<(), TransportFault> {
         match self.kept.take() {
-            Some(kept) => put_out(
+            Some(kept) => send_to_port(
                 &self.socket,
                 self.first_port.saturating_add(kept.target),
                 &kept.bytes,
@@ -296,7 +296,7 @@ impl<'a, R: Print + Clock> Transport for Udp<'a, R> {
         };
         if let Some(len) = self.held.take() {
             self.has_carried = true;
-            return Ok(Some(put(buffer, &self.room, len)));
+            return Ok(Some(copy_front(buffer, &self.room, len)));
         }
         match self.socket.recv(buffer) {
             Ok(len) => {
@@ -304,7 +304,7 @@ impl<'a, R: Print + Clock> Transport for Udp<'a, R> {
                 Ok(Some(len))
             }
             Err(e) => {
-                if is_passing(&e) {
+                if is_transient(&e) {
                     Ok(None)
                 } else {
                     Err(self.fault())
@@ -315,7 +315,7 @@ impl<'a, R: Print + Clock> Transport for Udp<'a, R> {
 
     fn send(&mut self, target: u16, bytes: &[u8]) -> Result<(), TransportFault> {
         self.has_carried = true;
-        match kept_of(target, bytes) {
+        match delayed_of(target, bytes) {
             Some(next) => self.keep(next),
             None => self.carry(target, bytes),
         }
@@ -348,7 +348,7 @@ impl<'a, R: Print + Clock> Transport for Udp<'a, R> {
         {
             Ok(()) => Ok(()),
             Err(e) => {
-                if is_passing(&e) {
+                if is_transient(&e) {
                     Ok(())
                 } else {
                     Err(self.fault())

@@ -4,13 +4,13 @@ use Rattle.clap.specs.Words.{Kinds, Row, Text, fault_of, first_of, matches_of}
 use Rattle.clap.specs.declared.error.kind.ErrorKind.{ErrorKind}
 use Rattle.clap.specs.declared.error.kind.ErrorKind.TheVariants as kinds
 use Rattle.numerals.specs.Numbers.{number_between}
-use Rattle.rank_settings.specs.declared.asked.Settings.{Settings}
-use Rattle.rank_settings.specs.declared.refused.Refused.{Refused}
-use Rattle.rank_settings.specs.declared.refused.Refused.TheVariants.{OutOfMemory, Words}
+use Rattle.rank_settings.specs.declared.settings.Settings.{Settings}
+use Rattle.rank_settings.specs.declared.refusal.SettingsRefusal.{SettingsRefusal}
+use Rattle.rank_settings.specs.declared.refusal.SettingsRefusal.TheVariants.{OutOfMemory, Words}
 use Rattle.rank_settings.specs.Program.{rank_program}
 
 -- the numbers of refusals
-abbrev pub number_of : Refused → ℕ
+abbrev pub number_of : SettingsRefusal → ℕ
 number_of OutOfMemory = 14
 number_of Words = 64
 
@@ -40,7 +40,7 @@ pub record AreGiven (rows : List Row) (s : Settings) : Type 0 where
   pub ports : ArePorts s.rank s.size s.port
 
 -- What looking for a value answers: the value, or 64 where there is none. It takes no memory.
-abbrev pub Finds : {X Y : Type 0} → (X → Y) → Result X Refused → Option Y → Type 0
+abbrev pub Finds : {X Y : Type 0} → (X → Y) → Result X SettingsRefusal → Option Y → Type 0
 Finds view (Ok x) found = found ≡ Some (view x)
 Finds view (Err Words) found = found ≡ None
 Finds view (Err OutOfMemory) found = ⊥
@@ -50,23 +50,23 @@ abbrev pub GiveNone : List Row → Type 0
 GiveNone rows = (s : Settings) → AreGiven rows s → ⊥
 
 -- What the rows answer: the settings that they give, or 64 where they give none. It takes no memory.
-abbrev pub RowsAnswer : List Row → Result Settings Refused → Type 0
+abbrev pub RowsAnswer : List Row → Result Settings SettingsRefusal → Type 0
 RowsAnswer rows (Ok s) = AreGiven rows s
 RowsAnswer rows (Err Words) = GiveNone rows
 RowsAnswer rows (Err OutOfMemory) = ⊥
 
 -- a fault of the words is 64, unless memory was wanting
-abbrev pub refusal_of : ErrorKind → Refused
+abbrev pub refusal_of : ErrorKind → SettingsRefusal
 refusal_of kinds.OutOfMemory = OutOfMemory
 refusal_of kind = Words
 
 -- What words answer by the faults that the program's options find in them and the rows that they give: the settings of the rows,
 -- where there is no fault; 64 where there is one, or the rows are no settings; 14 for want of memory.
-abbrev pub AnswersBy : Kinds → List Row → Result Settings Refused → Type 0
+abbrev pub AnswersBy : Kinds → List Row → Result Settings SettingsRefusal → Type 0
 AnswersBy faults rows (Ok s) = (faults ≡ []) × AreGiven rows s
 AnswersBy faults rows (Err Words) = faults ≡ [] → GiveNone rows
 AnswersBy faults rows (Err OutOfMemory) = Unit {0}
 
 -- what words answer
-abbrev pub Answers : List Text → Result Settings Refused → Type 0
+abbrev pub Answers : List Text → Result Settings SettingsRefusal → Type 0
 Answers words result = AnswersBy (fault_of rank_program words) (matches_of rank_program words) result

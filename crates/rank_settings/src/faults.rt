@@ -87,7 +87,7 @@ fn is_repeated<S: AsStr>(words: &[S], place: usize, option: &str) -> bool {
 }
 
 /// What a word stands for where an option or the script may stand.
-enum Standing<'a> {
+enum Position<'a> {
     /// An option whose value is the next word, and between which numbers that lies.
     Option(u64, u64),
     /// An option with its value behind `=`.
@@ -104,15 +104,15 @@ fn standing_of<'a, S: AsStr>(
     place: usize,
     word: &'a str,
     has_script: bool,
-) -> Standing<'a> {
+) -> Position<'a> {
     match range_of(front_of(word)) {
-        Some(_) if is_repeated(words, place, front_of(word)) => Standing::Fault,
+        Some(_) if is_repeated(words, place, front_of(word)) => Position::Fault,
         Some((low, high)) => match word.split_once('=') {
-            Some((_, value)) => Standing::Valued(value, low, high),
-            None => Standing::Option(low, high),
+            Some((_, value)) => Position::Valued(value, low, high),
+            None => Position::Option(low, high),
         },
-        None if has_script || word.starts_with('-') => Standing::Fault,
-        None => Standing::Script,
+        None if has_script || word.starts_with('-') => Position::Fault,
+        None => Position::Script,
     }
 }
 
@@ -134,14 +134,14 @@ fn scanned_fault<'a, S: AsStr>(words: &'a [S]) -> Option<WordFault<'a>>
             return None;
         }
         match standing_of(words, place, word, has_script) {
-            Standing::Option(low, high) => range = Some((low, high)),
-            Standing::Valued(value, low, high) => {
+            Position::Option(low, high) => range = Some((low, high)),
+            Position::Valued(value, low, high) => {
                 if let Some(fault) = value_fault(value, low, high) {
                     return Some(fault);
                 }
             }
-            Standing::Script => has_script = true,
-            Standing::Fault => {
+            Position::Script => has_script = true,
+            Position::Fault => {
                 return Some(WordFault {
                     word,
                     wanted: Wanted::OptionOrScript,

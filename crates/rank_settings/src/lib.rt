@@ -1,13 +1,13 @@
 //! The words of the rank program, and the settings that they give.
 #![tactic(auto)]
 
-mod asked;
 mod faults;
 mod program;
-mod refused;
+mod refusal;
+mod settings;
 mod words;
 
-pub use asked::Settings;
+pub use settings::Settings;
 pub use faults::{Wanted, WordFault, asks_for_help, fault_in};
-pub use refused::Refused;
+pub use refusal::SettingsRefusal;
 pub use words::settings_of;

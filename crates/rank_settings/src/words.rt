@@ -4,9 +4,9 @@ ghost use Rattle.std.specs.Prelude.{◌≡◌, ◌≤◌, ◌↔◌, IfOk, IsTru
 ghost use Rattle.clap.specs.Words.{first_of, found_of, kind_of, rows_of};
 ghost use Rattle.rank_settings.specs.Settings.{Answers, ArePorts, Finds, RowsAnswer, number_in, patience_of, refusal_of};
 
-use crate::asked::Settings;
+use crate::settings::Settings;
 use crate::program::rank_program;
-use crate::refused::Refused;
+use crate::refusal::SettingsRefusal;
 use clap::error::ErrorKind;
 use clap::{ArgMatches, Error};
 use numerals::number_between;
@@ -17,17 +17,17 @@ use std::convert::AsStr;
 const USUAL_PATIENCE: u64 = 10_000;
 
 /// The value of an option that has to be there.
-fn value_of<'a>(matches: &ArgMatches<'a>, name: &str) -> Result<&'a str, Refused>
+fn value_of<'a>(matches: &ArgMatches<'a>, name: &str) -> Result<&'a str, SettingsRefusal>
     ensures { Finds (λ text. text.now) result (first_of name.now (rows_of (found_of matches.now))) }
 {
     match matches.get_str(name) {
         Some(text) => Ok(text),
-        None => Err(Refused::Words),
+        None => Err(SettingsRefusal::Words),
     }
 }
 
 /// The number that the value of an option spells, between these bounds.
-fn number_of(matches: &ArgMatches, name: &str, low: u64, high: u64) -> Result<u64, Refused>
+fn number_of(matches: &ArgMatches, name: &str, low: u64, high: u64) -> Result<u64, SettingsRefusal>
     ensures exact { Finds (λ n. n) result (number_in (rows_of (found_of matches.now)) name.now low high) }
     ensures low { IfOk result (λ n. low ≤ n) }
     ensures high { IfOk result (λ n. n ≤ high) }
@@ -35,18 +35,18 @@ fn number_of(matches: &ArgMatches, name: &str, low: u64, high: u64) -> Result<u6
     let text = value_of(matches, name)?;
     match number_between(text.as_bytes(), low, high) {
         Some(number) => Ok(number),
-        None => Err(Refused::Words),
+        None => Err(SettingsRefusal::Words),
     }
 }
 
 /// The patience that the words give, or the usual one.
-fn patience_in(matches: &ArgMatches) -> Result<u64, Refused>
+fn patience_in(matches: &ArgMatches) -> Result<u64, SettingsRefusal>
     ensures { Finds (λ n. n) result (patience_of (first_of (codes "patience") (rows_of (found_of matches.now)))) }
 {
     match matches.get_str("patience") {
         Some(text) => match number_between(text.as_bytes(), 1, 3_600_000) {
             Some(number) => Ok(number),
-            None => Err(Refused::Words),
+            None => Err(SettingsRefusal::Words),
         },
         None => Ok(USUAL_PATIENCE),
     }
@@ -63,7 +63,7 @@ fn are_ports(rank: u64, size: u64, port: u64) -> bool
 }
 
 /// What the matches give.
-fn found_settings<'a>(matches: &ArgMatches<'a>) -> Result<Settings<'a>, Refused>
+fn found_settings<'a>(matches: &ArgMatches<'a>) -> Result<Settings<'a>, SettingsRefusal>
     ensures { RowsAnswer (rows_of (found_of matches.now)) result }
 {
     let rank = number_of(matches, "rank", 0, 1_023)?;
@@ -74,7 +74,7 @@ fn found_settings<'a>(matches: &ArgMatches<'a>) -> Result<Settings<'a>, Refused>
     let patience = patience_in(matches)?;
     let file = value_of(matches, "FILE")?;
     if rank >= size || !are_ports(rank, size, port) {
-        return Err(Refused::Words);
+        return Err(SettingsRefusal::Words);
     }
     Ok(Settings {
         rank: rank as u16,
@@ -87,12 +87,12 @@ fn found_settings<'a>(matches: &ArgMatches<'a>) -> Result<Settings<'a>, Refused>
     })
 }
 
-fn refusal_of(error: &Error) -> Refused
+fn refusal_of(error: &Error) -> SettingsRefusal
     ensures { result ≡ refusal_of (kind_of error.now) }
 {
     match error.kind() {
-        ErrorKind::OutOfMemory => Refused::OutOfMemory,
-        _ => Refused::Words,
+        ErrorKind::OutOfMemory => SettingsRefusal::OutOfMemory,
+        _ => SettingsRefusal::Words,
     }
 }
 
@@ -103,7 +103,7 @@ fn refusal_of(error: &Error) -> Refused
 ///
 /// Refused with 64 exactly where the words are others, a value is out of its range, the rank isn't below the size, or the port
 /// of some rank isn't 1 to 65,535, unless memory was wanting before that was seen: 14.
-pub fn settings_of<'a, S: AsStr>(alloc: Global, words: &'a [S]) -> Result<Settings<'a>, Refused>
+pub fn settings_of<'a, S: AsStr>(alloc: Global, words: &'a [S]) -> Result<Settings<'a>, SettingsRefusal>
     ensures { Answers (map S.text words.entry.now) result }
 {
     let program = rank_program(alloc)?;

@@ -5,7 +5,7 @@ ghost use Rattle.datatypes.specs.Combinations.{combined_values, IsLike};
 ghost use Rattle.reductions.specs.Folds.{folded_values};
 
 use crate::operation::ReduceOp;
-use datatypes::{Buffer, Refusal};
+use datatypes::{Buffer, LayoutRefusal};
 use std::alloc::Global;
 
 /// Combines each element of `all`, which come first, with that of `next` at the same place.
@@ -28,7 +28,7 @@ pub fn fold<R: ReduceOp>(
     alloc: Global,
     first: &Buffer,
     rest: &[Buffer],
-) -> Result<Buffer, Refusal>
+) -> Result<Buffer, LayoutRefusal>
     requires basic { first.now.basic ≡ R.basic_of op.now }
     requires like { All (IsLike first.now.basic first.now.values) rest.now }
     ensures ok { IfOk result
@@ -37,7 +37,7 @@ pub fn fold<R: ReduceOp>(
         record first.now {
           values = folded_values (R.combines op.now) first.now.values rest.now;
         }) }
-    ensures err { IfErr result (λ refusal. refusal ≡ Refusal.OutOfMemory) }
+    ensures err { IfErr result (λ refusal. refusal ≡ LayoutRefusal.OutOfMemory) }
 {
     let mut all = first.try_clone(alloc)?;
     for next in rest {

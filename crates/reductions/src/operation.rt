@@ -5,7 +5,7 @@ ghost use Rattle.datatypes.specs.Elements.{numbers_of};
 ghost use Rattle.datatypes.specs.Combinations.{combined_values, IsLike};
 ghost use Rattle.reductions.specs.Operations.{order_of, greater_by, lesser_by, logical_and, logical_or, logical_xor, map_after, is_defined, operation_of, combined};
 
-use datatypes::{Buffer, PairOp, Refusal, is_signed, largest_number};
+use datatypes::{Buffer, PairOp, LayoutRefusal, is_signed, largest_number};
 use vocabulary::BasicType;
 
 /// An operation of a reduction.
@@ -95,10 +95,10 @@ impl Op {
     }
 
     /// The operation on the type, refused where it is not defined there.
-    pub fn on(self, basic: BasicType) -> Result<Reduction, Refusal>
+    pub fn on(self, basic: BasicType) -> Result<Reduction, LayoutRefusal>
         ensures ok { IfOk result (λ r. (r.operation ≡ self) × (r.basic ≡ basic)) }
-        ensures undefined { IsErrOf result Refusal.NotDefined ↔ (is_defined self basic ≡ false) }
-        ensures err { IfErr result (λ e. e ≡ Refusal.NotDefined) }
+        ensures undefined { IsErrOf result LayoutRefusal.NotDefined ↔ (is_defined self basic ≡ false) }
+        ensures err { IfErr result (λ e. e ≡ LayoutRefusal.NotDefined) }
     {
         if self.is_defined_on(basic) {
             Ok(Reduction {
@@ -106,14 +106,14 @@ impl Op {
                 basic,
             })
         } else {
-            Err(Refusal::NotDefined)
+            Err(LayoutRefusal::NotDefined)
         }
     }
 }
 
 /// The number modulo how many numbers the type has.
 #[inline(always)]
-fn reduced(basic: BasicType, number: u64) -> u64
+fn modulo_type(basic: BasicType, number: u64) -> u64
     ensures { result ≡ number % numbers_of basic }
 {
     let largest = largest_number(basic);
@@ -154,7 +154,7 @@ fn both_maps(first: u64, second: u64) -> u64
 fn wrapped_sum(basic: BasicType, first: u64, second: u64) -> u64
     ensures { result ≡ (first + second) % numbers_of basic }
 {
-    reduced(basic, first.wrapping_add(second))
+    modulo_type(basic, first.wrapping_add(second))
 }
 
 /// The product, modulo how many numbers the type has.
@@ -162,7 +162,7 @@ fn wrapped_sum(basic: BasicType, first: u64, second: u64) -> u64
 fn wrapped_product(basic: BasicType, first: u64, second: u64) -> u64
     ensures { result ≡ (first * second) % numbers_of basic }
 {
-    reduced(basic, first.wrapping_mul(second))
+    modulo_type(basic, first.wrapping_mul(second))
 }
 
 /// Whether an element comes before another one in the order of their type. Elements of at most four

@@ -10,7 +10,7 @@ use Rattle.vocabulary.specs.BasicTypes.{size_of}
 use Rattle.datatypes.specs.Contents.{bytes_of, AreWithin}
 use Rattle.datatypes.specs.ContentLaws.{sizes, length-bytes_of, values_of-bytes_of}
 use Rattle.rendezvous.specs.Pieces.{first_piece, piece_at, piece_count, pieces_of, piece_bytes}
-use Rattle.rendezvous.specs.Collecting.{Collecting, beginning, takes, with_piece, due_bytes}
+use Rattle.rendezvous.specs.Collecting.{Collecting, beginning, is_next_data, with_piece, due_bytes}
 use Rattle.rendezvous.specs.WholePieces.{joined, IsFullBefore, AreCut, ArePieces, AreTaken, ArriveWhole}
 
 -- so many pieces have so many bytes, and no piece is empty
@@ -104,7 +104,7 @@ pieces bytes =
 
 -- A COLLECTION THAT TAKES THEM
 
-due : (c : Collecting) (offset : ℕ) (piece : List ℕ) → 0 < length piece → offset ≡ length c.bytes → length piece ≡ due_bytes c → takes c offset piece ≡ true
+due : (c : Collecting) (offset : ℕ) (piece : List ℕ) → 0 < length piece → offset ≡ length c.bytes → length piece ≡ due_bytes c → is_next_data c offset piece ≡ true
 due c offset piece some at len =
     and_from _ _ (and_from _ _ (lt-ltb 0 (length piece) some) (eq-eqb offset (length c.bytes) at)) (eq-eqb (length piece) (due_bytes c) len)
 
@@ -117,7 +117,7 @@ record IsAt (size k : ℕ) (xs : List ℕ) (c : Collecting) : Type 0 where
 lengths : (size k : ℕ) (xs : List ℕ) (c : Collecting) → IsAt size k xs c → c.total ≡ k * size + length (drop (k * size) xs)
 lengths size k xs c h = omega (arith, h.total, h.len, ap length h.whole, length-append c.bytes (drop (k * size) xs))
 
-piece_due : (size k n : ℕ) (xs : List ℕ) (c : Collecting) → size ≡ piece_bytes → IsCount size (suc n) (length (drop (k * size) xs)) → IsAt size k xs c → takes c (k * size) (first_piece size (drop (k * size) xs)) ≡ true
+piece_due : (size k n : ℕ) (xs : List ℕ) (c : Collecting) → size ≡ piece_bytes → IsCount size (suc n) (length (drop (k * size) xs)) → IsAt size k xs c → is_next_data c (k * size) (first_piece size (drop (k * size) xs)) ≡ true
 piece_due size k n xs c e h at =
     let here = drop (k * size) xs in
     let first = length_first size here in

@@ -40,8 +40,8 @@ abbrev pub due_bytes : Collecting → ℕ
 due_bytes c = due_of c.total (length c.bytes)
 
 -- whether these bytes from this place on are its next piece
-abbrev pub takes : Collecting → (offset : ℕ) → List ℕ → Bool
-takes c offset piece = is_next_piece c.total (length c.bytes) offset piece
+abbrev pub is_next_data : Collecting → (offset : ℕ) → List ℕ → Bool
+is_next_data c offset piece = is_next_piece c.total (length c.bytes) offset piece
 
 -- with one more piece
 abbrev pub with_piece : Collecting → List ℕ → Collecting

@@ -6,7 +6,7 @@ use Rattle.rendezvous.specs.declared.transfers.Numbers.{Numbers}
 use Rattle.rendezvous.specs.declared.offer.Offer.{Offer}
 use Rattle.rendezvous.specs.declared.collection.Collected.{Collected}
 use Rattle.rendezvous.specs.Offers.{offer_for, offer_at, without_offer}
-use Rattle.rendezvous.specs.Collecting.{Collecting, is_from, takes, with_piece, is_whole}
+use Rattle.rendezvous.specs.Collecting.{Collecting, is_from, is_next_data, with_piece, is_whole}
 use Rattle.rendezvous.specs.Collected.{collected_of}
 
 -- by rank the numbers of its sessions; the messages that were announced to others, and those that come from others, the
@@ -85,7 +85,7 @@ collection_at cs None = None
 -- whether the bytes are the next piece of what was found
 abbrev pub is_taken : Option Collecting → (offset : ℕ) → List ℕ → Bool
 is_taken None offset piece = false
-is_taken (Some c) offset piece = takes c offset piece
+is_taken (Some c) offset piece = is_next_data c offset piece
 
 -- whether the bytes are the next piece of this transfer
 abbrev pub is_due : List Collecting → (source transfer offset : ℕ) → List ℕ → Bool

@@ -5,7 +5,7 @@ use Rattle.vocabulary.specs.declared.basic_type.BasicType.{BasicType}
 use Rattle.vocabulary.specs.BasicTypes.{size_of}
 use Rattle.datatypes.specs.Contents.{bytes_of}
 use Rattle.rendezvous.specs.Pieces.{piece_bytes, pieces_of}
-use Rattle.rendezvous.specs.Collecting.{Collecting, beginning, takes, with_piece, is_whole}
+use Rattle.rendezvous.specs.Collecting.{Collecting, beginning, is_next_data, with_piece, is_whole}
 use Rattle.rendezvous.specs.Collected.{collected_of}
 
 -- the bytes of pieces, one after the other
@@ -38,9 +38,9 @@ pub record ArePieces (bytes : List ℕ) (pieces : List (ℕ × List ℕ)) : Type
 abbrev pub AreTaken : Collecting → List (ℕ × List ℕ) → Collecting → Type 0
 AreTaken c [] last = c ≡ last
 AreTaken c (p ∷ []) last =
-    (takes c p.0 p.1 ≡ true) × (is_whole (with_piece c p.1) ≡ true) × (with_piece c p.1 ≡ last)
+    (is_next_data c p.0 p.1 ≡ true) × (is_whole (with_piece c p.1) ≡ true) × (with_piece c p.1 ≡ last)
 AreTaken c (p ∷ q ∷ ps) last =
-    (takes c p.0 p.1 ≡ true) × (is_whole (with_piece c p.1) ≡ false) × AreTaken (with_piece c p.1) (q ∷ ps) last
+    (is_next_data c p.0 p.1 ≡ true) × (is_whole (with_piece c p.1) ≡ false) × AreTaken (with_piece c p.1) (q ∷ ps) last
 
 -- the elements of a message that comes in pieces: a new collection of that size takes all pieces, and gives just them
 pub record ArriveWhole (source transfer request : ℕ) (basic : BasicType) (values : List ℕ) : Type 0 where

@@ -2,7 +2,7 @@
 
 ghost use Rattle.std.specs.Prelude.{◌≡◌, ◌+◌, ◌*◌, ◌≤◌, ◌++◌, [], length, IfOk};
 ghost use Rattle.vocabulary.specs.BasicTypes.{size_of};
-ghost use Rattle.rendezvous.specs.Collecting.{Collecting, beginning, is_from, takes, is_whole, with_piece};
+ghost use Rattle.rendezvous.specs.Collecting.{Collecting, beginning, is_from, is_next_data, is_whole, with_piece};
 ghost use Rattle.rendezvous.specs.Collected.{collected_of};
 
 use crate::piece::is_next_piece;
@@ -102,8 +102,8 @@ impl Collection {
     }
 
     /// Whether these bytes are the next piece: they stand where the data end so far, and are as many as are due.
-    pub fn takes(&self, offset: u32, bytes: &[u8]) -> bool
-        ensures { result ≡ takes self.now offset bytes.now }
+    pub fn is_next_data(&self, offset: u32, bytes: &[u8]) -> bool
+        ensures { result ≡ is_next_data self.now offset bytes.now }
     {
         is_next_piece(self.total, self.bytes.len(), offset, bytes)
     }

@@ -11,7 +11,7 @@ ghost use Rattle.rendezvous.specs.Courses.{IsWholeOrNothing, story};
 ghost use Rattle.rendezvous.specs.Answered.{AreAnsweredOnce, after_all};
 ghost use Rattle.rendezvous.specs.Counted.{transfers_to, announcements_by, IsCounted, AreAlike, AreFound};
 
-/// A law of `pieces`, `takes` and `on_data`: pieces put together in order are the data, and a new collection of that size
+/// A law of `pieces`, `is_next_data` and `on_data`: pieces put together in order are the data, and a new collection of that size
 /// takes them in order and gives just the elements, with the last one and not before.
 pub fn pieces_are_whole()
     ensures pieces { (bytes : List ℕ) → ArePieces bytes (pieces_of bytes) }

@@ -3,7 +3,7 @@
 ghost use Rattle.std.specs.Prelude.{◌≡◌, ℕ, ◌+◌, ◌≤◌, ◌<◌, ◌++◌, not, ◌==◌, false, true, filter, map, length, [], IfOk, OnOk, OnErr, position, replicate, slice_get, slice_set, slice_index_or, vec_len, vec_capacity};
 ghost use Rattle.std.specs.Option.{option_copied};
 ghost use Rattle.rendezvous.specs.Offers.{offer_for, offer_at, without_offer};
-ghost use Rattle.rendezvous.specs.Collecting.{Collecting, is_from, takes, with_piece, is_whole};
+ghost use Rattle.rendezvous.specs.Collecting.{Collecting, is_from, is_next_data, with_piece, is_whole};
 ghost use Rattle.rendezvous.specs.State.{State, fresh, is_full_to, is_next, next_to, with_begun, with_announced, collection_for, collection_at, is_due, grown_at, with_data_at, given_at, after_begin, after_rts, after_collect, offered, after_cts, after_data, given, after_drop, keys_with};
 
 use crate::collection::{Collected, Collection};
@@ -23,6 +23,13 @@ pub struct Numbers {
 }
 
 /// What a rank knows of its transfers: their numbers, the messages that it announced and those that come to it.
+///
+/// ```text
+///  to a rank:   begin_send ─► offered ── on_cts: handed out, and gone
+///  from a rank: on_rts: counted ── collect ─► comes ── on_data: the next piece ─► comes
+///                                                  └── on_data: the last piece ─► handed out whole, and gone
+///  either way:  drop_from(rank), a lesson: what is offered or comes is gone, and numbers begin at 0
+/// ```
 #[derive(Drop)]
 pub struct Transfers {
     numbers: Vec<Numbers>,
@@ -361,7 +368,7 @@ impl Transfers {
         ensures { result ≡ is_due self.now.state.collections rank transfer offset bytes.now }
     {
         match find_collection(&self.collections, rank, transfer) {
-            Some(collection) => collection.takes(offset, bytes),
+            Some(collection) => collection.is_next_data(offset, bytes),
             None => false,
         }
     }

@@ -18,8 +18,8 @@ fn message(alloc: Global, incarnation: u16, tag: u32) -> Message {
     }
 }
 
-fn receive(request: usize, source: Source, tag: Option<u32>) -> Receive {
-    Receive {
+fn receive(request: usize, source: Source, tag: Option<u32>) -> PostedReceive {
+    PostedReceive {
         request,
         context: 0,
         source,
@@ -36,7 +36,7 @@ fn arrive(queues: &mut Queues, message: Message) -> Option<Arrival> {
 }
 
 /// What a receive finds, for which room is made.
-fn post(queues: &mut Queues, receive: Receive) -> Option<Option<Message>> {
+fn post(queues: &mut Queues, receive: PostedReceive) -> Option<Option<Message>> {
     let Ok(()) = queues.reserve_receive() else {
         return None;
     };
@@ -60,7 +60,7 @@ fn matched(alloc: Global, queues: &mut Queues, tag: u32) -> Option<usize> {
 }
 
 /// Whether a receive finds no message, and waits.
-fn is_posted(queues: &mut Queues, receive: Receive) -> bool {
+fn is_posted(queues: &mut Queues, receive: PostedReceive) -> bool {
     match post(queues, receive) {
         Some(None) => true,
         _ => false,
@@ -68,7 +68,7 @@ fn is_posted(queues: &mut Queues, receive: Receive) -> bool {
 }
 
 /// The tag of the message that a receive finds.
-fn found(queues: &mut Queues, receive: Receive) -> Option<u32> {
+fn found(queues: &mut Queues, receive: PostedReceive) -> Option<u32> {
     match post(queues, receive) {
         Some(Some(message)) => Some(message.tag),
         _ => None,

@@ -1,8 +1,8 @@
 //! How requests end.
 
-use datatypes::{Block, Buffer, Layout};
+use datatypes::{IndexedBlock, Buffer, Layout};
 use requests::*;
-use shared_groups::Members;
+use communicator_members::Members;
 use std::alloc::Global;
 use vocabulary::{BasicType, Source, Status};
 
@@ -46,9 +46,9 @@ fn judged(region: Region) -> Option<ReceiveRegion> {
     Some(ReceiveRegion::new(region))
 }
 
-fn receiving(alloc: Global) -> Option<Progress> {
+fn receiving(alloc: Global) -> Option<RequestProgress> {
     let region = Region::whole(Buffer::new(alloc, BasicType::Byte));
-    Some(Progress::Receiving(Posted {
+    Some(RequestProgress::Receiving(Posted {
         into: judged(region)?,
         group: None,
     }))
@@ -84,7 +84,7 @@ fn received_in_group(alloc: Global, sender: u16) -> Option<Seen> {
     requests.reserve().ok()?;
     let group = Some(Members::from_slice(alloc, &[4, 2]).ok()?);
     let into = judged(Region::whole(Buffer::new(alloc, BasicType::Byte)))?;
-    let request = requests.start(Progress::Receiving(Posted { into, group }));
+    let request = requests.start(RequestProgress::Receiving(Posted { into, group }));
     let status = Status {
         source: Source::Rank(sender),
         ..empty_status()
@@ -113,7 +113,7 @@ fn replaced(alloc: Global) -> Option<[Seen; 2]> {
     requests.reserve().ok()?;
     let waiting = requests.start(receiving(alloc)?);
     requests.reserve().ok()?;
-    let finished = requests.start(Progress::Finished(Outcome::Sent));
+    let finished = requests.start(RequestProgress::Finished(Outcome::Sent));
     requests.replace_each(&[waiting.key, finished.key, 7]);
     Some([look(&mut requests, waiting), look(&mut requests, finished)])
 }
@@ -129,7 +129,7 @@ fn cancelled(alloc: Global) -> Option<[Seen; 2]> {
     requests.reserve().ok()?;
     let waiting = requests.start(receiving(alloc)?);
     requests.reserve().ok()?;
-    let finished = requests.start(Progress::Finished(Outcome::Sent));
+    let finished = requests.start(RequestProgress::Finished(Outcome::Sent));
     requests.cancel(waiting);
     requests.cancel(finished);
     Some([look(&mut requests, waiting), look(&mut requests, finished)])
@@ -173,11 +173,11 @@ fn a_list_names_a_request_once_or_twice(rt: HostRuntime) {
 fn received_through(alloc: Global) -> Option<[u8; 6]> {
     let layout = Layout::new(alloc, BasicType::Byte).ok()?;
     let blocks = [
-        Block {
+        IndexedBlock {
             length: 2,
             displacement: 1,
         },
-        Block {
+        IndexedBlock {
             length: 1,
             displacement: 5,
         },
@@ -188,7 +188,7 @@ fn received_through(alloc: Global) -> Option<[u8; 6]> {
         places: Places::Copies(layout, 1),
     };
     let message = bytes(alloc, &[7, 8])?;
-    match received(judged(region)?, empty_status(), message) {
+    match receive_outcome(judged(region)?, empty_status(), message) {
         Outcome::Received(_status, buffer) => match buffer.as_bytes() {
             [a, b, c, d, e, f] => Some([*a, *b, *c, *d, *e, *f]),
             _ => None,
@@ -209,8 +209,8 @@ fn a_message_goes_to_the_places_of_its_layout(rt: HostRuntime) {
 
 #[test]
 fn numbers_of_refusals(rt: HostRuntime) {
-    assert_eq!(rt; Refused::Limit.number(), 13);
-    assert_eq!(rt; Refused::OutOfMemory.number(), 14);
+    assert_eq!(rt; RequestRefusal::Limit.number(), 13);
+    assert_eq!(rt; RequestRefusal::OutOfMemory.number(), 14);
     assert_eq!(rt; Failure::WrongType.number(), 2);
     assert_eq!(rt; Failure::Truncated.number(), 10);
 }
@@ -240,9 +240,9 @@ fn collect(requests: &mut Requests, request: Request, data: Buffer) -> [Seen; 2]
 }
 
 /// A receive of one byte.
-fn receiving_one(alloc: Global) -> Option<Progress> {
+fn receiving_one(alloc: Global) -> Option<RequestProgress> {
     let region = Region::whole(bytes(alloc, &[0])?);
-    Some(Progress::Receiving(Posted {
+    Some(RequestProgress::Receiving(Posted {
         group: None,
         into: judged(region)?,
     }))
@@ -269,7 +269,7 @@ fn a_receive_collects_what_was_announced(rt: HostRuntime) {
 fn offered(alloc: Global) -> Option<[Seen; 2]> {
     let mut requests = Requests::new(alloc);
     requests.reserve().ok()?;
-    let request = requests.start(Progress::Offering);
+    let request = requests.start(RequestProgress::Offering);
     let before = look(&mut requests, request);
     requests.finish_send(request.key);
     Some([before, look(&mut requests, request)])
@@ -288,7 +288,7 @@ fn is_over(alloc: Global) -> Option<bool> {
         ..empty_status()
     };
     match match_announced(region, status, BasicType::Byte) {
-        Progress::Finished(Outcome::Ended(Failure::Truncated, _status, _buffer)) => Some(true),
+        RequestProgress::Finished(Outcome::Ended(Failure::Truncated, _status, _buffer)) => Some(true),
         _ => Some(false),
     }
 }

@@ -4,21 +4,21 @@
 #![tactic(auto)]
 
 mod answer;
-mod awaited;
-mod completing;
+mod awaited_requests;
+mod completion;
 mod list;
 mod outcome;
-mod refused;
+mod refusal;
 mod region;
 mod table;
 
 pub use answer::{Answer, OutcomeRoom, Outcomes};
-pub use awaited::{Awaited, AwaitedAll};
+pub use awaited_requests::{Awaited, AwaitedAll};
 pub use list::RequestList;
-pub use outcome::{Failure, Outcome, received};
-pub use refused::Refused;
+pub use outcome::{Failure, Outcome, receive_outcome};
+pub use refusal::RequestRefusal;
 pub use region::{Places, ReceiveRegion, Region};
 pub use table::{
-    Entry, Matched, Posted, Progress, Request, Requests, TakenOut, Tested, match_announced,
+    TableEntry, Matched, Posted, RequestProgress, Request, Requests, TakenOut, Tested, match_announced,
     match_body, status_of,
 };

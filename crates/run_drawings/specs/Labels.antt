@@ -2,8 +2,8 @@
 use Rattle.std.specs.Prelude.{ℕ, ◌==◌, ◌&&◌, nat_le, List, [], ◌∷◌, ◌++◌, length, take, codes, Bool, true, false, if◌then◌else◌}
 use Rattle.std.specs.List.{flat_map}
 use Rattle.std.specs.Fmt.{decimal}
-use Rattle.answer_texts.specs.Answers.{load_text}
-use Rattle.answer_texts.specs.declared.emissions.Load.{Load}
+use Rattle.printed_lines.specs.Answers.{load_text}
+use Rattle.printed_lines.specs.declared.emissions.LoadText.{LoadText}
 
 -- a byte as it stands in an SVG: `&`, `<` and `>` by their names, and `?` for what isn't printable ASCII
 abbrev pub escaped_byte : ℕ → List ℕ
@@ -26,7 +26,7 @@ again_text true = codes " again"
 again_text false = []
 
 -- `D: KIND SEQ`
-abbrev pub arrow_label_text : (number : ℕ) (load : Load) (is_resent : Bool) → List ℕ
+abbrev pub arrow_label_text : (number : ℕ) (load : LoadText) (is_resent : Bool) → List ℕ
 arrow_label_text number load is_resent = decimal number ++ codes ": " ++ load_text load ++ again_text is_resent
 
 -- `D`, and with what it was refused

@@ -1,12 +1,12 @@
 -- What happens to the arrows of a picture.
 use Rattle.std.specs.Prelude.{◌≡◌, ◌≤◌, ℕ, List, [], ◌∷◌, ◌++◌, length, Some, slice_get, slice_set}
-use Rattle.answer_texts.specs.declared.emissions.Load.{Load}
+use Rattle.printed_lines.specs.declared.emissions.LoadText.{LoadText}
 use Rattle.vocabulary.specs.declared.endpoint.Endpoint.{Endpoint}
 use Rattle.run_drawings.specs.declared.picture.Arrival.{Arrival}
 use Rattle.run_drawings.specs.declared.picture.Arrow.{Arrow}
 
 -- a datagram goes out in this row: its arrow is the next one, and it came nowhere yet
-pub record IsEmitted (source target : Endpoint) (load : Load) (row : ℕ) (old new : List Arrow) : Type 0 where
+pub record IsEmitted (source target : Endpoint) (load : LoadText) (row : ℕ) (old new : List Arrow) : Type 0 where
   pub arrow : Arrow
   pub added : new ≡ old ++ arrow ∷ []
   pub from : arrow.source ≡ source

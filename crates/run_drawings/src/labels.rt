@@ -1,6 +1,6 @@
 //! The texts that stand in a drawing.
 
-use answer_texts::Load;
+use printed_lines::LoadText;
 use std::fmt;
 
 /// Bytes as they stand in an SVG: `&`, `<` and `>` by their names, and `?` for what isn't printable ASCII.
@@ -77,7 +77,7 @@ impl<'a> fmt::Display for Shortened<'a> {
 #[derive(Clone, Copy)]
 pub(crate) struct ArrowLabel {
     pub number: usize,
-    pub load: Load,
+    pub load: LoadText,
     pub is_resent: bool,
 }
 

@@ -4,7 +4,7 @@ ghost use Rattle.std.specs.Prelude.{◌≡◌, ◌++◌, ◌∷◌, [], OnOk, On
 ghost use Rattle.run_drawings.specs.Pictures.{HasComeAgain, IsArrived, IsEmitted};
 ghost use Rattle.run_drawings.specs.declared.picture.Row.TheVariants as rows;
 
-use answer_texts::{FrameKind, Load};
+use printed_lines::{FrameKind, LoadText};
 use std::alloc::{AllocError, Global};
 use vocabulary::Endpoint;
 
@@ -73,7 +73,7 @@ pub struct Arrow {
     /// For whom.
     pub target: Endpoint,
     /// What it carries.
-    pub load: Load,
+    pub load: LoadText,
     /// Whether it is a frame that went out before.
     pub is_resent: bool,
     /// The row in which it was emitted.
@@ -193,7 +193,7 @@ impl Picture {
         alloc: Global,
         source: Endpoint,
         target: Endpoint,
-        load: Load,
+        load: LoadText,
     ) -> Result<(), AllocError>
         ensures row { OnOk result
             (self.new.rows.items ≡ self.old.rows.items ++ rows.Emitted (vec_len self.old.arrows) ∷ []) }

@@ -1,6 +1,6 @@
 -- What a datagram carries, by its content.
-use Rattle.answer_texts.specs.declared.emissions.FrameKind.{FrameKind}
-use Rattle.answer_texts.specs.declared.emissions.FrameKind.TheVariants as kinds
+use Rattle.printed_lines.specs.declared.emissions.FrameKind.{FrameKind}
+use Rattle.printed_lines.specs.declared.emissions.FrameKind.TheVariants as kinds
 use Rattle.datagram.specs.declared.datagram.Content.{Content}
 use Rattle.datagram.specs.declared.datagram.Content.TheVariants as contents
 use Rattle.datagram.specs.declared.frame.Frame.TheVariants as frames

@@ -5,15 +5,15 @@ ghost use Rattle.run_recording.specs.Kinds.{kind_of};
 
 use crate::printed::{Printed, behind_word, kept, printed_in};
 use crate::statement_lines::{Asked, asked_of};
-use answer_texts::{FrameKind, Load};
+use printed_lines::{FrameKind, LoadText};
 use datagram::{Content, Frame};
 use engine::Reply;
-use event_files::{Line, parse};
+use event_files::{EventLine, parse};
 use run_drawings::{Change, Delivery, Note, Picture};
 use simulation::{SimulateError, Simulation, Stopped};
 use statements::ParseError;
 use std::alloc::{AllocError, Global};
-use world::{Entry, World};
+use world::{HistoryEntry, World};
 
 /// What a file of events did.
 #[derive(Drop)]
@@ -49,7 +49,7 @@ fn kind_of(content: &Content<'_>) -> FrameKind
 }
 
 /// Whether a call blocked its rank.
-fn blocks(entry: &Entry) -> bool {
+fn blocks(entry: &HistoryEntry) -> bool {
     matches!(entry.reply, Some(Reply::Blocked))
 }
 
@@ -191,7 +191,7 @@ impl<'a> Follower<'a> {
                 return Ok(());
             };
             let header = datagram.header;
-            let load = Load {
+            let load = LoadText {
                 kind: kind_of(&datagram.content),
                 sequence: header.sequence,
             };
@@ -214,7 +214,7 @@ impl<'a> Follower<'a> {
     }
 
     /// Runs a line, and adds what it did.
-    fn follow(&mut self, line: Line) -> Result<(), SimulateError> {
+    fn follow(&mut self, line: EventLine) -> Result<(), SimulateError> {
         let asked = asked_of(&line.statement);
         let number = line.number;
         let before = self.world().history().len();
@@ -229,7 +229,7 @@ impl<'a> Follower<'a> {
     }
 
     /// Runs the lines, and adds what they did.
-    fn follow_all(&mut self, lines: Vec<Line>) -> Result<(), SimulateError> {
+    fn follow_all(&mut self, lines: Vec<EventLine>) -> Result<(), SimulateError> {
         for line in lines {
             self.follow(line)?;
         }
@@ -247,7 +247,7 @@ fn followed(
     alloc: Global,
     texts: Vec<&[u8]>,
     size: u16,
-    lines: Vec<Line>,
+    lines: Vec<EventLine>,
 ) -> Result<Recording, Stopped> {
     let simulation = match Simulation::new(alloc, size) {
         Ok(simulation) => simulation,

@@ -1,6 +1,6 @@
 //! What a line of a file of events asks for, as it stands beside a line of life.
 
-use event_files::Statement;
+use event_files::EventStatement;
 use statements::Action;
 use std::alloc::{AllocError, Global};
 
@@ -20,15 +20,15 @@ pub enum Asked {
 }
 
 /// What a statement asks for. A buffer or a type that is set isn't told of.
-pub fn asked_of(statement: &Statement) -> Asked {
+pub fn asked_of(statement: &EventStatement) -> Asked {
     match statement {
-        Statement::Rank(rank, action) => {
+        EventStatement::Rank(rank, action) => {
             let is_silent = matches!(action, Action::Buffer(_) | Action::Layout(_));
             Asked::Rank(*rank, !is_silent)
         }
-        Statement::Deliver(number) => Asked::Deliver(*number),
-        Statement::Tick(rank, now) => Asked::Tick(*rank, *now),
-        Statement::Stray(rank, _) => Asked::Stray(*rank),
-        Statement::Restart(rank) => Asked::Restart(*rank),
+        EventStatement::Deliver(number) => Asked::Deliver(*number),
+        EventStatement::Tick(rank, now) => Asked::Tick(*rank, *now),
+        EventStatement::Stray(rank, _) => Asked::Stray(*rank),
+        EventStatement::Restart(rank) => Asked::Restart(*rank),
     }
 }

@@ -3,7 +3,7 @@
 ghost use Rattle.std.specs.Prelude.{◌≡◌};
 
 use crate::two_ranks::{COLLECTIVES, PING_PONG, Pair, Rank, new_pair, rank_of};
-use rank_drive::{Ended, Memory, Rising, Transport, drive};
+use event_loop::{Ended, Memory, Rising, Transport, drive};
 use std::alloc::Global;
 use std::collections::VecDeque;
 use std::process::Abort;

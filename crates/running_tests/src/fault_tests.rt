@@ -6,7 +6,7 @@ ghost use Rattle.std.specs.Prelude.{◌≡◌};
 use crate::two_ranks::{PING_PONG, Pair, Rank, new_pair, rank_of};
 use datagram::{Content, Frame};
 use engine::Engine;
-use rank_drive::{Ended, Rising, drive};
+use event_loop::{Ended, Rising, drive};
 use std::alloc::Global;
 use std::process::Abort;
 use std::sync::Wait;

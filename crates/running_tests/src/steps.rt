@@ -4,7 +4,7 @@ use datatypes::Buffer;
 use engine::{Call, Completion, Ending, Region, Reply, Send};
 use std::alloc::Global;
 use vocabulary::{BasicType, Mode, Source};
-use world::{Entry, Event, World};
+use world::{HistoryEntry, Event, World};
 
 /// The place of a rank's first communicator.
 pub(crate) const WORLD: Option<usize> = Some(0);
@@ -57,7 +57,7 @@ fn replied(reply: &Reply) -> Told {
 }
 
 /// What the history holds of an event: its reply, or the completion that it brought.
-fn told_in(entry: &Entry) -> Told {
+fn told_in(entry: &HistoryEntry) -> Told {
     match (&entry.reply, &entry.completion) {
         (Some(reply), _) => replied(reply),
         (None, Some(Completion::Collective(ending))) => ended(ending),

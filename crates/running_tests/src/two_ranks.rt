@@ -4,7 +4,7 @@ ghost use Rattle.std.specs.Prelude.{◌≡◌, ◌+◌, ◌<◌, ◌≤◌, ◌^
 
 use datagram::Bytes;
 use engine::{Completion, Engine, Place, Reply};
-use rank_drive::{Runner, Step, Transport, TransportFault};
+use event_loop::{Runner, RunnerStep, Transport, TransportFault};
 use script_files::parse;
 use script_runner::ScriptRunner;
 use std::alloc::Global;
@@ -137,14 +137,14 @@ fn told_unless_blocked(reply: Reply) -> Option<Option<Reply>> {
 }
 
 /// What the runner is told after its step, if it may go on.
-fn told_after(engine: &mut Engine, step: Step) -> Option<Option<Reply>> {
+fn told_after(engine: &mut Engine, step: RunnerStep) -> Option<Option<Reply>> {
     match step {
-        Step::Call(call) => told_unless_blocked(engine.call(call)),
-        Step::Print(line) => {
+        RunnerStep::Call(call) => told_unless_blocked(engine.call(call)),
+        RunnerStep::Print(line) => {
             drop(line);
             Some(None)
         }
-        Step::End(_, _) => None,
+        RunnerStep::End(_, _) => None,
     }
 }
 

@@ -6,7 +6,7 @@ use engine::{Call, Entry, Send};
 use requests::Region;
 use std::alloc::Global;
 use vocabulary::{BasicType, Mode, Source};
-use world::{Answer, Event, World};
+use world::{StepResult, Event, World};
 
 /// The first, count and place of an event that ran.
 fn ran(world: &mut World, event: Event) -> Option<(usize, usize, usize)> {
@@ -91,7 +91,7 @@ fn run(world: &mut World, events: Vec<Event>) -> Option<usize> {
 }
 
 /// The number of a refusal among the answers of a run.
-fn refusal_at(answers: &[Answer], place: usize) -> Option<u8> {
+fn refusal_at(answers: &[StepResult], place: usize) -> Option<u8> {
     match answers.get(place) {
         Some(Err(failed)) => Some(failed.refused.number()),
         _ => None,
@@ -99,7 +99,7 @@ fn refusal_at(answers: &[Answer], place: usize) -> Option<u8> {
 }
 
 /// The datagrams and the place in the history of an event among the answers of a run.
-fn step_at(answers: &[Answer], place: usize) -> Option<(usize, usize, usize)> {
+fn step_at(answers: &[StepResult], place: usize) -> Option<(usize, usize, usize)> {
     match answers.get(place) {
         Some(Ok(stepped)) => Some((stepped.first, stepped.count, stepped.place)),
         _ => None,

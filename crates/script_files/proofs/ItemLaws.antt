@@ -3,17 +3,17 @@ use Rattle.std.proofs.Common.{◌≡◌, ◌≢◌, List, [], ◌∷◌, Option,
 use Rattle.std.specs.Prelude.{codes}
 use Rattle.statements.specs.declared.action.Action.{Action}
 use Rattle.statements.specs.Grammar.{Spells}
-use Rattle.line_words.specs.Grammar.{Word}
-use Rattle.line_words.specs.Results.{◌>>=◌}
+use Rattle.tokens.specs.Grammar.{Word}
+use Rattle.tokens.specs.Results.{◌>>=◌}
 use Rattle.statements.specs.Reading.{action_of, sending_of, receiving_of}
-use Rattle.line_words.specs.Fields.{first, ended, name_of}
-use Rattle.line_words.proofs.WordLaws.{bind_ok, made}
-use Rattle.line_words.proofs.FieldLaws.{named_takes, named_again}
+use Rattle.tokens.specs.Fields.{first, end_of_line, name_of}
+use Rattle.tokens.proofs.WordLaws.{bind_ok, made}
+use Rattle.tokens.proofs.FieldLaws.{named_takes, named_again}
 use Rattle.statements.proofs.ActionLaws.{sending_takes, sending_again, receiving_takes, receiving_again, action_takes, action_again}
-use Rattle.script_files.specs.declared.verb.Verb.{Verb}
-use Rattle.script_files.specs.declared.verb.Verb.TheVariants as verbs
-use Rattle.script_files.specs.declared.script.Statement.{Statement}
-use Rattle.script_files.specs.declared.script.Statement.TheVariants as statements
+use Rattle.script_files.specs.declared.verb.ScriptVerb.{ScriptVerb}
+use Rattle.script_files.specs.declared.verb.ScriptVerb.TheVariants as verbs
+use Rattle.script_files.specs.declared.script.ScriptStatement.{ScriptStatement}
+use Rattle.script_files.specs.declared.script.ScriptStatement.TheVariants as statements
 use Rattle.script_files.specs.declared.script.Item.{Item}
 use Rattle.script_files.specs.declared.script.Item.TheVariants as items
 use Rattle.script_files.specs.Grammar.{SpellsStatement, SpellsItem}
@@ -39,7 +39,7 @@ recv_takes words i e =
     made (SpellsItem (codes "recv" ∷ words)) (items.Does (statements.Recv b.0)) i (words, refl, receiving_takes words b.0 b.1) b.2
 
 print_takes : (words : List Word) (i : Item) → (name_alone words >>= λ buffer. Some (items.Does (statements.Print buffer))) ≡ Some i → SpellsItem (codes "print" ∷ words) i
-unfolding name_alone first ended
+unfolding name_alone first end_of_line
 print_takes [] i e = absurd cc
 print_takes (a ∷ b ∷ words) i e = absurd cc
 print_takes (a ∷ []) i e =
@@ -47,20 +47,20 @@ print_takes (a ∷ []) i e =
     made (SpellsItem (codes "print" ∷ a ∷ [])) (items.Does (statements.Print b.0)) i (a, refl, named_takes a b.0 b.1) b.2
 
 count_takes : (words : List Word) (i : Item) → (name_alone words >>= λ layout. Some (items.Does (statements.Count layout))) ≡ Some i → SpellsItem (codes "count" ∷ words) i
-unfolding name_alone first ended
+unfolding name_alone first end_of_line
 count_takes [] i e = absurd cc
 count_takes (a ∷ b ∷ words) i e = absurd cc
 count_takes (a ∷ []) i e =
     let b = bind_ok (name_of a) (λ layout. Some (items.Does (statements.Count layout))) i e in
     made (SpellsItem (codes "count" ∷ a ∷ [])) (items.Does (statements.Count b.0)) i (a, refl, named_takes a b.0 b.1) b.2
 
-status_takes : (words : List Word) (i : Item) → (ended words >>= λ end. Some (items.Does statements.Status)) ≡ Some i → SpellsItem (codes "status" ∷ words) i
-unfolding ended
+status_takes : (words : List Word) (i : Item) → (end_of_line words >>= λ end. Some (items.Does statements.Status)) ≡ Some i → SpellsItem (codes "status" ∷ words) i
+unfolding end_of_line
 status_takes [] i e = made (SpellsItem (codes "status" ∷ [])) (items.Does statements.Status) i refl e
 status_takes (a ∷ words) i e = absurd cc
 
-fail_takes : (words : List Word) (i : Item) → (ended words >>= λ end. Some (items.Does statements.Fail)) ≡ Some i → SpellsItem (codes "fail" ∷ words) i
-unfolding ended
+fail_takes : (words : List Word) (i : Item) → (end_of_line words >>= λ end. Some (items.Does statements.Fail)) ≡ Some i → SpellsItem (codes "fail" ∷ words) i
+unfolding end_of_line
 fail_takes [] i e = made (SpellsItem (codes "fail" ∷ [])) (items.Does statements.Fail) i refl e
 fail_takes (a ∷ words) i e = absurd cc
 
@@ -72,7 +72,7 @@ unfolding said_words first
 say_takes [] i e = absurd cc
 say_takes (a ∷ words) i e = made (SpellsItem (codes "say" ∷ a ∷ words)) (items.Does (statements.Say (a ∷ words))) i (refl, some_words a words) e
 
-verb_by : (verb : Verb) (all words : List Word) (i : Item) → item_by (Some verb) all words ≡ Some i → SpellsItem (verb_word verb ∷ words) i
+verb_by : (verb : ScriptVerb) (all words : List Word) (i : Item) → item_by (Some verb) all words ≡ Some i → SpellsItem (verb_word verb ∷ words) i
 verb_by verbs.On all words i e = on_takes words i e
 verb_by verbs.Send all words i e = send_takes words i e
 verb_by verbs.Recv all words i e = recv_takes words i e
@@ -82,7 +82,7 @@ verb_by verbs.Count all words i e = count_takes words i e
 verb_by verbs.Say all words i e = say_takes words i e
 verb_by verbs.Fail all words i e = fail_takes words i e
 
-by_takes : (o : Option Verb) (word : Word) (words : List Word) (i : Item) → verb_of word ≡ o → item_by o (word ∷ words) words ≡ Some i → SpellsItem (word ∷ words) i
+by_takes : (o : Option ScriptVerb) (word : Word) (words : List Word) (i : Item) → verb_of word ≡ o → item_by o (word ∷ words) words ≡ Some i → SpellsItem (word ∷ words) i
 by_takes None word words i is e =
     let b = bind_ok (action_of (word ∷ words)) (λ action. Some (items.Does (statements.Action action))) i e in
     made (SpellsItem (word ∷ words)) (items.Does (statements.Action b.0)) i (action_takes (word ∷ words) b.0 b.1) b.2
@@ -96,7 +96,7 @@ item_takes (w ∷ ws) i e = by_takes (verb_of w) w ws i refl e
 
 -- ---- and back
 
-from_verb : (verb : Verb) (words : List Word) (i : Item) → item_by (Some verb) (verb_word verb ∷ words) words ≡ Some i → item_of (verb_word verb ∷ words) ≡ Some i
+from_verb : (verb : ScriptVerb) (words : List Word) (i : Item) → item_by (Some verb) (verb_word verb ∷ words) words ≡ Some i → item_of (verb_word verb ∷ words) ≡ Some i
 unfolding item_of first
 from_verb verb words i e = rw (verb_again verb) e
 
@@ -108,7 +108,7 @@ then_some : {A : Type 0} (read : Option A) (make : A → Item) (x : A) → read 
 then_some read make x e = rw e refl
 
 alone_from : (a name : Word) → name_of a ≡ Some name → name_alone (a ∷ []) ≡ Some name
-unfolding name_alone first ended
+unfolding name_alone first end_of_line
 alone_from a name e = e
 
 said_from : (words : List Word) → words ≢ [] → said_words words ≡ Some words
@@ -116,8 +116,8 @@ unfolding said_words first
 said_from [] h = absurd (h refl)
 said_from (w ∷ ws) h = refl
 
-ended_here : (i : Item) → (ended [] >>= λ end. Some i) ≡ Some i
-unfolding ended
+ended_here : (i : Item) → (end_of_line [] >>= λ end. Some i) ≡ Some i
+unfolding end_of_line
 ended_here i = refl
 
 action_item : (words : List Word) (action : Action) → Spells words action → item_of words ≡ Some (items.Does (statements.Action action))
@@ -126,7 +126,7 @@ action_item words action h =
     let read : action_of (b.0 ∷ b.1) ≡ Some action = ap action_of (sym b.2) ∙ action_again words action h in
     ap item_of b.2 ∙ from_action b.0 b.1 action b.3 read
 
-statement_again : (words : List Word) (s : Statement) → SpellsStatement words s → item_of words ≡ Some (items.Does s)
+statement_again : (words : List Word) (s : ScriptStatement) → SpellsStatement words s → item_of words ≡ Some (items.Does s)
 statement_again words (statements.Action action) h = action_item words action h
 statement_again words (statements.Send x) h =
     ap item_of h.1 ∙ from_verb verbs.Send h.0 (items.Does (statements.Send x)) (then_some (sending_of h.0) (λ y. items.Does (statements.Send y)) x (sending_again h.0 x h.2))

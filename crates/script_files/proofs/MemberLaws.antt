@@ -5,15 +5,15 @@ use Rattle.std.specs.List.{position}
 use Rattle.std.specs.Str.{bytes_eq}
 use Rattle.std.proofs.lemmas.Bool.{eqb-true, false≢true}
 use Rattle.std.proofs.lemmas.List.{nil_from_length}
-use Rattle.line_words.specs.Grammar.{Word, StandFor}
-use Rattle.line_words.specs.Numbers.{number_or}
-use Rattle.line_words.specs.Results.{◌>>=◌}
-use Rattle.line_words.specs.Fields.{rank_of, each}
-use Rattle.line_words.proofs.WordLaws.{bind_ok, made, same_word, other_word, capped_takes, capped_again, no_letters}
-use Rattle.line_words.proofs.FieldLaws.{rank_takes, rank_again}
-use Rattle.line_words.proofs.EachLaws.{all_take, all_again}
-use Rattle.line_words.proofs.MarkLaws.{mark_here, digits_plain, no_place, a_place, take_front, drop_front}
-use Rattle.script_files.specs.declared.audience.Member.{Member}
+use Rattle.tokens.specs.Grammar.{Word, StandFor}
+use Rattle.tokens.specs.Numbers.{number_or}
+use Rattle.tokens.specs.Results.{◌>>=◌}
+use Rattle.tokens.specs.Fields.{rank_of, each}
+use Rattle.tokens.proofs.WordLaws.{bind_ok, made, same_word, other_word, capped_takes, capped_again, no_letters}
+use Rattle.tokens.proofs.FieldLaws.{rank_takes, rank_again}
+use Rattle.tokens.proofs.EachLaws.{all_take, all_again}
+use Rattle.tokens.proofs.MarkLaws.{mark_here, digits_plain, no_place, a_place, take_front, drop_front}
+use Rattle.script_files.specs.declared.audience.AudienceMember.{AudienceMember}
 use Rattle.script_files.specs.declared.audience.Audience.{Audience}
 use Rattle.script_files.specs.declared.audience.Audience.TheVariants as audiences
 use Rattle.script_files.specs.Grammar.{IsNamed, IsMember, IsAudience}
@@ -25,10 +25,10 @@ both false b e = absurd cc
 
 -- ---- one rank
 
-member_made : ℕ → Option ℕ → Member
+member_made : ℕ → Option ℕ → AudienceMember
 member_made r one = record { rank = r; incarnation = one }
 
-at_takes : (word : Word) (o : Option ℕ) (m : Member) → position is_point word ≡ o → member_at o word ≡ Some m → IsMember word m
+at_takes : (word : Word) (o : Option ℕ) (m : AudienceMember) → position is_point word ≡ o → member_at o word ≡ Some m → IsMember word m
 unfolding member_made
 at_takes word None m is e =
     let r = bind_ok (rank_of word) (λ r. Some (member_made r None)) m e in
@@ -38,7 +38,7 @@ at_takes word (Some i) m is e =
     let n = bind_ok (number_or 65536 (drop 1 (drop i word))) (λ one. Some (member_made r.0 (Some one))) m r.2 in
     made (IsMember word) (member_made r.0 (Some n.0)) m (take i word, drop 1 (drop i word), mark_here 46 word i is, rank_takes (take i word) r.0 r.1, capped_takes 65536 (drop 1 (drop i word)) n.0 n.1) n.2
 
-pub member_takes : (word : Word) (m : Member) → member_of word ≡ Some m → IsMember word m
+pub member_takes : (word : Word) (m : AudienceMember) → member_of word ≡ Some m → IsMember word m
 unfolding member_of
 member_takes word m e = at_takes word (position is_point word) m refl e
 
@@ -61,13 +61,13 @@ named_again word rank (Some one) h =
     ap member_of h.2
     ∙ pointed_member spelled h.0 h.1 (length h.0) rank one (a_place 46 h.0 h.1 plain) (take_front h.0 (46 ∷ h.1)) (ap (drop 1) (drop_front h.0 (46 ∷ h.1))) (rank_again h.0 rank h.3) (capped_again 65536 h.1 one h.4)
 
-pub member_again : (word : Word) (m : Member) → IsMember word m → member_of word ≡ Some m
+pub member_again : (word : Word) (m : AudienceMember) → IsMember word m → member_of word ≡ Some m
 unfolding member_made
 member_again word m h = named_again word m.rank m.incarnation h
 
 -- ---- audiences
 
-all_or_ranks : (t : Bool) (words : List Word) (read : Option (List Member)) (a : Audience) → (t ≡ true → words ≡ codes "all" ∷ []) → ((ms : List Member) → read ≡ Some ms → (words ≢ []) × StandFor IsMember words ms)
+all_or_ranks : (t : Bool) (words : List Word) (read : Option (List AudienceMember)) (a : Audience) → (t ≡ true → words ≡ codes "all" ∷ []) → ((ms : List AudienceMember) → read ≡ Some ms → (words ≢ []) × StandFor IsMember words ms)
     → cond t (Some audiences.All) (read >>= λ members. Some (audiences.Ranks members)) ≡ Some a → IsAudience words a
 all_or_ranks true words read a all ranks e = made (IsAudience words) audiences.All a (all refl) e
 all_or_ranks false words read a all ranks e =
@@ -103,7 +103,7 @@ all_read : audience_of (codes "all" ∷ []) ≡ Some audiences.All
 unfolding audience_of
 all_read = refl
 
-ranks_read : (word : Word) (words : List Word) (ms : List Member) → (bytes_eq word (codes "all") && eqb (length words) 0) ≡ false → each one_member (word ∷ words) ≡ Some ms → audience_of (word ∷ words) ≡ Some (audiences.Ranks ms)
+ranks_read : (word : Word) (words : List Word) (ms : List AudienceMember) → (bytes_eq word (codes "all") && eqb (length words) 0) ≡ false → each one_member (word ∷ words) ≡ Some ms → audience_of (word ∷ words) ≡ Some (audiences.Ranks ms)
 unfolding audience_of
 ranks_read word words ms t e = rw (t, e) refl
 

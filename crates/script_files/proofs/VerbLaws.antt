@@ -4,14 +4,14 @@ use Rattle.std.specs.Prelude.{codes}
 use Rattle.std.specs.Str.{bytes_eq}
 use Rattle.statements.specs.declared.action.Action.{Action}
 use Rattle.statements.specs.Grammar.{Spells}
-use Rattle.line_words.specs.Grammar.{Word}
-use Rattle.line_words.proofs.WordLaws.{Yields, step, yielded, same_word}
+use Rattle.tokens.specs.Grammar.{Word}
+use Rattle.tokens.proofs.WordLaws.{Yields, step, yielded, same_word}
 use Rattle.statements.proofs.ActionLaws.{begins}
-use Rattle.script_files.specs.declared.verb.Verb.{Verb}
-use Rattle.script_files.specs.declared.verb.Verb.TheVariants as verbs
+use Rattle.script_files.specs.declared.verb.ScriptVerb.{ScriptVerb}
+use Rattle.script_files.specs.declared.verb.ScriptVerb.TheVariants as verbs
 use Rattle.script_files.specs.Reading.{verb_of}
 
-abbrev pub verb_word : Verb → Word
+abbrev pub verb_word : ScriptVerb → Word
 verb_word verbs.On = codes "on"
 verb_word verbs.Send = codes "send"
 verb_word verbs.Recv = codes "recv"
@@ -24,7 +24,7 @@ verb_word verbs.Fail = codes "fail"
 verbs_are : (word : Word) → Yields (verb_of word) (λ verb. word ≡ verb_word verb)
 unfolding verb_of
 verbs_are word =
-    let P : Verb → Type 0 = λ verb. word ≡ verb_word verb in
+    let P : ScriptVerb → Type 0 = λ verb. word ≡ verb_word verb in
     step P (bytes_eq word (codes "on")) _ _ (same_word word (codes "on"))
     (step P (bytes_eq word (codes "send")) _ _ (same_word word (codes "send"))
     (step P (bytes_eq word (codes "recv")) _ _ (same_word word (codes "recv"))
@@ -34,10 +34,10 @@ verbs_are word =
     (step P (bytes_eq word (codes "say")) _ _ (same_word word (codes "say"))
     (step P (bytes_eq word (codes "fail")) _ _ (same_word word (codes "fail")) tt)))))))
 
-pub verb_takes : (word : Word) (verb : Verb) → verb_of word ≡ Some verb → word ≡ verb_word verb
+pub verb_takes : (word : Word) (verb : ScriptVerb) → verb_of word ≡ Some verb → word ≡ verb_word verb
 verb_takes word verb e = yielded (λ verb. word ≡ verb_word verb) (verb_of word) verb (verbs_are word) e
 
-pub verb_again : (verb : Verb) → verb_of (verb_word verb) ≡ Some verb
+pub verb_again : (verb : ScriptVerb) → verb_of (verb_word verb) ≡ Some verb
 unfolding verb_of
 verb_again verbs.On = refl
 verb_again verbs.Send = refl

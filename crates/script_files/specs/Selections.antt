@@ -2,7 +2,7 @@
 use Rattle.std.specs.Prelude.{◌≡◌, ℕ, Bool, true, List, [], ◌∷◌, ◌++◌, Option, Some, None, if◌then◌else◌}
 use Rattle.script_files.specs.declared.script.Item.{Item}
 use Rattle.script_files.specs.declared.script.Item.TheVariants as items
-use Rattle.script_files.specs.declared.script.Line.{Line}
+use Rattle.script_files.specs.declared.script.ScriptLine.{ScriptLine}
 use Rattle.script_files.specs.declared.script.RankLine.{RankLine}
 use Rattle.script_files.specs.Audiences.{includes}
 
@@ -21,12 +21,12 @@ asked here number (items.On audience) = []
 asked here number (items.Does statement) = kept here (record { number = number; statement = statement })
 
 -- the lines for a rank at an incarnation, where those before the first `on` are for it or aren't
-unfoldable pub said_for : (rank incarnation : ℕ) → Bool → List Line → List RankLine
+unfoldable pub said_for : (rank incarnation : ℕ) → Bool → List ScriptLine → List RankLine
 said_for rank incarnation here [] = []
 said_for rank incarnation here (line ∷ lines) = asked here line.number line.item ++ said_for rank incarnation (is_meant_behind rank incarnation here line.item) lines
 
 -- the lines of a script for a rank at an incarnation: those before the first `on` are for all
-abbrev pub lines_for : (rank incarnation : ℕ) → List Line → List RankLine
+abbrev pub lines_for : (rank incarnation : ℕ) → List ScriptLine → List RankLine
 lines_for rank incarnation lines = said_for rank incarnation true lines
 
 -- the first of the lines that were left is answered, and those behind it are left

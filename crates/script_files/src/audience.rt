@@ -8,7 +8,7 @@ use std::marker::Model;
 
 /// A rank, or one incarnation of it.
 #[derive(Clone, Copy, PartialEq, Eq)]
-pub struct Member {
+pub struct AudienceMember {
     /// The rank; one that 16 bits don't hold stands as the greatest number that they hold, which is no rank either.
     pub rank: u16,
     /// The one incarnation that is meant; none: each. A number that is no incarnation, since 16 bits don't hold it, stands
@@ -16,7 +16,7 @@ pub struct Member {
     pub incarnation: Option<u32>,
 }
 
-impl Member {
+impl AudienceMember {
     /// Whether this rank at this incarnation is meant.
     pub fn is(self, rank: u16, incarnation: u16) -> bool
         ensures { result ≡ is_member rank incarnation self }
@@ -31,38 +31,38 @@ impl Member {
 
 /// Ranks that lines are for, in the order in which they were named.
 #[derive(Drop)]
-pub struct Members {
-    items: Vec<Member>,
+pub struct AudienceMembers {
+    items: Vec<AudienceMember>,
 }
 
-impl Model for Members {
+impl Model for AudienceMembers {
     ghost use Rattle.std.specs.Prelude.{List};
-    ghost use Rattle.script_files.specs.declared.audience.Member.{Member};
+    ghost use Rattle.script_files.specs.declared.audience.AudienceMember.{AudienceMember};
 
-    ghost Value = { List Member };
+    ghost Value = { List AudienceMember };
 
     ghost view = { λ m. m.items.items };
 }
 
-impl Members {
+impl AudienceMembers {
     /// No ranks. It takes no memory.
-    pub(crate) fn new(alloc: Global) -> Members
+    pub(crate) fn new(alloc: Global) -> AudienceMembers
         ensures { result ≡ [] }
     {
-        Members {
+        AudienceMembers {
             items: Vec::new(alloc),
         }
     }
 
     /// Adds a rank at the end.
-    pub(crate) fn push(&mut self, member: Member) -> Result<(), AllocFailed<Member>>
+    pub(crate) fn push(&mut self, member: AudienceMember) -> Result<(), AllocFailed<AudienceMember>>
         ensures { OnOk result (self.new ≡ self.old ++ member ∷ []) }
     {
         self.items.push(member)
     }
 
     /// The ranks, in order.
-    pub fn as_slice(&self) -> &[Member]
+    pub fn as_slice(&self) -> &[AudienceMember]
         ensures { result.now ≡ self.now }
     {
         self.items.as_slice()
@@ -76,7 +76,7 @@ impl Members {
     }
 }
 
-fn are_meant(members: &[Member], rank: u16, incarnation: u16) -> bool
+fn are_meant(members: &[AudienceMember], rank: u16, incarnation: u16) -> bool
     ensures { result ≡ is_one_of rank incarnation members.now }
 {
     for member in members {
@@ -93,7 +93,7 @@ pub enum Audience {
     /// `on all`: for every rank, as the lines before the first `on` are.
     All,
     /// `on R R.I ..`: for these ranks.
-    Ranks(Members),
+    Ranks(AudienceMembers),
 }
 
 impl Audience {

@@ -2,12 +2,12 @@
 
 ghost use Rattle.std.specs.Prelude.{◌≡◌};
 ghost use Rattle.std.specs.List.{position};
-ghost use Rattle.line_words.specs.Results.{Gives};
-ghost use Rattle.line_words.specs.Fields.{each};
+ghost use Rattle.tokens.specs.Results.{Gives};
+ghost use Rattle.tokens.specs.Fields.{each};
 ghost use Rattle.script_files.specs.Reading.{is_point, member_of, one_member, audience_of};
 
-use crate::audience::{Audience, Member, Members};
-use line_words::{LineError, Word, is, number_or, rank_of};
+use crate::audience::{Audience, AudienceMember, AudienceMembers};
+use tokens::{LineError, Token, is, number_or, rank_of};
 use std::alloc::Global;
 
 fn point_place(word: &[u8]) -> Option<usize>
@@ -18,12 +18,12 @@ fn point_place(word: &[u8]) -> Option<usize>
 
 /// `R`, or `R.I`.
 #[tactic(auto, unfolding(crate::specs::Reading::member_of))]
-fn member_of(word: &[u8]) -> Result<Member, LineError>
+fn member_of(word: &[u8]) -> Result<AudienceMember, LineError>
     ensures { Gives (λ x. x) result (member_of word.now) }
 {
     let Some(place) = point_place(word) else {
         let rank = rank_of(word)?;
-        return Ok(Member {
+        return Ok(AudienceMember {
             rank,
             incarnation: None,
         });
@@ -32,7 +32,7 @@ fn member_of(word: &[u8]) -> Result<Member, LineError>
     let (_, incarnation) = back.split_at(1);
     let rank = rank_of(rank)?;
     match number_or(incarnation, 65_536) {
-        Some(one) => Ok(Member {
+        Some(one) => Ok(AudienceMember {
             rank,
             incarnation: Some(one as u32),
         }),
@@ -40,10 +40,10 @@ fn member_of(word: &[u8]) -> Result<Member, LineError>
     }
 }
 
-fn members_of(alloc: Global, words: &[Word]) -> Result<Members, LineError>
+fn members_of(alloc: Global, words: &[Token]) -> Result<AudienceMembers, LineError>
     ensures { Gives (λ x. x) result (each one_member words.now) }
 {
-    let mut members = Members::new(alloc);
+    let mut members = AudienceMembers::new(alloc);
     for word in words {
         let member = member_of(word.as_bytes())?;
         members.push(member)?;
@@ -53,7 +53,7 @@ fn members_of(alloc: Global, words: &[Word]) -> Result<Members, LineError>
 
 /// `all`, or at least one rank.
 #[tactic(auto, unfolding(crate::specs::Reading::audience_of))]
-pub(crate) fn audience_of(alloc: Global, words: &[Word]) -> Result<Audience, LineError>
+pub(crate) fn audience_of(alloc: Global, words: &[Token]) -> Result<Audience, LineError>
     ensures { Gives (λ x. x) result (audience_of words.now) }
 {
     let Some((word, rest)) = words.split_first() else {

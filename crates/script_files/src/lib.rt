@@ -11,12 +11,12 @@ mod reading;
 mod script;
 mod verb;
 
-pub use audience::{Audience, Member, Members};
-pub use line_words::{Name, ParseError, Word, Words};
+pub use audience::{Audience, AudienceMember, AudienceMembers};
+pub use tokens::{Name, ParseError, Token, Tokens};
 pub use parsing::parse;
-pub use script::{Item, Line, RankLine, RankLines, Script, Statement};
+pub use script::{Item, ScriptLine, RankLine, RankLines, Script, ScriptStatement};
 pub use statements::{
-    Action, Blocks, Broadcasting, BufferLine, Communicator, Gathering, LayoutForm, LayoutLine,
-    OldLayout, Operation, Receiving, Reducing, ReducingToAll, Requested, RequestedList, Scattering,
-    Sending, Splitting, Stripes, Through,
+    Action, Blocks, Broadcasting, BufferLine, CommunicatorName, Gathering, LayoutForm, LayoutLine,
+    OldLayout, Operation, Receiving, Reducing, ReducingToAll, RequestName, RequestNames, Scattering,
+    Sending, Splitting, Stripes, LayoutClause,
 };

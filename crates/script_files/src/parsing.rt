@@ -1,20 +1,20 @@
 //! Reading a script.
 
 ghost use Rattle.std.specs.Prelude.{◌≡◌, ◌+◌, ◌∷◌, List, ℕ, OnOk, IfErr};
-ghost use Rattle.line_words.specs.Lines.{line_of, lines_from, with_front, lines_of};
-ghost use Rattle.line_words.specs.Results.{Gives, GivesLines, LineFails};
+ghost use Rattle.tokens.specs.Lines.{line_of, lines_from, with_front, lines_of};
+ghost use Rattle.tokens.specs.Results.{Gives, GivesLines, LineFails};
 ghost use Rattle.script_files.specs.Reading.{item_of, line_read};
 ghost use Rattle.script_files.specs.Scripts.{Says, Answers, IsAnsweredBy};
-ghost use Rattle.line_words.specs.Texts.{LinesSay};
-ghost use Rattle.script_files.specs.declared.script.Line.{Line};
+ghost use Rattle.tokens.specs.Texts.{LinesSay};
+ghost use Rattle.script_files.specs.declared.script.ScriptLine.{ScriptLine};
 
 use crate::reading::item_of;
-use crate::script::{Item, Line, Script};
-use line_words::{LineError, ParseError, lines_of, said_in};
+use crate::script::{Item, ScriptLine, Script};
+use tokens::{LineError, ParseError, lines_of, said_in};
 use std::alloc::Global;
 
 /// What a line says, if it isn't skipped.
-#[tactic(auto, unfolding(line_words::specs::Lines::line_of))]
+#[tactic(auto, unfolding(tokens::specs::Lines::line_of))]
 fn item_in(alloc: Global, line: &[u8]) -> Result<Option<Item>, LineError>
     ensures { Gives (λ x. x) result (line_of item_of line.now) }
 {
@@ -40,7 +40,7 @@ fn take_line(
         Err(LineError::OutOfMemory) => Err(ParseError::OutOfMemory),
         Ok(None) => Ok(()),
         Ok(Some(item)) => {
-            script.push(Line { number, item })?;
+            script.push(ScriptLine { number, item })?;
             Ok(())
         }
     }
@@ -65,7 +65,7 @@ pub fn parse(alloc: Global, text: &[u8]) -> Result<Script, ParseError>
     // What is answered is what the text says, or its first faulty line.
     ensures found { Answers text.now result }
     // What the text says is answered, unless memory runs out.
-    ensures only { (said : List Line) → LinesSay Says 1 (lines_of text.now) said → IsAnsweredBy said result }
+    ensures only { (said : List ScriptLine) → LinesSay Says 1 (lines_of text.now) said → IsAnsweredBy said result }
 {
     script_of(alloc, text)
 }

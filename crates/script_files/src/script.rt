@@ -2,10 +2,10 @@
 
 ghost use Rattle.std.specs.Prelude.{◌≡◌, ◌++◌, [], ◌∷◌, List, length, IfOk, OnOk};
 ghost use Rattle.script_files.specs.Selections.{lines_for, said_for, kept, FirstOf};
-ghost use Rattle.script_files.specs.declared.script.Line.{Line};
+ghost use Rattle.script_files.specs.declared.script.ScriptLine.{ScriptLine};
 
 use crate::audience::Audience;
-use line_words::{Name, Words};
+use tokens::{Name, Tokens};
 use statements::{Action, Receiving, Sending};
 use std::alloc::{AllocError, AllocFailed, Global};
 use std::collections::VecDeque;
@@ -13,7 +13,7 @@ use std::marker::Model;
 
 /// What a line of a script asks a rank to do.
 #[derive(Drop)]
-pub enum Statement {
+pub enum ScriptStatement {
     /// What a line of a file of events asks for as well.
     Action(Action),
     /// `send COMM DEST TAG B`: starts a send and waits for it.
@@ -27,7 +27,7 @@ pub enum Statement {
     /// `count L`: prints how many copies of the layout of this name the last receive took (MPI 3.1, 3.2.5, MPI_Get_count).
     Count(Name),
     /// `say WORD ..`: prints the words, of which there is at least one.
-    Say(Words),
+    Say(Tokens),
     /// `fail`: ends the rank.
     Fail,
 }
@@ -38,12 +38,12 @@ pub enum Item {
     /// `on ..`: whom the lines behind it are for, up to the next `on`.
     On(Audience),
     /// What the ranks do whom the line is for.
-    Does(Statement),
+    Does(ScriptStatement),
 }
 
 /// A line that isn't skipped.
 #[derive(Drop)]
-pub struct Line {
+pub struct ScriptLine {
     /// The number of the line; the first line is 1, and skipped ones count.
     pub number: usize,
     /// What it says.
@@ -56,20 +56,20 @@ pub struct RankLine {
     /// The number of the line in the script; the first line is 1, and skipped ones count.
     pub number: usize,
     /// What the rank does.
-    pub statement: Statement,
+    pub statement: ScriptStatement,
 }
 
 /// A script, read whole. Contracts see it as the list of its lines that aren't skipped.
 #[derive(Drop)]
 pub struct Script {
-    lines: Vec<Line>,
+    lines: Vec<ScriptLine>,
 }
 
 impl Model for Script {
     ghost use Rattle.std.specs.Prelude.{List};
-    ghost use Rattle.script_files.specs.declared.script.Line.{Line};
+    ghost use Rattle.script_files.specs.declared.script.ScriptLine.{ScriptLine};
 
-    ghost Value = { List Line };
+    ghost Value = { List ScriptLine };
 
     ghost view = { λ s. s.lines.items };
 }
@@ -85,14 +85,14 @@ impl Script {
     }
 
     /// Adds a line at the end.
-    pub(crate) fn push(&mut self, line: Line) -> Result<(), AllocFailed<Line>>
+    pub(crate) fn push(&mut self, line: ScriptLine) -> Result<(), AllocFailed<ScriptLine>>
         ensures { OnOk result (self.new ≡ self.old ++ line ∷ []) }
     {
         self.lines.push(line)
     }
 
     /// The lines, in order.
-    pub fn lines(&self) -> &[Line]
+    pub fn lines(&self) -> &[ScriptLine]
         ensures { result.now ≡ self.now }
     {
         self.lines.as_slice()
@@ -117,7 +117,7 @@ fn lines_among(
     alloc: Global,
     rank: u16,
     incarnation: u16,
-    lines: Vec<Line>,
+    lines: Vec<ScriptLine>,
 ) -> Result<RankLines, AllocError>
     ensures { IfOk result (λ found. found ≡ lines_for rank incarnation lines.items) }
 {
@@ -160,12 +160,12 @@ impl RankLines {
         here: bool,
         rank: u16,
         incarnation: u16,
-        line: Line,
+        line: ScriptLine,
     ) -> Result<bool, AllocError>
-        ensures { IfOk result (λ next. (rest : List Line) →
+        ensures { IfOk result (λ next. (rest : List ScriptLine) →
             self.new ++ said_for rank incarnation next rest ≡ self.old ++ said_for rank incarnation here (line ∷ rest)) }
     {
-        let Line { number, item } = line;
+        let ScriptLine { number, item } = line;
         match item {
             Item::On(audience) => Ok(audience.includes(rank, incarnation)),
             Item::Does(statement) => {

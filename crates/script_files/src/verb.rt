@@ -3,11 +3,11 @@
 ghost use Rattle.std.specs.Prelude.{◌≡◌};
 ghost use Rattle.script_files.specs.Reading.{verb_of};
 
-use line_words::is;
+use tokens::is;
 
 /// What a line that only scripts have says, by its first word.
 #[derive(Clone, Copy)]
-pub(crate) enum Verb {
+pub(crate) enum ScriptVerb {
     /// `on`
     On,
     /// `send`
@@ -28,25 +28,25 @@ pub(crate) enum Verb {
 
 /// What the first word says, if only scripts have it.
 #[tactic(auto, unfolding(crate::specs::Reading::verb_of))]
-pub(crate) fn verb_of(word: &[u8]) -> Option<Verb>
+pub(crate) fn verb_of(word: &[u8]) -> Option<ScriptVerb>
     ensures { result ≡ verb_of word.now }
 {
     if is(word, b"on") {
-        Some(Verb::On)
+        Some(ScriptVerb::On)
     } else if is(word, b"send") {
-        Some(Verb::Send)
+        Some(ScriptVerb::Send)
     } else if is(word, b"recv") {
-        Some(Verb::Recv)
+        Some(ScriptVerb::Recv)
     } else if is(word, b"print") {
-        Some(Verb::Print)
+        Some(ScriptVerb::Print)
     } else if is(word, b"status") {
-        Some(Verb::Status)
+        Some(ScriptVerb::Status)
     } else if is(word, b"count") {
-        Some(Verb::Count)
+        Some(ScriptVerb::Count)
     } else if is(word, b"say") {
-        Some(Verb::Say)
+        Some(ScriptVerb::Say)
     } else if is(word, b"fail") {
-        Some(Verb::Fail)
+        Some(ScriptVerb::Fail)
     } else {
         None
     }

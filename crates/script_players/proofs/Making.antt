@@ -10,8 +10,8 @@ use Rattle.requests.specs.Lists.{is_same, is_twice, named}
 use Rattle.requests.specs.Table.{Table, progress_of, slot_at}
 use Rattle.requests.specs.declared.outcome.Outcome.{Outcome}
 use Rattle.requests.specs.declared.outcome.Outcome.TheVariants.{Empty}
-use Rattle.requests.specs.declared.table.Entry.{Entry}
-use Rattle.requests.specs.declared.table.Progress.TheVariants.{Finished}
+use Rattle.requests.specs.declared.table.TableEntry.{TableEntry}
+use Rattle.requests.specs.declared.table.RequestProgress.TheVariants.{Finished}
 use Rattle.requests.specs.declared.table.Request.{Request}
 use Rattle.script_players.specs.Copies.{EndsSo, IsNew}
 
@@ -52,7 +52,7 @@ stay f g h (Some q ∷ rs) os k = head_so f g rs q (h q) (stay f g h rs) (f q) r
 others_stay : (old new : Table) (k : Request) (outcome : Outcome) → IsNew old new k outcome → (q : Request) (o : Outcome) → outcome_at old.slots q ≡ Some o → outcome_at new.slots q ≡ Some o
 others_stay old new k outcome n q o is = by (q.key == k.key) refl
   where
-    slot : Option Entry → Option Outcome
+    slot : Option TableEntry → Option Outcome
     slot e = finished_with (progress_of e q.serial)
 
     by : (b : Bool) → (q.key == k.key) ≡ b → outcome_at new.slots q ≡ Some o
@@ -91,7 +91,7 @@ new_ends old new q o n = ap (option_and_then (λ a. option_map (λ ys. a ∷ ys)
     at false e = absurd (grind arith)
 
     ends : outcome_at new.slots q ≡ Some o
-    ends = ap (λ (e : Option Entry). finished_with (progress_of e q.serial)) n.set.changed ∙ at (old.serial == q.serial) (eq-eqb old.serial q.serial (sym n.serial))
+    ends = ap (λ (e : Option TableEntry). finished_with (progress_of e q.serial)) n.set.changed ∙ at (old.serial == q.serial) (eq-eqb old.serial q.serial (sym n.serial))
 
 named_more : (rs : List (Option Request)) (q : Request) → named (rs ++ Some q ∷ []) ≡ named rs ++ q ∷ []
 named_more [] q = refl

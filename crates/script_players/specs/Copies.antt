@@ -3,7 +3,7 @@ use Rattle.std.specs.Prelude.{◌≡◌, ℕ, ◌<◌, suc, List, [], ◌∷◌,
 use Rattle.requests.specs.Table.{IsSet, Table, entry_at}
 use Rattle.requests.specs.declared.outcome.Outcome.{Outcome}
 use Rattle.requests.specs.declared.outcome.Outcome.TheVariants as outcomes
-use Rattle.requests.specs.declared.table.Progress.TheVariants as progress
+use Rattle.requests.specs.declared.table.RequestProgress.TheVariants as progress
 use Rattle.requests.specs.declared.table.Request.{Request}
 
 -- a request was started that has ended so

@@ -1,16 +1,16 @@
 -- A rank that plays in a world: how it stands, and what a step of its runner makes of both.
 use Rattle.std.specs.Prelude.{◌≡◌, ℕ, Bool, true, false, List, ◌∷◌, [], ◌++◌, Option, Some, None, Result, Ok, Err}
-use Rattle.engine_parts.specs.declared.call.Call.{Call}
-use Rattle.engine_parts.specs.declared.reply.Completion.{Completion}
-use Rattle.engine_parts.specs.declared.reply.Completion.TheVariants as completions
-use Rattle.engine_parts.specs.declared.reply.Fact.{Fact}
-use Rattle.engine_parts.specs.declared.reply.Fact.TheVariants as facts
-use Rattle.engine_parts.specs.declared.reply.Reply.{Reply}
-use Rattle.engine_parts.specs.declared.reply.Reply.TheVariants as replies
-use Rattle.rank_calls.specs.Refusals.{number_of_refusal}
-use Rattle.rank_calls.specs.declared.refused.Refused as lower
-use Rattle.rank_drive.specs.declared.runner.Step.{Step}
-use Rattle.rank_drive.specs.declared.runner.Step.TheVariants as steps
+use Rattle.engine_calls.specs.declared.call.Call.{Call}
+use Rattle.engine_calls.specs.declared.reply.Completion.{Completion}
+use Rattle.engine_calls.specs.declared.reply.Completion.TheVariants as completions
+use Rattle.engine_calls.specs.declared.reply.Fact.{Fact}
+use Rattle.engine_calls.specs.declared.reply.Fact.TheVariants as facts
+use Rattle.engine_calls.specs.declared.reply.Reply.{Reply}
+use Rattle.engine_calls.specs.declared.reply.Reply.TheVariants as replies
+use Rattle.point_to_point_calls.specs.Refusals.{number_of_refusal}
+use Rattle.point_to_point_calls.specs.declared.refusal.Refusal as lower
+use Rattle.event_loop.specs.declared.runner.RunnerStep.{RunnerStep}
+use Rattle.event_loop.specs.declared.runner.RunnerStep.TheVariants as steps
 use Rattle.script_players.specs.declared.played.Stage.{Stage}
 use Rattle.script_players.specs.declared.played.Stage.TheVariants.{Over, Ready, Waits}
 use Rattle.script_runner.specs.Running.{NextGives, RunnerState}
@@ -19,8 +19,8 @@ use Rattle.world.specs.WorldState.{WorldState}
 use Rattle.world.specs.declared.event.Event.TheVariants as events
 use Rattle.world.specs.declared.event.Failed.{Failed}
 use Rattle.world.specs.declared.event.Stepped.{Stepped}
-use Rattle.world.specs.declared.refused.Refused as world_refusal
-use Rattle.world.specs.declared.refused.Refused.TheVariants as refusals
+use Rattle.world.specs.declared.refusal.WorldRefusal as world_refusal
+use Rattle.world.specs.declared.refusal.WorldRefusal.TheVariants as refusals
 
 -- WHAT IS TOLD
 
@@ -72,13 +72,13 @@ told_completion None p = p
 told_completion (Some c) p = told_if p.stage c p
 
 -- the number of a world's refusal of a call, and what the runner is told: the call comes back
-abbrev pub refused_so : world_refusal.Refused → Call → Reply → Type 0
+abbrev pub refused_so : world_refusal.WorldRefusal → Call → Reply → Type 0
 refused_so (refusals.Engine why) call reply = reply ≡ replies.Refused why call
 refused_so refusals.NoSuchRank call reply = ⊥
 refused_so refusals.NoSuchDatagram call reply = ⊥
 refused_so refusals.CarriesJob call reply = ⊥
 
-abbrev pub number_in : world_refusal.Refused → List ℕ
+abbrev pub number_in : world_refusal.WorldRefusal → List ℕ
 number_in (refusals.Engine why) = number_of_refusal why ∷ []
 number_in refusals.NoSuchRank = []
 number_in refusals.NoSuchDatagram = []
@@ -99,7 +99,7 @@ TakesTold (Over status) result new = (result ≡ None) × (new ≡ Over status)
 -- a refused call is noted by its number, and its runner is told
 abbrev pub IsHandedBack : Failed → Stage → (before after : List ℕ) → Type 0
 IsHandedBack failed new before after =
-    (why : lower.Refused) (rank : ℕ) (call : Call) → failed.refused ≡ refusals.Engine why → failed.event ≡ events.Call rank call →
+    (why : lower.Refusal) (rank : ℕ) (call : Call) → failed.refused ≡ refusals.Engine why → failed.event ≡ events.Call rank call →
     (new ≡ Ready (Some (replies.Refused why call))) × (after ≡ before ++ number_of_refusal why ∷ [])
 
 -- how a rank stands once a blocked call was answered, if it was
@@ -118,7 +118,7 @@ CallGoes w r call (Err failed) p v q =
     × (q ≡ record p { stage = Ready (Some reply); refused = p.refused ++ number_in failed.refused })
 
 -- a runner's step, of a rank that has nothing to tell it
-abbrev pub StepGoes : WorldState → (rank : ℕ) → Step → PlayerState → WorldState → PlayerState → Type 0
+abbrev pub StepGoes : WorldState → (rank : ℕ) → RunnerStep → PlayerState → WorldState → PlayerState → Type 0
 StepGoes w r (steps.Print line) p v q = (v ≡ w) × (q ≡ record p { lines = p.lines ++ line ∷ [] })
 StepGoes w r (steps.End status line) p v q = (v ≡ w) × (q ≡ record p { stage = Over status })
 StepGoes w r (steps.Call call) p v q = (answer : Result Stepped Failed) × CallGoes w r call answer p v q
@@ -126,7 +126,7 @@ StepGoes w r (steps.Call call) p v q = (answer : Result Stepped Failed) × CallG
 -- a rank goes on, where it may
 abbrev pub GoesFrom : WorldState → (rank : ℕ) → PlayerState → Stage → WorldState → PlayerState → Type 0
 GoesFrom w r p (Ready told) v q =
-    (step : Step) × (s : RunnerState) × NextGives p.runner told step s × StepGoes w r step (record p { runner = s; stage = Ready None }) v q
+    (step : RunnerStep) × (s : RunnerState) × NextGives p.runner told step s × StepGoes w r step (record p { runner = s; stage = Ready None }) v q
 GoesFrom w r p (Waits call) v q = (v ≡ w) × (q ≡ p)
 GoesFrom w r p (Over status) v q = (v ≡ w) × (q ≡ p)
 

@@ -8,7 +8,7 @@ ghost use Rattle.script_players.specs.Copies.{EndsSo};
 
 use crate::copies::outcome_copied;
 use requests::{
-    Answer, Awaited, AwaitedAll, Outcome, OutcomeRoom, Outcomes, Progress, Request, RequestList,
+    Answer, Awaited, AwaitedAll, Outcome, OutcomeRoom, Outcomes, RequestProgress, Request, RequestList,
     Requests,
 };
 use std::alloc::{AllocError, Global};
@@ -29,7 +29,7 @@ fn ended(
         drop(copy);
         return Err(AllocError);
     }
-    Ok(Some(requests.start(Progress::Finished(copy))))
+    Ok(Some(requests.start(RequestProgress::Finished(copy))))
 }
 
 /// Requests that have ended so, in order.

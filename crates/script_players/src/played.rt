@@ -9,13 +9,13 @@ ghost use Rattle.world.specs.declared.event.Stepped.{Stepped};
 use crate::copies::{completion_as_reply, told_again};
 use datagram::Bytes;
 use engine::{Call, Completion, Reply};
-use rank_drive::{Runner, Step};
+use event_loop::{Runner, RunnerStep};
 use script_files::Script;
 use script_runner::ScriptRunner;
 use std::alloc::{AllocError, Global};
 use std::marker::Model;
 use std::mem;
-use world::{Entry, Event, Failed, Refused, World};
+use world::{HistoryEntry, Event, Failed, WorldRefusal, World};
 
 /// How a rank stands.
 #[derive(Drop)]
@@ -85,7 +85,7 @@ fn stage_after(
 }
 
 /// How a rank stands once the call of this entry was taken, and it is told this of it.
-fn stage_behind(alloc: Global, entry: &Entry, told: Option<Reply>) -> Result<Stage, AllocError>
+fn stage_behind(alloc: Global, entry: &HistoryEntry, told: Option<Reply>) -> Result<Stage, AllocError>
     ensures { (rank : ℕ) (call : Call) → entry.now.event ≡ Event.Call rank call → IfOk result (λ stage. stage ≡ stage_by call told entry.now.completion) }
 {
     match &entry.event {
@@ -107,7 +107,7 @@ fn hand_back(failed: Failed, stage: &mut Stage, refused: &mut Vec<u8>) -> Result
         reset: _,
     } = failed;
     match (why, event) {
-        (Refused::Engine(why), Event::Call(_, call)) => {
+        (WorldRefusal::Engine(why), Event::Call(_, call)) => {
             refused.push(why.number())?;
             give_way(stage, Stage::Ready(Some(Reply::Refused(why, call))));
             Ok(())
@@ -150,7 +150,7 @@ fn follow(
     alloc: Global,
     world: &mut World,
     rank: u16,
-    step: Step,
+    step: RunnerStep,
     stage: &mut Stage,
     lines: &mut Vec<Bytes>,
     refused: &mut Vec<u8>,
@@ -161,15 +161,15 @@ fn follow(
         world.new (record { runner = s; stage = stage.new; lines = lines.new.items; refused = refused.new.items })) }
 {
     match step {
-        Step::Print(line) => {
+        RunnerStep::Print(line) => {
             lines.push(line)?;
             Ok(())
         }
-        Step::End(status, _) => {
+        RunnerStep::End(status, _) => {
             give_way(stage, Stage::Over(status));
             Ok(())
         }
-        Step::Call(asked) => call(alloc, world, rank, asked, stage, refused),
+        RunnerStep::Call(asked) => call(alloc, world, rank, asked, stage, refused),
     }
 }
 

@@ -1,26 +1,26 @@
 -- Runners and their processes stay alike.
 use Rattle.std.proofs.Common.{◌≡◌, ℕ, List, [], ◌∷◌, ◌++◌, Option, None, refl, ap, ◌∙◌, append-nil, arith}
-use Rattle.engine_parts.specs.declared.call.Call.{Call}
-use Rattle.engine_parts.specs.declared.reply.Completion.TheVariants as completions
-use Rattle.engine_parts.specs.declared.reply.Reply.{Reply}
-use Rattle.engine_parts.specs.declared.reply.Reply.TheVariants as replies
+use Rattle.engine_calls.specs.declared.call.Call.{Call}
+use Rattle.engine_calls.specs.declared.reply.Completion.TheVariants as completions
+use Rattle.engine_calls.specs.declared.reply.Reply.{Reply}
+use Rattle.engine_calls.specs.declared.reply.Reply.TheVariants as replies
 use Rattle.proof_one_meaning.specs.Plays.{Player}
-use Rattle.rank_drive.specs.declared.runner.Step.{Step}
-use Rattle.rank_drive.specs.declared.runner.Step.TheVariants as steps
+use Rattle.event_loop.specs.declared.runner.RunnerStep.{RunnerStep}
+use Rattle.event_loop.specs.declared.runner.RunnerStep.TheVariants as steps
 use Rattle.script_runner.specs.Running.{NextGives, RunnerState}
 use Rattle.script_plays.specs.Alike.{AnswersAreAlike, CallsAreAlike, EndsAreAlike, IsReadyAlike, LinesAreAlike}
 use Rattle.script_players.specs.Players.{PlayerState}
-use Rattle.script_processes.specs.Following.{GoesAlong}
-use Rattle.script_processes.specs.Processes.{Running}
-use Rattle.script_processes.proofs.Following.{runners_follow}
+use Rattle.proof_script_processes.specs.Following.{GoesAlong}
+use Rattle.proof_script_processes.specs.Processes.{Running}
+use Rattle.proof_script_processes.proofs.Following.{runners_follow}
 
 -- what a step is by: no call and no line is an end
-abbrev is_end : Step → ℕ
+abbrev is_end : RunnerStep → ℕ
 is_end (steps.Call call) = 0
 is_end (steps.Print line) = 0
 is_end (steps.End status line) = 1
 
-along : (p : PlayerState) (reply : Option Reply) (q : Player Running) (step : Step) (s : RunnerState) → IsReadyAlike p reply q → NextGives p.runner reply step s → (step ≡ steps.End 6 None → ⊥) →
+along : (p : PlayerState) (reply : Option Reply) (q : Player Running) (step : RunnerStep) (s : RunnerState) → IsReadyAlike p reply q → NextGives p.runner reply step s → (step ≡ steps.End 6 None → ⊥) →
     GoesAlong s step q.process q.told
 along p reply q step s a n six = runners_follow p.runner s reply step q.process q.told a.follows n six
 

@@ -3,9 +3,9 @@ use Rattle.std.proofs.Common.{◌≡◌, ◌≢◌, ℕ, Bool, true, false, List
 use Rattle.std.specs.List.{AllByRecursion}
 use Rattle.std.proofs.lemmas.Bool.{eqb-true}
 use Rattle.std.proofs.lemmas.Option.{same_Some}
-use Rattle.engine_parts.specs.declared.reply.Completion.{Completion}
-use Rattle.rank_drive.specs.declared.runner.Step.{Step}
-use Rattle.rank_drive.specs.declared.runner.Step.TheVariants as steps
+use Rattle.engine_calls.specs.declared.reply.Completion.{Completion}
+use Rattle.event_loop.specs.declared.runner.RunnerStep.{RunnerStep}
+use Rattle.event_loop.specs.declared.runner.RunnerStep.TheVariants as steps
 use Rattle.script_runner.specs.Running.{RunnerState}
 use Rattle.script_plays.specs.Joined.{AreFine, HasNotSix, IsFine}
 use Rattle.script_players.specs.Players.{PlayerState, number_in, told_completion, told_if}
@@ -46,7 +46,7 @@ same_back old new e fine = subst AreFine e fine
 not_six : (p : PlayerState) (reply : Option _) → p.stage ≡ Ready reply → HasNotSix p.stage
 not_six p reply e = subst HasNotSix (sym e) tt
 
-step_back : (old : PlayState) (r : ℕ) (p : PlayerState) (s : RunnerState) (step : Step) (new : PlayState) → slice_get old.players r ≡ Some p → HasNotSix p.stage → StepMoves old r p s step new → AreFine new → AreFine old
+step_back : (old : PlayState) (r : ℕ) (p : PlayerState) (s : RunnerState) (step : RunnerStep) (new : PlayState) → slice_get old.players r ≡ Some p → HasNotSix p.stage → StepMoves old r p s step new → AreFine new → AreFine old
 step_back old r p s (steps.Print line) new is six g fine = one_back old.players new r p _ is (ap (λ (x : PlayState). x.players) g) fine (λ f. record { limit = f.limit; six = six })
 step_back old r p s (steps.End status line) new is six g fine = one_back old.players new r p _ is (ap (λ (x : PlayState). x.players) g) fine (λ f. record { limit = f.limit; six = six })
 step_back old r p s (steps.Call call) new is six g fine = go g.0 g.1

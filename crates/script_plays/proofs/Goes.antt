@@ -1,9 +1,9 @@
 -- A rank that goes on, as a move.
 use Rattle.std.proofs.Common.{◌≡◌, ℕ, zero, suc, ◌<◌, List, [], ◌∷◌, ◌++◌, length, Option, Some, None, Result, Ok, Err, slice_get, slice_set, refl, sym, ap, ap₂, ◌∙◌, arith}
 use Rattle.std.proofs.lemmas.Option.{none-some, same_Some}
-use Rattle.engine_parts.specs.declared.call.Call.{Call}
-use Rattle.rank_drive.specs.declared.runner.Step.{Step}
-use Rattle.rank_drive.specs.declared.runner.Step.TheVariants as steps
+use Rattle.engine_calls.specs.declared.call.Call.{Call}
+use Rattle.event_loop.specs.declared.runner.RunnerStep.{RunnerStep}
+use Rattle.event_loop.specs.declared.runner.RunnerStep.TheVariants as steps
 use Rattle.script_players.specs.Players.{CallGoes, GoesFrom, PlayerGoes, PlayerState, StepGoes}
 use Rattle.script_plays.specs.Playing.{CallMoves, GoGives, GoesBy, PlayState, StepMoves}
 use Rattle.script_players.specs.declared.played.Stage.{Stage}
@@ -27,7 +27,7 @@ call_moves : (w v : WorldState) (players : List PlayerState) (r : ℕ) (p q : Pl
 call_moves w v players r p q s call (Ok added) g = (v, g.0, g.1, g.2, ap (put players r v) g.3)
 call_moves w v players r p q s call (Err failed) g = (v, g.0, g.1, g.2, ap (put players r v) g.3)
 
-step_moves : (w v : WorldState) (players : List PlayerState) (r : ℕ) (p q : PlayerState) (s : RunnerState) (step : Step) →
+step_moves : (w v : WorldState) (players : List PlayerState) (r : ℕ) (p q : PlayerState) (s : RunnerState) (step : RunnerStep) →
     StepGoes w r step (record p { runner = s; stage = Ready None }) v q → StepMoves (record { world = w; players = players }) r p s step (put players r v q)
 step_moves w v players r p q s (steps.Print line) g = ap₂ (put players r) g.0 g.1
 step_moves w v players r p q s (steps.End status line) g = ap₂ (put players r) g.0 g.1

@@ -1,11 +1,11 @@
 -- A play in a world is one over the machine.
 use Rattle.std.proofs.Common.{◌≡◌, ℕ, suc, Bool, true, false, List, [], ◌∷◌, ◌++◌, length, Option, Some, None, Ok, Err, slice_get, slice_set, refl, sym, ap, ap₂, ◌∙◌, subst, append-nil}
 use Rattle.vocabulary.specs.declared.endpoint.Endpoint.{Endpoint}
-use Rattle.engine_parts.specs.Calls.{IsTaken}
-use Rattle.engine_parts.specs.declared.call.Call.{Call}
-use Rattle.engine_parts.specs.declared.reply.Completion.{Completion}
-use Rattle.engine_parts.specs.declared.reply.Reply.{Reply}
-use Rattle.engine_parts.specs.declared.reply.Reply.TheVariants as replies
+use Rattle.engine_calls.specs.Calls.{IsTaken}
+use Rattle.engine_calls.specs.declared.call.Call.{Call}
+use Rattle.engine_calls.specs.declared.reply.Completion.{Completion}
+use Rattle.engine_calls.specs.declared.reply.Reply.{Reply}
+use Rattle.engine_calls.specs.declared.reply.Reply.TheVariants as replies
 use Rattle.one_meaning.specs.Courses.{RecordsAgree, Told, accounts}
 use Rattle.perfect_groups.specs.Calls as machine
 use Rattle.perfect_groups.specs.Communicators.{first_endpoint}
@@ -15,11 +15,11 @@ use Rattle.perfect_groups.specs.Runs.{IsHistory}
 use Rattle.perfect_queues.specs.Calls as queues
 use Rattle.proof_network_bridge.specs.Seen.{call_seen, told_call, told_completion}
 use Rattle.proof_one_meaning.specs.Plays.{HasEnded, HasFault, HasNoRestart, IsAt, Player, Players, PlaysOn, PlaysThrough, Spoke, WasRefused, WasTaken, gone_on, is_blocking, players_at_start, told_by, with_player}
-use Rattle.rank_calls.specs.Refusals.{number_of_refusal}
-use Rattle.rank_drive.specs.declared.runner.Step.{Step}
-use Rattle.rank_drive.specs.declared.runner.Step.TheVariants as steps
+use Rattle.point_to_point_calls.specs.Refusals.{number_of_refusal}
+use Rattle.event_loop.specs.declared.runner.RunnerStep.{RunnerStep}
+use Rattle.event_loop.specs.declared.runner.RunnerStep.TheVariants as steps
 use Rattle.script_runner.specs.Running.{NextGives, RunnerState}
-use Rattle.script_files.specs.declared.script.Line.{Line}
+use Rattle.script_files.specs.declared.script.ScriptLine.{ScriptLine}
 use Rattle.script_plays.specs.Alike.{IsAlike, IsAlikeAt, IsReadyAlike}
 use Rattle.script_plays.specs.Joined.{AreFine, IsFine}
 use Rattle.script_players.specs.Players.{PlayerState, number_in, refused_so, stage_by, stage_by_reply}
@@ -27,16 +27,16 @@ use Rattle.script_plays.specs.Playing.{CallMoves, HasHeadline, PlayGives, PlaySt
 use Rattle.script_plays.specs.declared.moves.Move.{Move}
 use Rattle.script_players.specs.declared.played.Stage.{Stage}
 use Rattle.script_players.specs.declared.played.Stage.TheVariants.{Over, Ready, Waits}
-use Rattle.script_processes.specs.Hearing.{told_of}
-use Rattle.script_processes.specs.Processes.{Running, next_in_script, running_at_start}
+use Rattle.proof_script_processes.specs.Hearing.{told_of}
+use Rattle.proof_script_processes.specs.Processes.{Running, next_in_script, running_at_start}
 use Rattle.world.specs.Headline.{history_seen}
 use Rattle.world.specs.Steps.{entry_of}
 use Rattle.world.specs.WorldState.{WorldState}
 use Rattle.world.specs.declared.event.Event.TheVariants as events
 use Rattle.world.specs.declared.event.Failed.{Failed}
 use Rattle.world.specs.declared.event.Stepped.{Stepped}
-use Rattle.world.specs.declared.refused.Refused as world_refusal
-use Rattle.world.specs.declared.refused.Refused.TheVariants as refusals
+use Rattle.world.specs.declared.refusal.WorldRefusal as world_refusal
+use Rattle.world.specs.declared.refusal.WorldRefusal.TheVariants as refusals
 use Rattle.script_plays.proofs.Alike.{calls_are_alike, ends_are_alike, lines_are_alike}
 use Rattle.script_plays.proofs.Fine.{later}
 use Rattle.script_plays.proofs.Fitting.{Replies, replies_to}
@@ -44,14 +44,14 @@ use Rattle.script_plays.proofs.Rules.{refused_by_rule}
 use Rattle.script_plays.proofs.Joining.{alike_set, play_fresh, seen_more, set_there, through_more}
 
 -- a play in a world that is one over the machine so far
-pub record Joined (scripts : List (List Line)) (st : PlayState) : Type 0 where
+pub record Joined (scripts : List (List ScriptLine)) (st : PlayState) : Type 0 where
   pub moves : ℕ
   pub now : Players Running
   pub through : PlaysThrough next_in_script (length scripts) moves (players_at_start (length scripts) (running_at_start scripts)) [] now (history_seen st.world.history)
   pub alike : (r : ℕ) (p : PlayerState) → slice_get st.players r ≡ Some p → IsAlike p (now r)
   pub fresh : HasNoRestart (history_seen st.world.history)
 
-pub grow : (scripts : List (List Line)) (old : PlayState) (j : Joined scripts old) (now' : Players Running) (w : WorldState) (players : List PlayerState) →
+pub grow : (scripts : List (List ScriptLine)) (old : PlayState) (j : Joined scripts old) (now' : Players Running) (w : WorldState) (players : List PlayerState) →
     PlaysOn next_in_script (length scripts) j.now (history_seen old.world.history) now' (history_seen w.history) → ((x : ℕ) (p : PlayerState) → slice_get players x ≡ Some p → IsAlike p (now' x)) →
     Joined scripts (record { world = w; players = players })
 grow scripts old j now' w players on k =
@@ -64,7 +64,7 @@ grow scripts old j now' w players on k =
     }
 
 -- nothing happened that is seen
-pub still : (scripts : List (List Line)) (old : PlayState) → Joined scripts old → (w : WorldState) → history_seen w.history ≡ history_seen old.world.history → Joined scripts (record { world = w; players = old.players })
+pub still : (scripts : List (List ScriptLine)) (old : PlayState) → Joined scripts old → (w : WorldState) → history_seen w.history ≡ history_seen old.world.history → Joined scripts (record { world = w; players = old.players })
 still scripts old j w same =
     record {
       moves = j.moves;
@@ -78,14 +78,14 @@ still scripts old j w same =
 pub ready_alike : (p : PlayerState) (reply : Option Reply) (q : Player Running) → p.stage ≡ Ready reply → IsAlike p q → IsReadyAlike p reply q
 ready_alike p reply q e a = subst (λ (stage : Stage). IsAlikeAt stage p q) e a
 
-abbrev status_in : Step → ℕ
+abbrev status_in : RunnerStep → ℕ
 status_in (steps.End status line) = status
 status_in (steps.Call call) = 0
 status_in (steps.Print line) = 0
 
 -- A RUNNER'S STEP
 
-pub prints : (scripts : List (List Line)) (old : PlayState) (j : Joined scripts old) (r : ℕ) (p : PlayerState) (reply : Option Reply) (line : List ℕ) (s : RunnerState) (new : PlayState) → slice_get old.players r ≡ Some p →
+pub prints : (scripts : List (List ScriptLine)) (old : PlayState) (j : Joined scripts old) (r : ℕ) (p : PlayerState) (reply : Option Reply) (line : List ℕ) (s : RunnerState) (new : PlayState) → slice_get old.players r ≡ Some p →
     p.stage ≡ Ready reply → NextGives p.runner reply (steps.Print line) s → StepMoves old r p s (steps.Print line) new → Joined scripts new
 prints scripts old j r p reply line s new is e n g =
     let t = lines_are_alike p reply (j.now r) line s (ready_alike p reply (j.now r) e (j.alike r p is)) n in
@@ -93,7 +93,7 @@ prints scripts old j r p reply line s new is e n g =
     (grow scripts old j (with_player j.now r (gone_on next_in_script (j.now r) None false (line ∷ []) false)) old.world _ (Spoke r line t.0 refl refl)
     (alike_set old.players r _ j.now (gone_on next_in_script (j.now r) None false (line ∷ []) false) j.alike t.1))
 
-pub ends : (scripts : List (List Line)) (old : PlayState) (j : Joined scripts old) (r : ℕ) (p : PlayerState) (reply : Option Reply) (status : ℕ) (line : Option ℕ) (s : RunnerState) (new : PlayState) → slice_get old.players r ≡ Some p →
+pub ends : (scripts : List (List ScriptLine)) (old : PlayState) (j : Joined scripts old) (r : ℕ) (p : PlayerState) (reply : Option Reply) (status : ℕ) (line : Option ℕ) (s : RunnerState) (new : PlayState) → slice_get old.players r ≡ Some p →
     p.stage ≡ Ready reply → NextGives p.runner reply (steps.End status line) s → StepMoves old r p s (steps.End status line) new → AreFine new → Joined scripts new
 ends scripts old j r p reply status line s new is e n g fine =
     let f : IsFine (record { runner = s; stage = Over status; lines = p.lines; refused = p.refused }) =
@@ -104,11 +104,11 @@ ends scripts old j r p reply status line s new is e n g fine =
     (alike_set old.players r _ j.now (gone_on next_in_script (j.now r) None false [] true) j.alike t.1))
 
 -- a call that is refused by a rule
-pub refused : (scripts : List (List Line)) (done : List Move) (old : PlayState) → PlayGives scripts done old → HasHeadline old.world → (j : Joined scripts old) (r : ℕ) (p : PlayerState) (reply : Option Reply) (call : Call) (s : RunnerState) (failed : Failed) (new : PlayState) →
+pub refused : (scripts : List (List ScriptLine)) (done : List Move) (old : PlayState) → PlayGives scripts done old → HasHeadline old.world → (j : Joined scripts old) (r : ℕ) (p : PlayerState) (reply : Option Reply) (call : Call) (s : RunnerState) (failed : Failed) (new : PlayState) →
     slice_get old.players r ≡ Some p → p.stage ≡ Ready reply → NextGives p.runner reply (steps.Call call) s → CallMoves old r p s call (Err failed) new → AreFine new → Joined scripts new
 refused scripts done old reached head j r p reply call s failed new is e n g fine = go failed.refused refl g.3 g.4
   where
-    go : (x : world_refusal.Refused) → failed.refused ≡ x → refused_so x call g.1 →
+    go : (x : world_refusal.WorldRefusal) → failed.refused ≡ x → refused_so x call g.1 →
         new ≡ record { world = g.0; players = slice_set old.players r (record { runner = s; stage = Ready (Some g.1); lines = p.lines; refused = p.refused ++ number_in x }) } → Joined scripts new
     go (refusals.Engine why) x told ne =
         let f : IsFine (record { runner = s; stage = Ready (Some g.1); lines = p.lines; refused = p.refused ++ number_of_refusal why ∷ [] }) =
@@ -127,7 +127,7 @@ refused scripts done old reached head j r p reply call s failed new is e n g fin
     go refusals.CarriesJob x told ne = absurd told
 
 -- A call that is taken: its reply is seen, and told to its runner, unless it blocks. What else the event brings is left out here
-pub replied : (scripts : List (List Line)) (old : PlayState) (j : Joined scripts old) (r : ℕ) (p : PlayerState) (reply : Option Reply) (call : Call) (s : RunnerState) (told : Reply) (w : WorldState) →
+pub replied : (scripts : List (List ScriptLine)) (old : PlayState) (j : Joined scripts old) (r : ℕ) (p : PlayerState) (reply : Option Reply) (call : Call) (s : RunnerState) (told : Reply) (w : WorldState) →
     slice_get old.players r ≡ Some p → p.stage ≡ Ready reply → NextGives p.runner reply (steps.Call call) s → IsTaken told →
     history_seen w.history ≡ history_seen old.world.history ++ told_call (first_endpoint r) call (Some told) → IsHistory (length scripts) (history_seen w.history) →
     Joined scripts (record { world = w; players = slice_set old.players r (record { runner = s; stage = stage_by_reply call (Some told); lines = p.lines; refused = p.refused }) })
@@ -135,11 +135,11 @@ replied scripts old j r p reply call s told w is e n taken more there = go told 
   where
     t : IsAt next_in_script (j.now r) (Rattle.one_meaning.specs.Courses.Calls (call_seen call))
         × IsAlike (record { runner = s; stage = Waits call; lines = p.lines; refused = p.refused }) (gone_on next_in_script (j.now r) None true [] false)
-        × ((told : Reply) → Rattle.script_processes.specs.Hearing.IsReplyTo (Rattle.script_processes.specs.Forgetting.plain_call call) told →
+        × ((told : Reply) → Rattle.proof_script_processes.specs.Hearing.IsReplyTo (Rattle.proof_script_processes.specs.Forgetting.plain_call call) told →
         IsAlike (record { runner = s; stage = Ready (Some told); lines = p.lines; refused = p.refused }) (gone_on next_in_script (j.now r) (Some (told_of told)) false [] false))
     t = calls_are_alike p reply (j.now r) call s p.refused (ready_alike p reply (j.now r) e (j.alike r p is)) n
 
-    answered : (told : Reply) (m : machine.Reply) → told_by m ≡ Some (told_of told) → is_blocking m ≡ false → Rattle.script_processes.specs.Hearing.IsReplyTo (Rattle.script_processes.specs.Forgetting.plain_call call) told →
+    answered : (told : Reply) (m : machine.Reply) → told_by m ≡ Some (told_of told) → is_blocking m ≡ false → Rattle.proof_script_processes.specs.Hearing.IsReplyTo (Rattle.proof_script_processes.specs.Forgetting.plain_call call) told →
         history_seen w.history ≡ history_seen old.world.history ++ Called (first_endpoint r) (call_seen call) m ∷ [] →
         Joined scripts (record { world = w; players = slice_set old.players r (record { runner = s; stage = Ready (Some told); lines = p.lines; refused = p.refused }) })
     answered told m tm bm to h =

@@ -6,8 +6,8 @@ use Rattle.one_meaning.specs.Courses.{Process}
 use Rattle.perfect_groups.specs.Events as machine
 use Rattle.std.specs.List.{AllByRecursion}
 use Rattle.vocabulary.specs.declared.endpoint.Endpoint.{Endpoint}
-use Rattle.engine_parts.specs.declared.reply.Completion.{Completion}
-use Rattle.engine_parts.specs.declared.reply.Completion.TheVariants as completions
+use Rattle.engine_calls.specs.declared.reply.Completion.{Completion}
+use Rattle.engine_calls.specs.declared.reply.Completion.TheVariants as completions
 use Rattle.perfect_groups.specs.Communicators.{first_endpoint}
 use Rattle.perfect_groups.specs.Events.{Called, Completed, Restarted}
 use Rattle.perfect_groups.specs.Runs.{IsHistory}
@@ -16,9 +16,9 @@ use Rattle.proof_one_meaning.proofs.Beginnings.{endpoints_are_first}
 use Rattle.proof_one_meaning.specs.Plays.{HasEnded, HasNoRestart, IsOfFirst, Player, Players, PlaysOn, PlaysThrough, Spoke, WasAnswered, WasRefused, WasTaken, with_player}
 use Rattle.script_plays.specs.Alike.{IsAlike}
 use Rattle.script_players.specs.Players.{PlayerState}
-use Rattle.script_processes.specs.Processes.{Running}
+use Rattle.proof_script_processes.specs.Processes.{Running}
 use Rattle.world.specs.Headline.{entry_seen, history_seen}
-use Rattle.world.specs.declared.event.Entry.{Entry}
+use Rattle.world.specs.declared.event.HistoryEntry.{HistoryEntry}
 
 pub set_get : (players : List PlayerState) (r : ℕ) (a b : PlayerState) → slice_get (slice_set players r a) r ≡ Some b → a ≡ b
 set_get [] r a b h = absurd (none-some b h)
@@ -66,7 +66,7 @@ through_more {P = P} next n zero a h b h' t c h'' on =
     (c, h'', subst (λ (x : Players P). PlaysOn next n x h c h'') (sym t.0) (subst (λ (y : List machine.Entry). PlaysOn next n b y c h'') (sym t.1) on), (refl, refl))
 through_more next n (suc k) a h b h' t c h'' on = (t.0, t.1, t.2, through_more next n k t.0 t.1 b h' t.3 c h'' on)
 
-pub seen_more : (h : List Entry) (e : Entry) → history_seen (h ++ e ∷ []) ≡ history_seen h ++ entry_seen e
+pub seen_more : (h : List HistoryEntry) (e : HistoryEntry) → history_seen (h ++ e ∷ []) ≡ history_seen h ++ entry_seen e
 seen_more [] e = append-nil (entry_seen e)
 seen_more (x ∷ h) e = ap (λ (ys : List machine.Entry). entry_seen x ++ ys) (seen_more h e) ∙ sym (append_assoc (entry_seen x) (history_seen h) (entry_seen e))
 

@@ -1,37 +1,37 @@
 -- In a play each runner keeps to the requests that its rank was given.
 use Rattle.std.proofs.Common.{◌≡◌, ℕ, List, [], ◌∷◌, ◌++◌, Option, Some, None, Result, Ok, Err, inl, inr, option_and_then, slice_get, slice_set, refl, sym, ap, ◌∙◌, subst}
 use Rattle.std.proofs.lemmas.Option.{same_Some}
-use Rattle.engine_parts.specs.declared.call.Call.{Call}
-use Rattle.engine_parts.specs.declared.reply.Completion.{Completion}
-use Rattle.engine_parts.specs.declared.reply.Reply.{Reply}
-use Rattle.engine_parts.specs.declared.reply.Reply.TheVariants as replies
+use Rattle.engine_calls.specs.declared.call.Call.{Call}
+use Rattle.engine_calls.specs.declared.reply.Completion.{Completion}
+use Rattle.engine_calls.specs.declared.reply.Reply.{Reply}
+use Rattle.engine_calls.specs.declared.reply.Reply.TheVariants as replies
 use Rattle.perfect_groups.specs.Communicators.{first_endpoint}
 use Rattle.proof_one_meaning.specs.Plays.{HasNoRestart}
 use Rattle.proof_request_keys.specs.Keys.{request_given}
-use Rattle.rank_drive.specs.declared.runner.Step.{Step}
-use Rattle.rank_drive.specs.declared.runner.Step.TheVariants as steps
+use Rattle.event_loop.specs.declared.runner.RunnerStep.{RunnerStep}
+use Rattle.event_loop.specs.declared.runner.RunnerStep.TheVariants as steps
 use Rattle.requests.specs.declared.table.Request.{Request}
-use Rattle.script_files.specs.declared.script.Line.{Line}
+use Rattle.script_files.specs.declared.script.ScriptLine.{ScriptLine}
 use Rattle.script_players.specs.Players.{AreAlike, PlayerState, number_in, refused_so, stage_by}
 use Rattle.script_players.specs.declared.played.Stage.{Stage}
 use Rattle.script_players.specs.declared.played.Stage.TheVariants.{Over, Ready, Waits}
 use Rattle.script_plays.specs.Playing.{CallMoves, EventGives, GoGives, GoesBy, HasHeadline, MoveGives, PlayGives, PlayState, ScheduleGives, StepMoves, play_opening, players_of, with_told}
 use Rattle.script_plays.specs.declared.moves.Move.{Move}
 use Rattle.script_plays.specs.declared.moves.Move.TheVariants as moves
-use Rattle.script_processes.specs.Processes.{script_at}
-use Rattle.script_processes.specs.Changing.{changed_call, changed_reply, changed_state, changed_step}
+use Rattle.proof_script_processes.specs.Processes.{script_at}
+use Rattle.proof_script_processes.specs.Changing.{changed_call, changed_reply, changed_state, changed_step}
 use Rattle.script_runner.specs.Running.{NextGives, RunnerState, opening}
 use Rattle.world.specs.Given.{NamesOwn, WasGiven}
 use Rattle.world.specs.Headline.{history_seen}
 use Rattle.world.specs.Steps.{CallRuns, TakesCall, Went, entry_of}
 use Rattle.world.specs.WorldState.{WorldState}
-use Rattle.world.specs.declared.event.Entry.{Entry}
+use Rattle.world.specs.declared.event.HistoryEntry.{HistoryEntry}
 use Rattle.world.specs.declared.event.Event.{Event}
 use Rattle.world.specs.declared.event.Event.TheVariants as events
 use Rattle.world.specs.declared.event.Failed.{Failed}
 use Rattle.world.specs.declared.event.Stepped.{Stepped}
-use Rattle.world.specs.declared.refused.Refused as world_refusal
-use Rattle.world.specs.declared.refused.Refused.TheVariants as refusals
+use Rattle.world.specs.declared.refusal.WorldRefusal as world_refusal
+use Rattle.world.specs.declared.refusal.WorldRefusal.TheVariants as refusals
 use Rattle.script_plays.proofs.Alike.{no_call, no_line}
 use Rattle.script_plays.proofs.Fitting.{Replies, replies_to}
 use Rattle.script_plays.proofs.Histories.{added, histories_are_of_schedules}
@@ -45,7 +45,7 @@ call_at w v r call more head fresh went =
     let rank : r ≡ went.ran.rank = same_Some r went.ran.rank went.ran.target in
     went.ran.ran.endpoint ∙ (at_first w head fresh went.ran.rank went.ran.engine went.ran.there ∙ ap first_endpoint (sym rank))
 
-abbrev AllGiven : (ℕ → Request → Request) → List Entry → Type 0
+abbrev AllGiven : (ℕ → Request → Request) → List HistoryEntry → Type 0
 AllGiven changes h = (r : ℕ) (q : Request) → WasGiven h (first_endpoint r) q → changes r q ≡ q
 
 abbrev players_in : PlayState → List PlayerState
@@ -60,7 +60,7 @@ took changes old r s call more w went told alike head fresh all k =
     let x : Replies went.gave.reply told = replies_to went.ran.engine went.ran.ran.mid call went.gave.reply told went.ran.ran.event alike in
     subst (λ (o : Option Reply). IsKeptAt (changes r) (stage_by call o went.gave.completion) s) (sym x.replied)
     (taken_keeps (changes r) call x.reply went.gave.completion s k x.taken (λ q given. all r q
-    (subst (λ (h : List Entry). WasGiven h (first_endpoint r) q) (sym went.history)
+    (subst (λ (h : List HistoryEntry). WasGiven h (first_endpoint r) q) (sym went.history)
     (given_last old.world.history (entry_of (events.Call r call) went.gave) (first_endpoint r) q
     (record { endpoint = call_at old.world w r call more head fresh went; gave = x.given q given })))))
 
@@ -72,7 +72,7 @@ call_kept changes old mid r p s call (Ok more) head fresh all g c k kept =
     (kept_set changes old.players r _ kept (took changes old r s call more g.0 g.1 g.2 g.3 head fresh (subst (λ (y : PlayState). AllGiven changes y.world.history) g.4 all) k))
 call_kept changes old mid r p s call (Err failed) head fresh all g c k kept = go failed.refused g.3 g.4
   where
-    go : (x : world_refusal.Refused) → refused_so x call g.1 →
+    go : (x : world_refusal.WorldRefusal) → refused_so x call g.1 →
         mid ≡ record { world = g.0; players = slice_set old.players r (record { runner = s; stage = Ready (Some g.1); lines = p.lines; refused = p.refused ++ number_in x }) } → AreKept changes mid.players
     go (refusals.Engine why) told e =
         subst (AreKept changes) (sym (ap players_in e))
@@ -84,14 +84,14 @@ call_kept changes old mid r p s call (Err failed) head fresh all g c k kept = go
 
 -- A RUNNER'S STEP
 
-step_kept : (changes : ℕ → Request → Request) (old mid : PlayState) (r : ℕ) (p : PlayerState) (s : RunnerState) (step : Step) → HasHeadline old.world → HasNoRestart (history_seen old.world.history) →
+step_kept : (changes : ℕ → Request → Request) (old mid : PlayState) (r : ℕ) (p : PlayerState) (s : RunnerState) (step : RunnerStep) → HasHeadline old.world → HasNoRestart (history_seen old.world.history) →
     AllGiven changes mid.world.history → StepMoves old r p s step mid → changed_step (changes r) step ≡ step → changed_state (changes r) s ≡ s → AreKept changes old.players → AreKept changes mid.players
 step_kept changes old mid r p s (steps.Print line) head fresh all g c k kept = subst (AreKept changes) (sym (ap players_in g)) (kept_set changes old.players r _ kept (k, refl))
 step_kept changes old mid r p s (steps.End status line) head fresh all g c k kept = subst (AreKept changes) (sym (ap players_in g)) (kept_set changes old.players r _ kept tt)
 step_kept changes old mid r p s (steps.Call call) head fresh all g c k kept = call_kept changes old mid r p s call g.0 head fresh all g.1 (call_keeps (changes r) call c) k kept
 
 -- one that ends for want of memory
-end_kept : (changes : ℕ → Request → Request) (old mid : PlayState) (r : ℕ) (p : PlayerState) (s : RunnerState) (step : Step) → StepMoves old r p s step mid → step ≡ steps.End 6 None → AreKept changes old.players →
+end_kept : (changes : ℕ → Request → Request) (old mid : PlayState) (r : ℕ) (p : PlayerState) (s : RunnerState) (step : RunnerStep) → StepMoves old r p s step mid → step ≡ steps.End 6 None → AreKept changes old.players →
     AreKept changes mid.players
 end_kept changes old mid r p s (steps.End status line) g is kept = subst (AreKept changes) (sym (ap players_in g)) (kept_set changes old.players r _ kept tt)
 end_kept changes old mid r p s (steps.Print line) g is kept = absurd (no_line line is)
@@ -134,23 +134,23 @@ move_kept changes old mid (moves.Go r) head fresh all g kept = go_kept changes o
 move_kept changes old mid (moves.Deliver d) head fresh all g kept = event_kept changes old mid (events.Deliver d) g.0 g.1 kept
 move_kept changes old mid (moves.Tick r now) head fresh all g kept = event_kept changes old mid (events.Tick r now) g.0 g.1 kept
 
-all_kept : (scripts : List (List Line)) (changes : ℕ → Request → Request) (ms done : List Move) (old new : PlayState) → PlayGives scripts done old → ScheduleGives old ms new → AllGiven changes new.world.history →
+all_kept : (scripts : List (List ScriptLine)) (changes : ℕ → Request → Request) (ms done : List Move) (old new : PlayState) → PlayGives scripts done old → ScheduleGives old ms new → AllGiven changes new.world.history →
     AreKept changes old.players → AreKept changes new.players
 all_kept scripts changes [] done old new reached g all kept = subst (AreKept changes) (sym (ap players_in g.0)) kept
 all_kept scripts changes (m ∷ ms) done old new reached g all kept =
     let later = added ms g.1.0 new g.1.2 in
     let mid_given : AllGiven changes g.1.0.world.history =
-    λ r q given. all r q (subst (λ (h : List Entry). WasGiven h (first_endpoint r) q) (sym later.1) (given_later g.1.0.world.history later.0 (first_endpoint r) q given))
+    λ r q given. all r q (subst (λ (h : List HistoryEntry). WasGiven h (first_endpoint r) q) (sym later.1) (given_later g.1.0.world.history later.0 (first_endpoint r) q given))
     in
     all_kept scripts changes ms (done ++ m ∷ []) g.1.0 new
     (one_more done (play_opening scripts) old reached m g.1.0 g.1.1 (headline_of ms g.1.0 new g.1.2)) g.1.2 all
     (move_kept changes old g.1.0 m g.0 (schedule_fresh done old.world.history (histories_are_of_schedules scripts done old reached)) mid_given g.1.1 kept)
 
-begin_kept : (scripts : List (List Line)) (changes : ℕ → Request → Request) → AreKept changes (players_of 0 scripts)
+begin_kept : (scripts : List (List ScriptLine)) (changes : ℕ → Request → Request) → AreKept changes (players_of 0 scripts)
 begin_kept scripts changes r p is = subst (IsKept (changes r)) (player_at 0 scripts r p is).0 (refl, refl)
 
 -- A CALL OF A SCRIPT NAMES REQUESTS OF ITS OWN RANK ALONE
-pub calls_name_own : (scripts : List (List Line)) (schedule : List Move) (st : PlayState) → PlayGives scripts schedule st → (r : ℕ) (p : PlayerState) (reply : Option Reply) (call : Call) (s : RunnerState) →
+pub calls_name_own : (scripts : List (List ScriptLine)) (schedule : List Move) (st : PlayState) → PlayGives scripts schedule st → (r : ℕ) (p : PlayerState) (reply : Option Reply) (call : Call) (s : RunnerState) →
     slice_get st.players r ≡ Some p → p.stage ≡ Ready reply → NextGives p.runner reply (steps.Call call) s → NamesOwn st.world.history (first_endpoint r) call
 calls_name_own scripts schedule st g r p reply call s is e (inr six) = absurd (no_call call six)
 calls_name_own scripts schedule st g r p reply call s is e (inl n) =

@@ -4,29 +4,29 @@ use Rattle.std.proofs.Common.{◌≡◌, ℕ, zero, suc, Bool, true, false, ◌=
 use Rattle.std.specs.List.{AllByRecursion}
 use Rattle.std.proofs.lemmas.Bool.{eq-eqb, eqb-true}
 use Rattle.std.proofs.lemmas.Option.{none-some, same_Some}
-use Rattle.engine_parts.specs.Calls.{IsTaken}
-use Rattle.engine_parts.specs.declared.call.Call.{Call}
-use Rattle.engine_parts.specs.declared.call.Call.TheVariants as calls
-use Rattle.engine_parts.specs.declared.reply.Completion.{Completion}
-use Rattle.engine_parts.specs.declared.reply.Completion.TheVariants as completions
-use Rattle.engine_parts.specs.declared.reply.Reply.{Reply}
-use Rattle.engine_parts.specs.declared.reply.Reply.TheVariants as replies
+use Rattle.engine_calls.specs.Calls.{IsTaken}
+use Rattle.engine_calls.specs.declared.call.Call.{Call}
+use Rattle.engine_calls.specs.declared.call.Call.TheVariants as calls
+use Rattle.engine_calls.specs.declared.reply.Completion.{Completion}
+use Rattle.engine_calls.specs.declared.reply.Completion.TheVariants as completions
+use Rattle.engine_calls.specs.declared.reply.Reply.{Reply}
+use Rattle.engine_calls.specs.declared.reply.Reply.TheVariants as replies
 use Rattle.proof_request_keys.specs.Keys.{message_given, request_given}
-use Rattle.rank_drive.specs.declared.runner.Step.{Step}
-use Rattle.rank_drive.specs.declared.runner.Step.TheVariants as steps
+use Rattle.event_loop.specs.declared.runner.RunnerStep.{RunnerStep}
+use Rattle.event_loop.specs.declared.runner.RunnerStep.TheVariants as steps
 use Rattle.requests.specs.declared.table.Request.{Request}
 use Rattle.script_players.specs.Players.{PlayerState, as_reply, stage_by, stage_by_reply, told_completion, told_if}
 use Rattle.script_players.specs.declared.played.Stage.{Stage}
 use Rattle.script_players.specs.declared.played.Stage.TheVariants.{Over, Ready, Waits}
 use Rattle.script_plays.proofs.Joining.{not_at, set_get, set_other}
-use Rattle.script_processes.proofs.Running.{requests_are_handed_on}
-use Rattle.script_processes.specs.Changing.{changed_call, changed_does, changed_found, changed_reply, changed_requests, changed_state, changed_step}
-use Rattle.script_processes.specs.Processes.{call_in}
+use Rattle.proof_script_processes.proofs.Running.{requests_are_handed_on}
+use Rattle.proof_script_processes.specs.Changing.{changed_call, changed_does, changed_found, changed_reply, changed_requests, changed_state, changed_step}
+use Rattle.proof_script_processes.specs.Processes.{call_in}
 use Rattle.script_runner.specs.Running.{Does, NextGives, RunnerState, next_of}
 use Rattle.vocabulary.specs.declared.endpoint.Endpoint.{Endpoint}
 use Rattle.vocabulary.specs.declared.envelope.Status.{Status}
 use Rattle.world.specs.Given.{GivesRequest, NamesOwn, WasGiven, WasGivenIf, requests_named}
-use Rattle.world.specs.declared.event.Entry.{Entry}
+use Rattle.world.specs.declared.event.HistoryEntry.{HistoryEntry}
 
 -- WHETHER A REQUEST WAS GIVEN
 
@@ -34,11 +34,11 @@ abbrev is_request : Option Request → Request → Bool
 is_request None q = false
 is_request (Some p) q = (p.key == q.key) && (p.serial == q.serial)
 
-abbrev gives : Entry → Endpoint → Request → Bool
+abbrev gives : HistoryEntry → Endpoint → Request → Bool
 gives entry x q =
     ((entry.endpoint.rank == x.rank) && (entry.endpoint.incarnation == x.incarnation)) && is_request (option_and_then request_given entry.reply) q
 
-abbrev was_given : List Entry → Endpoint → Request → Bool
+abbrev was_given : List HistoryEntry → Endpoint → Request → Bool
 was_given [] x q = false
 was_given (entry ∷ entries) x q = if gives entry x q then true else was_given entries x q
 
@@ -71,7 +71,7 @@ so_is_request (Some p) q h =
     let e : p ≡ q = same_Some p q h in
     true_both (p.key == q.key) (p.serial == q.serial) (eq-eqb p.key q.key (ap (λ (x : Request). x.key) e)) (eq-eqb p.serial q.serial (ap (λ (x : Request). x.serial) e))
 
-gives_so : (entry : Entry) (x : Endpoint) (q : Request) → gives entry x q ≡ true → GivesRequest entry x q
+gives_so : (entry : HistoryEntry) (x : Endpoint) (q : Request) → gives entry x q ≡ true → GivesRequest entry x q
 gives_so entry x q h =
     let b = both_true ((entry.endpoint.rank == x.rank) && (entry.endpoint.incarnation == x.incarnation)) (is_request (option_and_then request_given entry.reply) q) h in
     let c = both_true (entry.endpoint.rank == x.rank) (entry.endpoint.incarnation == x.incarnation) b.0 in
@@ -80,14 +80,14 @@ gives_so entry x q h =
       gave = is_request_so (option_and_then request_given entry.reply) q b.1;
     }
 
-so_gives : (entry : Entry) (x : Endpoint) (q : Request) → GivesRequest entry x q → gives entry x q ≡ true
+so_gives : (entry : HistoryEntry) (x : Endpoint) (q : Request) → GivesRequest entry x q → gives entry x q ≡ true
 so_gives entry x q g =
     true_both ((entry.endpoint.rank == x.rank) && (entry.endpoint.incarnation == x.incarnation)) (is_request (option_and_then request_given entry.reply) q)
     (true_both (entry.endpoint.rank == x.rank) (entry.endpoint.incarnation == x.incarnation)
     (eq-eqb entry.endpoint.rank x.rank (ap (λ (e : Endpoint). e.rank) g.endpoint)) (eq-eqb entry.endpoint.incarnation x.incarnation (ap (λ (e : Endpoint). e.incarnation) g.endpoint)))
     (so_is_request (option_and_then request_given entry.reply) q g.gave)
 
-given_so : (h : List Entry) (x : Endpoint) (q : Request) → was_given h x q ≡ true → WasGiven h x q
+given_so : (h : List HistoryEntry) (x : Endpoint) (q : Request) → was_given h x q ≡ true → WasGiven h x q
 given_so [] x q is = absurd (grind arith)
 given_so (entry ∷ h) x q is = go (gives entry x q) refl is (given_so h x q)
   where
@@ -95,7 +95,7 @@ given_so (entry ∷ h) x q is = go (gives entry x q) refl is (given_so h x q)
     go true e k before = inl (gives_so entry x q e)
     go false e k before = inr (before k)
 
-so_given : (h : List Entry) (x : Endpoint) (q : Request) → WasGiven h x q → was_given h x q ≡ true
+so_given : (h : List HistoryEntry) (x : Endpoint) (q : Request) → WasGiven h x q → was_given h x q ≡ true
 so_given [] x q g = absurd g
 so_given (entry ∷ h) x q (inl g) = ap (λ (b : Bool). if b then true else was_given h x q) (so_gives entry x q g)
 so_given (entry ∷ h) x q (inr g) = go (gives entry x q) (so_given h x q g)
@@ -104,12 +104,12 @@ so_given (entry ∷ h) x q (inr g) = go (gives entry x q) (so_given h x q g)
     go true e = refl
     go false e = e
 
-pub given_later : (h more : List Entry) (x : Endpoint) (q : Request) → WasGiven h x q → WasGiven (h ++ more) x q
+pub given_later : (h more : List HistoryEntry) (x : Endpoint) (q : Request) → WasGiven h x q → WasGiven (h ++ more) x q
 given_later [] more x q g = absurd g
 given_later (entry ∷ h) more x q (inl g) = inl g
 given_later (entry ∷ h) more x q (inr g) = inr (given_later h more x q g)
 
-pub given_last : (h : List Entry) (entry : Entry) (x : Endpoint) (q : Request) → GivesRequest entry x q → WasGiven (h ++ entry ∷ []) x q
+pub given_last : (h : List HistoryEntry) (entry : HistoryEntry) (x : Endpoint) (q : Request) → GivesRequest entry x q → WasGiven (h ++ entry ∷ []) x q
 given_last [] entry x q g = inl g
 given_last (y ∷ h) entry x q g = inr (given_last h entry x q g)
 
@@ -118,13 +118,13 @@ abbrev kept : Bool → Request → Request
 kept true q = q
 kept false q = record { key = suc q.key; serial = q.serial }
 
-abbrev pub keeping : List Entry → Endpoint → Request → Request
+abbrev pub keeping : List HistoryEntry → Endpoint → Request → Request
 keeping h x q = kept (was_given h x q) q
 
-pub given_are_kept : (h : List Entry) (x : Endpoint) (q : Request) → WasGiven h x q → keeping h x q ≡ q
+pub given_are_kept : (h : List HistoryEntry) (x : Endpoint) (q : Request) → WasGiven h x q → keeping h x q ≡ q
 given_are_kept h x q g = ap (λ (b : Bool). kept b q) (so_given h x q g)
 
-kept_were_given : (h : List Entry) (x : Endpoint) (q : Request) → keeping h x q ≡ q → WasGiven h x q
+kept_were_given : (h : List HistoryEntry) (x : Endpoint) (q : Request) → keeping h x q ≡ q → WasGiven h x q
 kept_were_given h x q e = go (was_given h x q) refl e
   where
     go : (b : Bool) → was_given h x q ≡ b → kept b q ≡ q → WasGiven h x q
@@ -155,15 +155,15 @@ abbrev tail_of : List (Option Request) → List (Option Request)
 tail_of [] = []
 tail_of (q ∷ qs) = qs
 
-if_given : (h : List Entry) (x : Endpoint) (q : Option Request) → option_map (keeping h x) q ≡ q → WasGivenIf h x q
+if_given : (h : List HistoryEntry) (x : Endpoint) (q : Option Request) → option_map (keeping h x) q ≡ q → WasGivenIf h x q
 if_given h x None e = tt
 if_given h x (Some q) e = kept_were_given h x q (same_Some (keeping h x q) q e)
 
-all_given : (h : List Entry) (x : Endpoint) (qs : List (Option Request)) → changed_requests (keeping h x) qs ≡ qs → AllByRecursion (WasGivenIf h x) qs
+all_given : (h : List HistoryEntry) (x : Endpoint) (qs : List (Option Request)) → changed_requests (keeping h x) qs ≡ qs → AllByRecursion (WasGivenIf h x) qs
 all_given h x [] e = tt
 all_given h x (q ∷ qs) e = (if_given h x q (ap (head_or q) e), all_given h x qs (ap tail_of e))
 
-pub names_own : (h : List Entry) (x : Endpoint) (call : Call) → changed_call (keeping h x) call ≡ call → NamesOwn h x call
+pub names_own : (h : List HistoryEntry) (x : Endpoint) (call : Call) → changed_call (keeping h x) call ≡ call → NamesOwn h x call
 names_own h x call e = all_given h x (requests_named call) (sym (named_change (keeping h x) call) ∙ ap requests_named e)
 
 -- A PLAYER WHOSE REQUESTS STAY
@@ -177,7 +177,7 @@ abbrev pub IsKept : (Request → Request) → PlayerState → Type 0
 IsKept change p = IsKeptAt change p.stage p.runner
 
 -- what it does next has requests that stay
-pub steps_keep : (change : Request → Request) (old new : RunnerState) (reply : Option Reply) (step : Step) → changed_state change old ≡ old → option_map (changed_reply change) reply ≡ reply → next_of old reply ≡ (step, new) →
+pub steps_keep : (change : Request → Request) (old new : RunnerState) (reply : Option Reply) (step : RunnerStep) → changed_state change old ≡ old → option_map (changed_reply change) reply ≡ reply → next_of old reply ≡ (step, new) →
     (changed_step change step ≡ step) × (changed_state change new ≡ new)
 steps_keep change old new reply step s r n =
     let e : changed_does change (step, new) ≡ (step, new) =

@@ -1,12 +1,12 @@
 -- Where the engines of a play stand: each at its own rank, and none was started anew.
 use Rattle.std.proofs.Common.{◌≡◌, ℕ, List, [], ◌∷◌, ◌++◌, length, ◌⊎◌, Option, Some, None, inl, inr, refl, sym, ap, ap₂, ◌∙◌, subst}
 use Rattle.std.specs.Prelude.{slice_get}
-use Rattle.engine_parts.specs.EngineState.{EngineState}
-use Rattle.engine_parts.specs.declared.call.Call.{Call}
-use Rattle.engine_parts.specs.declared.reply.Completion.{Completion}
-use Rattle.engine_parts.specs.declared.reply.Completion.TheVariants as completions
-use Rattle.engine_parts.specs.declared.reply.Reply.{Reply}
-use Rattle.engine_parts.specs.declared.reply.Reply.TheVariants as replies
+use Rattle.engine_calls.specs.EngineState.{EngineState}
+use Rattle.engine_calls.specs.declared.call.Call.{Call}
+use Rattle.engine_calls.specs.declared.reply.Completion.{Completion}
+use Rattle.engine_calls.specs.declared.reply.Completion.TheVariants as completions
+use Rattle.engine_calls.specs.declared.reply.Reply.{Reply}
+use Rattle.engine_calls.specs.declared.reply.Reply.TheVariants as replies
 use Rattle.incarnation.specs.declared.place.Place.{Place}
 use Rattle.perfect_groups.proofs.GroupRuns.{send_current}
 use Rattle.perfect_groups.specs.Calls as machine
@@ -26,7 +26,7 @@ use Rattle.script_plays.specs.declared.moves.Move.TheVariants as moves
 use Rattle.vocabulary.specs.declared.endpoint.Endpoint.{Endpoint}
 use Rattle.world.specs.Headline.{event_seen, history_seen}
 use Rattle.world.specs.WorldState.{WorldState}
-use Rattle.world.specs.declared.event.Entry.{Entry}
+use Rattle.world.specs.declared.event.HistoryEntry.{HistoryEntry}
 use Rattle.world.specs.declared.event.Event.{Event}
 use Rattle.world.specs.declared.event.Event.TheVariants as events
 
@@ -104,7 +104,7 @@ event_fresh (moves.Go r) (events.Restart x) is e o rest h = absurd is
 event_fresh (moves.Deliver d) (events.Restart x) is e o rest h = absurd is
 event_fresh (moves.Tick r now) (events.Restart x) is e o rest h = absurd is
 
-pub schedule_fresh : (ms : List schedule.Move) (es : List Entry) → AreEventsOf ms es → HasNoRestart (history_seen es)
+pub schedule_fresh : (ms : List schedule.Move) (es : List HistoryEntry) → AreEventsOf ms es → HasNoRestart (history_seen es)
 schedule_fresh [] [] h = tt
 schedule_fresh [] (e ∷ es) h = absurd h
 schedule_fresh (m ∷ ms) [] h = tt

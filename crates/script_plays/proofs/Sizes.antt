@@ -1,12 +1,12 @@
 -- A world keeps its engines, and a play its players: as many as there are scripts.
 use Rattle.std.proofs.Common.{◌≡◌, ℕ, zero, suc, List, [], ◌∷◌, length, Option, Some, None, Result, Ok, Err, slice_get, slice_set, refl, ap, ◌∙◌}
-use Rattle.engine_parts.specs.EngineState.{EngineState}
-use Rattle.engine_parts.specs.declared.reply.Completion.{Completion}
+use Rattle.engine_calls.specs.EngineState.{EngineState}
+use Rattle.engine_calls.specs.declared.reply.Completion.{Completion}
 use Rattle.proof_network_bridge.specs.Joined.{opening_engines}
-use Rattle.rank_drive.specs.declared.runner.Step.{Step}
-use Rattle.rank_drive.specs.declared.runner.Step.TheVariants as steps
+use Rattle.event_loop.specs.declared.runner.RunnerStep.{RunnerStep}
+use Rattle.event_loop.specs.declared.runner.RunnerStep.TheVariants as steps
 use Rattle.script_runner.specs.Running.{RunnerState}
-use Rattle.script_files.specs.declared.script.Line.{Line}
+use Rattle.script_files.specs.declared.script.ScriptLine.{ScriptLine}
 use Rattle.script_players.specs.Players.{PlayerState, told_completion}
 use Rattle.script_plays.specs.Playing.{CallMoves, EventGives, GoGives, GoesBy, MoveGives, PlayState, ScheduleGives, StepMoves, play_opening, players_of, with_told}
 use Rattle.script_players.specs.declared.played.Stage.{Stage}
@@ -35,7 +35,7 @@ call_size : (old : PlayState) (r : ℕ) (p : PlayerState) (s : RunnerState) (cal
 call_size old r p s call (Ok added) new g = ap (λ (x : PlayState). length x.world.engines) g.4 ∙ went_size old.world (events.Call r call) added g.0 g.1
 call_size old r p s call (Err failed) new g = ap (λ (x : PlayState). length x.world.engines) g.4 ∙ refused_size old.world (events.Call r call) failed g.0 g.2
 
-step_size : (old : PlayState) (r : ℕ) (p : PlayerState) (s : RunnerState) (step : Step) (new : PlayState) → StepMoves old r p s step new → length new.world.engines ≡ length old.world.engines
+step_size : (old : PlayState) (r : ℕ) (p : PlayerState) (s : RunnerState) (step : RunnerStep) (new : PlayState) → StepMoves old r p s step new → length new.world.engines ≡ length old.world.engines
 step_size old r p s (steps.Print line) new g = ap (λ (x : PlayState). length x.world.engines) g
 step_size old r p s (steps.End status line) new g = ap (λ (x : PlayState). length x.world.engines) g
 step_size old r p s (steps.Call call) new g = call_size old r p s call g.0 new g.1
@@ -66,7 +66,7 @@ pub opening_size : (n rank k : ℕ) → length (opening_engines n rank k) ≡ k
 opening_size n rank zero = refl
 opening_size n rank (suc k) = ap suc (opening_size n (suc rank) k)
 
-pub size_is : (scripts : List (List Line)) (schedule : List Move) (st : PlayState) → ScheduleGives (play_opening scripts) schedule st → length st.world.engines ≡ length scripts
+pub size_is : (scripts : List (List ScriptLine)) (schedule : List Move) (st : PlayState) → ScheduleGives (play_opening scripts) schedule st → length st.world.engines ≡ length scripts
 size_is scripts schedule st g = schedule_size schedule (play_opening scripts) st g ∙ opening_size (length scripts) 0 (length scripts)
 
 -- THE PLAYERS
@@ -87,7 +87,7 @@ call_players : (old : PlayState) (r : ℕ) (p : PlayerState) (s : RunnerState) (
 call_players old r p s call (Ok added) new g = ap long g.4 ∙ set_long old.players r _
 call_players old r p s call (Err failed) new g = ap long g.4 ∙ set_long old.players r _
 
-step_players : (old : PlayState) (r : ℕ) (p : PlayerState) (s : RunnerState) (step : Step) (new : PlayState) → StepMoves old r p s step new → length new.players ≡ length old.players
+step_players : (old : PlayState) (r : ℕ) (p : PlayerState) (s : RunnerState) (step : RunnerStep) (new : PlayState) → StepMoves old r p s step new → length new.players ≡ length old.players
 step_players old r p s (steps.Print line) new g = ap long g ∙ set_long old.players r _
 step_players old r p s (steps.End status line) new g = ap long g ∙ set_long old.players r _
 step_players old r p s (steps.Call call) new g = call_players old r p s call g.0 new g.1
@@ -110,6 +110,6 @@ move_players (moves.Go r) old new g = may_players old r (slice_get old.players r
 move_players (moves.Deliver d) old new g = event_players (events.Deliver d) old g.0 new g.1
 move_players (moves.Tick r now) old new g = event_players (events.Tick r now) old g.0 new g.1
 
-pub begin_players : (k : ℕ) (scripts : List (List Line)) → length (players_of k scripts) ≡ length scripts
+pub begin_players : (k : ℕ) (scripts : List (List ScriptLine)) → length (players_of k scripts) ≡ length scripts
 begin_players k [] = refl
 begin_players k (script ∷ scripts) = ap suc (begin_players (suc k) scripts)

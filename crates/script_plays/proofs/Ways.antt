@@ -1,12 +1,12 @@
 -- The way of a play: its first moves, and one more.
 use Rattle.std.proofs.Common.{◌≡◌, ℕ, zero, suc, ◌+◌, ◌<◌, List, [], ◌∷◌, ◌++◌, length, Option, Some, None, slice_get, refl, ap, ◌∙◌, subst, arith}
 use Rattle.std.proofs.lemmas.Option.{none-some, same_Some}
-use Rattle.script_files.specs.declared.script.Line.{Line}
+use Rattle.script_files.specs.declared.script.ScriptLine.{ScriptLine}
 use Rattle.script_players.specs.Players.{PlayerState}
 use Rattle.script_players.specs.declared.played.Stage.TheVariants.{Ready}
 use Rattle.script_plays.specs.Playing.{HasHeadline, MoveGives, PlayState, ScheduleGives, players_of}
 use Rattle.script_plays.specs.declared.moves.Move.{Move}
-use Rattle.script_processes.specs.Processes.{script_at}
+use Rattle.proof_script_processes.specs.Processes.{script_at}
 use Rattle.script_runner.specs.Running.{opening}
 
 pub headline_of : (ms : List Move) (old new : PlayState) → ScheduleGives old ms new → HasHeadline old.world
@@ -18,7 +18,7 @@ one_more [] a b g m c mv run = (g.1, (c, subst (λ (x : PlayState). MoveGives x 
 one_more (d ∷ done) a b g m c mv run = (g.0, (g.1.0, g.1.1, one_more done g.1.0 b g.1.2 m c mv run))
 
 -- the player of a rank at the start
-pub player_at : (k : ℕ) (scripts : List (List Line)) (r : ℕ) (p : PlayerState) → slice_get (players_of k scripts) r ≡ Some p →
+pub player_at : (k : ℕ) (scripts : List (List ScriptLine)) (r : ℕ) (p : PlayerState) → slice_get (players_of k scripts) r ≡ Some p →
     (record { runner = opening (script_at scripts r) (k + r) 0; stage = Ready None; lines = []; refused = [] } ≡ p) × (r < length scripts)
 player_at k [] r p h = absurd (none-some p h)
 player_at k (s ∷ scripts) zero p h =

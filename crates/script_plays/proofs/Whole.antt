@@ -3,10 +3,10 @@ use Rattle.std.proofs.Common.{◌≡◌, ℕ, zero, suc, ◌+◌, ◌<◌, ◌�
 use Rattle.std.proofs.lemmas.Bool.{lt-leb}
 use Rattle.std.proofs.lemmas.Option.{none-some, same_Some}
 use Rattle.vocabulary.specs.declared.endpoint.Endpoint.{Endpoint}
-use Rattle.engine_parts.specs.declared.call.Call.{Call}
-use Rattle.engine_parts.specs.declared.reply.Completion.{Completion}
-use Rattle.engine_parts.specs.declared.reply.Completion.TheVariants as completions
-use Rattle.engine_parts.specs.declared.reply.Reply.{Reply}
+use Rattle.engine_calls.specs.declared.call.Call.{Call}
+use Rattle.engine_calls.specs.declared.reply.Completion.{Completion}
+use Rattle.engine_calls.specs.declared.reply.Completion.TheVariants as completions
+use Rattle.engine_calls.specs.declared.reply.Reply.{Reply}
 use Rattle.one_meaning.specs.Courses.{RecordsAgree, Replied, Told, accounts}
 use Rattle.perfect_groups.specs.Calls as machine
 use Rattle.perfect_groups.specs.Communicators.{first_endpoint}
@@ -18,10 +18,10 @@ use Rattle.proof_engine_view.specs.Seen.{answer_seen}
 use Rattle.proof_network_bridge.specs.Seen.{told_call, told_completion}
 use Rattle.proof_one_meaning.proofs.Beginnings.{beginnings_are_histories}
 use Rattle.proof_one_meaning.specs.Plays.{Player, PlaysOn, PlaysTheMeaning, WasAnswered, players_at_start, with_player}
-use Rattle.rank_drive.specs.declared.runner.Step.{Step}
-use Rattle.rank_drive.specs.declared.runner.Step.TheVariants as steps
+use Rattle.event_loop.specs.declared.runner.RunnerStep.{RunnerStep}
+use Rattle.event_loop.specs.declared.runner.RunnerStep.TheVariants as steps
 use Rattle.script_runner.specs.Running.{NextGives, RunnerState, opening}
-use Rattle.script_files.specs.declared.script.Line.{Line}
+use Rattle.script_files.specs.declared.script.ScriptLine.{ScriptLine}
 use Rattle.script_plays.specs.Alike.{IsAlike, IsAlikeAt, IsOverAlike, WaitsAlike}
 use Rattle.script_plays.specs.Joined.{AreFine}
 use Rattle.script_players.specs.Players.{PlayerState, as_reply, is_over, stage_by, told_if}
@@ -31,11 +31,11 @@ use Rattle.script_players.specs.declared.played.Stage.{Stage}
 use Rattle.script_players.specs.declared.played.Stage.TheVariants.{Over, Ready, Waits}
 use Rattle.script_plays.specs.declared.moves.Move.{Move}
 use Rattle.script_plays.specs.declared.moves.Move.TheVariants as moves
-use Rattle.script_processes.specs.Hearing.{told_of}
-use Rattle.script_processes.specs.Processes.{Running, next_in_script, running_at_start, script_at}
-use Rattle.script_processes.specs.ScriptLaws.{AreCoveredScripts, meaning_of}
-use Rattle.script_processes.proofs.Falling.{scripts_blocked, scripts_play_their_meaning}
-use Rattle.script_processes.proofs.Following.{starts_follow}
+use Rattle.proof_script_processes.specs.Hearing.{told_of}
+use Rattle.proof_script_processes.specs.Processes.{Running, next_in_script, running_at_start, script_at}
+use Rattle.proof_script_processes.specs.ScriptLaws.{AreCoveredScripts, meaning_of}
+use Rattle.proof_script_processes.proofs.Falling.{scripts_blocked, scripts_play_their_meaning}
+use Rattle.proof_script_processes.proofs.Following.{starts_follow}
 use Rattle.world.specs.Headline.{event_seen, history_seen}
 use Rattle.world.specs.Steps.{Gave, entry_of}
 use Rattle.world.specs.WorldState.{WorldState}
@@ -55,7 +55,7 @@ use Rattle.script_plays.proofs.Keeps.{call_at}
 use Rattle.script_plays.proofs.Ways.{headline_of, one_more, player_at}
 
 -- what all of this is under
-pub record Premises (scripts : List (List Line)) : Type 0 where
+pub record Premises (scripts : List (List ScriptLine)) : Type 0 where
   pub some : 0 < length scripts
   pub few : length scripts ≤ 65536
   pub covered : AreCoveredScripts scripts
@@ -87,7 +87,7 @@ as_told (completions.Requests a) = refl
 as_told (completions.Collective o) = refl
 
 -- who is answered was blocked
-waited : (scripts : List (List Line)) → Premises scripts → (st : PlayState) (j : Joined scripts st) (r : ℕ) (a : machine.Answer) → IsHistory (length scripts) (history_seen st.world.history ++ Completed (first_endpoint r) a ∷ []) →
+waited : (scripts : List (List ScriptLine)) → Premises scripts → (st : PlayState) (j : Joined scripts st) (r : ℕ) (a : machine.Answer) → IsHistory (length scripts) (history_seen st.world.history ++ Completed (first_endpoint r) a ∷ []) →
     (p : PlayerState) → slice_get st.players r ≡ Some p → (call : Call) × (p.stage ≡ Waits call)
 waited scripts pre st j r a there p is = by p.stage refl
   where
@@ -100,7 +100,7 @@ waited scripts pre st j r a there p is = by p.stage refl
     by (Waits call) e = (call, e)
 
 -- and is told
-answered : (scripts : List (List Line)) → Premises scripts → (st : PlayState) (j : Joined scripts st) (r : ℕ) (c : Completion) (w : WorldState) →
+answered : (scripts : List (List ScriptLine)) → Premises scripts → (st : PlayState) (j : Joined scripts st) (r : ℕ) (c : Completion) (w : WorldState) →
     history_seen w.history ≡ history_seen st.world.history ++ told_completion (first_endpoint r) (Some c) → IsHistory (length scripts) (history_seen w.history) →
     (o : Option PlayerState) → slice_get st.players r ≡ o → Joined scripts (record { world = w; players = with_told st.players r (Some c) o })
 answered scripts pre st j r c w h there = go
@@ -125,7 +125,7 @@ answered scripts pre st j r c w h there = go
 
 -- AN EVENT THAT IS NO CALL
 
-delivered : (scripts : List (List Line)) → Premises scripts → (old : PlayState) → (j : Joined scripts old) (event : Event) → ((e : Endpoint) (x : Option Reply) → event_seen e event x ≡ []) →
+delivered : (scripts : List (List ScriptLine)) → Premises scripts → (old : PlayState) → (j : Joined scripts old) (event : Event) → ((e : Endpoint) (x : Option Reply) → event_seen e event x ≡ []) →
     (result : Result Stepped Failed) (new : PlayState) → EventGives old event result new → IsHistory (length scripts) (history_seen new.world.history) → Joined scripts new
 delivered scripts pre old j event silent (Err failed) new g history =
     subst (Joined scripts) (sym g.2) (still scripts old j g.0 (ap (λ (w : WorldState). history_seen w.history) g.1.unchanged))
@@ -162,7 +162,7 @@ set_twice [] r a b = refl
 set_twice (x ∷ xs) zero a b = refl
 set_twice (x ∷ xs) (suc r) a b = ap (λ (ys : List PlayerState). x ∷ ys) (set_twice xs r a b)
 
-taken : (scripts : List (List Line)) → Premises scripts → (old : PlayState) → HasHeadline old.world → (j : Joined scripts old) (r : ℕ) (p : PlayerState) (reply : Option Reply) (call : Call) (s : RunnerState) (added : Stepped) (new : PlayState) →
+taken : (scripts : List (List ScriptLine)) → Premises scripts → (old : PlayState) → HasHeadline old.world → (j : Joined scripts old) (r : ℕ) (p : PlayerState) (reply : Option Reply) (call : Call) (s : RunnerState) (added : Stepped) (new : PlayState) →
     slice_get old.players r ≡ Some p → p.stage ≡ Ready reply → NextGives p.runner reply (steps.Call call) s → CallMoves old r p s call (Ok added) new → IsHistory (length scripts) (history_seen new.world.history) →
     Joined scripts new
 taken scripts pre old head j r p reply call s added new is e n g history = go g.1.gave.completion refl
@@ -252,7 +252,7 @@ taken scripts pre old head j r p reply call s added new is e n g history = go g.
 
 -- A MOVE
 
-steps_on : (scripts : List (List Line)) → Premises scripts → (done : List Move) (old : PlayState) → PlayGives scripts done old → HasHeadline old.world → (j : Joined scripts old) (r : ℕ) (p : PlayerState) (reply : Option Reply) (step : Step) (s : RunnerState) (new : PlayState) →
+steps_on : (scripts : List (List ScriptLine)) → Premises scripts → (done : List Move) (old : PlayState) → PlayGives scripts done old → HasHeadline old.world → (j : Joined scripts old) (r : ℕ) (p : PlayerState) (reply : Option Reply) (step : RunnerStep) (s : RunnerState) (new : PlayState) →
     slice_get old.players r ≡ Some p → p.stage ≡ Ready reply → NextGives p.runner reply step s → StepMoves old r p s step new → AreFine new → IsHistory (length scripts) (history_seen new.world.history) → Joined scripts new
 steps_on scripts pre done old reached head j r p reply (steps.Print line) s new is e n g fine history = prints scripts old j r p reply line s new is e n g
 steps_on scripts pre done old reached head j r p reply (steps.End status line) s new is e n g fine history = ends scripts old j r p reply status line s new is e n g fine
@@ -262,7 +262,7 @@ steps_on scripts pre done old reached head j r p reply (steps.Call call) s new i
     go (Ok added) h = taken scripts pre old head j r p reply call s added new is e n h history
     go (Err failed) h = refused scripts done old reached head j r p reply call s failed new is e n h fine
 
-goes : (scripts : List (List Line)) → Premises scripts → (done : List Move) (old : PlayState) → PlayGives scripts done old → HasHeadline old.world → (j : Joined scripts old) (r : ℕ) (o : Option PlayerState) (new : PlayState) → slice_get old.players r ≡ o →
+goes : (scripts : List (List ScriptLine)) → Premises scripts → (done : List Move) (old : PlayState) → PlayGives scripts done old → HasHeadline old.world → (j : Joined scripts old) (r : ℕ) (o : Option PlayerState) (new : PlayState) → slice_get old.players r ≡ o →
     GoGives old r o new → AreFine new → IsHistory (length scripts) (history_seen new.world.history) → Joined scripts new
 goes scripts pre done old reached head j r None new is g fine history = subst (Joined scripts) (sym g) j
 goes scripts pre done old reached head j r (Some p) new is g fine history = go p.stage refl g
@@ -272,7 +272,7 @@ goes scripts pre done old reached head j r (Some p) new is g fine history = go p
     go (Waits call) e h = subst (Joined scripts) (sym h) j
     go (Over status) e h = subst (Joined scripts) (sym h) j
 
-moved : (scripts : List (List Line)) → Premises scripts → (done : List Move) (old : PlayState) → PlayGives scripts done old → HasHeadline old.world → Joined scripts old → (m : Move) (new : PlayState) → MoveGives old m new → AreFine new →
+moved : (scripts : List (List ScriptLine)) → Premises scripts → (done : List Move) (old : PlayState) → PlayGives scripts done old → HasHeadline old.world → Joined scripts old → (m : Move) (new : PlayState) → MoveGives old m new → AreFine new →
     IsHistory (length scripts) (history_seen new.world.history) → Joined scripts new
 moved scripts pre done old reached head j (moves.Go r) new g fine history = goes scripts pre done old reached head j r (slice_get old.players r) new refl g fine history
 moved scripts pre done old reached head j (moves.Deliver d) new g fine history = delivered scripts pre old j (events.Deliver d) (λ e x. refl) g.0 new g.1 history
@@ -280,7 +280,7 @@ moved scripts pre done old reached head j (moves.Tick r now) new g fine history 
 
 -- ALL MOVES
 
-all_moved : (scripts : List (List Line)) → Premises scripts → (ms done : List Move) (old new : PlayState) → PlayGives scripts done old → Joined scripts old → ScheduleGives old ms new → AreFine new → Joined scripts new
+all_moved : (scripts : List (List ScriptLine)) → Premises scripts → (ms done : List Move) (old new : PlayState) → PlayGives scripts done old → Joined scripts old → ScheduleGives old ms new → AreFine new → Joined scripts new
 all_moved scripts pre [] done old new reached j g fine = subst (Joined scripts) (sym g.0) j
 all_moved scripts pre (m ∷ ms) done old new reached j g fine =
     let head : HasHeadline g.1.0.world = headline_of ms g.1.0 new g.1.2 in
@@ -292,7 +292,7 @@ all_moved scripts pre (m ∷ ms) done old new reached j g fine =
 
 -- THE START
 
-begun : (scripts : List (List Line)) → Joined scripts (play_opening scripts)
+begun : (scripts : List (List ScriptLine)) → Joined scripts (play_opening scripts)
 begun scripts = record { moves = zero; now = players_at_start (length scripts) (running_at_start scripts); through = (refl, refl); alike = alike; fresh = tt }
   where
     alike : (r : ℕ) (p : PlayerState) → slice_get (players_of 0 scripts) r ≡ Some p → IsAlike p (players_at_start (length scripts) (running_at_start scripts) r)
@@ -300,7 +300,7 @@ begun scripts = record { moves = zero; now = players_at_start (length scripts) (
         let zero_plus : r ≡ 0 + r = omega arith in
         let t = player_at 0 scripts r p is in
         subst (λ (y : PlayerState). IsAlike y (players_at_start (length scripts) (running_at_start scripts) r)) t.0
-        (record { follows = subst (λ (x : ℕ). Rattle.script_processes.specs.Following.Follows (opening (script_at scripts r) x 0) None (running_at_start scripts r) None) zero_plus (starts_follow scripts r); free = refl; runs = lt-leb (length scripts) r t.1; lines = refl })
+        (record { follows = subst (λ (x : ℕ). Rattle.proof_script_processes.specs.Following.Follows (opening (script_at scripts r) x 0) None (running_at_start scripts r) None) zero_plus (starts_follow scripts r); free = refl; runs = lt-leb (length scripts) r t.1; lines = refl })
 
 -- THE WHOLE
 

@@ -1,20 +1,20 @@
 -- A rank that plays in a world, and one that plays over the machine.
 use Rattle.std.specs.Prelude.{◌≡◌, ℕ, true, false, List, [], ◌∷◌, ◌++◌, Option, Some, None}
-use Rattle.engine_parts.specs.declared.call.Call.{Call}
-use Rattle.engine_parts.specs.declared.reply.Completion.{Completion}
-use Rattle.engine_parts.specs.declared.reply.Reply.{Reply}
+use Rattle.engine_calls.specs.declared.call.Call.{Call}
+use Rattle.engine_calls.specs.declared.reply.Completion.{Completion}
+use Rattle.engine_calls.specs.declared.reply.Reply.{Reply}
 use Rattle.one_meaning.specs.Courses.{Calls, Ends, Prints}
 use Rattle.proof_network_bridge.specs.Seen.{call_seen}
 use Rattle.proof_one_meaning.specs.Plays.{IsAt, Player, gone_on}
-use Rattle.rank_drive.specs.declared.runner.Step.TheVariants as steps
+use Rattle.event_loop.specs.declared.runner.RunnerStep.TheVariants as steps
 use Rattle.script_runner.specs.Running.{NextGives, RunnerState}
 use Rattle.script_players.specs.Players.{PlayerState, as_reply}
 use Rattle.script_players.specs.declared.played.Stage.{Stage}
 use Rattle.script_players.specs.declared.played.Stage.TheVariants.{Over, Ready, Waits}
-use Rattle.script_processes.specs.Following.{Follows}
-use Rattle.script_processes.specs.Forgetting.{plain_call}
-use Rattle.script_processes.specs.Hearing.{IsReplyTo, told_of}
-use Rattle.script_processes.specs.Processes.{Running, next_in_script}
+use Rattle.proof_script_processes.specs.Following.{Follows}
+use Rattle.proof_script_processes.specs.Forgetting.{plain_call}
+use Rattle.proof_script_processes.specs.Hearing.{IsReplyTo, told_of}
+use Rattle.proof_script_processes.specs.Processes.{Running, next_in_script}
 
 -- ready to go on, and told alike
 pub record IsReadyAlike (p : PlayerState) (reply : Option Reply) (q : Player Running) : Type 0 where

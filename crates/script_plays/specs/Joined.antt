@@ -2,13 +2,13 @@
 use Rattle.std.specs.Prelude.{◌≡◌, ◌≢◌, ◌⊎◌, ℕ, Bool, true, false, List, [], ◌∷◌, ◌++◌, length, Some, slice_get}
 use Rattle.std.specs.List.{AllByRecursion}
 use Rattle.one_meaning.specs.Courses.{Course, RecordsAgree, accounts}
-use Rattle.script_files.specs.declared.script.Line.{Line}
+use Rattle.script_files.specs.declared.script.ScriptLine.{ScriptLine}
 use Rattle.script_players.specs.Players.{PlayerState, is_over}
 use Rattle.script_plays.specs.Playing.{PlayState}
 use Rattle.script_players.specs.declared.played.Stage.{Stage}
 use Rattle.script_players.specs.declared.played.Stage.TheVariants.{Over, Ready, Waits}
-use Rattle.script_processes.specs.Processes.{Running}
-use Rattle.script_processes.specs.ScriptLaws.{AreCoveredScripts, meaning_of}
+use Rattle.proof_script_processes.specs.Processes.{Running}
+use Rattle.proof_script_processes.specs.ScriptLaws.{AreCoveredScripts, meaning_of}
 
 -- what a player shows of the one meaning: its lines are a beginning of its rank's, and all of them once its script has ended
 pub record Shows (p : PlayerState) (end : Course Running) : Type 0 where
@@ -35,7 +35,7 @@ AreFine st = (r : ℕ) (p : PlayerState) → slice_get st.players r ≡ Some p �
 
 -- THE LAW OF `play`: of covered scripts, in whose one meaning no two records of a collective differ, whatever the schedule, each rank's lines are a beginning of its lines in the one meaning,
 -- and all of them once its script has ended
-abbrev pub PlaysTheOneMeaning : List (List Line) → PlayState → Type 0
+abbrev pub PlaysTheOneMeaning : List (List ScriptLine) → PlayState → Type 0
 PlaysTheOneMeaning scripts new =
     AreCoveredScripts scripts → RecordsAgree (accounts (meaning_of (length scripts) scripts)) → AreFine new →
     (r : ℕ) (p : PlayerState) → slice_get new.players r ≡ Some p → Shows p (meaning_of (length scripts) scripts r)

@@ -1,12 +1,12 @@
 -- The contract of `play`: what a schedule's moves do, one after the other, to a world and to the runners of its ranks.
 use Rattle.std.specs.Prelude.{◌≡◌, ℕ, List, [], ◌∷◌, ◌++◌, length, Option, Some, None, Result, Ok, Err, slice_get, slice_set}
-use Rattle.engine_parts.specs.declared.call.Call.{Call}
-use Rattle.engine_parts.specs.declared.reply.Completion.{Completion}
-use Rattle.engine_parts.specs.declared.reply.Reply.{Reply}
-use Rattle.rank_drive.specs.declared.runner.Step.{Step}
-use Rattle.rank_drive.specs.declared.runner.Step.TheVariants as steps
+use Rattle.engine_calls.specs.declared.call.Call.{Call}
+use Rattle.engine_calls.specs.declared.reply.Completion.{Completion}
+use Rattle.engine_calls.specs.declared.reply.Reply.{Reply}
+use Rattle.event_loop.specs.declared.runner.RunnerStep.{RunnerStep}
+use Rattle.event_loop.specs.declared.runner.RunnerStep.TheVariants as steps
 use Rattle.script_runner.specs.Running.{NextGives, RunnerState, opening}
-use Rattle.script_files.specs.declared.script.Line.{Line}
+use Rattle.script_files.specs.declared.script.ScriptLine.{ScriptLine}
 use Rattle.script_plays.specs.declared.moves.Move.{Move}
 use Rattle.script_plays.specs.declared.moves.Move.TheVariants as moves
 use Rattle.script_players.specs.Players.{AreAlike, PlayerState, number_in, refused_so, stage_by, told_completion}
@@ -40,14 +40,14 @@ CallMoves old r p s call (Err failed) new =
     × (new ≡ record { world = w; players = slice_set old.players r (record p { runner = s; stage = Ready (Some reply); refused = p.refused ++ number_in failed.refused }) })
 
 -- a runner's step
-abbrev pub StepMoves : PlayState → (rank : ℕ) → PlayerState → RunnerState → Step → PlayState → Type 0
+abbrev pub StepMoves : PlayState → (rank : ℕ) → PlayerState → RunnerState → RunnerStep → PlayState → Type 0
 StepMoves old r p s (steps.Print line) new =
     new ≡ record old { players = slice_set old.players r (record p { runner = s; stage = Ready None; lines = p.lines ++ line ∷ [] }) }
 StepMoves old r p s (steps.End status line) new = new ≡ record old { players = slice_set old.players r (record p { runner = s; stage = Over status }) }
 StepMoves old r p s (steps.Call call) new = (result : Result Stepped Failed) × CallMoves old r p s call result new
 
 abbrev pub GoesBy : PlayState → (rank : ℕ) → PlayerState → Stage → PlayState → Type 0
-GoesBy old r p (Ready reply) new = (step : Step) × (s : RunnerState) × NextGives p.runner reply step s × StepMoves old r p s step new
+GoesBy old r p (Ready reply) new = (step : RunnerStep) × (s : RunnerState) × NextGives p.runner reply step s × StepMoves old r p s step new
 GoesBy old r p (Waits call) new = new ≡ old
 GoesBy old r p (Over status) new = new ≡ old
 
@@ -80,14 +80,14 @@ ScheduleGives old [] new = (new ≡ old) × HasHeadline old.world
 ScheduleGives old (m ∷ ms) new = HasHeadline old.world × ((mid : PlayState) × MoveGives old m mid × ScheduleGives mid ms new)
 
 -- the players of scripts at their start, from this rank on
-abbrev pub players_of : (rank : ℕ) → List (List Line) → List PlayerState
+abbrev pub players_of : (rank : ℕ) → List (List ScriptLine) → List PlayerState
 players_of r [] = []
 players_of r (script ∷ scripts) =
     record { runner = opening script r 0; stage = Ready None; lines = []; refused = [] } ∷ players_of (ℕ.suc r) scripts
 
-abbrev pub play_opening : List (List Line) → PlayState
+abbrev pub play_opening : List (List ScriptLine) → PlayState
 play_opening scripts = record { world = opening_world (length scripts); players = players_of 0 scripts }
 
 -- WHAT `play` GIVES
-abbrev pub PlayGives : List (List Line) → List Move → PlayState → Type 0
+abbrev pub PlayGives : List (List ScriptLine) → List Move → PlayState → Type 0
 PlayGives scripts schedule new = ScheduleGives (play_opening scripts) schedule new

@@ -1,7 +1,7 @@
 //! Scripts that play in a world.
 
 ghost use Rattle.std.specs.Prelude.{◌≡◌, ◌≤◌, ◌↔◌, ◌⊎◌, length, IfOk, IfErr, OnOk, IsTrue, Err, Result, slice_get};
-ghost use Rattle.rank_calls.specs.declared.refused.Refused.TheVariants as lowers;
+ghost use Rattle.point_to_point_calls.specs.declared.refusal.Refusal.TheVariants as lowers;
 ghost use Rattle.script_plays.specs.Events.{AreEventsOf};
 ghost use Rattle.script_plays.specs.Joined.{PlaysTheOneMeaning};
 ghost use Rattle.script_plays.specs.Playing.{EventGives, MoveGives, PlayGives, ScheduleGives, players_of, with_told};
@@ -17,10 +17,10 @@ use engine::MOST_RANKS;
 use script_files::Script;
 use script_players::Played;
 use std::alloc::{AllocError, Global};
-use world::{Entry, Event, Refused, World};
+use world::{HistoryEntry, Event, WorldRefusal, World};
 
 /// The answer to a blocked call that an event brought, if it brought one, is told to the rank at which the event happened.
-fn tell(alloc: Global, players: &mut Vec<Played>, entry: &Entry) -> Result<(), AllocError>
+fn tell(alloc: Global, players: &mut Vec<Played>, entry: &HistoryEntry) -> Result<(), AllocError>
     ensures { OnOk result (players.new.items ≡
         with_told players.old.items entry.now.endpoint.rank entry.now.completion (slice_get players.old.items entry.now.endpoint.rank)) }
 {
@@ -133,28 +133,28 @@ pub fn play(
     alloc: Global,
     scripts: Vec<Script>,
     schedule: &[Move],
-) -> Result<(World, Vec<Played>), Refused>
-    ensures limit { (result ≡ Err (Refused.Engine lowers.Limit)) ↔ IsTrue (is_outside (length scripts.items)) }
-    ensures refused { IfErr result (λ e. (e ≡ Refused.Engine lowers.Limit) ⊎ (e ≡ Refused.Engine lowers.OutOfMemory)) }
+) -> Result<(World, Vec<Played>), WorldRefusal>
+    ensures limit { (result ≡ Err (WorldRefusal.Engine lowers.Limit)) ↔ IsTrue (is_outside (length scripts.items)) }
+    ensures refused { IfErr result (λ e. (e ≡ WorldRefusal.Engine lowers.Limit) ⊎ (e ≡ WorldRefusal.Engine lowers.OutOfMemory)) }
     ensures exact { IfOk result (λ out. PlayGives scripts.items schedule.now (record { world = out.0; players = out.1.items })) }
     ensures history { IfOk result (λ out. AreEventsOf schedule.now out.0.history) }
     ensures one_meaning { IfOk result (λ out. PlaysTheOneMeaning scripts.items (record { world = out.0; players = out.1.items })) }
 {
     if scripts.is_empty() || scripts.len() > MOST_RANKS as usize {
         drop(scripts);
-        return Err(Refused::Engine(engine::Refused::Limit));
+        return Err(WorldRefusal::Engine(engine::Refusal::Limit));
     }
     let mut world = World::new(alloc, scripts.len() as u16)?;
     let Ok(mut players) = all_begin(alloc, scripts) else {
         drop(world);
-        return Err(Refused::Engine(engine::Refused::OutOfMemory));
+        return Err(WorldRefusal::Engine(engine::Refusal::OutOfMemory));
     };
     match make_moves(alloc, &mut world, &mut players, schedule) {
         Ok(()) => Ok((world, players)),
         Err(_) => {
             drop(world);
             drop(players);
-            Err(Refused::Engine(engine::Refused::OutOfMemory))
+            Err(WorldRefusal::Engine(engine::Refusal::OutOfMemory))
         }
     }
 }

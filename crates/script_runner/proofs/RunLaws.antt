@@ -4,14 +4,14 @@ use Rattle.std.specs.Prelude.{if◌then◌else◌, slice_get}
 use Rattle.std.proofs.lemmas.Bool.{eq-eqb, eqb-true, false≢true, lt-ltb}
 use Rattle.script_files.specs.declared.script.RankLine.{RankLine}
 use Rattle.script_files.specs.Selections.{FirstOf}
-use Rattle.rank_drive.specs.declared.runner.Step.{Step}
-use Rattle.rank_drive.specs.declared.runner.Step.TheVariants as steps
-use Rattle.rank_script.specs.Running.{Acts, RankState, acts}
+use Rattle.event_loop.specs.declared.runner.RunnerStep.{RunnerStep}
+use Rattle.event_loop.specs.declared.runner.RunnerStep.TheVariants as steps
+use Rattle.script_runner.specs.ScriptRanks.{Acts, RankState, acts}
 use Rattle.script_runner.specs.Running.{Does, along, does_by, does_or}
 use Rattle.script_runner.specs.Standing.{numbered, taken_last}
 
 -- the first line is done, and then as it says
-pub along_first : (lines : List RankLine) (names : RankState) (line : RankLine) (rest : List RankLine) (step : Option Step) (after : RankState) →
+pub along_first : (lines : List RankLine) (names : RankState) (line : RankLine) (rest : List RankLine) (step : Option RunnerStep) (after : RankState) →
     lines ≡ line ∷ rest → acts line names ≡ (step, after) → along lines names ≡ does_by rest step after (along rest after)
 unfolding along
 along_first lines names line rest step after is acted =

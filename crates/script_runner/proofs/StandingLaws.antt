@@ -4,43 +4,43 @@ use Rattle.std.specs.Prelude.{option_map, is_some, length}
 use Rattle.datatypes.specs.Contents.{Contents}
 use Rattle.datatypes.specs.Transfers.{whole_copies}
 use Rattle.layouts.specs.Layouts.{Shape}
-use Rattle.fault_lines.specs.declared.fault.Fault.{Fault}
-use Rattle.fault_lines.specs.Lacks.{lack_of_action, lack_of_statement, lacks_buffer, lacks_layout, lacks_place}
-use Rattle.interpreter.specs.declared.steps.Asked.{Asked}
-use Rattle.interpreter.specs.declared.steps.Asked.TheVariants as askeds
+use Rattle.line_diagnostics.specs.declared.fault.LineFault.{LineFault}
+use Rattle.line_diagnostics.specs.Lacks.{lack_of_action, lack_of_statement, lacks_buffer, lacks_layout, lacks_place}
+use Rattle.interpreter.specs.declared.steps.StatementCall.{StatementCall}
+use Rattle.interpreter.specs.declared.steps.StatementCall.TheVariants as askeds
 use Rattle.interpreter.specs.Acting as interpreted
 use Rattle.interpreter.specs.Faults.{FaultyWhere, is_faulty}
 use Rattle.interpreter.specs.NamesState.{NamesState, here, holdings}
 use Rattle.interpreter.proofs.FaultLaws.{Matches, action_faults, buffer_matches, layout_matches, waited_receive_faults, waited_send_faults}
-use Rattle.name_tables.specs.Tables.{value_at}
-use Rattle.rank_drive.specs.declared.runner.Step.{Step}
-use Rattle.rank_drive.specs.declared.runner.Step.TheVariants as steps
-use Rattle.rank_script.specs.Running.{Acts, does, does_asked, prints_count, prints_elements, says, states, stops}
-use Rattle.script_files.specs.declared.script.Statement.{Statement}
-use Rattle.script_files.specs.declared.script.Statement.TheVariants as statements
+use Rattle.script_calls.specs.Tables.{value_at}
+use Rattle.event_loop.specs.declared.runner.RunnerStep.{RunnerStep}
+use Rattle.event_loop.specs.declared.runner.RunnerStep.TheVariants as steps
+use Rattle.script_runner.specs.ScriptRanks.{Acts, does, does_asked, prints_count, prints_elements, says, states, stops}
+use Rattle.script_files.specs.declared.script.ScriptStatement.{ScriptStatement}
+use Rattle.script_files.specs.declared.script.ScriptStatement.TheVariants as statements
 use Rattle.script_runner.specs.Standing.{StopsWhere, is_stop}
 
 -- what isn't faulty doesn't end the script
-goes_on : (number : ℕ) (asked : Asked) (names : NamesState) → is_faulty asked ≡ false → is_stop (does number asked names).0 ≡ false
+goes_on : (number : ℕ) (asked : StatementCall) (names : NamesState) → is_faulty asked ≡ false → is_stop (does number asked names).0 ≡ false
 goes_on number askeds.Nothing names e = refl
 goes_on number (askeds.Call call pending) names e = refl
 goes_on number (askeds.Refused refusal) names e = refl
 goes_on number askeds.Faulty names e = absurd cc
 
 -- a statement that is faulty ends the script, and no other
-asked_stops : (fault : Option Fault) (number : ℕ) (acted : interpreted.Acts) (names : NamesState) → FaultyWhere fault acted names →
+asked_stops : (fault : Option LineFault) (number : ℕ) (acted : interpreted.Acts) (names : NamesState) → FaultyWhere fault acted names →
     StopsWhere fault number (does_asked number acted) names
 asked_stops None number acted names h = goes_on number acted.0 acted.1 h
 asked_stops (Some fault) number acted names h = ap (does_asked number) h
 
-print_stops : (number : ℕ) (names : NamesState) (buffer : Option Contents) (fault : Option Fault) → Matches fault buffer →
+print_stops : (number : ℕ) (names : NamesState) (buffer : Option Contents) (fault : Option LineFault) → Matches fault buffer →
     StopsWhere fault number (says (prints_elements number buffer) names) names
 print_stops number names None None m = absurd m
 print_stops number names None (Some fault) m = refl
 print_stops number names (Some buffer) None m = refl
 print_stops number names (Some buffer) (Some fault) m = absurd m
 
-count_stops : (number : ℕ) (names : NamesState) (layout : Option Shape) (fault : Option Fault) → Matches fault layout →
+count_stops : (number : ℕ) (names : NamesState) (layout : Option Shape) (fault : Option LineFault) → Matches fault layout →
     StopsWhere fault number (says (prints_count number (option_map (λ (l : Shape). whole_copies names.last.count (length l.offsets)) layout)) names) names
 count_stops number names None None m = absurd m
 count_stops number names None (Some fault) m = refl
@@ -48,7 +48,7 @@ count_stops number names (Some layout) None m = refl
 count_stops number names (Some layout) (Some fault) m = absurd m
 
 -- a line ends the script exactly where there is a fault, and then changes nothing
-pub stops_where_lacking : (number : ℕ) (statement : Statement) (names : NamesState) →
+pub stops_where_lacking : (number : ℕ) (statement : ScriptStatement) (names : NamesState) →
     StopsWhere (lack_of_statement (holdings names) statement) number (states number statement names) names
 stops_where_lacking number (statements.Action action) names =
     asked_stops (lack_of_action (holdings names) action) number (interpreted.acts_on action names) names (action_faults action names)

@@ -1,2 +1,4 @@
 pub mod Running
 pub mod Standing
+pub mod LinesAsked
+pub mod ScriptRanks

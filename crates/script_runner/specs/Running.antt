@@ -1,13 +1,13 @@
 -- What a script does next.
 use Rattle.std.specs.Prelude.{◌≡◌, ◌≢◌, ◌⊎◌, ℕ, List, [], ◌∷◌, Option, Some, None}
-use Rattle.engine_parts.specs.declared.reply.Reply.{Reply}
-use Rattle.script_files.specs.declared.script.Line.{Line}
+use Rattle.engine_calls.specs.declared.reply.Reply.{Reply}
+use Rattle.script_files.specs.declared.script.ScriptLine.{ScriptLine}
 use Rattle.script_files.specs.declared.script.RankLine.{RankLine}
 use Rattle.script_files.specs.Selections.{lines_for}
-use Rattle.rank_drive.specs.declared.runner.Step.{Step}
-use Rattle.rank_drive.specs.declared.runner.Step.TheVariants as steps
-use Rattle.rank_script.specs.Running as script
-use Rattle.rank_script.specs.Running.{Acts, RankState, acts, heeds}
+use Rattle.event_loop.specs.declared.runner.RunnerStep.{RunnerStep}
+use Rattle.event_loop.specs.declared.runner.RunnerStep.TheVariants as steps
+use Rattle.script_runner.specs.ScriptRanks as script
+use Rattle.script_runner.specs.ScriptRanks.{Acts, RankState, acts, heeds}
 
 -- A rank that runs a script: the lines that are left, what its names stand for, and what it waits for.
 pub record RunnerState : Type 0 where
@@ -15,14 +15,14 @@ pub record RunnerState : Type 0 where
   pub rank : RankState
 
 -- a script for a rank at its start: no name is set
-abbrev pub opening : List Line → (rank incarnation : ℕ) → RunnerState
+abbrev pub opening : List ScriptLine → (rank incarnation : ℕ) → RunnerState
 opening lines own incarnation = record { lines = lines_for own incarnation lines; rank = script.opening own }
 
 -- what a rank does, and what it then stands at
 abbrev pub Does : Type 0
-Does = Step × RunnerState
+Does = RunnerStep × RunnerState
 
-abbrev pub does_by : List RankLine → Option Step → RankState → Does → Does
+abbrev pub does_by : List RankLine → Option RunnerStep → RankState → Does → Does
 does_by rest (Some step) s otherwise = (step, record { lines = rest; rank = s })
 does_by rest None s otherwise = otherwise
 
@@ -49,5 +49,5 @@ abbrev pub IsMore : List RankLine → Option Reply → Type 0
 IsMore lines reply = (lines ≢ []) ⊎ (reply ≢ None)
 
 -- What comes next is what the script says; or memory is wanting for it, and the script ends with status 6
-abbrev pub NextGives : RunnerState → Option Reply → Step → RunnerState → Type 0
+abbrev pub NextGives : RunnerState → Option Reply → RunnerStep → RunnerState → Type 0
 NextGives old reply step new = (next_of old reply ≡ (step, new)) ⊎ ((step ≡ steps.End 6 None) × IsMore old.lines reply)

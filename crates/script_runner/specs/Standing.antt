@@ -1,21 +1,21 @@
 -- Where a rank that runs a script stands, and why it can't go on.
 use Rattle.std.specs.Prelude.{◌≡◌, ℕ, ◌-◌, ◌==◌, nat_lt, Bool, true, false, List, [], ◌∷◌, length, slice_get, Option, Some, None, if◌then◌else◌}
-use Rattle.fault_lines.specs.declared.fault.Fault.{Fault}
-use Rattle.rank_drive.specs.declared.runner.Step.{Step}
-use Rattle.rank_drive.specs.declared.runner.Step.TheVariants as steps
+use Rattle.line_diagnostics.specs.declared.fault.LineFault.{LineFault}
+use Rattle.event_loop.specs.declared.runner.RunnerStep.{RunnerStep}
+use Rattle.event_loop.specs.declared.runner.RunnerStep.TheVariants as steps
 use Rattle.script_files.specs.declared.script.RankLine.{RankLine}
 use Rattle.interpreter.specs.NamesState.{NamesState}
-use Rattle.rank_script.specs.Running.{Acts, stops}
+use Rattle.script_runner.specs.ScriptRanks.{Acts, stops}
 
 -- whether the script ends since its line is faulty
-abbrev pub is_stop : Option Step → Bool
+abbrev pub is_stop : Option RunnerStep → Bool
 is_stop None = false
 is_stop (Some (steps.Call call)) = false
 is_stop (Some (steps.Print line)) = false
 is_stop (Some (steps.End status line)) = status == 1
 
 -- what a line of this number asks for is the end of the script exactly where there is a fault
-abbrev pub StopsWhere : Option Fault → ℕ → Acts → NamesState → Type 0
+abbrev pub StopsWhere : Option LineFault → ℕ → Acts → NamesState → Type 0
 StopsWhere None number acted names = is_stop acted.0 ≡ false
 StopsWhere (Some fault) number acted names = acted ≡ stops number names
 

@@ -1,17 +1,17 @@
 //! Running the script of a rank.
 
 ghost use Rattle.std.specs.Prelude.{◌≡◌, ◌≢◌, [], IfOk, OnErr, is_some, length, ℕ};
-ghost use Rattle.fault_lines.specs.Lacks.{lack_of_statement};
+ghost use Rattle.line_diagnostics.specs.Lacks.{lack_of_statement};
 ghost use Rattle.interpreter.specs.NamesState.{holdings};
-ghost use Rattle.rank_script.specs.Running.{heeds, states};
+ghost use Rattle.script_runner.specs.ScriptRanks.{heeds, states};
 ghost use Rattle.script_runner.specs.Running.{IsMore, along, does_after, next_of, opening};
 ghost use Rattle.script_runner.specs.Standing.{StopsWhere};
 
 use engine::Reply;
-use fault_lines::Fault;
-use rank_drive::{Runner, Step};
-use rank_script::ScriptRank;
-use script_files::{RankLines, Script, Statement};
+use line_diagnostics::LineFault;
+use event_loop::{Runner, RunnerStep};
+use crate::ScriptRank;
+use script_files::{RankLines, Script, ScriptStatement};
 use std::alloc::{AllocError, Global};
 use std::marker::Model;
 
@@ -31,7 +31,7 @@ impl Model for ScriptRunner {
 }
 
 /// The next line that asks for more than a change of names is done; behind the last one the script ends with status 0.
-fn go_on(lines: &mut RankLines, rank: &mut ScriptRank) -> Result<Step, AllocError>
+fn go_on(lines: &mut RankLines, rank: &mut ScriptRank) -> Result<RunnerStep, AllocError>
     ensures does { IfOk result (λ step. along lines.old rank.old ≡ (step, record { lines = lines.new; rank = rank.new })) }
     ensures memory { OnErr result (lines.old ≢ []) }
 {
@@ -40,7 +40,7 @@ fn go_on(lines: &mut RankLines, rank: &mut ScriptRank) -> Result<Step, AllocErro
             return Ok(step);
         }
     }
-    Ok(Step::End(0, None))
+    Ok(RunnerStep::End(0, None))
 }
 
 /// What follows from an answer at once, or else what comes next.
@@ -48,10 +48,10 @@ fn go_on_after(
     lines: &mut RankLines,
     rank: &mut ScriptRank,
     reply: Reply,
-) -> Result<Step, AllocError>
+) -> Result<RunnerStep, AllocError>
     ensures { IfOk result (λ step. does_after lines.old (heeds reply rank.old) ≡ (step, record { lines = lines.new; rank = rank.new })) }
 {
-    if let Some(step) = rank.heed(reply)? {
+    if let Some(step) = rank.on_reply(reply)? {
         return Ok(step);
     }
     go_on(lines, rank)
@@ -61,7 +61,7 @@ fn go_on_told(
     lines: &mut RankLines,
     rank: &mut ScriptRank,
     reply: Option<Reply>,
-) -> Result<Step, AllocError>
+) -> Result<RunnerStep, AllocError>
     ensures does { IfOk result (λ step. next_of (record { lines = lines.old; rank = rank.old }) reply ≡ (step, record { lines = lines.new; rank = rank.new })) }
     ensures memory { OnErr result (IsMore lines.old reply) }
 {
@@ -106,7 +106,7 @@ impl ScriptRunner {
     /// the names that the line uses that isn't set, or whose buffer is lent. None where the line can be followed. The only error
     /// is want of memory.
     #[tactic(auto, using(crate::proofs::StandingLaws::stops_where_lacking))]
-    pub fn lack_of(&self, alloc: Global, statement: &Statement) -> Result<Option<Fault>, AllocError>
+    pub fn lack_of(&self, alloc: Global, statement: &ScriptStatement) -> Result<Option<LineFault>, AllocError>
         ensures exact { IfOk result (λ fault. fault ≡ lack_of_statement (holdings self.now.rank.names) statement.now) }
         ensures stops { (number : ℕ) → IfOk result (λ fault.
             StopsWhere fault number (states number statement.now self.now.rank.names) self.now.rank.names) }
@@ -120,10 +120,10 @@ impl Runner for ScriptRunner {
 
     ghost does = { NextGives };
 
-    fn next(&mut self, reply: Option<Reply>) -> Step {
+    fn next(&mut self, reply: Option<Reply>) -> RunnerStep {
         match go_on_told(&mut self.lines, &mut self.rank, reply) {
             Ok(step) => step,
-            Err(_) => Step::End(6, None),
+            Err(_) => RunnerStep::End(6, None),
         }
     }
 }

@@ -10,7 +10,7 @@ use Rattle.reliable_link.specs.SenderState.{SenderState, after_accept, after_ack
 use Rattle.reliable_link.specs.ReceiverState.{ReceiverState, advanced, after_frame}
 use Rattle.reliable_link.proofs.Senders.{end_passed_to, is_late, is_passed, length_after_ack, length_passed_to, lowest_passed}
 use Rattle.sessions.specs.declared.peers.Peer.{Peer}
-use Rattle.sessions.specs.declared.refused.Refused.{Refused}
+use Rattle.sessions.specs.declared.refusal.SessionRefusal.{SessionRefusal}
 use Rattle.sessions.specs.SessionsState.{SessionsState}
 use Rattle.sessions.specs.Peers.{frames_out, new_session, peer_at, with_receiver}
 use Rattle.sessions.specs.Heard.{WordText, Acknowledges, Repeats, Hands, Holds, Follows, Nothing, HeardText, session_met, CanHear, CanHeed}
@@ -158,7 +158,7 @@ within s h fs can there =
     )
 
 -- an event that is carried out stays within
-pub within_carried : (r : Result (Unit {0}) Refused) (s new : SessionsState) (h : Option HeardText) (fs : List Sending) → CanHear s h → All (CanSend s.place) fs →
+pub within_carried : (r : Result (Unit {0}) SessionRefusal) (s new : SessionsState) (h : Option HeardText) (fs : List Sending) → CanHear s h → All (CanSend s.place) fs →
     length s.peers ≡ s.place.size → OnOk r (new ≡ after_event s h fs) → OnOk r (StaysWithin h s new)
 within_carried (Ok x) s new h fs can may each ok =
     subst (λ (t : SessionsState). StaysWithin h s t) (sym ok) (within s h fs can (are_there s.place (length s.peers) fs each may))

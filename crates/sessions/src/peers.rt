@@ -9,7 +9,7 @@ ghost use Rattle.sessions.specs.Carrying.{taken_back};
 ghost use Rattle.sessions.specs.Busy.{busy_among, busy_in};
 ghost use Rattle.sessions.specs.Peers.{new_peers, peer_at, with_sender, with_receiver, with_new_session, frames_out, due_out, after_all_due};
 
-use crate::refused::Refused;
+use crate::refusal::SessionRefusal;
 use datagram::{Bytes, Drafts};
 use reliable_link::{Receiver, Sender};
 use std::alloc::{AllocError, Global};
@@ -26,9 +26,9 @@ pub struct Peer {
 }
 
 /// A session with each of `size` ranks, none of which has begun.
-pub(crate) fn new_peers(alloc: Global, size: u16) -> Result<Vec<Peer>, Refused>
+pub(crate) fn new_peers(alloc: Global, size: u16) -> Result<Vec<Peer>, SessionRefusal>
     ensures ok { IfOk result (λ peers. peers.items ≡ new_peers size) }
-    ensures err { IfErr result (λ e. e ≡ Refused.OutOfMemory) }
+    ensures err { IfErr result (λ e. e ≡ SessionRefusal.OutOfMemory) }
 {
     let mut peers = Vec::new(alloc);
     for _built in 0..size {
@@ -36,7 +36,7 @@ pub(crate) fn new_peers(alloc: Global, size: u16) -> Result<Vec<Peer>, Refused>
             sender: Sender::new(alloc),
             receiver: Receiver::new(alloc),
         };
-        peers.push(peer).map_err(|_| Refused::OutOfMemory)?;
+        peers.push(peer).map_err(|_| SessionRefusal::OutOfMemory)?;
     }
     Ok(peers)
 }
@@ -50,18 +50,18 @@ pub(crate) fn peer_at(peers: &[Peer], rank: u16) -> &Peer
 }
 
 /// The session with a rank takes a frame over.
-pub(crate) fn accept_at(peers: &mut Vec<Peer>, rank: u16, frame: Bytes) -> Result<(), Refused>
+pub(crate) fn accept_at(peers: &mut Vec<Peer>, rank: u16, frame: Bytes) -> Result<(), SessionRefusal>
     requires there { rank < vec_len peers.old }
     requires left { HasNumberLeft (peer_at peers.old.items rank).sender }
     ensures state { OnOk result (peers.new.items ≡ with_sender peers.old.items rank
         (after_accept (peer_at peers.old.items rank).sender frame)) }
     ensures unchanged { OnErr result (peers.new.items ≡ peers.old.items) }
-    ensures err { IfErr result (λ e. e ≡ Refused.OutOfMemory) }
+    ensures err { IfErr result (λ e. e ≡ SessionRefusal.OutOfMemory) }
 {
     let peer = &mut peers[rank as usize];
     match peer.sender.accept(frame) {
         Ok(_) => Ok(()),
-        Err(_) => Err(Refused::OutOfMemory),
+        Err(_) => Err(SessionRefusal::OutOfMemory),
     }
 }
 
@@ -71,7 +71,7 @@ fn accept_and_emit_at(
     out: &mut Vec<(u16, Bytes)>,
     rank: u16,
     frame: Bytes,
-) -> Result<(), Refused>
+) -> Result<(), SessionRefusal>
     requires there { rank < vec_len peers.old }
     requires left { HasNumberLeft (peer_at peers.old.items rank).sender }
     ensures state { OnOk result (peers.new.items ≡ with_sender peers.old.items rank
@@ -79,10 +79,10 @@ fn accept_and_emit_at(
     ensures out { OnOk result (out.new.items ≡ out.old.items ++ (rank, frame) ∷ []) }
     ensures unchanged { OnErr result (peers.new.items ≡ peers.old.items) }
     ensures silent { OnErr result (out.new.items ≡ out.old.items) }
-    ensures err { IfErr result (λ e. e ≡ Refused.OutOfMemory) }
+    ensures err { IfErr result (λ e. e ≡ SessionRefusal.OutOfMemory) }
 {
-    out.reserve(1).map_err(|_| Refused::OutOfMemory)?;
-    let shared = frame.share().map_err(|_| Refused::OutOfMemory)?;
+    out.reserve(1).map_err(|_| SessionRefusal::OutOfMemory)?;
+    let shared = frame.share().map_err(|_| SessionRefusal::OutOfMemory)?;
     accept_at(peers, rank, frame)?;
     // Nothing fails from here on.
     out.push_reserved((rank, shared));
@@ -96,7 +96,7 @@ pub(crate) fn send_at(
     rank: u16,
     frame: Bytes,
     enters: bool,
-) -> Result<(), Refused>
+) -> Result<(), SessionRefusal>
     requires there { rank < vec_len peers.old }
     requires left { HasNumberLeft (peer_at peers.old.items rank).sender }
     ensures state { OnOk result (peers.new.items ≡ with_sender peers.old.items rank
@@ -104,7 +104,7 @@ pub(crate) fn send_at(
     ensures out { OnOk result (out.new.items ≡ out.old.items ++ (if enters then (rank, frame) ∷ [] else [])) }
     ensures unchanged { OnErr result (peers.new.items ≡ peers.old.items) }
     ensures silent { OnErr result (out.new.items ≡ out.old.items) }
-    ensures err { IfErr result (λ e. e ≡ Refused.OutOfMemory) }
+    ensures err { IfErr result (λ e. e ≡ SessionRefusal.OutOfMemory) }
 {
     if enters {
         accept_and_emit_at(peers, out, rank, frame)
@@ -123,12 +123,12 @@ pub(crate) fn take_back_at(peers: &mut Vec<Peer>, rank: u16)
 }
 
 /// The session with a rank hands its next frame up. The places for frames that are held are made with the first one.
-pub(crate) fn raise_at(peers: &mut Vec<Peer>, rank: u16) -> Result<(), Refused>
+pub(crate) fn raise_at(peers: &mut Vec<Peer>, rank: u16) -> Result<(), SessionRefusal>
     requires there { rank < vec_len peers.old }
     requires left { (peer_at peers.old.items rank).receiver.next ≢ 18446744073709551615 }
     ensures ok { OnOk result (peers.new.items ≡ with_receiver peers.old.items rank (advanced (peer_at peers.old.items rank).receiver)) }
     ensures unchanged { OnErr result (peers.new.items ≡ peers.old.items) }
-    ensures err { IfErr result (λ e. e ≡ Refused.OutOfMemory) }
+    ensures err { IfErr result (λ e. e ≡ SessionRefusal.OutOfMemory) }
 {
     let peer = &mut peers[rank as usize];
     // The number shows that it has 64 bits.
@@ -138,7 +138,7 @@ pub(crate) fn raise_at(peers: &mut Vec<Peer>, rank: u16) -> Result<(), Refused>
             peer.receiver.advance();
             Ok(())
         }
-        Err(_) => Err(Refused::OutOfMemory),
+        Err(_) => Err(SessionRefusal::OutOfMemory),
     }
 }
 
@@ -157,18 +157,18 @@ pub(crate) fn hold_at(
     rank: u16,
     number: u64,
     bytes: &[u8],
-) -> Result<(), Refused>
+) -> Result<(), SessionRefusal>
     requires there { rank < vec_len peers.old }
     requires behind { (peer_at peers.old.items rank).receiver.next < number }
     requires near { number < (peer_at peers.old.items rank).receiver.next + 64 }
     ensures ok { OnOk result (peers.new.items ≡ with_receiver peers.old.items rank (after_frame (peer_at peers.old.items rank).receiver number bytes.now)) }
     ensures unchanged { OnErr result (peers.new.items ≡ peers.old.items) }
-    ensures err { IfErr result (λ e. e ≡ Refused.OutOfMemory) }
+    ensures err { IfErr result (λ e. e ≡ SessionRefusal.OutOfMemory) }
 {
     let peer = &mut peers[rank as usize];
     match peer.receiver.hold(number, bytes) {
         Ok(()) => Ok(()),
-        Err(_) => Err(Refused::OutOfMemory),
+        Err(_) => Err(SessionRefusal::OutOfMemory),
     }
 }
 
@@ -208,8 +208,8 @@ pub(crate) fn begin_anew_at(peers: &mut Vec<Peer>, rank: u16) -> Peer
 {
     let peer = &mut peers[rank as usize];
     let anew = Peer {
-        sender: peer.sender.renewed(),
-        receiver: peer.receiver.renewed(),
+        sender: peer.sender.for_new_session(),
+        receiver: peer.receiver.for_new_session(),
     };
     mem::replace(peer, anew)
 }
@@ -235,37 +235,37 @@ pub(crate) fn take_places_at(peers: &mut Vec<Peer>, rank: u16, former: Peer)
 }
 
 /// A datagram for a rank goes out behind the others.
-pub(crate) fn emit(out: &mut Vec<(u16, Bytes)>, rank: u16, bytes: Bytes) -> Result<(), Refused>
+pub(crate) fn emit(out: &mut Vec<(u16, Bytes)>, rank: u16, bytes: Bytes) -> Result<(), SessionRefusal>
     ensures ok { OnOk result (out.new.items ≡ out.old.items ++ (rank, bytes) ∷ []) }
     ensures len { OnOk result (vec_len out.new ≡ vec_len out.old + 1) }
     ensures unchanged { OnErr result (out.new.items ≡ out.old.items) }
-    ensures err { IfErr result (λ e. e ≡ Refused.OutOfMemory) }
+    ensures err { IfErr result (λ e. e ≡ SessionRefusal.OutOfMemory) }
 {
-    out.push((rank, bytes)).map_err(|_| Refused::OutOfMemory)
+    out.push((rank, bytes)).map_err(|_| SessionRefusal::OutOfMemory)
 }
 
 /// These datagrams go out behind the others.
 pub(crate) fn emit_all(
     out: &mut Vec<(u16, Bytes)>,
     datagrams: Vec<(u16, Bytes)>,
-) -> Result<(), Refused>
+) -> Result<(), SessionRefusal>
     ensures ok { OnOk result (out.new.items ≡ out.old.items ++ datagrams.items) }
     ensures len { OnOk result (vec_len out.new ≡ vec_len out.old + vec_len datagrams) }
     ensures unchanged { OnErr result (out.new.items ≡ out.old.items) }
-    ensures err { IfErr result (λ e. e ≡ Refused.OutOfMemory) }
+    ensures err { IfErr result (λ e. e ≡ SessionRefusal.OutOfMemory) }
 {
     let mut datagrams = datagrams;
-    out.append(&mut datagrams).map_err(|_| Refused::OutOfMemory)
+    out.append(&mut datagrams).map_err(|_| SessionRefusal::OutOfMemory)
 }
 
 /// A frame goes out to a rank behind the others, and is kept as well.
-fn emit_shared(out: &mut Vec<(u16, Bytes)>, rank: u16, frame: &Bytes) -> Result<(), Refused>
+fn emit_shared(out: &mut Vec<(u16, Bytes)>, rank: u16, frame: &Bytes) -> Result<(), SessionRefusal>
     ensures ok { OnOk result (out.new.items ≡ out.old.items ++ (rank, frame.now) ∷ []) }
     ensures len { OnOk result (vec_len out.new ≡ vec_len out.old + 1) }
     ensures unchanged { OnErr result (out.new.items ≡ out.old.items) }
-    ensures err { IfErr result (λ e. e ≡ Refused.OutOfMemory) }
+    ensures err { IfErr result (λ e. e ≡ SessionRefusal.OutOfMemory) }
 {
-    let shared = frame.share().map_err(|_| Refused::OutOfMemory)?;
+    let shared = frame.share().map_err(|_| SessionRefusal::OutOfMemory)?;
     emit(out, rank, shared)
 }
 
@@ -275,10 +275,10 @@ pub(crate) fn frames_of(
     target: u16,
     sender: &Sender,
     numbers: &[u64],
-) -> Result<Vec<(u16, Bytes)>, Refused>
+) -> Result<Vec<(u16, Bytes)>, SessionRefusal>
     ensures ok { IfOk result (λ frames. frames.items ≡ frames_out target sender.now numbers.now) }
     ensures few { IfOk result (λ frames. vec_len frames ≤ length numbers.now) }
-    ensures err { IfErr result (λ e. e ≡ Refused.OutOfMemory) }
+    ensures err { IfErr result (λ e. e ≡ SessionRefusal.OutOfMemory) }
 {
     let mut frames = Vec::new(alloc);
     for number in numbers {
@@ -306,16 +306,16 @@ pub(crate) fn entering_frames(
     target: u16,
     sender: &Sender,
     n: u64,
-) -> Result<Vec<(u16, Bytes)>, Refused>
+) -> Result<Vec<(u16, Bytes)>, SessionRefusal>
     requires { n ≤ out_end sender.now }
     ensures ok { IfOk result (λ frames. frames.items ≡ frames_out target sender.now (entered_on_ack sender.now n)) }
     ensures few { IfOk result (λ frames. vec_len frames ≤ 64) }
-    ensures err { IfErr result (λ e. e ≡ Refused.OutOfMemory) }
+    ensures err { IfErr result (λ e. e ≡ SessionRefusal.OutOfMemory) }
 {
     let range = sender.entering(n);
     match numbers_in(alloc, range) {
         Ok(numbers) => frames_of(alloc, target, sender, &numbers),
-        Err(_) => Err(Refused::OutOfMemory),
+        Err(_) => Err(SessionRefusal::OutOfMemory),
     }
 }
 
@@ -326,19 +326,19 @@ fn due_frames_of(
     rank: u16,
     peer: &Peer,
     now: u64,
-) -> Result<Vec<(u16, Bytes)>, Refused>
+) -> Result<Vec<(u16, Bytes)>, SessionRefusal>
     requires { peer.now.sender.clock ≤ now }
     ensures ok { IfOk result (λ frames.
         frames.items ≡ frames_out rank peer.now.sender (due_at peer.now.sender now)) }
     ensures few { IfOk result (λ frames. vec_len frames ≤ 64) }
-    ensures err { IfErr result (λ e. e ≡ Refused.OutOfMemory) }
+    ensures err { IfErr result (λ e. e ≡ SessionRefusal.OutOfMemory) }
 {
     if peer.sender.is_empty() {
         return Ok(Vec::new(alloc));
     }
     match peer.sender.due(now) {
         Ok(numbers) => frames_of(alloc, rank, &peer.sender, &numbers),
-        Err(_) => Err(Refused::OutOfMemory),
+        Err(_) => Err(SessionRefusal::OutOfMemory),
     }
 }
 
@@ -348,12 +348,12 @@ pub(crate) fn due_frames(
     alloc: Global,
     peers: &[Peer],
     now: u64,
-) -> Result<Vec<(u16, Bytes)>, Refused>
+) -> Result<Vec<(u16, Bytes)>, SessionRefusal>
     requires small { length peers.now ≤ 1024 }
     requires clocks { All (λ p. p.sender.clock ≤ now) peers.now }
     ensures ok { IfOk result (λ frames. frames.items ≡ due_out 0 peers.now now) }
     ensures few { IfOk result (λ frames. vec_len frames ≤ 64 * length peers.now) }
-    ensures err { IfErr result (λ e. e ≡ Refused.OutOfMemory) }
+    ensures err { IfErr result (λ e. e ≡ SessionRefusal.OutOfMemory) }
 {
     let mut frames = Vec::new(alloc);
     for (rank, peer) in peers.iter().enumerate() {

@@ -4,9 +4,9 @@ use Rattle.std.specs.Prelude.{slice_get}
 use Rattle.std.specs.List.{flat_map, range_with_len}
 use Rattle.std.proofs.lemmas.Grind.{flat_map-append}
 use Rattle.std.proofs.lemmas.List.{append-nil, append_assoc}
-use Rattle.event_lines.specs.Printing.{CutsOff, Prints, PrintsBeginning, text_of}
-use Rattle.event_lines.specs.declared.error.SimulateError.{SimulateError}
-use Rattle.event_lines.specs.declared.error.SimulateError.TheVariants as errors
+use Rattle.simulation.specs.Printing.{CutsOff, Prints, PrintsBeginning, text_of}
+use Rattle.simulation.specs.declared.error.SimulateError.{SimulateError}
+use Rattle.simulation.specs.declared.error.SimulateError.TheVariants as errors
 use Rattle.simulation.specs.Printed.{lines_at, lines_between}
 
 pub prints_none : (old : Option (List ℕ)) → Prints old old []

@@ -1,15 +1,15 @@
 -- The lines that a file of events prints of a step of the world.
 use Rattle.std.specs.Prelude.{ℕ, ◌+◌, ◌-◌, ◌^◌, min, List, [], ◌∷◌, ◌++◌, Option, Some, None, slice_get}
 use Rattle.std.specs.List.{flat_map, range_with_len}
-use Rattle.answer_texts.specs.Communicators.{position_text}
-use Rattle.engine_parts.specs.declared.reply.Completion.{Completion}
-use Rattle.engine_parts.specs.declared.reply.Reply.{Reply}
-use Rattle.event_lines.specs.Lines.{completion_line, datagram_lines, refusal_line, reply_line, taken_line}
+use Rattle.printed_lines.specs.CommunicatorTexts.{position_text}
+use Rattle.engine_calls.specs.declared.reply.Completion.{Completion}
+use Rattle.engine_calls.specs.declared.reply.Reply.{Reply}
+use Rattle.simulation.specs.Lines.{completion_line, datagram_lines, refusal_line, reply_line, taken_line}
 use Rattle.interpreter.specs.declared.steps.Told.{Told}
 use Rattle.interpreter.specs.declared.steps.Told.TheVariants as tolds
 use Rattle.world.specs.Refusals.{number_of_refusal}
 use Rattle.world.specs.WorldState.{WorldState}
-use Rattle.world.specs.declared.event.Entry.{Entry}
+use Rattle.world.specs.declared.event.HistoryEntry.{HistoryEntry}
 use Rattle.world.specs.declared.event.Failed.{Failed}
 use Rattle.world.specs.declared.event.Stepped.{Stepped}
 
@@ -37,10 +37,10 @@ completed_lines rank None = []
 completed_lines rank (Some completion) = completion_line rank completion ∷ []
 
 -- what an event answered, then what went out, then the answer of a blocked call
-abbrev pub entry_lines : Entry → (emitted : List (List ℕ)) → List (List ℕ)
+abbrev pub entry_lines : HistoryEntry → (emitted : List (List ℕ)) → List (List ℕ)
 entry_lines entry emitted = answered_line entry.reply ∷ (emitted ++ completed_lines entry.endpoint.rank entry.completion)
 
-abbrev pub entry_lines_of : Option Entry → (emitted : List (List ℕ)) → List (List ℕ)
+abbrev pub entry_lines_of : Option HistoryEntry → (emitted : List (List ℕ)) → List (List ℕ)
 entry_lines_of None emitted = []
 entry_lines_of (Some entry) emitted = entry_lines entry emitted
 

@@ -14,14 +14,14 @@ pub enum Copied {
     Outcomes(Vec<Outcome>),
 }
 
-fn buffer_copied(alloc: Global, buffer: &Option<Buffer>) -> Result<Option<Buffer>, AllocError> {
+fn copy_buffer(alloc: Global, buffer: &Option<Buffer>) -> Result<Option<Buffer>, AllocError> {
     match buffer {
         Some(buffer) => Ok(Some(buffer.try_clone(alloc)?)),
         None => Ok(None),
     }
 }
 
-fn outcome_copied(alloc: Global, outcome: &Outcome) -> Result<Outcome, AllocError> {
+fn copy_outcome(alloc: Global, outcome: &Outcome) -> Result<Outcome, AllocError> {
     match outcome {
         Outcome::Sent => Ok(Outcome::Sent),
         Outcome::Received(status, buffer) => {
@@ -30,41 +30,41 @@ fn outcome_copied(alloc: Global, outcome: &Outcome) -> Result<Outcome, AllocErro
         Outcome::Ended(failure, status, buffer) => {
             Ok(Outcome::Ended(*failure, *status, buffer.try_clone(alloc)?))
         }
-        Outcome::Replaced(buffer) => Ok(Outcome::Replaced(buffer_copied(alloc, buffer)?)),
+        Outcome::Replaced(buffer) => Ok(Outcome::Replaced(copy_buffer(alloc, buffer)?)),
         Outcome::Cancelled(buffer) => Ok(Outcome::Cancelled(buffer.try_clone(alloc)?)),
         Outcome::Empty => Ok(Outcome::Empty),
     }
 }
 
-fn outcomes_copied(alloc: Global, outcomes: &[Outcome]) -> Result<Vec<Outcome>, AllocError> {
+fn copy_outcomes(alloc: Global, outcomes: &[Outcome]) -> Result<Vec<Outcome>, AllocError> {
     let mut copies = Vec::with_capacity(alloc, outcomes.len())?;
     for outcome in outcomes {
-        let copy = outcome_copied(alloc, outcome)?;
+        let copy = copy_outcome(alloc, outcome)?;
         copies.push(copy).map_err(AllocError::from)?;
     }
     Ok(copies)
 }
 
-fn answer_copied(alloc: Global, answer: &Answer) -> Result<Copied, AllocError> {
+fn copy_answer(alloc: Global, answer: &Answer) -> Result<Copied, AllocError> {
     match answer {
         Answer::One(outcome) => {
-            let copy = outcome_copied(alloc, outcome)?;
+            let copy = copy_outcome(alloc, outcome)?;
             Ok(Copied::Reply(Reply::Done(Answer::One(copy))))
         }
         Answer::Index(place, outcome) => {
-            let copy = outcome_copied(alloc, outcome)?;
+            let copy = copy_outcome(alloc, outcome)?;
             Ok(Copied::Reply(Reply::Done(Answer::Index(*place, copy))))
         }
         Answer::IndexUndefined => Ok(Copied::Reply(Reply::Done(Answer::IndexUndefined))),
         Answer::All(outcomes) => {
-            Ok(Copied::Outcomes(outcomes_copied(alloc, outcomes.as_slice())?))
+            Ok(Copied::Outcomes(copy_outcomes(alloc, outcomes.as_slice())?))
         }
     }
 }
 
-fn ending_copied(alloc: Global, ending: &Ending) -> Result<Copied, AllocError> {
+fn copy_ending(alloc: Global, ending: &Ending) -> Result<Copied, AllocError> {
     let copy = match ending {
-        Ending::Left(buffer) => Ending::Left(buffer_copied(alloc, buffer)?),
+        Ending::Left(buffer) => Ending::Left(copy_buffer(alloc, buffer)?),
         Ending::Comm(place) => Ending::Comm(*place),
         Ending::Replaced => Ending::Replaced,
         Ending::Mismatch => Ending::Mismatch,
@@ -73,7 +73,7 @@ fn ending_copied(alloc: Global, ending: &Ending) -> Result<Copied, AllocError> {
 }
 
 /// Of a fact the names of a rank take its number alone.
-fn fact_copied(alloc: Global, fact: &Fact) -> Fact {
+fn copy_fact(alloc: Global, fact: &Fact) -> Fact {
     match fact {
         Fact::Number(number) => Fact::Number(*number),
         Fact::Ranks(_) => Fact::Ranks(Vec::new(alloc)),
@@ -82,24 +82,24 @@ fn fact_copied(alloc: Global, fact: &Fact) -> Fact {
 }
 
 /// What a call answered. A refused call stands in no history.
-pub fn reply_copied(alloc: Global, reply: &Reply) -> Result<Copied, AllocError> {
+pub fn copy_reply(alloc: Global, reply: &Reply) -> Result<Copied, AllocError> {
     match reply {
         Reply::Started(request) => Ok(Copied::Reply(Reply::Started(*request))),
-        Reply::Done(answer) => answer_copied(alloc, answer),
+        Reply::Done(answer) => copy_answer(alloc, answer),
         Reply::Pending => Ok(Copied::Reply(Reply::Pending)),
         Reply::Accepted | Reply::Refused(_, _) => Ok(Copied::Reply(Reply::Accepted)),
         Reply::Blocked => Ok(Copied::Reply(Reply::Blocked)),
-        Reply::Left(ending) => ending_copied(alloc, ending),
-        Reply::Fact(fact) => Ok(Copied::Reply(Reply::Fact(fact_copied(alloc, fact)))),
+        Reply::Left(ending) => copy_ending(alloc, ending),
+        Reply::Fact(fact) => Ok(Copied::Reply(Reply::Fact(copy_fact(alloc, fact)))),
         Reply::Probed(status) => Ok(Copied::Reply(Reply::Probed(*status))),
         Reply::Matched(found) => Ok(Copied::Reply(Reply::Matched(*found))),
     }
 }
 
 /// What a call that was blocked answered.
-pub fn completion_copied(alloc: Global, completion: &Completion) -> Result<Copied, AllocError> {
+pub fn copy_completion(alloc: Global, completion: &Completion) -> Result<Copied, AllocError> {
     match completion {
-        Completion::Requests(answer) => answer_copied(alloc, answer),
-        Completion::Collective(ending) => ending_copied(alloc, ending),
+        Completion::Requests(answer) => copy_answer(alloc, answer),
+        Completion::Collective(ending) => copy_ending(alloc, ending),
     }
 }

@@ -2,9 +2,14 @@
 #![tactic(auto)]
 
 mod copies;
-mod printing;
+mod error;
+mod event_printing;
+mod lines;
 mod ranks;
 mod running;
 
-pub use event_lines::SimulateError;
+pub use error::SimulateError;
+pub use lines::{
+    print_completion, print_datagram, print_position, print_refusal, print_reply, print_taken,
+};
 pub use running::{Simulation, Stopped, simulate, simulate_or_tell};

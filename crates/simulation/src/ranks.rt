@@ -1,29 +1,29 @@
 //! The ranks of a file of events: what their names stand for, and what their blocked calls are for.
 
-use crate::copies::{Copied, completion_copied, reply_copied};
+use crate::copies::{Copied, copy_completion, copy_reply};
 use engine::{Call, Completion, Reply};
-use interpreter::{Heard, Names};
-use statement_calls::Pending;
+use interpreter::{AnswerEffect, Names};
+use script_calls::Pending;
 use std::alloc::{AllocError, Global};
 use std::mem;
 
 /// What the names of a rank stand for, and what the answer of its blocked call is for, if one is blocked.
 #[derive(Drop)]
-pub struct Rank {
+pub struct RankNames {
     pub names: Names,
     pub blocked: Option<Pending>,
 }
 
-impl Rank {
+impl RankNames {
     /// A rank in which no name is set; none is one that the world doesn't have.
-    pub fn new(alloc: Global, rank: Option<u16>) -> Rank {
-        Rank {
+    pub fn new(alloc: Global, rank: Option<u16>) -> RankNames {
+        RankNames {
             names: Names::new(alloc, rank),
             blocked: None,
         }
     }
 
-    fn hear(&mut self, pending: Pending, copied: Copied) -> Result<Heard, AllocError> {
+    fn hear(&mut self, pending: Pending, copied: Copied) -> Result<AnswerEffect, AllocError> {
         match copied {
             Copied::Reply(reply) => self.names.hear(pending, reply),
             Copied::Outcomes(outcomes) => self.names.hear_all(pending, outcomes),
@@ -36,12 +36,12 @@ impl Rank {
         alloc: Global,
         pending: Pending,
         reply: &Reply,
-    ) -> Result<Heard, AllocError> {
+    ) -> Result<AnswerEffect, AllocError> {
         if matches!(reply, Reply::Blocked) {
             drop(mem::replace(&mut self.blocked, Some(pending)));
-            return Ok(Heard::Nothing);
+            return Ok(AnswerEffect::Nothing);
         }
-        match reply_copied(alloc, reply) {
+        match copy_reply(alloc, reply) {
             Ok(copied) => self.hear(pending, copied),
             Err(e) => {
                 drop(pending);
@@ -55,13 +55,13 @@ impl Rank {
         &mut self,
         alloc: Global,
         completion: &Completion,
-    ) -> Result<Heard, AllocError> {
-        let copied = completion_copied(alloc, completion)?;
+    ) -> Result<AnswerEffect, AllocError> {
+        let copied = copy_completion(alloc, completion)?;
         match self.blocked.take() {
             Some(pending) => self.hear(pending, copied),
             None => {
                 drop(copied);
-                Ok(Heard::Nothing)
+                Ok(AnswerEffect::Nothing)
             }
         }
     }

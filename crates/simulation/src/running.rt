@@ -1,13 +1,13 @@
 //! Running a file of events.
 
-use crate::printing::{print_refused, print_stepped, print_told};
-use crate::ranks::Rank;
+use crate::event_printing::{print_refused, print_stepped, print_told};
+use crate::ranks::RankNames;
 use engine::Call;
-use event_files::{Line, Statement, parse};
-use event_lines::{SimulateError, print_refusal};
-use fault_lines::Fault;
-use interpreter::{Asked, Heard};
-use statement_calls::Pending;
+use event_files::{EventLine, EventStatement, parse};
+use crate::{SimulateError, print_refusal};
+use line_diagnostics::LineFault;
+use interpreter::{StatementCall, AnswerEffect};
+use script_calls::Pending;
 use statements::{Action, ParseError};
 use std::alloc::{AllocError, Global};
 use std::collections::BTreeMap;
@@ -20,20 +20,20 @@ pub struct Simulation {
     alloc: Global,
     size: u16,
     world: World,
-    ranks: BTreeMap<u16, Rank>,
+    ranks: BTreeMap<u16, RankNames>,
     /// Why the line at which it stopped can't be followed, where it stopped at one.
-    lack: Option<Fault>,
+    lack: Option<LineFault>,
 }
 
 /// A call that a statement makes, and what its answer is for.
 #[derive(Drop)]
-struct Asking {
+struct PendingCall {
     call: Call,
     pending: Pending,
 }
 
 /// What stood here gives way to this, and is dropped.
-fn give_way<T: Drop>(place: &mut T, next: T) {
+fn replace<T: Drop>(place: &mut T, next: T) {
     *place = next;
 }
 
@@ -80,7 +80,7 @@ impl Simulation {
     }
 
     /// Why the line at which it stopped can't be followed, where it stopped at one.
-    pub fn take_lack(&mut self) -> Option<Fault> {
+    pub fn take_lack(&mut self) -> Option<LineFault> {
         self.lack.take()
     }
 
@@ -95,32 +95,32 @@ impl Simulation {
     }
 
     /// A rank in which no name is set.
-    fn new_rank(&self, rank: u16) -> Rank {
+    fn new_rank(&self, rank: u16) -> RankNames {
         let own = if rank < self.size { Some(rank) } else { None };
-        Rank::new(self.alloc, own)
+        RankNames::new(self.alloc, own)
     }
 
     /// The rank's names take what the call that ran last answered, which was for this.
-    fn hear_reply(&mut self, rank: u16, pending: Pending) -> Result<Heard, SimulateError> {
+    fn hear_reply(&mut self, rank: u16, pending: Pending) -> Result<AnswerEffect, SimulateError> {
         let entry = self.world.history().last();
         match (self.ranks.get_mut(&rank), entry) {
             (Some(names), Some(entry)) => match &entry.reply {
                 Some(reply) => Ok(names.hear_reply(self.alloc, pending, reply)?),
                 None => {
                     drop(pending);
-                    Ok(Heard::Nothing)
+                    Ok(AnswerEffect::Nothing)
                 }
             },
             _ => {
                 drop(pending);
-                Ok(Heard::Nothing)
+                Ok(AnswerEffect::Nothing)
             }
         }
     }
 
     /// The names of the last event's rank take what its blocked call answered, if that is answered now. Answers what follows, and
     /// at which rank.
-    fn hear_completion(&mut self) -> Result<Option<(u16, Heard)>, SimulateError> {
+    fn hear_completion(&mut self) -> Result<Option<(u16, AnswerEffect)>, SimulateError> {
         let Some(entry) = self.world.history().last() else {
             return Ok(None);
         };
@@ -138,13 +138,13 @@ impl Simulation {
     fn follow<W: Write>(
         &self,
         silent: bool,
-        heard: Heard,
+        heard: AnswerEffect,
         out: &mut W,
-    ) -> Result<Option<Asking>, SimulateError> {
+    ) -> Result<Option<PendingCall>, SimulateError> {
         match heard {
-            Heard::Nothing => Ok(None),
-            Heard::Call(call, pending) => Ok(Some(Asking { call, pending })),
-            Heard::Told(told) => {
+            AnswerEffect::Nothing => Ok(None),
+            AnswerEffect::Call(call, pending) => Ok(Some(PendingCall { call, pending })),
+            AnswerEffect::Told(told) => {
                 if silent {
                     print_told(&told, out)?;
                 }
@@ -155,13 +155,13 @@ impl Simulation {
     }
 
     /// A call that ran. Answers the further one that its statement makes, if it makes one.
-    fn called<W: Write>(
+    fn on_called<W: Write>(
         &mut self,
         rank: u16,
         stepped: Stepped,
         pending: Pending,
         out: &mut W,
-    ) -> Result<Option<Asking>, SimulateError> {
+    ) -> Result<Option<PendingCall>, SimulateError> {
         let silent = is_silent(&pending);
         if !silent {
             if let Err(e) = print_stepped(self.alloc, &self.world, stepped, out) {
@@ -200,12 +200,12 @@ impl Simulation {
     fn call_once<W: Write>(
         &mut self,
         rank: u16,
-        asking: Asking,
+        asking: PendingCall,
         out: &mut W,
-    ) -> Result<Option<Asking>, SimulateError> {
-        let Asking { call, pending } = asking;
+    ) -> Result<Option<PendingCall>, SimulateError> {
+        let PendingCall { call, pending } = asking;
         match self.world.step(Event::Call(rank, call)) {
-            Ok(stepped) => self.called(rank, stepped, pending, out),
+            Ok(stepped) => self.on_called(rank, stepped, pending, out),
             Err(failed) => {
                 let over = self.call_refused(rank, failed, &pending, out);
                 drop(pending);
@@ -221,7 +221,7 @@ impl Simulation {
     fn call<W: Write>(
         &mut self,
         rank: u16,
-        asking: Asking,
+        asking: PendingCall,
         out: &mut W,
     ) -> Result<(), SimulateError> {
         let Some(next) = self.call_once(rank, asking, out)? else {
@@ -232,7 +232,7 @@ impl Simulation {
     }
 
     /// One event that is no call, with what it prints. Answers whether it ran.
-    fn happens<W: Write>(&mut self, event: Event, out: &mut W) -> Result<bool, SimulateError> {
+    fn on_event<W: Write>(&mut self, event: Event, out: &mut W) -> Result<bool, SimulateError> {
         match self.world.step(event) {
             Ok(stepped) => {
                 print_stepped(self.alloc, &self.world, stepped, out)?;
@@ -253,16 +253,16 @@ impl Simulation {
     }
 
     /// What a statement asks for, if it can be followed; else its line is faulty, and why is found as far as memory lasts.
-    fn ask(&mut self, rank: u16, line: usize, action: Action) -> Result<Asked, SimulateError> {
+    fn ask(&mut self, rank: u16, line: usize, action: Action) -> Result<StatementCall, SimulateError> {
         let Some(names) = self.ranks.get_mut(&rank) else {
             drop(action);
-            return Ok(Asked::Nothing);
+            return Ok(StatementCall::Nothing);
         };
         match names.names.lack_of(&action) {
             Ok(None) => Ok(names.names.act(action)?),
             Ok(Some(fault)) => {
                 drop(action);
-                give_way(&mut self.lack, Some(fault));
+                replace(&mut self.lack, Some(fault));
                 Err(SimulateError::Script(line))
             }
             Err(_) => {
@@ -284,19 +284,19 @@ impl Simulation {
             return Err(e);
         }
         match self.ask(rank, line, action)? {
-            Asked::Nothing => Ok(()),
-            Asked::Call(call, pending) => self.call(rank, Asking { call, pending }, out),
-            Asked::Refused(number) => Ok(print_refusal(number, out)?),
-            Asked::Faulty => Err(SimulateError::Script(line)),
+            StatementCall::Nothing => Ok(()),
+            StatementCall::Call(call, pending) => self.call(rank, PendingCall { call, pending }, out),
+            StatementCall::Refused(number) => Ok(print_refusal(number, out)?),
+            StatementCall::Faulty => Err(SimulateError::Script(line)),
         }
     }
 
     /// A rank is started anew, and its names stand for nothing any more.
     fn restart<W: Write>(&mut self, rank: u16, out: &mut W) -> Result<(), SimulateError> {
-        if self.happens(Event::Restart(rank), out)? {
+        if self.on_event(Event::Restart(rank), out)? {
             let fresh = self.new_rank(rank);
             match self.ranks.get_mut(&rank) {
-                Some(names) => give_way(names, fresh),
+                Some(names) => replace(names, fresh),
                 None => drop(fresh),
             }
         }
@@ -304,20 +304,20 @@ impl Simulation {
     }
 
     /// One line of a file of events, with what it prints.
-    pub fn run<W: Write>(&mut self, line: Line, out: &mut W) -> Result<(), SimulateError> {
+    pub fn run<W: Write>(&mut self, line: EventLine, out: &mut W) -> Result<(), SimulateError> {
         let number = line.number;
         let event = match line.statement {
-            Statement::Rank(rank, action) => return self.act(rank, number, action, out),
-            Statement::Deliver(number) => Event::Deliver(number),
-            Statement::Tick(rank, now) => Event::Tick(rank, now),
-            Statement::Stray(rank, bytes) => Event::Stray(rank, bytes),
-            Statement::Restart(rank) => return self.restart(rank, out),
+            EventStatement::Rank(rank, action) => return self.act(rank, number, action, out),
+            EventStatement::Deliver(number) => Event::Deliver(number),
+            EventStatement::Tick(rank, now) => Event::Tick(rank, now),
+            EventStatement::Stray(rank, bytes) => Event::Stray(rank, bytes),
+            EventStatement::Restart(rank) => return self.restart(rank, out),
         };
-        self.happens(event, out)?;
+        self.on_event(event, out)?;
         Ok(())
     }
 
-    fn run_all<W: Write>(&mut self, lines: Vec<Line>, out: &mut W) -> Result<(), SimulateError> {
+    fn run_all<W: Write>(&mut self, lines: Vec<EventLine>, out: &mut W) -> Result<(), SimulateError> {
         for line in lines {
             self.run(line, out)?;
         }
@@ -331,7 +331,7 @@ pub struct Stopped {
     /// Why it didn't run to its end.
     pub error: SimulateError,
     /// Why the line that it stopped at can't be followed, where it was reached; none where it is no statement, or for want of memory.
-    pub fault: Option<Fault>,
+    pub fault: Option<LineFault>,
 }
 
 impl Stopped {

@@ -1,6 +1,6 @@
 //! The texts of answers.
 
-use answer_texts::*;
+use printed_lines::*;
 use datatypes::Buffer;
 use std::alloc::Global;
 use vocabulary::{BasicType, Endpoint, Source, Status};
@@ -25,7 +25,7 @@ const FROM_TWO: Status = Status {
 };
 
 /// Whether the answer is written so.
-fn is_written(alloc: Global, answer: Answer<'_>, text: &str) -> bool {
+fn is_written(alloc: Global, answer: AnswerText<'_>, text: &str) -> bool {
     match format!(in alloc; "{answer}") {
         Ok(written) => written.as_str() == text,
         Err(_) => false,
@@ -44,17 +44,17 @@ fn answers_with_data(alloc: Global) -> Option<usize> {
     let mut good: usize = 0;
     for (answer, text) in [
         (
-            Answer::One(OutcomeText::Received(FROM_TWO, &held)),
+            AnswerText::One(OutcomeText::Received(FROM_TWO, &held)),
             "source 2 tag 9 count 2 data -1 7",
         ),
         (
-            Answer::Index(12, OutcomeText::Ended(10, FROM_ANY, &held)),
+            AnswerText::Index(12, OutcomeText::Ended(10, FROM_ANY, &held)),
             "index 12 error 10 source null tag any count 0 data -1 7",
         ),
-        (Answer::One(OutcomeText::Lost(&held)), "error 11 data -1 7"),
-        (Answer::All(&several), "cancelled data -1 7; sent; error 11"),
-        (Answer::Data(&held), "data -1 7"),
-        (Answer::Data(&empty), "data"),
+        (AnswerText::One(OutcomeText::Lost(&held)), "error 11 data -1 7"),
+        (AnswerText::All(&several), "cancelled data -1 7; sent; error 11"),
+        (AnswerText::Data(&held), "data -1 7"),
+        (AnswerText::Data(&empty), "data"),
     ] {
         if is_written(alloc, answer, text) {
             good = good.saturating_add(1);
@@ -78,39 +78,39 @@ fn answers_are_written(rt: HostRuntime) {
     assert!(rt; is_count(rt.alloc(), Some(0), "0"));
     assert!(rt; is_count(rt.alloc(), None, "undefined"));
     for (answer, text) in [
-        (Answer::Started(12), "request 12"),
-        (Answer::Blocked, "blocked"),
-        (Answer::Refused(51), "refused 51"),
-        (Answer::One(OutcomeText::Null), "source any tag any count 0"),
-        (Answer::IndexUndefined, "index undefined"),
-        (Answer::All(&[OutcomeText::Sent]), "sent"),
-        (Answer::All(&[]), "done"),
+        (AnswerText::Started(12), "request 12"),
+        (AnswerText::Blocked, "blocked"),
+        (AnswerText::Refused(51), "refused 51"),
+        (AnswerText::One(OutcomeText::Null), "source any tag any count 0"),
+        (AnswerText::IndexUndefined, "index undefined"),
+        (AnswerText::All(&[OutcomeText::Sent]), "sent"),
+        (AnswerText::All(&[]), "done"),
         (
-            Answer::Communicator(CommunicatorText { place: None }),
+            AnswerText::Communicator(CommunicatorText { place: None }),
             "comm null",
         ),
         (
-            Answer::Communicator(CommunicatorText { place: Some(4095) }),
+            AnswerText::Communicator(CommunicatorText { place: Some(4095) }),
             "comm 4095",
         ),
         (
-            Answer::Position(PositionText { rank: 2, size: 256 }),
+            AnswerText::Position(PositionText { rank: 2, size: 256 }),
             "rank 2 of 256",
         ),
         (
-            Answer::Members(MembersText {
+            AnswerText::Members(MembersText {
                 ranks: &[3, 0, 255],
             }),
             "3 0 255",
         ),
-        (Answer::Members(MembersText { ranks: &[7] }), "7"),
-        (Answer::Comparison(ComparisonText::Ident), "ident"),
-        (Answer::Comparison(ComparisonText::Congruent), "congruent"),
-        (Answer::Comparison(ComparisonText::Similar), "similar"),
-        (Answer::Comparison(ComparisonText::Unequal), "unequal"),
-        (Answer::Pending, "pending"),
-        (Answer::Done, "done"),
-        (Answer::Taken, "ok"),
+        (AnswerText::Members(MembersText { ranks: &[7] }), "7"),
+        (AnswerText::Comparison(ComparisonText::Ident), "ident"),
+        (AnswerText::Comparison(ComparisonText::Congruent), "congruent"),
+        (AnswerText::Comparison(ComparisonText::Similar), "similar"),
+        (AnswerText::Comparison(ComparisonText::Unequal), "unequal"),
+        (AnswerText::Pending, "pending"),
+        (AnswerText::Done, "done"),
+        (AnswerText::Taken, "ok"),
     ] {
         assert!(rt; is_written(rt.alloc(), answer, text), "{text}");
     }
@@ -118,9 +118,9 @@ fn answers_are_written(rt: HostRuntime) {
 
 /// Whether a datagram of this kind is written so.
 fn is_emitted(alloc: Global, kind: FrameKind, text: &str) -> bool {
-    let emission = Emission {
+    let emission = EmissionText {
         datagram: 3,
-        route: Route {
+        route: RouteText {
             source: Endpoint {
                 rank: 0,
                 incarnation: 1,
@@ -130,7 +130,7 @@ fn is_emitted(alloc: Global, kind: FrameKind, text: &str) -> bool {
                 incarnation: 0,
             },
         },
-        load: Load { kind, sequence: 5 },
+        load: LoadText { kind, sequence: 5 },
     };
     match format!(in alloc; "{emission}") {
         Ok(written) => written.as_str() == text,

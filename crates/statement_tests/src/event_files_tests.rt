@@ -9,9 +9,9 @@ use vocabulary::{BasicType, Source};
 const EVERY_STATEMENT: &str =
     "# all\n\nworld 3\n0 buf a int32 1 2*-5\n  1  isend q world null any a\n2 irecv r self any 7 b1\n0 wait q\n0 wait null\ndeliver 18446744073709551616\ntick 1 20\nstray 70000 00ff\n\nrestart 2\n0 isend q world 1 7 a";
 
-fn is_buffer(statement: &Statement) -> bool {
+fn is_buffer(statement: &EventStatement) -> bool {
     match statement {
-        Statement::Rank(0, Action::Buffer(buffer)) => {
+        EventStatement::Rank(0, Action::Buffer(buffer)) => {
             buffer.name.as_bytes() == b"a".as_slice()
                 && buffer.value.basic() == BasicType::Int32
                 && buffer.value.len() == 3
@@ -21,11 +21,11 @@ fn is_buffer(statement: &Statement) -> bool {
     }
 }
 
-fn is_send_to_nobody(statement: &Statement) -> bool {
+fn is_send_to_nobody(statement: &EventStatement) -> bool {
     match statement {
-        Statement::Rank(1, Action::Isend(request, send)) => {
+        EventStatement::Rank(1, Action::Isend(request, send)) => {
             request.as_bytes() == b"q".as_slice()
-                && matches!(&send.communicator, Communicator::World)
+                && matches!(&send.communicator, CommunicatorName::World)
                 && send.target == Source::Null
                 && send.tag.is_none()
                 && send.buffer.as_bytes() == b"a".as_slice()
@@ -35,11 +35,11 @@ fn is_send_to_nobody(statement: &Statement) -> bool {
     }
 }
 
-fn is_receive_from_anyone(statement: &Statement) -> bool {
+fn is_receive_from_anyone(statement: &EventStatement) -> bool {
     match statement {
-        Statement::Rank(2, Action::Irecv(request, receive)) => {
+        EventStatement::Rank(2, Action::Irecv(request, receive)) => {
             request.as_bytes() == b"r".as_slice()
-                && matches!(&receive.communicator, Communicator::Own)
+                && matches!(&receive.communicator, CommunicatorName::Own)
                 && receive.source == Source::Any
                 && receive.tag == Some(7)
                 && receive.buffer.as_bytes() == b"b1".as_slice()
@@ -48,39 +48,39 @@ fn is_receive_from_anyone(statement: &Statement) -> bool {
     }
 }
 
-fn is_wait(statement: &Statement, named: bool) -> bool {
+fn is_wait(statement: &EventStatement, named: bool) -> bool {
     match statement {
-        Statement::Rank(0, Action::Wait(Requested::Named(_))) => named,
-        Statement::Rank(0, Action::Wait(Requested::Null)) => !named,
+        EventStatement::Rank(0, Action::Wait(RequestName::Named(_))) => named,
+        EventStatement::Rank(0, Action::Wait(RequestName::Null)) => !named,
         _ => false,
     }
 }
 
-fn is_stray(statement: &Statement) -> bool {
+fn is_stray(statement: &EventStatement) -> bool {
     match statement {
-        Statement::Stray(u16::MAX, bytes) => bytes.as_slice() == [0, 255].as_slice(),
+        EventStatement::Stray(u16::MAX, bytes) => bytes.as_slice() == [0, 255].as_slice(),
         _ => false,
     }
 }
 
 /// Whether the statement at this place of the row is as the row says.
-fn is_as_said(place: usize, statement: &Statement) -> bool {
+fn is_as_said(place: usize, statement: &EventStatement) -> bool {
     match place {
         0 => is_buffer(statement),
         1 => is_send_to_nobody(statement),
         2 => is_receive_from_anyone(statement),
         3 => is_wait(statement, true),
         4 => is_wait(statement, false),
-        5 => matches!(statement, Statement::Deliver(usize::MAX)),
-        6 => matches!(statement, Statement::Tick(1, 20)),
+        5 => matches!(statement, EventStatement::Deliver(usize::MAX)),
+        6 => matches!(statement, EventStatement::Tick(1, 20)),
         7 => is_stray(statement),
-        8 => matches!(statement, Statement::Restart(2)),
-        _ => matches!(statement, Statement::Rank(0, Action::Isend(_, _))),
+        8 => matches!(statement, EventStatement::Restart(2)),
+        _ => matches!(statement, EventStatement::Rank(0, Action::Isend(_, _))),
     }
 }
 
 /// The sum of the lines' numbers, and how many are as the row says.
-fn sum_and_good(lines: &[Line]) -> (usize, usize) {
+fn sum_and_good(lines: &[EventLine]) -> (usize, usize) {
     let mut sum = 0;
     let mut good = 0;
     for (place, line) in lines.iter().enumerate() {

@@ -1,13 +1,13 @@
 //! Why lines are faulty, and what is told of them.
 
-use fault_lines::{
-    Fault, event_fault, explanation, gave_up_at, gave_up_behind, line_at, script_fault,
+use line_diagnostics::{
+    LineFault, event_fault, explanation, gave_up_at, gave_up_behind, line_at, script_fault,
 };
 use std::alloc::{AllocError, Global};
 use std::str;
 
 /// A row `REASON|LINE`.
-fn is_told(alloc: Global, fault: Result<Fault, AllocError>, reason: &str, line: &str) -> bool {
+fn is_told(alloc: Global, fault: Result<LineFault, AllocError>, reason: &str, line: &str) -> bool {
     let Ok(fault) = fault else {
         return false;
     };

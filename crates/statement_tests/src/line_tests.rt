@@ -1,7 +1,7 @@
 //! The lines of a text, and what their words stand for.
 
 use crate::rows::is_read;
-use line_words::*;
+use tokens::*;
 use statements::action_of;
 use std::alloc::Global;
 use vocabulary::BasicType;

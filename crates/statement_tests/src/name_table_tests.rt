@@ -1,7 +1,7 @@
 //! What names stand for in a table.
 
-use line_words::Name;
-use name_tables::Table;
+use tokens::Name;
+use script_calls::Table;
 use std::alloc::{AllocError, Global};
 use std::hash::{BuildHasher, BuildHasherDefault, FoldHasher};
 

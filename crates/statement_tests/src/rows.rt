@@ -1,6 +1,6 @@
 //! What rows of texts ask of what was read.
 
-use line_words::{LineError, ParseError};
+use tokens::{LineError, ParseError};
 use std::alloc::Global;
 
 /// The line that the text was found faulty at. What was read of it is dropped.

@@ -59,30 +59,30 @@ const EVERY_STATEMENT: &str =
     "buf a uint8 1\nisend q world 1 2 a\nirecv q self any 2 a\nwait q\nsend world null 3 a\nrecv c 4 any a as l 2\nprint a\nstatus\nsay #a b\nfail\ncount l\nwaitall q null\nbarrier world\nallreduce world sum a b";
 
 /// Whether the statement of the line of this number is as the row says.
-fn is_as_said(number: usize, statement: &Statement) -> bool {
+fn is_as_said(number: usize, statement: &ScriptStatement) -> bool {
     match (number, statement) {
-        (1, Statement::Action(Action::Buffer(_))) => true,
-        (2, Statement::Action(Action::Isend(_, _))) => true,
-        (3, Statement::Action(Action::Irecv(_, _))) => true,
-        (4, Statement::Action(Action::Wait(_))) => true,
-        (5, Statement::Send(send)) => send.target == Source::Null && send.through.is_none(),
-        (6, Statement::Recv(receive)) => {
-            matches!(&receive.communicator, Communicator::Named(_)) && receive.through.is_some()
+        (1, ScriptStatement::Action(Action::Buffer(_))) => true,
+        (2, ScriptStatement::Action(Action::Isend(_, _))) => true,
+        (3, ScriptStatement::Action(Action::Irecv(_, _))) => true,
+        (4, ScriptStatement::Action(Action::Wait(_))) => true,
+        (5, ScriptStatement::Send(send)) => send.target == Source::Null && send.through.is_none(),
+        (6, ScriptStatement::Recv(receive)) => {
+            matches!(&receive.communicator, CommunicatorName::Named(_)) && receive.through.is_some()
         }
-        (7, Statement::Print(name)) => name.as_bytes() == b"a".as_slice(),
-        (8, Statement::Status) => true,
-        (9, Statement::Say(words)) => words.len() == 2,
-        (10, Statement::Fail) => true,
-        (11, Statement::Count(name)) => name.as_bytes() == b"l".as_slice(),
-        (12, Statement::Action(Action::Waitall(requests))) => requests.as_slice().len() == 2,
-        (13, Statement::Action(Action::Barrier(Communicator::World))) => true,
-        (14, Statement::Action(Action::Allreduce(line))) => line.operation == Operation::Sum,
+        (7, ScriptStatement::Print(name)) => name.as_bytes() == b"a".as_slice(),
+        (8, ScriptStatement::Status) => true,
+        (9, ScriptStatement::Say(words)) => words.len() == 2,
+        (10, ScriptStatement::Fail) => true,
+        (11, ScriptStatement::Count(name)) => name.as_bytes() == b"l".as_slice(),
+        (12, ScriptStatement::Action(Action::Waitall(requests))) => requests.as_slice().len() == 2,
+        (13, ScriptStatement::Action(Action::Barrier(CommunicatorName::World))) => true,
+        (14, ScriptStatement::Action(Action::Allreduce(line))) => line.operation == Operation::Sum,
         _ => false,
     }
 }
 
 /// How many of the lines are as the row says.
-fn good_lines(lines: &[Line]) -> usize {
+fn good_lines(lines: &[ScriptLine]) -> usize {
     let mut good = 0;
     for line in lines {
         if let Item::Does(statement) = &line.item {

@@ -5,25 +5,25 @@ use Rattle.vocabulary.specs.declared.envelope.Source.{Source}
 use Rattle.datatypes.specs.Contents.{Contents}
 use Rattle.statements.specs.declared.verb.Verb.{Verb}
 use Rattle.statements.specs.declared.verb.Verb.TheVariants as verbs
-use Rattle.statements.specs.declared.action.Communicator.{Communicator}
-use Rattle.statements.specs.declared.action.Requested.{Requested}
+use Rattle.statements.specs.declared.action.CommunicatorName.{CommunicatorName}
+use Rattle.statements.specs.declared.action.RequestName.{RequestName}
 use Rattle.statements.specs.declared.action.BufferLine.{BufferLine}
-use Rattle.statements.specs.declared.action.Through.{Through}
+use Rattle.statements.specs.declared.action.LayoutClause.{LayoutClause}
 use Rattle.statements.specs.declared.action.Sending.{Sending}
 use Rattle.statements.specs.declared.action.Receiving.{Receiving}
 use Rattle.statements.specs.declared.action.Action.{Action}
 use Rattle.statements.specs.declared.action.Action.TheVariants as actions
 use Rattle.statements.specs.Grammar.{IsBuffer, IsSending, IsReceiving, Spells, IsRequested}
-use Rattle.line_words.specs.Grammar.{Word, NamesIt, type_word}
+use Rattle.tokens.specs.Grammar.{Word, NamesIt, type_word}
 use Rattle.statements.specs.Words.{verb_of}
-use Rattle.line_words.specs.Words.{basic_type_of}
-use Rattle.line_words.specs.Results.{◌>>=◌}
+use Rattle.tokens.specs.Words.{basic_type_of}
+use Rattle.tokens.specs.Results.{◌>>=◌}
 use Rattle.statements.specs.Reading.{communicator_of, target_of, source_of, tag_of, requested_of, through_of, one_request, elements_of, buffer_with, buffer_of, sending_of, receiving_of, isend_of, irecv_of, probing_of, improbe_of, mrecv_of, one_of, layout_of, communicator_alone, two_communicators, bcast_of, gather_of, scatter_of, reduce_of, allreduce_of, dup_of, split_of, action_by, action_of}
-use Rattle.line_words.specs.Fields.{first, ended, name_of, each}
+use Rattle.tokens.specs.Fields.{first, end_of_line, name_of, each}
 use Rattle.statements.proofs.VerbLaws.{verb_word, verb_takes, verb_again}
-use Rattle.line_words.proofs.WordLaws.{bind_ok, made, type_takes, type_again}
+use Rattle.tokens.proofs.WordLaws.{bind_ok, made, type_takes, type_again}
 use Rattle.statements.proofs.FieldLaws.{communicator_takes, communicator_again, target_takes, target_again, source_takes, source_again, tag_takes, tag_again, requested_takes, requested_again, requests_take, requests_again, through_takes, through_again}
-use Rattle.line_words.proofs.FieldLaws.{named_takes, named_again}
+use Rattle.tokens.proofs.FieldLaws.{named_takes, named_again}
 use Rattle.statements.proofs.LayoutLaws.{layout_takes, layout_again}
 use Rattle.statements.proofs.CommunicatorLaws.{asks_takes, asks_again, compare_takes, compare_again, dup_takes, dup_again, split_takes, split_again}
 use Rattle.statements.proofs.CollectiveLaws.{bcast_takes, bcast_again, gather_takes, gather_again, scatter_takes, scatter_again, reduce_takes, reduce_again, allreduce_takes, allreduce_again}
@@ -33,7 +33,7 @@ use Rattle.statements.proofs.ElementLaws.{elements_take, elements_again}
 
 -- ---- arguments
 
-send_made : Communicator → Source → Option ℕ → Word → Option Through → Sending
+send_made : CommunicatorName → Source → Option ℕ → Word → Option LayoutClause → Sending
 send_made c r t b u = record { communicator = c; target = r; tag = t; buffer = b; through = u }
 
 pub sending_takes : (words : List Word) (send : Sending) → sending_of words ≡ Some send → IsSending words send
@@ -57,7 +57,7 @@ sending_again words send h =
     ap sending_of h.5
     ∙ send_from h.0 h.1 h.2 h.3 h.4 send (communicator_again h.0 send.communicator h.6) (target_again h.1 send.target h.7) (tag_again h.2 send.tag h.8) (named_again h.3 send.buffer h.9) (through_again h.4 send.through h.10)
 
-receive_made : Communicator → Source → Option ℕ → Word → Option Through → Receiving
+receive_made : CommunicatorName → Source → Option ℕ → Word → Option LayoutClause → Receiving
 receive_made c r t b u = record { communicator = c; source = r; tag = t; buffer = b; through = u }
 
 pub receiving_takes : (words : List Word) (receive : Receiving) → receiving_of words ≡ Some receive → IsReceiving words receive
@@ -119,18 +119,18 @@ irecv_from : (name : Word) (rest : List Word) (request : Word) (receive : Receiv
 unfolding irecv_of first
 irecv_from name rest request receive q r = rw (q, r) refl
 
-one_takes : (words : List Word) (r : Requested) → one_of words ≡ Some r → (word : Word) × (words ≡ word ∷ []) × IsRequested word r
-unfolding one_of first ended
+one_takes : (words : List Word) (r : RequestName) → one_of words ≡ Some r → (word : Word) × (words ≡ word ∷ []) × IsRequested word r
+unfolding one_of first end_of_line
 one_takes [] r e = absurd cc
 one_takes (a ∷ []) r e = (a, refl, requested_takes a r e)
 one_takes (a ∷ b ∷ ws) r e = absurd cc
 
 -- a line of one request
-request_takes : (P : List Word → Type 0) (words : List Word) (r : Requested) → ((word : Word) → IsRequested word r → P (word ∷ [])) → one_of words ≡ Some r → P words
+request_takes : (P : List Word → Type 0) (words : List Word) (r : RequestName) → ((word : Word) → IsRequested word r → P (word ∷ [])) → one_of words ≡ Some r → P words
 request_takes P words r makes e = let p = one_takes words r e in subst P (sym p.1) (makes p.0 p.2)
 
-one_from : (a : Word) (r : Requested) → requested_of a ≡ Some r → one_of (a ∷ []) ≡ Some r
-unfolding one_of first ended
+one_from : (a : Word) (r : RequestName) → requested_of a ≡ Some r → one_of (a ∷ []) ≡ Some r
+unfolding one_of first end_of_line
 one_from a r e = e
 
 -- ---- buffers

@@ -4,18 +4,18 @@ use Rattle.std.specs.Prelude.{codes, slice_index}
 use Rattle.std.specs.Str.{bytes_eq}
 use Rattle.payload.specs.declared.operation.Operation.{Operation}
 use Rattle.payload.specs.declared.operation.Operation.TheVariants as operations
-use Rattle.statements.specs.declared.action.Communicator.{Communicator}
+use Rattle.statements.specs.declared.action.CommunicatorName.{CommunicatorName}
 use Rattle.statements.specs.declared.collective_line.Broadcasting.{Broadcasting}
 use Rattle.statements.specs.declared.collective_line.Gathering.{Gathering}
 use Rattle.statements.specs.declared.collective_line.Scattering.{Scattering}
 use Rattle.statements.specs.declared.collective_line.Reducing.{Reducing}
 use Rattle.statements.specs.declared.collective_line.ReducingToAll.{ReducingToAll}
 use Rattle.statements.specs.Grammar.{operation_word, IsBlocks, IsBroadcasting, IsGathering, IsScattering, IsReducing, IsReducingToAll}
-use Rattle.line_words.specs.Grammar.{Word, IsLetter}
-use Rattle.line_words.specs.Fields.{first, ended, name_of, rank_of}
+use Rattle.tokens.specs.Grammar.{Word, IsLetter}
+use Rattle.tokens.specs.Fields.{first, end_of_line, name_of, rank_of}
 use Rattle.statements.specs.Reading.{communicator_of, operation_of, block_from, bcast_of, gather_of, scatter_of, reduce_of, allreduce_of}
-use Rattle.line_words.proofs.WordLaws.{Yields, step, yielded, bind_ok, made, pick, same_word, other_word}
-use Rattle.line_words.proofs.FieldLaws.{named_takes, named_again, rank_takes, rank_again}
+use Rattle.tokens.proofs.WordLaws.{Yields, step, yielded, bind_ok, made, pick, same_word, other_word}
+use Rattle.tokens.proofs.FieldLaws.{named_takes, named_again, rank_takes, rank_again}
 use Rattle.statements.proofs.FieldSteps.{three, four, five}
 use Rattle.statements.proofs.FieldLaws.{communicator_takes, communicator_again}
 
@@ -77,11 +77,11 @@ blocks_again word (Some name) h =
 
 -- ---- the lines
 
-bcast_made : Communicator → ℕ → Word → Broadcasting
+bcast_made : CommunicatorName → ℕ → Word → Broadcasting
 bcast_made c r b = record { communicator = c; root = r; buffer = b }
 
 pub bcast_takes : (words : List Word) (line : Broadcasting) → bcast_of words ≡ Some line → IsBroadcasting words line
-unfolding bcast_of first ended bcast_made
+unfolding bcast_of first end_of_line bcast_made
 bcast_takes [] line q = absurd cc
 bcast_takes (a ∷ []) line q = absurd cc
 bcast_takes (a ∷ b ∷ []) line q = absurd cc
@@ -93,7 +93,7 @@ bcast_takes (a ∷ b ∷ c ∷ []) line q =
 
 bcast_from : (a b c : Word) (line : Broadcasting) → communicator_of a ≡ Some line.communicator → rank_of b ≡ Some line.root → name_of c ≡ Some line.buffer
     → bcast_of (a ∷ b ∷ c ∷ []) ≡ Some line
-unfolding bcast_of first ended
+unfolding bcast_of first end_of_line
 bcast_from a b c line hc hr hb = rw (hc, hr, hb) refl
 
 pub bcast_again : (words : List Word) (line : Broadcasting) → IsBroadcasting words line → bcast_of words ≡ Some line
@@ -101,11 +101,11 @@ bcast_again words line h =
     ap bcast_of h.3
     ∙ bcast_from h.0 h.1 h.2 line (communicator_again h.0 line.communicator h.4) (rank_again h.1 line.root h.5) (named_again h.2 line.buffer h.6)
 
-gather_made : Communicator → ℕ → Word → Word → Gathering
+gather_made : CommunicatorName → ℕ → Word → Word → Gathering
 gather_made c r b i = record { communicator = c; root = r; buffer = b; into = i }
 
 pub gather_takes : (words : List Word) (line : Gathering) → gather_of words ≡ Some line → IsGathering words line
-unfolding gather_of first ended gather_made
+unfolding gather_of first end_of_line gather_made
 gather_takes [] line q = absurd cc
 gather_takes (a ∷ []) line q = absurd cc
 gather_takes (a ∷ b ∷ []) line q = absurd cc
@@ -118,7 +118,7 @@ gather_takes (a ∷ b ∷ c ∷ d ∷ []) line q =
 
 gather_from : (a b c d : Word) (line : Gathering) → communicator_of a ≡ Some line.communicator → rank_of b ≡ Some line.root → name_of c ≡ Some line.buffer → name_of d ≡ Some line.into
     → gather_of (a ∷ b ∷ c ∷ d ∷ []) ≡ Some line
-unfolding gather_of first ended
+unfolding gather_of first end_of_line
 gather_from a b c d line hc hr hb hi = rw (hc, hr, hb, hi) refl
 
 pub gather_again : (words : List Word) (line : Gathering) → IsGathering words line → gather_of words ≡ Some line
@@ -126,11 +126,11 @@ gather_again words line h =
     ap gather_of h.4
     ∙ gather_from h.0 h.1 h.2 h.3 line (communicator_again h.0 line.communicator h.5) (rank_again h.1 line.root h.6) (named_again h.2 line.buffer h.7) (named_again h.3 line.into h.8)
 
-scatter_made : Communicator → ℕ → Option Word → Word → Scattering
+scatter_made : CommunicatorName → ℕ → Option Word → Word → Scattering
 scatter_made c r b i = record { communicator = c; root = r; buffer = b; into = i }
 
 pub scatter_takes : (words : List Word) (line : Scattering) → scatter_of words ≡ Some line → IsScattering words line
-unfolding scatter_of first ended scatter_made
+unfolding scatter_of first end_of_line scatter_made
 scatter_takes [] line q = absurd cc
 scatter_takes (a ∷ []) line q = absurd cc
 scatter_takes (a ∷ b ∷ []) line q = absurd cc
@@ -143,7 +143,7 @@ scatter_takes (a ∷ b ∷ c ∷ d ∷ []) line q =
 
 scatter_from : (a b c d : Word) (line : Scattering) → communicator_of a ≡ Some line.communicator → rank_of b ≡ Some line.root → block_from c ≡ Some line.buffer → name_of d ≡ Some line.into
     → scatter_of (a ∷ b ∷ c ∷ d ∷ []) ≡ Some line
-unfolding scatter_of first ended
+unfolding scatter_of first end_of_line
 scatter_from a b c d line hc hr hb hi = rw (hc, hr, hb, hi) refl
 
 pub scatter_again : (words : List Word) (line : Scattering) → IsScattering words line → scatter_of words ≡ Some line
@@ -151,11 +151,11 @@ scatter_again words line h =
     ap scatter_of h.4
     ∙ scatter_from h.0 h.1 h.2 h.3 line (communicator_again h.0 line.communicator h.5) (rank_again h.1 line.root h.6) (blocks_again h.2 line.buffer h.7) (named_again h.3 line.into h.8)
 
-reduce_made : Communicator → ℕ → Operation → Word → Word → Reducing
+reduce_made : CommunicatorName → ℕ → Operation → Word → Word → Reducing
 reduce_made c r o b i = record { communicator = c; root = r; operation = o; buffer = b; into = i }
 
 pub reduce_takes : (words : List Word) (line : Reducing) → reduce_of words ≡ Some line → IsReducing words line
-unfolding reduce_of first ended reduce_made
+unfolding reduce_of first end_of_line reduce_made
 reduce_takes [] line q = absurd cc
 reduce_takes (a ∷ []) line q = absurd cc
 reduce_takes (a ∷ b ∷ []) line q = absurd cc
@@ -169,7 +169,7 @@ reduce_takes (a ∷ b ∷ c ∷ d ∷ e ∷ []) line q =
 
 reduce_from : (a b d e : Word) (line : Reducing) → communicator_of a ≡ Some line.communicator → rank_of b ≡ Some line.root → name_of d ≡ Some line.buffer → name_of e ≡ Some line.into
     → reduce_of (a ∷ b ∷ operation_word line.operation ∷ d ∷ e ∷ []) ≡ Some line
-unfolding reduce_of first ended
+unfolding reduce_of first end_of_line
 reduce_from a b d e line hc hr hb hi =
     let o : operation_of (operation_word line.operation) ≡ Some line.operation = operation_again line.operation in
     rw (hc, hr, o, hb, hi) refl
@@ -179,11 +179,11 @@ reduce_again words line h =
     ap reduce_of h.4
     ∙ reduce_from h.0 h.1 h.2 h.3 line (communicator_again h.0 line.communicator h.5) (rank_again h.1 line.root h.6) (named_again h.2 line.buffer h.7) (named_again h.3 line.into h.8)
 
-allreduce_made : Communicator → Operation → Word → Word → ReducingToAll
+allreduce_made : CommunicatorName → Operation → Word → Word → ReducingToAll
 allreduce_made c o b i = record { communicator = c; operation = o; buffer = b; into = i }
 
 pub allreduce_takes : (words : List Word) (line : ReducingToAll) → allreduce_of words ≡ Some line → IsReducingToAll words line
-unfolding allreduce_of first ended allreduce_made
+unfolding allreduce_of first end_of_line allreduce_made
 allreduce_takes [] line q = absurd cc
 allreduce_takes (a ∷ []) line q = absurd cc
 allreduce_takes (a ∷ b ∷ []) line q = absurd cc
@@ -196,7 +196,7 @@ allreduce_takes (a ∷ b ∷ c ∷ d ∷ []) line q =
 
 allreduce_from : (a c d : Word) (line : ReducingToAll) → communicator_of a ≡ Some line.communicator → name_of c ≡ Some line.buffer → name_of d ≡ Some line.into
     → allreduce_of (a ∷ operation_word line.operation ∷ c ∷ d ∷ []) ≡ Some line
-unfolding allreduce_of first ended
+unfolding allreduce_of first end_of_line
 allreduce_from a c d line hc hb hi =
     let o : operation_of (operation_word line.operation) ≡ Some line.operation = operation_again line.operation in
     rw (hc, o, hb, hi) refl

@@ -3,16 +3,16 @@ use Rattle.std.proofs.Common.{◌≡◌, ℕ, zero, suc, ◌-◌, false, eqb, Li
 use Rattle.std.specs.Prelude.{codes, neg_ℤ}
 use Rattle.std.specs.Str.{bytes_eq}
 use Rattle.std.proofs.lemmas.Bool.{eqb-true}
-use Rattle.statements.specs.declared.action.Communicator.{Communicator}
+use Rattle.statements.specs.declared.action.CommunicatorName.{CommunicatorName}
 use Rattle.statements.specs.declared.action.Splitting.{Splitting}
 use Rattle.statements.specs.declared.action.Action.TheVariants as actions
 use Rattle.statements.specs.Grammar.{IsColour, IsCommunicator, IsKey, IsSplitting, Spells}
-use Rattle.line_words.specs.Grammar.{Word, NamesIt}
-use Rattle.line_words.specs.Numbers.{number_up_to}
-use Rattle.line_words.specs.Fields.{first, ended, name_of}
+use Rattle.tokens.specs.Grammar.{Word, NamesIt}
+use Rattle.tokens.specs.Numbers.{number_up_to}
+use Rattle.tokens.specs.Fields.{first, end_of_line, name_of}
 use Rattle.statements.specs.Reading.{colour_of, communicator_alone, communicator_of, dup_of, key_below, key_of, split_of, two_communicators}
-use Rattle.line_words.proofs.FieldLaws.{named_takes, named_again}
-use Rattle.line_words.proofs.WordLaws.{bind_ok, made, pick, no_test, same_word, no_letters, bounded_takes, bounded_again}
+use Rattle.tokens.proofs.FieldLaws.{named_takes, named_again}
+use Rattle.tokens.proofs.WordLaws.{bind_ok, made, pick, no_test, same_word, no_letters, bounded_takes, bounded_again}
 use Rattle.statements.proofs.FieldSteps.{two, four}
 use Rattle.statements.proofs.FieldLaws.{communicator_takes, communicator_again}
 use Rattle.statements.proofs.ElementLaws.{dash_front, digit_front}
@@ -73,72 +73,72 @@ key_again word key (inr h) =
 
 -- ---- one communicator
 
-alone_takes : (words : List Word) (c : Communicator) → communicator_alone words ≡ Some c → (word : Word) × (words ≡ word ∷ []) × IsCommunicator word c
-unfolding communicator_alone first ended
+alone_takes : (words : List Word) (c : CommunicatorName) → communicator_alone words ≡ Some c → (word : Word) × (words ≡ word ∷ []) × IsCommunicator word c
+unfolding communicator_alone first end_of_line
 alone_takes [] c e = absurd cc
 alone_takes (a ∷ []) c e = (a, refl, communicator_takes a c e)
 alone_takes (a ∷ b ∷ ws) c e = absurd cc
 
 -- a line of one communicator
-pub asks_takes : (P : List Word → Type 0) (words : List Word) (c : Communicator) → ((word : Word) → IsCommunicator word c → P (word ∷ [])) → communicator_alone words ≡ Some c → P words
+pub asks_takes : (P : List Word → Type 0) (words : List Word) (c : CommunicatorName) → ((word : Word) → IsCommunicator word c → P (word ∷ [])) → communicator_alone words ≡ Some c → P words
 asks_takes P words c makes e = let p = alone_takes words c e in subst P (sym p.1) (makes p.0 p.2)
 
-alone_from : (word : Word) (c : Communicator) → communicator_of word ≡ Some c → communicator_alone (word ∷ []) ≡ Some c
-unfolding communicator_alone first ended
+alone_from : (word : Word) (c : CommunicatorName) → communicator_of word ≡ Some c → communicator_alone (word ∷ []) ≡ Some c
+unfolding communicator_alone first end_of_line
 alone_from word c e = e
 
-pub asks_again : (word : Word) (c : Communicator) → IsCommunicator word c → communicator_alone (word ∷ []) ≡ Some c
+pub asks_again : (word : Word) (c : CommunicatorName) → IsCommunicator word c → communicator_alone (word ∷ []) ≡ Some c
 asks_again word c h = alone_from word c (communicator_again word c h)
 
 -- ---- two communicators
 
-compared : Communicator → Communicator → Communicator × Communicator
+compared : CommunicatorName → CommunicatorName → CommunicatorName × CommunicatorName
 compared c d = (c, d)
 
-pub compare_takes : (words : List Word) (m : Communicator × Communicator) → two_communicators words ≡ Some m → Spells (codes "compare" ∷ words) (actions.Compare m.0 m.1)
-unfolding two_communicators first ended compared
+pub compare_takes : (words : List Word) (m : CommunicatorName × CommunicatorName) → two_communicators words ≡ Some m → Spells (codes "compare" ∷ words) (actions.Compare m.0 m.1)
+unfolding two_communicators first end_of_line compared
 compare_takes [] m e = absurd cc
 compare_takes (a ∷ []) m e = absurd cc
 compare_takes (a ∷ b ∷ c ∷ rest) m e = absurd cc
 compare_takes (a ∷ b ∷ []) m e =
     let p = two (communicator_of a) (communicator_of b) compared m e in
-    subst (λ (m : Communicator × Communicator). Spells (codes "compare" ∷ a ∷ b ∷ []) (actions.Compare m.0 m.1)) p.4
+    subst (λ (m : CommunicatorName × CommunicatorName). Spells (codes "compare" ∷ a ∷ b ∷ []) (actions.Compare m.0 m.1)) p.4
     (a, b, refl, communicator_takes a p.0 p.2, communicator_takes b p.1 p.3)
 
-two_from : (a b : Word) (c d : Communicator) → communicator_of a ≡ Some c → communicator_of b ≡ Some d → two_communicators (a ∷ b ∷ []) ≡ Some (c, d)
-unfolding two_communicators first ended
+two_from : (a b : Word) (c d : CommunicatorName) → communicator_of a ≡ Some c → communicator_of b ≡ Some d → two_communicators (a ∷ b ∷ []) ≡ Some (c, d)
+unfolding two_communicators first end_of_line
 two_from a b c d p q = rw (p, q) refl
 
-pub compare_again : (a b : Word) (c d : Communicator) → IsCommunicator a c → IsCommunicator b d → two_communicators (a ∷ b ∷ []) ≡ Some (c, d)
+pub compare_again : (a b : Word) (c d : CommunicatorName) → IsCommunicator a c → IsCommunicator b d → two_communicators (a ∷ b ∷ []) ≡ Some (c, d)
 compare_again a b c d h k = two_from a b c d (communicator_again a c h) (communicator_again b d k)
 
 -- ---- new communicators
 
-named_dup : Word → Communicator → Word × Communicator
+named_dup : Word → CommunicatorName → Word × CommunicatorName
 named_dup n c = (n, c)
 
-pub dup_takes : (words : List Word) (m : Word × Communicator) → dup_of words ≡ Some m → Spells (codes "dup" ∷ words) (actions.Dup m.0 m.1)
-unfolding dup_of first ended named_dup
+pub dup_takes : (words : List Word) (m : Word × CommunicatorName) → dup_of words ≡ Some m → Spells (codes "dup" ∷ words) (actions.Dup m.0 m.1)
+unfolding dup_of first end_of_line named_dup
 dup_takes [] m e = absurd cc
 dup_takes (a ∷ []) m e = absurd cc
 dup_takes (a ∷ b ∷ c ∷ rest) m e = absurd cc
 dup_takes (a ∷ b ∷ []) m e =
     let p = two (name_of a) (communicator_of b) named_dup m e in
-    subst (λ (m : Word × Communicator). Spells (codes "dup" ∷ a ∷ b ∷ []) (actions.Dup m.0 m.1)) p.4
+    subst (λ (m : Word × CommunicatorName). Spells (codes "dup" ∷ a ∷ b ∷ []) (actions.Dup m.0 m.1)) p.4
     (a, b, refl, named_takes a p.0 p.2, communicator_takes b p.1 p.3)
 
-dup_from : (a b n : Word) (c : Communicator) → name_of a ≡ Some n → communicator_of b ≡ Some c → dup_of (a ∷ b ∷ []) ≡ Some (n, c)
-unfolding dup_of first ended
+dup_from : (a b n : Word) (c : CommunicatorName) → name_of a ≡ Some n → communicator_of b ≡ Some c → dup_of (a ∷ b ∷ []) ≡ Some (n, c)
+unfolding dup_of first end_of_line
 dup_from a b n c p q = rw (p, q) refl
 
-pub dup_again : (a b n : Word) (c : Communicator) → NamesIt a n → IsCommunicator b c → dup_of (a ∷ b ∷ []) ≡ Some (n, c)
+pub dup_again : (a b n : Word) (c : CommunicatorName) → NamesIt a n → IsCommunicator b c → dup_of (a ∷ b ∷ []) ≡ Some (n, c)
 dup_again a b n c h k = dup_from a b n c (named_again a n h) (communicator_again b c k)
 
-named_split : Word → Communicator → Option ℕ → ℤ → Word × Splitting
+named_split : Word → CommunicatorName → Option ℕ → ℤ → Word × Splitting
 named_split n c o k = (n, record { communicator = c; colour = o; key = k })
 
 pub split_takes : (words : List Word) (m : Word × Splitting) → split_of words ≡ Some m → Spells (codes "split" ∷ words) (actions.Split m.0 m.1)
-unfolding split_of first ended named_split
+unfolding split_of first end_of_line named_split
 split_takes [] m e = absurd cc
 split_takes (a ∷ []) m e = absurd cc
 split_takes (a ∷ b ∷ []) m e = absurd cc
@@ -151,7 +151,7 @@ split_takes (a ∷ b ∷ c ∷ d ∷ []) m e =
 
 split_from : (a b c d n : Word) (split : Splitting) → name_of a ≡ Some n → communicator_of b ≡ Some split.communicator → colour_of c ≡ Some split.colour → key_of d ≡ Some split.key
     → split_of (a ∷ b ∷ c ∷ d ∷ []) ≡ Some (n, split)
-unfolding split_of first ended
+unfolding split_of first end_of_line
 split_from a b c d n split p q r s = rw (p, q, r, s) refl
 
 pub split_again : (a : Word) (rest : List Word) (n : Word) (split : Splitting) → NamesIt a n → IsSplitting rest split → split_of (a ∷ rest) ≡ Some (n, split)

@@ -9,13 +9,13 @@ use Rattle.vocabulary.specs.declared.basic_type.BasicType.{BasicType}
 use Rattle.vocabulary.specs.declared.basic_type.BasicType.TheVariants.{Int8, Int16, Int32, Int64, Uint8, Uint16, Uint32, Uint64, Byte}
 use Rattle.datatypes.specs.Elements.{has_sign, numbers_of, number_of_value}
 use Rattle.statements.specs.Grammar.{IsAbove, IsValue, AreValues, AreElements}
-use Rattle.line_words.specs.Grammar.{Word, IsNumeral}
-use Rattle.line_words.specs.Numbers.{number_up_to, count_of}
-use Rattle.line_words.specs.Results.{◌>>=◌}
+use Rattle.tokens.specs.Grammar.{Word, IsNumeral}
+use Rattle.tokens.specs.Numbers.{number_up_to, count_of}
+use Rattle.tokens.specs.Results.{◌>>=◌}
 use Rattle.statements.specs.Reading.{value_of, is_star, copies_of, copies_at, elements_of}
-use Rattle.line_words.specs.Fields.{each}
-use Rattle.line_words.proofs.MarkLaws.{mark_here, HasNo, digits_plain, no_place, a_place, take_front, drop_front}
-use Rattle.line_words.proofs.WordLaws.{bind_ok, made, pick, no_test, count_takes, count_again, bounded_takes, bounded_again}
+use Rattle.tokens.specs.Fields.{each}
+use Rattle.tokens.proofs.MarkLaws.{mark_here, HasNo, digits_plain, no_place, a_place, take_front, drop_front}
+use Rattle.tokens.proofs.WordLaws.{bind_ok, made, pick, no_test, count_takes, count_again, bounded_takes, bounded_again}
 
 positive : (m : ℕ) → eqb m 0 ≡ false → 0 < m
 positive zero e = absurd cc

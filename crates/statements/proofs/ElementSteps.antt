@@ -3,11 +3,11 @@ use Rattle.std.proofs.Common.{◌≡◌, ℕ, List, Some, replicate, refl, sym, 
 use Rattle.vocabulary.specs.declared.basic_type.BasicType.{BasicType}
 use Rattle.datatypes.specs.Contents.{Contents}
 use Rattle.statements.specs.Reading.{copies_of, elements_of, buffer_with}
-use Rattle.line_words.specs.declared.fault.LineError.{LineError}
-use Rattle.line_words.specs.Grammar.{Word}
-use Rattle.line_words.specs.Results.{Fails}
-use Rattle.line_words.specs.Fields.{each}
-use Rattle.line_words.proofs.EachLaws.{bind_fails}
+use Rattle.tokens.specs.declared.fault.LineError.{LineError}
+use Rattle.tokens.specs.Grammar.{Word}
+use Rattle.tokens.specs.Results.{Fails}
+use Rattle.tokens.specs.Fields.{each}
+use Rattle.tokens.proofs.EachLaws.{bind_fails}
 
 pub elements_fail : (basic : BasicType) (e : LineError) (bytes word : Word) → bytes ≡ word → Fails e (copies_of basic bytes) → Fails e (elements_of basic word)
 elements_fail basic e bytes word is h =

@@ -1,6 +1,6 @@
 -- Fields that don't depend on one another.
 use Rattle.std.proofs.Common.{◌≡◌, Option, Some, None, refl}
-use Rattle.line_words.specs.Results.{◌>>=◌}
+use Rattle.tokens.specs.Results.{◌>>=◌}
 
 pub two : {A B S : Type 0} (a : Option A) (b : Option B) (make : A → B → S) (s : S)
     → (a >>= λ x. b >>= λ y. Some (make x y)) ≡ Some s → (x : A) × (y : B) × (a ≡ Some x) × (b ≡ Some y) × (make x y ≡ s)

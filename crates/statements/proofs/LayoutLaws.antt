@@ -4,7 +4,7 @@ use Rattle.std.specs.Prelude.{codes}
 use Rattle.std.specs.List.{position}
 use Rattle.std.specs.Str.{bytes_eq}
 use Rattle.vocabulary.specs.declared.basic_type.BasicType.{BasicType}
-use Rattle.derived_types.specs.declared.block.Block.{Block}
+use Rattle.derived_types.specs.declared.block.IndexedBlock.{IndexedBlock}
 use Rattle.statements.specs.declared.layout_line.OldLayout.{OldLayout}
 use Rattle.statements.specs.declared.layout_line.OldLayout.TheVariants as olds
 use Rattle.statements.specs.declared.layout_line.LayoutForm.{LayoutForm}
@@ -14,16 +14,16 @@ use Rattle.statements.specs.declared.layout_line.Stripes.{Stripes}
 use Rattle.statements.specs.declared.layout_reading.FormWord.{FormWord}
 use Rattle.statements.specs.declared.layout_reading.FormWord.TheVariants as form_words
 use Rattle.statements.specs.Grammar.{IsOld, IsBlock, IsFormed, IsLayout}
-use Rattle.line_words.specs.Grammar.{Word, type_word}
-use Rattle.line_words.specs.Words.{basic_type_of}
-use Rattle.line_words.specs.Results.{◌>>=◌}
+use Rattle.tokens.specs.Grammar.{Word, type_word}
+use Rattle.tokens.specs.Words.{basic_type_of}
+use Rattle.tokens.specs.Results.{◌>>=◌}
 use Rattle.statements.specs.Reading.{form_word_of, old_by, old_of, is_colon, block_at, block_of, one_block, last, contiguous_of, vector_of, indexed_of, formed_by, layout_of}
-use Rattle.line_words.specs.Fields.{first, ended, each, name_of, large_of}
-use Rattle.line_words.proofs.WordLaws.{bind_ok, made, is_nothing, Yields, step, yielded, same_word, type_takes, type_again}
-use Rattle.line_words.proofs.EachLaws.{all_take, all_again}
-use Rattle.line_words.proofs.MarkLaws.{mark_here, digits_plain, a_place, take_front, drop_front}
+use Rattle.tokens.specs.Fields.{first, end_of_line, each, name_of, large_of}
+use Rattle.tokens.proofs.WordLaws.{bind_ok, made, is_nothing, Yields, step, yielded, same_word, type_takes, type_again}
+use Rattle.tokens.proofs.EachLaws.{all_take, all_again}
+use Rattle.tokens.proofs.MarkLaws.{mark_here, digits_plain, a_place, take_front, drop_front}
 use Rattle.statements.proofs.FieldSteps.{two, four}
-use Rattle.line_words.proofs.FieldLaws.{named_takes, named_again, large_takes, large_again}
+use Rattle.tokens.proofs.FieldLaws.{named_takes, named_again, large_takes, large_again}
 
 -- ---- what a layout is made of
 
@@ -52,10 +52,10 @@ old_again word (olds.Named name) h =
 
 -- ---- blocks
 
-block_made : ℕ → ℕ → Block
+block_made : ℕ → ℕ → IndexedBlock
 block_made many far = record { length = many; displacement = far }
 
-block_there : (word : Word) (o : Option ℕ) (b : Block) → position is_colon word ≡ o → block_at o word ≡ Some b → IsBlock word b
+block_there : (word : Word) (o : Option ℕ) (b : IndexedBlock) → position is_colon word ≡ o → block_at o word ≡ Some b → IsBlock word b
 unfolding block_made
 block_there word None b is e = absurd cc
 block_there word (Some i) b is e =
@@ -63,18 +63,18 @@ block_there word (Some i) b is e =
     subst (IsBlock word) p.4
     (take i word, drop 1 (drop i word), mark_here 58 word i is, large_takes (take i word) p.0 p.2, large_takes (drop 1 (drop i word)) p.1 p.3)
 
-block_takes : (word : Word) (b : Block) → block_of word ≡ Some b → IsBlock word b
+block_takes : (word : Word) (b : IndexedBlock) → block_of word ≡ Some b → IsBlock word b
 unfolding block_of
 block_takes word b e = block_there word (position is_colon word) b refl e
 
-block_from : (word front rest : Word) (i : ℕ) (b : Block) → position is_colon word ≡ Some i → take i word ≡ front → drop 1 (drop i word) ≡ rest → large_of front ≡ Some b.length → large_of rest ≡ Some b.displacement → block_of word ≡ Some b
+block_from : (word front rest : Word) (i : ℕ) (b : IndexedBlock) → position is_colon word ≡ Some i → take i word ≡ front → drop 1 (drop i word) ≡ rest → large_of front ≡ Some b.length → large_of rest ≡ Some b.displacement → block_of word ≡ Some b
 unfolding block_of
 block_from word front rest i b p t d m f =
     let m0 : large_of (take i word) ≡ Some b.length = ap large_of t ∙ m in
     let f0 : large_of (drop 1 (drop i word)) ≡ Some b.displacement = ap large_of d ∙ f in
     rw (p, m0, f0) refl
 
-block_again : (word : Word) (b : Block) → IsBlock word b → block_of word ≡ Some b
+block_again : (word : Word) (b : IndexedBlock) → IsBlock word b → block_of word ≡ Some b
 block_again word b h =
     let spelled : Word = h.0 ++ 58 ∷ h.1 in
     ap block_of h.2
@@ -131,7 +131,7 @@ contiguous_made : ℕ → OldLayout → LayoutForm × OldLayout
 contiguous_made n o = (forms.Contiguous n, o)
 
 contiguous_takes : (words : List Word) (m : LayoutForm × OldLayout) → contiguous_of words ≡ Some m → IsFormedBy (codes "contiguous" ∷ words) m
-unfolding contiguous_of first ended contiguous_made IsFormedBy
+unfolding contiguous_of first end_of_line contiguous_made IsFormedBy
 contiguous_takes [] m e = absurd cc
 contiguous_takes (a ∷ []) m e = absurd cc
 contiguous_takes (a ∷ b ∷ c ∷ rest) m e = absurd cc
@@ -140,14 +140,14 @@ contiguous_takes (a ∷ b ∷ []) m e =
     subst (IsFormedBy (codes "contiguous" ∷ a ∷ b ∷ [])) p.4 (a, b, refl, large_takes a p.0 p.2, old_takes b p.1 p.3)
 
 contiguous_from : (a b : Word) (n : ℕ) (o : OldLayout) → large_of a ≡ Some n → old_of b ≡ Some o → contiguous_of (a ∷ b ∷ []) ≡ Some (forms.Contiguous n, o)
-unfolding contiguous_of first ended
+unfolding contiguous_of first end_of_line
 contiguous_from a b n o p q = rw (p, q) refl
 
 vector_made : ℕ → ℕ → ℕ → OldLayout → LayoutForm × OldLayout
 vector_made c b s o = (forms.Vector (record { count = c; blocklength = b; stride = s }), o)
 
 vector_takes : (words : List Word) (m : LayoutForm × OldLayout) → vector_of words ≡ Some m → IsFormedBy (codes "vector" ∷ words) m
-unfolding vector_of first ended vector_made IsFormedBy
+unfolding vector_of first end_of_line vector_made IsFormedBy
 vector_takes [] m e = absurd cc
 vector_takes (a ∷ []) m e = absurd cc
 vector_takes (a ∷ b ∷ []) m e = absurd cc
@@ -159,7 +159,7 @@ vector_takes (a ∷ b ∷ c ∷ d ∷ []) m e =
 
 vector_from : (a b c d : Word) (stripes : Stripes) (o : OldLayout) → large_of a ≡ Some stripes.count → large_of b ≡ Some stripes.blocklength → large_of c ≡ Some stripes.stride → old_of d ≡ Some o
     → vector_of (a ∷ b ∷ c ∷ d ∷ []) ≡ Some (forms.Vector stripes, o)
-unfolding vector_of first ended
+unfolding vector_of first end_of_line
 vector_from a b c d stripes o p q r t = rw (p, q, r, t) refl
 
 indexed_takes : (words : List Word) (m : LayoutForm × OldLayout) → indexed_of words ≡ Some m → IsFormedBy (codes "indexed" ∷ words) m
@@ -171,7 +171,7 @@ indexed_takes words m e =
     made (IsFormedBy (codes "indexed" ∷ words)) (forms.Indexed b.0, o.0) m
     (s.0.0, s.0.1, ap (λ (ws : List Word). codes "indexed" ∷ ws) (last_takes words s.0 s.1), all_take IsBlock block_of block_takes s.0.0 b.0 b.1, old_takes s.0.1 o.0 o.1) b.2
 
-indexed_from : (front : List Word) (word : Word) (blocks : List Block) (o : OldLayout) → each one_block front ≡ Some blocks → old_of word ≡ Some o → indexed_of (front ++ word ∷ []) ≡ Some (forms.Indexed blocks, o)
+indexed_from : (front : List Word) (word : Word) (blocks : List IndexedBlock) (o : OldLayout) → each one_block front ≡ Some blocks → old_of word ≡ Some o → indexed_of (front ++ word ∷ []) ≡ Some (forms.Indexed blocks, o)
 unfolding indexed_of
 indexed_from front word blocks o b q = let l : last (front ++ word ∷ []) ≡ Some (front, word) = last_again front word in rw (l, q, b) refl
 

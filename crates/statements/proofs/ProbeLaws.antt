@@ -2,28 +2,28 @@
 use Rattle.std.proofs.Common.{◌≡◌, ℕ, List, [], ◌∷◌, Option, Some, refl, sym, ap, subst, ◌∙◌}
 use Rattle.std.specs.Prelude.{codes}
 use Rattle.vocabulary.specs.declared.envelope.Source.{Source}
-use Rattle.statements.specs.declared.action.Communicator.{Communicator}
+use Rattle.statements.specs.declared.action.CommunicatorName.{CommunicatorName}
 use Rattle.statements.specs.declared.action.Probing.{Probing}
 use Rattle.statements.specs.declared.action.Landing.{Landing}
-use Rattle.statements.specs.declared.action.Through.{Through}
+use Rattle.statements.specs.declared.action.LayoutClause.{LayoutClause}
 use Rattle.statements.specs.declared.action.Action.TheVariants as actions
 use Rattle.statements.specs.Grammar.{IsProbing, IsLanding, Spells}
-use Rattle.line_words.specs.Grammar.{Word}
-use Rattle.line_words.specs.Results.{◌>>=◌}
-use Rattle.line_words.specs.Fields.{first, ended, name_of}
-use Rattle.line_words.proofs.WordLaws.{bind_ok, made}
-use Rattle.line_words.proofs.FieldLaws.{named_takes, named_again}
+use Rattle.tokens.specs.Grammar.{Word}
+use Rattle.tokens.specs.Results.{◌>>=◌}
+use Rattle.tokens.specs.Fields.{first, end_of_line, name_of}
+use Rattle.tokens.proofs.WordLaws.{bind_ok, made}
+use Rattle.tokens.proofs.FieldLaws.{named_takes, named_again}
 use Rattle.statements.specs.Reading.{communicator_of, source_of, tag_of, through_of, probing_of, landing_of, improbe_of, mrecv_of}
 use Rattle.statements.proofs.FieldLaws.{communicator_takes, communicator_again, source_takes, source_again, tag_takes, tag_again, through_takes, through_again}
 use Rattle.statements.proofs.FieldSteps.{two, three}
 
 -- ---- `COMM SRC TAG`
 
-probe_made : Communicator → Source → Option ℕ → Probing
+probe_made : CommunicatorName → Source → Option ℕ → Probing
 probe_made c r t = record { communicator = c; source = r; tag = t }
 
 pub probing_takes : (words : List Word) (probe : Probing) → probing_of words ≡ Some probe → IsProbing words probe
-unfolding probing_of first ended probe_made
+unfolding probing_of first end_of_line probe_made
 probing_takes [] probe e = absurd cc
 probing_takes (a ∷ []) probe e = absurd cc
 probing_takes (a ∷ b ∷ []) probe e = absurd cc
@@ -34,7 +34,7 @@ probing_takes (a ∷ b ∷ c ∷ []) probe e =
 
 probe_from : (a b c : Word) (probe : Probing) → communicator_of a ≡ Some probe.communicator → source_of b ≡ Some probe.source → tag_of c ≡ Some probe.tag
     → probing_of (a ∷ b ∷ c ∷ []) ≡ Some probe
-unfolding probing_of first ended
+unfolding probing_of first end_of_line
 probe_from a b c probe qa qb qc = rw (qa, qb, qc) refl
 
 pub probing_again : (words : List Word) (probe : Probing) → IsProbing words probe → probing_of words ≡ Some probe
@@ -44,7 +44,7 @@ probing_again words probe h =
 
 -- ---- `B`, and what stands behind it
 
-landing_made : Word → Option Through → Landing
+landing_made : Word → Option LayoutClause → Landing
 landing_made b u = record { buffer = b; through = u }
 
 pub landing_takes : (words : List Word) (landing : Landing) → landing_of words ≡ Some landing → IsLanding words landing

@@ -5,8 +5,8 @@ use Rattle.std.specs.Str.{bytes_eq}
 use Rattle.statements.specs.declared.verb.Verb.{Verb}
 use Rattle.statements.specs.declared.verb.Verb.TheVariants as verbs
 use Rattle.statements.specs.Words.{communicator_verb_of, verb_of}
-use Rattle.line_words.specs.Grammar.{Word}
-use Rattle.line_words.proofs.WordLaws.{Yields, step, yielded, same_word}
+use Rattle.tokens.specs.Grammar.{Word}
+use Rattle.tokens.proofs.WordLaws.{Yields, step, yielded, same_word}
 
 abbrev pub verb_word : Verb → Word
 verb_word verbs.Buffer = codes "buf"

@@ -4,16 +4,16 @@ use Rattle.vocabulary.specs.declared.basic_type.BasicType.{BasicType}
 use Rattle.vocabulary.specs.declared.envelope.Source.{Source}
 use Rattle.vocabulary.specs.declared.envelope.Source.TheVariants as sources
 use Rattle.datatypes.specs.Elements.{has_sign, numbers_of}
-use Rattle.derived_types.specs.declared.block.Block.{Block}
+use Rattle.derived_types.specs.declared.block.IndexedBlock.{IndexedBlock}
 use Rattle.payload.specs.declared.operation.Operation.{Operation}
 use Rattle.payload.specs.declared.operation.Operation.TheVariants as operations
-use Rattle.line_words.specs.Grammar.{Word, IsNumeral, IsCapped, IsLarge, StandFor, type_word, NamesIt}
-use Rattle.statements.specs.declared.action.Communicator.{Communicator}
-use Rattle.statements.specs.declared.action.Communicator.TheVariants as communicators
-use Rattle.statements.specs.declared.action.Requested.{Requested}
-use Rattle.statements.specs.declared.action.Requested.TheVariants as requests
+use Rattle.tokens.specs.Grammar.{Word, IsNumeral, IsCapped, IsLarge, StandFor, type_word, NamesIt}
+use Rattle.statements.specs.declared.action.CommunicatorName.{CommunicatorName}
+use Rattle.statements.specs.declared.action.CommunicatorName.TheVariants as communicators
+use Rattle.statements.specs.declared.action.RequestName.{RequestName}
+use Rattle.statements.specs.declared.action.RequestName.TheVariants as requests
 use Rattle.statements.specs.declared.action.BufferLine.{BufferLine}
-use Rattle.statements.specs.declared.action.Through.{Through}
+use Rattle.statements.specs.declared.action.LayoutClause.{LayoutClause}
 use Rattle.statements.specs.declared.action.Sending.{Sending}
 use Rattle.statements.specs.declared.action.Receiving.{Receiving}
 use Rattle.statements.specs.declared.action.Probing.{Probing}
@@ -34,7 +34,7 @@ use Rattle.statements.specs.declared.layout_line.LayoutLine.{LayoutLine}
 
 -- ---- what a word stands for
 
-abbrev pub IsCommunicator : Word → Communicator → Type 0
+abbrev pub IsCommunicator : Word → CommunicatorName → Type 0
 IsCommunicator word communicators.World = word ≡ codes "world"
 IsCommunicator word communicators.Own = word ≡ codes "self"
 IsCommunicator word (communicators.Named name) = NamesIt word name
@@ -55,7 +55,7 @@ abbrev pub IsTag : Word → Option ℕ → Type 0
 IsTag word None = word ≡ codes "any"
 IsTag word (Some tag) = IsCapped 4294967295 word tag
 
-abbrev pub IsRequested : Word → Requested → Type 0
+abbrev pub IsRequested : Word → RequestName → Type 0
 IsRequested word requests.Null = word ≡ codes "null"
 IsRequested word (requests.Named name) = NamesIt word name
 
@@ -110,7 +110,7 @@ IsBuffer words line =
     × NamesIt name line.name × AreElements line.value.basic values line.value.values
 
 -- `as L N`, or nothing
-abbrev pub IsThrough : List Word → Option Through → Type 0
+abbrev pub IsThrough : List Word → Option LayoutClause → Type 0
 IsThrough words None = words ≡ []
 IsThrough words (Some through) =
     (layout copies : Word) × (words ≡ codes "as" ∷ layout ∷ copies ∷ []) × NamesIt layout through.layout × IsLarge copies through.copies
@@ -149,7 +149,7 @@ IsOld word (olds.Basic basic) = word ≡ type_word basic
 IsOld word (olds.Named name) = NamesIt word name
 
 -- `LEN:DISP`
-abbrev pub IsBlock : Word → Block → Type 0
+abbrev pub IsBlock : Word → IndexedBlock → Type 0
 IsBlock word block =
     (length_word displacement_word : Word) × (word ≡ length_word ++ 58 ∷ displacement_word) × IsLarge length_word block.length × IsLarge displacement_word block.displacement
 

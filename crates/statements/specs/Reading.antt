@@ -9,15 +9,15 @@ use Rattle.payload.specs.declared.operation.Operation.{Operation}
 use Rattle.payload.specs.declared.operation.Operation.TheVariants as operations
 use Rattle.datatypes.specs.Contents.{Contents}
 use Rattle.datatypes.specs.Elements.{number_of_value}
-use Rattle.derived_types.specs.declared.block.Block.{Block}
+use Rattle.derived_types.specs.declared.block.IndexedBlock.{IndexedBlock}
 use Rattle.statements.specs.declared.verb.Verb.{Verb}
 use Rattle.statements.specs.declared.verb.Verb.TheVariants as verbs
-use Rattle.statements.specs.declared.action.Communicator.{Communicator}
-use Rattle.statements.specs.declared.action.Communicator.TheVariants as communicators
-use Rattle.statements.specs.declared.action.Requested.{Requested}
-use Rattle.statements.specs.declared.action.Requested.TheVariants as requests
+use Rattle.statements.specs.declared.action.CommunicatorName.{CommunicatorName}
+use Rattle.statements.specs.declared.action.CommunicatorName.TheVariants as communicators
+use Rattle.statements.specs.declared.action.RequestName.{RequestName}
+use Rattle.statements.specs.declared.action.RequestName.TheVariants as requests
 use Rattle.statements.specs.declared.action.BufferLine.{BufferLine}
-use Rattle.statements.specs.declared.action.Through.{Through}
+use Rattle.statements.specs.declared.action.LayoutClause.{LayoutClause}
 use Rattle.statements.specs.declared.action.Sending.{Sending}
 use Rattle.statements.specs.declared.action.Receiving.{Receiving}
 use Rattle.statements.specs.declared.action.Probing.{Probing}
@@ -39,22 +39,22 @@ use Rattle.statements.specs.declared.layout_line.Stripes.{Stripes}
 use Rattle.statements.specs.declared.layout_reading.FormWord.{FormWord}
 use Rattle.statements.specs.declared.layout_reading.FormWord.TheVariants as form_words
 use Rattle.statements.specs.Words.{verb_of}
-use Rattle.line_words.specs.Grammar.{Word}
-use Rattle.line_words.specs.Numbers.{number_up_to, number_or, count_of}
-use Rattle.line_words.specs.Words.{basic_type_of}
-use Rattle.line_words.specs.Results.{◌>>=◌}
-use Rattle.line_words.specs.Fields.{first, ended, name_of, rank_of, large_of, each, one}
+use Rattle.tokens.specs.Grammar.{Word}
+use Rattle.tokens.specs.Numbers.{number_up_to, number_or, count_of}
+use Rattle.tokens.specs.Words.{basic_type_of}
+use Rattle.tokens.specs.Results.{◌>>=◌}
+use Rattle.tokens.specs.Fields.{first, end_of_line, name_of, rank_of, large_of, each, one}
 
 -- ---- one word
 
-unfoldable pub communicator_of : Word → Option Communicator
+unfoldable pub communicator_of : Word → Option CommunicatorName
 communicator_of word =
     if bytes_eq word (codes "world") then Some communicators.World
     else (if bytes_eq word (codes "self") then Some communicators.Own
     else (name_of word >>= λ name. Some (communicators.Named name)))
 
 -- a communicator, and the name of a buffer
-abbrev pub communicator_and_buffer : Word → Word → Option (Communicator × Word)
+abbrev pub communicator_and_buffer : Word → Word → Option (CommunicatorName × Word)
 communicator_and_buffer communicator buffer = communicator_of communicator >>= λ c. name_of buffer >>= λ b. Some (c, b)
 
 unfoldable pub target_of : Word → Option Source
@@ -73,14 +73,14 @@ tag_of word =
     if bytes_eq word (codes "any") then Some None
     else (number_or 4294967295 word >>= λ tag. Some (Some tag))
 
-unfoldable pub requested_of : Word → Option Requested
+unfoldable pub requested_of : Word → Option RequestName
 requested_of word =
     if bytes_eq word (codes "null") then Some requests.Null
     else (name_of word >>= λ name. Some (requests.Named name))
 
 -- ---- several words
 
-abbrev pub one_request : Word → Option (List Requested)
+abbrev pub one_request : Word → Option (List RequestName)
 one_request word = one requested_of word
 
 -- ---- elements
@@ -114,7 +114,7 @@ buffer_with kind words = each (elements_of kind) words >>= λ elements. Some (re
 
 -- one word, and nothing behind it
 abbrev pub one_alone : List Word → Option Word
-one_alone words = first words >>= λ one. ended one.1 >>= λ end. Some one.0
+one_alone words = first words >>= λ one. end_of_line one.1 >>= λ end. Some one.0
 
 -- two words, and the words behind them
 abbrev pub first_two : List Word → Option (Word × Word × List Word)
@@ -122,7 +122,7 @@ first_two words = first words >>= λ one. first one.1 >>= λ two. Some (one.0, t
 
 -- two words, and nothing behind them
 abbrev pub two_alone : List Word → Option (Word × Word)
-two_alone words = first words >>= λ one. first one.1 >>= λ two. ended two.1 >>= λ end. Some (one.0, two.0)
+two_alone words = first words >>= λ one. first one.1 >>= λ two. end_of_line two.1 >>= λ end. Some (one.0, two.0)
 
 -- four words, and the words behind them
 abbrev pub first_four : List Word → Option (Word × Word × Word × Word × List Word)
@@ -140,7 +140,7 @@ four_alone words = do
   two ← first one.1
   three ← first two.1
   four ← first three.1
-  end ← ended four.1
+  end ← end_of_line four.1
   Some (one.0, two.0, three.0, four.0)
 
 -- ---- the words behind the first one
@@ -155,22 +155,22 @@ buffer_of words = do
   Some (record { name = buffer; value = contents })
 
 -- `L N`
-unfoldable pub behind_as : List Word → Option Through
+unfoldable pub behind_as : List Word → Option LayoutClause
 behind_as words = do
   layout ← first words
   copies ← first layout.1
-  end ← ended copies.1
+  end ← end_of_line copies.1
   l ← name_of layout.0
   n ← large_of copies.0
   Some (record { layout = l; copies = n })
 
 -- `as L N`, or nothing
-unfoldable pub through_of : List Word → Option (Option Through)
+unfoldable pub through_of : List Word → Option (Option LayoutClause)
 through_of [] = Some None
 through_of (word ∷ words) = if bytes_eq word (codes "as") then (behind_as words >>= λ through. Some (Some through)) else None
 
 -- a communicator, a buffer's name, and what stands behind them
-abbrev pub places_of : Word → Word → List Word → Option (Communicator × Word × Option Through)
+abbrev pub places_of : Word → Word → List Word → Option (CommunicatorName × Word × Option LayoutClause)
 places_of communicator buffer words =
     communicator_of communicator >>= λ c. name_of buffer >>= λ b. through_of words >>= λ u. Some (c, b, u)
 
@@ -214,7 +214,7 @@ probing_of words = do
   communicator ← first words
   source ← first communicator.1
   tag ← first source.1
-  end ← ended tag.1
+  end ← end_of_line tag.1
   c ← communicator_of communicator.0
   r ← source_of source.0
   t ← tag_of tag.0
@@ -234,8 +234,8 @@ improbe_of words = first words >>= λ message. name_of message.0 >>= λ m. probi
 unfoldable pub mrecv_of : List Word → Option (Word × Landing)
 mrecv_of words = first words >>= λ message. name_of message.0 >>= λ m. landing_of message.1 >>= λ landing. Some (m, landing)
 
-unfoldable pub one_of : List Word → Option Requested
-one_of words = first words >>= λ request. ended request.1 >>= λ end. requested_of request.0
+unfoldable pub one_of : List Word → Option RequestName
+one_of words = first words >>= λ request. end_of_line request.1 >>= λ end. requested_of request.0
 
 -- ---- layouts
 
@@ -258,16 +258,16 @@ old_of word = old_by (basic_type_of word) word
 abbrev pub is_colon : ℕ → Bool
 is_colon byte = byte == 58
 
-abbrev pub block_at : Option ℕ → Word → Option Block
+abbrev pub block_at : Option ℕ → Word → Option IndexedBlock
 block_at None word = None
 block_at (Some place) word =
     large_of (take place word) >>= λ many. large_of (drop 1 (drop place word)) >>= λ far. Some (record { length = many; displacement = far })
 
 -- `LEN:DISP`
-unfoldable pub block_of : Word → Option Block
+unfoldable pub block_of : Word → Option IndexedBlock
 block_of word = block_at (position is_colon word) word
 
-abbrev pub one_block : Word → Option (List Block)
+abbrev pub one_block : Word → Option (List IndexedBlock)
 one_block word = one block_of word
 
 -- the words before the last one, and the last one
@@ -281,7 +281,7 @@ unfoldable pub contiguous_of : List Word → Option (LayoutForm × OldLayout)
 contiguous_of words = do
   count ← first words
   old ← first count.1
-  end ← ended old.1
+  end ← end_of_line old.1
   n ← large_of count.0
   o ← old_of old.0
   Some (forms.Contiguous n, o)
@@ -298,7 +298,7 @@ vector_of words = do
   blocklength ← first count.1
   stride ← first blocklength.1
   old ← first stride.1
-  end ← ended old.1
+  end ← end_of_line old.1
   c ← large_of count.0
   b ← large_of blocklength.0
   s ← large_of stride.0
@@ -345,29 +345,29 @@ key_of word =
     else (number_up_to 2147483647 word >>= λ magnitude. Some (pos magnitude))
 
 -- one communicator, and nothing behind it
-unfoldable pub communicator_alone : List Word → Option Communicator
-communicator_alone words = first words >>= λ communicator. ended communicator.1 >>= λ end. communicator_of communicator.0
+unfoldable pub communicator_alone : List Word → Option CommunicatorName
+communicator_alone words = first words >>= λ communicator. end_of_line communicator.1 >>= λ end. communicator_of communicator.0
 
 -- `COMM COMM`
-unfoldable pub two_communicators : List Word → Option (Communicator × Communicator)
+unfoldable pub two_communicators : List Word → Option (CommunicatorName × CommunicatorName)
 two_communicators words = do
   one ← first words
   other ← first one.1
-  end ← ended other.1
+  end ← end_of_line other.1
   c ← communicator_of one.0
   d ← communicator_of other.0
   Some (c, d)
 
 -- a new name, and a communicator
-abbrev pub name_and_communicator : Word → Word → Option (Word × Communicator)
+abbrev pub name_and_communicator : Word → Word → Option (Word × CommunicatorName)
 name_and_communicator name communicator = name_of name >>= λ n. communicator_of communicator >>= λ c. Some (n, c)
 
 -- `NEW COMM`
-unfoldable pub dup_of : List Word → Option (Word × Communicator)
+unfoldable pub dup_of : List Word → Option (Word × CommunicatorName)
 dup_of words = do
   name ← first words
   communicator ← first name.1
-  end ← ended communicator.1
+  end ← end_of_line communicator.1
   n ← name_of name.0
   c ← communicator_of communicator.0
   Some (n, c)
@@ -379,7 +379,7 @@ split_of words = do
   communicator ← first name.1
   colour ← first communicator.1
   key ← first colour.1
-  end ← ended key.1
+  end ← end_of_line key.1
   n ← name_of name.0
   c ← communicator_of communicator.0
   o ← colour_of colour.0
@@ -411,7 +411,7 @@ block_from word =
     else (name_of word >>= λ name. Some (Some name))
 
 -- a communicator, and the names of two buffers
-abbrev pub communicator_and_two : Word → Word → Word → Option (Communicator × Word × Word)
+abbrev pub communicator_and_two : Word → Word → Word → Option (CommunicatorName × Word × Word)
 communicator_and_two communicator buffer into =
     communicator_of communicator >>= λ c. name_of buffer >>= λ b. name_of into >>= λ i. Some (c, b, i)
 
@@ -421,7 +421,7 @@ bcast_of words = do
   communicator ← first words
   root ← first communicator.1
   buffer ← first root.1
-  end ← ended buffer.1
+  end ← end_of_line buffer.1
   c ← communicator_of communicator.0
   r ← rank_of root.0
   b ← name_of buffer.0
@@ -434,7 +434,7 @@ gather_of words = do
   root ← first communicator.1
   buffer ← first root.1
   into ← first buffer.1
-  end ← ended into.1
+  end ← end_of_line into.1
   c ← communicator_of communicator.0
   r ← rank_of root.0
   b ← name_of buffer.0
@@ -448,7 +448,7 @@ scatter_of words = do
   root ← first communicator.1
   buffer ← first root.1
   into ← first buffer.1
-  end ← ended into.1
+  end ← end_of_line into.1
   c ← communicator_of communicator.0
   r ← rank_of root.0
   b ← block_from buffer.0
@@ -463,7 +463,7 @@ reduce_of words = do
   operation ← first root.1
   buffer ← first operation.1
   into ← first buffer.1
-  end ← ended into.1
+  end ← end_of_line into.1
   c ← communicator_of communicator.0
   r ← rank_of root.0
   o ← operation_of operation.0
@@ -478,7 +478,7 @@ allreduce_of words = do
   operation ← first communicator.1
   buffer ← first operation.1
   into ← first buffer.1
-  end ← ended into.1
+  end ← end_of_line into.1
   c ← communicator_of communicator.0
   o ← operation_of operation.0
   b ← name_of buffer.0

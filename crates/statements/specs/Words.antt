@@ -3,7 +3,7 @@ use Rattle.std.specs.Prelude.{codes, Option, Some, None, if◌then◌else◌}
 use Rattle.std.specs.Str.{bytes_eq}
 use Rattle.statements.specs.declared.verb.Verb.{Verb}
 use Rattle.statements.specs.declared.verb.Verb.TheVariants as verbs
-use Rattle.line_words.specs.Grammar.{Word}
+use Rattle.tokens.specs.Grammar.{Word}
 
 -- what the first word says that a rank does with a communicator as a whole
 unfoldable pub communicator_verb_of : Word → Option Verb

@@ -5,14 +5,14 @@ ghost use Rattle.std.specs.Prelude.{◌≡◌, ◌++◌, [], ◌∷◌, OnOk};
 use crate::collective_line::{Broadcasting, Gathering, Reducing, ReducingToAll, Scattering};
 use crate::layout_line::LayoutLine;
 use datatypes::Buffer;
-use line_words::Name;
+use tokens::Name;
 use std::alloc::{AllocFailed, Global};
 use std::marker::Model;
 use vocabulary::Source;
 
 /// The communicator that a line names.
 #[derive(Drop)]
-pub enum Communicator {
+pub enum CommunicatorName {
     /// `world`: all ranks (MPI_COMM_WORLD).
     World,
     /// `self`: the rank alone (MPI_COMM_SELF).
@@ -23,7 +23,7 @@ pub enum Communicator {
 
 /// The request that a line names.
 #[derive(Drop)]
-pub enum Requested {
+pub enum RequestName {
     /// `null`: the null request (MPI 3.1, 3.7.3).
     Null,
     /// A name.
@@ -32,45 +32,45 @@ pub enum Requested {
 
 /// Requests that a line names, in order. Contracts see them as a list.
 #[derive(Drop)]
-pub struct RequestedList {
-    items: Vec<Requested>,
+pub struct RequestNames {
+    items: Vec<RequestName>,
 }
 
-impl Model for RequestedList {
+impl Model for RequestNames {
     ghost use Rattle.std.specs.Prelude.{List};
-    ghost use Rattle.statements.specs.declared.action.Requested.{Requested};
+    ghost use Rattle.statements.specs.declared.action.RequestName.{RequestName};
 
-    ghost Value = { List Requested };
+    ghost Value = { List RequestName };
 
     ghost view = { λ r. r.items.items };
 }
 
-impl RequestedList {
+impl RequestNames {
     /// No requests. It takes no memory.
-    pub(crate) fn new(alloc: Global) -> RequestedList
+    pub(crate) fn new(alloc: Global) -> RequestNames
         ensures { result ≡ [] }
     {
-        RequestedList {
+        RequestNames {
             items: Vec::new(alloc),
         }
     }
 
     /// Adds a request at the end.
-    pub(crate) fn push(&mut self, request: Requested) -> Result<(), AllocFailed<Requested>>
+    pub(crate) fn push(&mut self, request: RequestName) -> Result<(), AllocFailed<RequestName>>
         ensures { OnOk result (self.new ≡ self.old ++ request ∷ []) }
     {
         self.items.push(request)
     }
 
     /// The requests, in order.
-    pub fn as_slice(&self) -> &[Requested]
+    pub fn as_slice(&self) -> &[RequestName]
         ensures { result.now ≡ self.now }
     {
         self.items.as_slice()
     }
 
     /// The requests, in order, each of which can be moved out.
-    pub fn into_vec(self) -> Vec<Requested>
+    pub fn into_vec(self) -> Vec<RequestName>
         ensures { result.items ≡ self }
     {
         self.items
@@ -88,7 +88,7 @@ pub struct BufferLine {
 
 /// `as L N`: the places of a buffer that hold a message's data.
 #[derive(Drop)]
-pub struct Through {
+pub struct LayoutClause {
     /// The name of the layout.
     pub layout: Name,
     /// How many copies of it. A number that 64 bits don't hold stands as the greatest that they hold.
@@ -99,7 +99,7 @@ pub struct Through {
 #[derive(Drop)]
 pub struct Sending {
     /// The communicator in which the message goes.
-    pub communicator: Communicator,
+    pub communicator: CommunicatorName,
     /// The rank that it goes to, or the null process (MPI 3.1, 3.11); never the wildcard. A rank that 16 bits don't hold
     /// stands as the greatest number that they hold, which is no rank either.
     pub target: Source,
@@ -109,14 +109,14 @@ pub struct Sending {
     /// The name of the buffer whose elements go.
     pub buffer: Name,
     /// The places that they stand at; none: the buffer as it is.
-    pub through: Option<Through>,
+    pub through: Option<LayoutClause>,
 }
 
 /// `COMM SRC TAG B`, and `as L N` if it stands there: the arguments of a receive (MPI 3.1, 3.2.4).
 #[derive(Drop)]
 pub struct Receiving {
     /// The communicator in which the message comes.
-    pub communicator: Communicator,
+    pub communicator: CommunicatorName,
     /// From whom it is wanted; a rank that 16 bits don't hold stands as the greatest number that they hold.
     pub source: Source,
     /// The tag that is wanted; none: the wildcard. A tag that 32 bits don't hold stands as the greatest number that they
@@ -125,14 +125,14 @@ pub struct Receiving {
     /// The name of the buffer that is lent.
     pub buffer: Name,
     /// The places that the data go to; none: the buffer as it is.
-    pub through: Option<Through>,
+    pub through: Option<LayoutClause>,
 }
 
 /// `COMM SRC TAG`: the arguments of a probe (MPI 3.1, 3.8.1).
 #[derive(Drop)]
 pub struct Probing {
     /// The communicator in which the message comes.
-    pub communicator: Communicator,
+    pub communicator: CommunicatorName,
     /// From whom it is wanted; a rank that 16 bits don't hold stands as the greatest number that they hold.
     pub source: Source,
     /// The tag that is wanted; none: the wildcard. A tag that 32 bits don't hold stands as the greatest number that they
@@ -146,14 +146,14 @@ pub struct Landing {
     /// The name of the buffer that is lent.
     pub buffer: Name,
     /// The places that the data go to; none: the buffer as it is.
-    pub through: Option<Through>,
+    pub through: Option<LayoutClause>,
 }
 
 /// `COMM COLOUR KEY`: the arguments of a split (MPI 3.1, 6.4.2).
 #[derive(Drop)]
 pub struct Splitting {
     /// The communicator that is split.
-    pub communicator: Communicator,
+    pub communicator: CommunicatorName,
     /// Which of the new communicators the rank is to be in; none: `undefined`, in none of them.
     pub colour: Option<u32>,
     /// Where the rank is to stand among those of its colour: the lower, the further in front.
@@ -180,17 +180,17 @@ pub enum Action {
     /// `mrecv M B` receives a message that was taken out (MPI 3.1, 3.8.3).
     Mrecv(Name, Landing),
     /// `wait Q` waits for the request (MPI 3.1, 3.7.3).
-    Wait(Requested),
+    Wait(RequestName),
     /// `test Q` asks whether the request is finished (MPI 3.1, 3.7.3).
-    Test(Requested),
+    Test(RequestName),
     /// `cancel Q` cancels a receive (MPI 3.1, 3.8.4).
-    Cancel(Requested),
+    Cancel(RequestName),
     /// `waitany Q ..` waits for one of the requests, of which there may be none (MPI 3.1, 3.7.5).
-    Waitany(RequestedList),
+    Waitany(RequestNames),
     /// `waitall Q ..` waits for all the requests, of which there may be none (MPI 3.1, 3.7.5).
-    Waitall(RequestedList),
+    Waitall(RequestNames),
     /// `barrier COMM` waits until all members have entered (MPI 3.1, 5.3).
-    Barrier(Communicator),
+    Barrier(CommunicatorName),
     /// `bcast COMM ROOT B` gives the root's elements to all members (MPI 3.1, 5.4).
     Bcast(Broadcasting),
     /// `gather COMM ROOT B INTO` gives the elements of all members to the root (MPI 3.1, 5.5).
@@ -202,13 +202,13 @@ pub enum Action {
     /// `allreduce COMM OP B INTO` combines the elements of all members for each of them (MPI 3.1, 5.9.6).
     Allreduce(ReducingToAll),
     /// `dup NEW COMM` makes a communicator with the same group, and names it (MPI 3.1, 6.4.2).
-    Dup(Name, Communicator),
+    Dup(Name, CommunicatorName),
     /// `split NEW COMM COLOUR KEY` makes a communicator of those who give the same colour, and names it (MPI 3.1, 6.4.2).
     Split(Name, Splitting),
     /// `who COMM` asks for the rank in the communicator and for its size (MPI 3.1, 6.4.1).
-    Who(Communicator),
+    Who(CommunicatorName),
     /// `members COMM` asks for the communicator's group (MPI 3.1, 6.4.2).
-    Members(Communicator),
+    Members(CommunicatorName),
     /// `compare COMM COMM` asks how two communicators compare (MPI 3.1, 6.4.1).
-    Compare(Communicator, Communicator),
+    Compare(CommunicatorName, CommunicatorName),
 }

@@ -1,14 +1,14 @@
 //! What a line says of a collective that moves elements.
 
-use crate::action::Communicator;
-use line_words::Name;
+use crate::action::CommunicatorName;
+use tokens::Name;
 use payload::Operation;
 
 /// `COMM ROOT B`: the arguments of a broadcast (MPI 3.1, 5.4).
 #[derive(Drop)]
 pub struct Broadcasting {
     /// The communicator whose members take part.
-    pub communicator: Communicator,
+    pub communicator: CommunicatorName,
     /// The root's rank in the communicator. A number that 16 bits don't hold stands as the greatest that they hold, which is no
     /// rank either.
     pub root: u16,
@@ -20,7 +20,7 @@ pub struct Broadcasting {
 #[derive(Drop)]
 pub struct Gathering {
     /// The communicator whose members take part.
-    pub communicator: Communicator,
+    pub communicator: CommunicatorName,
     /// The root's rank in the communicator. A number that 16 bits don't hold stands as the greatest that they hold, which is no
     /// rank either.
     pub root: u16,
@@ -34,7 +34,7 @@ pub struct Gathering {
 #[derive(Drop)]
 pub struct Scattering {
     /// The communicator whose members take part.
-    pub communicator: Communicator,
+    pub communicator: CommunicatorName,
     /// The root's rank in the communicator. A number that 16 bits don't hold stands as the greatest that they hold, which is no
     /// rank either.
     pub root: u16,
@@ -48,7 +48,7 @@ pub struct Scattering {
 #[derive(Drop)]
 pub struct Reducing {
     /// The communicator whose members take part.
-    pub communicator: Communicator,
+    pub communicator: CommunicatorName,
     /// The root's rank in the communicator. A number that 16 bits don't hold stands as the greatest that they hold, which is no
     /// rank either.
     pub root: u16,
@@ -64,7 +64,7 @@ pub struct Reducing {
 #[derive(Drop)]
 pub struct ReducingToAll {
     /// The communicator whose members take part.
-    pub communicator: Communicator,
+    pub communicator: CommunicatorName,
     /// What combines the elements.
     pub operation: Operation,
     /// The name of the buffer whose elements the caller gives.

@@ -2,14 +2,14 @@
 
 ghost use Rattle.std.specs.Prelude.{◌≡◌};
 ghost use Rattle.statements.specs.Reading.{action_by, block_from, communicator_and_two, operation_of};
-ghost use Rattle.line_words.specs.Results.{Gives};
+ghost use Rattle.tokens.specs.Results.{Gives};
 
-use crate::action::{Action, Communicator};
+use crate::action::{Action, CommunicatorName};
 use crate::collective_line::{Broadcasting, Gathering, Reducing, ReducingToAll, Scattering};
 use crate::fields::communicator_and_buffer;
 use crate::front::{first_four, first_two, four_alone, one_alone};
 use crate::verb::Verb;
-use line_words::{LineError, Name, Word, is, name_of, rank_of, required};
+use tokens::{LineError, Name, Token, is, name_of, rank_of, require};
 use payload::Operation;
 use std::alloc::Global;
 
@@ -62,7 +62,7 @@ fn communicator_and_two(
     communicator: &[u8],
     buffer: &[u8],
     into: &[u8],
-) -> Result<(Communicator, Name, Name), LineError>
+) -> Result<(CommunicatorName, Name, Name), LineError>
     ensures { Gives (λ x. x) result (communicator_and_two communicator.now buffer.now into.now) }
 {
     let (communicator, buffer) = communicator_and_buffer(alloc, communicator, buffer)?;
@@ -72,7 +72,7 @@ fn communicator_and_two(
 
 /// `COMM ROOT B`
 #[tactic(auto, unfolding(crate::specs::Reading::bcast_of))]
-pub(crate) fn bcast_of(alloc: Global, words: &[Word]) -> Result<Action, LineError>
+pub(crate) fn bcast_of(alloc: Global, words: &[Token]) -> Result<Action, LineError>
     ensures { Gives (λ x. x) result (action_by Verb.Bcast words.now) }
 {
     let (communicator, root, rest) = first_two(words)?;
@@ -88,7 +88,7 @@ pub(crate) fn bcast_of(alloc: Global, words: &[Word]) -> Result<Action, LineErro
 
 /// `COMM ROOT B INTO`
 #[tactic(auto, unfolding(crate::specs::Reading::gather_of))]
-pub(crate) fn gather_of(alloc: Global, words: &[Word]) -> Result<Action, LineError>
+pub(crate) fn gather_of(alloc: Global, words: &[Token]) -> Result<Action, LineError>
     ensures { Gives (λ x. x) result (action_by Verb.Gather words.now) }
 {
     let (communicator, root, buffer, into) = four_alone(words)?;
@@ -104,7 +104,7 @@ pub(crate) fn gather_of(alloc: Global, words: &[Word]) -> Result<Action, LineErr
 
 /// `COMM ROOT B INTO`, where B may be `-`
 #[tactic(auto, unfolding(crate::specs::Reading::scatter_of))]
-pub(crate) fn scatter_of(alloc: Global, words: &[Word]) -> Result<Action, LineError>
+pub(crate) fn scatter_of(alloc: Global, words: &[Token]) -> Result<Action, LineError>
     ensures { Gives (λ x. x) result (action_by Verb.Scatter words.now) }
 {
     let (communicator, root, buffer, into) = four_alone(words)?;
@@ -121,13 +121,13 @@ pub(crate) fn scatter_of(alloc: Global, words: &[Word]) -> Result<Action, LineEr
 
 /// `COMM ROOT OP B INTO`
 #[tactic(auto, unfolding(crate::specs::Reading::reduce_of))]
-pub(crate) fn reduce_of(alloc: Global, words: &[Word]) -> Result<Action, LineError>
+pub(crate) fn reduce_of(alloc: Global, words: &[Token]) -> Result<Action, LineError>
     ensures { Gives (λ x. x) result (action_by Verb.Reduce words.now) }
 {
     let (communicator, root, operation, buffer, rest) = first_four(words)?;
     let into = one_alone(rest)?;
     let root = rank_of(root)?;
-    let operation = required(operation_of(operation))?;
+    let operation = require(operation_of(operation))?;
     let (communicator, buffer, into) = communicator_and_two(alloc, communicator, buffer, into)?;
     Ok(Action::Reduce(Reducing {
         communicator,
@@ -140,11 +140,11 @@ pub(crate) fn reduce_of(alloc: Global, words: &[Word]) -> Result<Action, LineErr
 
 /// `COMM OP B INTO`
 #[tactic(auto, unfolding(crate::specs::Reading::allreduce_of))]
-pub(crate) fn allreduce_of(alloc: Global, words: &[Word]) -> Result<Action, LineError>
+pub(crate) fn allreduce_of(alloc: Global, words: &[Token]) -> Result<Action, LineError>
     ensures { Gives (λ x. x) result (action_by Verb.Allreduce words.now) }
 {
     let (communicator, operation, buffer, into) = four_alone(words)?;
-    let operation = required(operation_of(operation))?;
+    let operation = require(operation_of(operation))?;
     let (communicator, buffer, into) = communicator_and_two(alloc, communicator, buffer, into)?;
     Ok(Action::Allreduce(ReducingToAll {
         communicator,

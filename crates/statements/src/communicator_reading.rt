@@ -2,13 +2,13 @@
 
 ghost use Rattle.std.specs.Prelude.{◌≡◌, ◌≤◌};
 ghost use Rattle.statements.specs.Reading.{action_by, colour_of, communicator_alone, communicator_of, key_below, key_of, name_and_communicator, two_communicators};
-ghost use Rattle.line_words.specs.Results.{Gives};
+ghost use Rattle.tokens.specs.Results.{Gives};
 
-use crate::action::{Action, Communicator, Splitting};
+use crate::action::{Action, CommunicatorName, Splitting};
 use crate::fields::communicator_of;
 use crate::front::{four_alone, one_alone, two_alone};
 use crate::verb::Verb;
-use line_words::{LineError, Name, Word, is, name_of, number_up_to};
+use tokens::{LineError, Name, Token, is, name_of, number_up_to};
 use std::alloc::Global;
 
 /// A colour, or `undefined`.
@@ -58,7 +58,7 @@ fn key_of(word: &[u8]) -> Result<i32, LineError>
 
 /// One communicator, and nothing behind it.
 #[tactic(auto, unfolding(crate::specs::Reading::communicator_alone))]
-pub(crate) fn communicator_alone(alloc: Global, words: &[Word]) -> Result<Communicator, LineError>
+pub(crate) fn communicator_alone(alloc: Global, words: &[Token]) -> Result<CommunicatorName, LineError>
     ensures { Gives (λ x. x) result (communicator_alone words.now) }
 {
     communicator_of(alloc, one_alone(words)?)
@@ -68,8 +68,8 @@ pub(crate) fn communicator_alone(alloc: Global, words: &[Word]) -> Result<Commun
 #[tactic(auto, unfolding(crate::specs::Reading::two_communicators))]
 pub(crate) fn two_communicators(
     alloc: Global,
-    words: &[Word],
-) -> Result<(Communicator, Communicator), LineError>
+    words: &[Token],
+) -> Result<(CommunicatorName, CommunicatorName), LineError>
     ensures { Gives (λ x. x) result (two_communicators words.now) }
 {
     let (one, other) = two_alone(words)?;
@@ -82,7 +82,7 @@ fn name_and_communicator(
     alloc: Global,
     name: &[u8],
     communicator: &[u8],
-) -> Result<(Name, Communicator), LineError>
+) -> Result<(Name, CommunicatorName), LineError>
     ensures { Gives (λ x. x) result (name_and_communicator name.now communicator.now) }
 {
     let name = name_of(alloc, name)?;
@@ -92,7 +92,7 @@ fn name_and_communicator(
 
 /// `NEW COMM`
 #[tactic(auto, unfolding(crate::specs::Reading::dup_of))]
-pub(crate) fn dup_of(alloc: Global, words: &[Word]) -> Result<Action, LineError>
+pub(crate) fn dup_of(alloc: Global, words: &[Token]) -> Result<Action, LineError>
     ensures { Gives (λ x. x) result (action_by Verb.Dup words.now) }
 {
     let (name, communicator) = two_alone(words)?;
@@ -102,7 +102,7 @@ pub(crate) fn dup_of(alloc: Global, words: &[Word]) -> Result<Action, LineError>
 
 /// `NEW COMM COLOUR KEY`
 #[tactic(auto, unfolding(crate::specs::Reading::split_of))]
-pub(crate) fn split_of(alloc: Global, words: &[Word]) -> Result<Action, LineError>
+pub(crate) fn split_of(alloc: Global, words: &[Token]) -> Result<Action, LineError>
     ensures { Gives (λ x. x) result (action_by Verb.Split words.now) }
 {
     let (name, communicator, colour, key) = four_alone(words)?;

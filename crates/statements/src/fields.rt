@@ -2,25 +2,25 @@
 
 ghost use Rattle.std.specs.Prelude.{◌≡◌};
 ghost use Rattle.statements.specs.Reading.{communicator_of, communicator_and_buffer, target_of, source_of, tag_of, requested_of, one_request, behind_as, through_of};
-ghost use Rattle.line_words.specs.Fields.{first, name_of, ended, rank_of, large_of, each};
-ghost use Rattle.line_words.specs.Results.{Gives};
+ghost use Rattle.tokens.specs.Fields.{first, name_of, end_of_line, rank_of, large_of, each};
+ghost use Rattle.tokens.specs.Results.{Gives};
 
-use crate::action::{Communicator, Requested, RequestedList, Through};
+use crate::action::{CommunicatorName, RequestName, RequestNames, LayoutClause};
 use crate::front::two_alone;
-use line_words::{LineError, Name, Word, is, large_of, name_of, number_or, rank_of};
+use tokens::{LineError, Name, Token, is, large_of, name_of, number_or, rank_of};
 use std::alloc::Global;
 use vocabulary::Source;
 
 #[tactic(auto, unfolding(crate::specs::Reading::communicator_of))]
-pub(crate) fn communicator_of(alloc: Global, word: &[u8]) -> Result<Communicator, LineError>
+pub(crate) fn communicator_of(alloc: Global, word: &[u8]) -> Result<CommunicatorName, LineError>
     ensures { Gives (λ x. x) result (communicator_of word.now) }
 {
     if is(word, b"world") {
-        Ok(Communicator::World)
+        Ok(CommunicatorName::World)
     } else if is(word, b"self") {
-        Ok(Communicator::Own)
+        Ok(CommunicatorName::Own)
     } else {
-        Ok(Communicator::Named(name_of(alloc, word)?))
+        Ok(CommunicatorName::Named(name_of(alloc, word)?))
     }
 }
 
@@ -29,7 +29,7 @@ pub(crate) fn communicator_and_buffer(
     alloc: Global,
     communicator: &[u8],
     buffer: &[u8],
-) -> Result<(Communicator, Name), LineError>
+) -> Result<(CommunicatorName, Name), LineError>
     ensures { Gives (λ x. x) result (communicator_and_buffer communicator.now buffer.now) }
 {
     let communicator = communicator_of(alloc, communicator)?;
@@ -74,21 +74,21 @@ pub(crate) fn tag_of(word: &[u8]) -> Result<Option<u32>, LineError>
 }
 
 #[tactic(auto, unfolding(crate::specs::Reading::requested_of))]
-pub(crate) fn requested_of(alloc: Global, word: &[u8]) -> Result<Requested, LineError>
+pub(crate) fn requested_of(alloc: Global, word: &[u8]) -> Result<RequestName, LineError>
     ensures { Gives (λ x. x) result (requested_of word.now) }
 {
     if is(word, b"null") {
-        Ok(Requested::Null)
+        Ok(RequestName::Null)
     } else {
-        Ok(Requested::Named(name_of(alloc, word)?))
+        Ok(RequestName::Named(name_of(alloc, word)?))
     }
 }
 
 /// A request for each word.
-pub(crate) fn requests_of(alloc: Global, words: &[Word]) -> Result<RequestedList, LineError>
+pub(crate) fn requests_of(alloc: Global, words: &[Token]) -> Result<RequestNames, LineError>
     ensures { Gives (λ x. x) result (each one_request words.now) }
 {
-    let mut requests = RequestedList::new(alloc);
+    let mut requests = RequestNames::new(alloc);
     for word in words {
         let request = requested_of(alloc, word.as_bytes())?;
         requests.push(request)?;
@@ -98,18 +98,18 @@ pub(crate) fn requests_of(alloc: Global, words: &[Word]) -> Result<RequestedList
 
 /// `L N`
 #[tactic(auto, unfolding(crate::specs::Reading::behind_as))]
-fn behind_as(alloc: Global, words: &[Word]) -> Result<Through, LineError>
+fn behind_as(alloc: Global, words: &[Token]) -> Result<LayoutClause, LineError>
     ensures { Gives (λ x. x) result (behind_as words.now) }
 {
     let (layout, copies) = two_alone(words)?;
     let copies = large_of(copies)?;
     let layout = name_of(alloc, layout)?;
-    Ok(Through { layout, copies })
+    Ok(LayoutClause { layout, copies })
 }
 
 /// `as L N`, or nothing.
 #[tactic(auto, unfolding(crate::specs::Reading::through_of))]
-pub(crate) fn through_of(alloc: Global, words: &[Word]) -> Result<Option<Through>, LineError>
+pub(crate) fn through_of(alloc: Global, words: &[Token]) -> Result<Option<LayoutClause>, LineError>
     ensures { Gives (λ x. x) result (through_of words.now) }
 {
     let Some((word, rest)) = words.split_first() else {

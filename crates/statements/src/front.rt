@@ -1,21 +1,21 @@
 //! The words in front of a line.
 
 ghost use Rattle.statements.specs.Reading.{one_alone, first_two, two_alone, first_four, four_alone};
-ghost use Rattle.line_words.specs.Results.{Gives};
+ghost use Rattle.tokens.specs.Results.{Gives};
 
-use line_words::{LineError, Word, ended, first};
+use tokens::{LineError, Token, end_of_line, first};
 
 /// One word, and nothing behind it.
-pub(crate) fn one_alone(words: &[Word]) -> Result<&[u8], LineError>
+pub(crate) fn one_alone(words: &[Token]) -> Result<&[u8], LineError>
     ensures { Gives (λ x. x.now) result (one_alone words.now) }
 {
     let (one, rest) = first(words)?;
-    ended(rest)?;
+    end_of_line(rest)?;
     Ok(one)
 }
 
 /// The first two words, and the words behind them.
-pub(crate) fn first_two(words: &[Word]) -> Result<(&[u8], &[u8], &[Word]), LineError>
+pub(crate) fn first_two(words: &[Token]) -> Result<(&[u8], &[u8], &[Token]), LineError>
     ensures { Gives (λ x. (x.0.now, x.1.now, x.2.now)) result (first_two words.now) }
 {
     let (one, rest) = first(words)?;
@@ -24,16 +24,16 @@ pub(crate) fn first_two(words: &[Word]) -> Result<(&[u8], &[u8], &[Word]), LineE
 }
 
 /// Two words, and nothing behind them.
-pub(crate) fn two_alone(words: &[Word]) -> Result<(&[u8], &[u8]), LineError>
+pub(crate) fn two_alone(words: &[Token]) -> Result<(&[u8], &[u8]), LineError>
     ensures { Gives (λ x. (x.0.now, x.1.now)) result (two_alone words.now) }
 {
     let (one, two, rest) = first_two(words)?;
-    ended(rest)?;
+    end_of_line(rest)?;
     Ok((one, two))
 }
 
 /// The first four words, and the words behind them.
-pub(crate) fn first_four(words: &[Word]) -> Result<(&[u8], &[u8], &[u8], &[u8], &[Word]), LineError>
+pub(crate) fn first_four(words: &[Token]) -> Result<(&[u8], &[u8], &[u8], &[u8], &[Token]), LineError>
     ensures { Gives (λ x. (x.0.now, x.1.now, x.2.now, x.3.now, x.4.now)) result (first_four words.now) }
 {
     let (one, two, rest) = first_two(words)?;
@@ -42,10 +42,10 @@ pub(crate) fn first_four(words: &[Word]) -> Result<(&[u8], &[u8], &[u8], &[u8], 
 }
 
 /// Four words, and nothing behind them.
-pub(crate) fn four_alone(words: &[Word]) -> Result<(&[u8], &[u8], &[u8], &[u8]), LineError>
+pub(crate) fn four_alone(words: &[Token]) -> Result<(&[u8], &[u8], &[u8], &[u8]), LineError>
     ensures { Gives (λ x. (x.0.now, x.1.now, x.2.now, x.3.now)) result (four_alone words.now) }
 {
     let (one, two, three, four, rest) = first_four(words)?;
-    ended(rest)?;
+    end_of_line(rest)?;
     Ok((one, two, three, four))
 }

@@ -4,8 +4,8 @@ ghost use Rattle.std.specs.Prelude.{◌≡◌, ◌++◌, [], ◌∷◌, OnOk};
 ghost use Rattle.derived_types.specs.Layouts.{LayoutGives};
 ghost use Rattle.statements.specs.Meanings.{offsets_made};
 
-use datatypes::{Block, Layout, Refusal};
-use line_words::Name;
+use datatypes::{IndexedBlock, Layout, LayoutRefusal};
+use tokens::Name;
 use std::alloc::{AllocFailed, Global};
 use std::marker::Model;
 use vocabulary::BasicType;
@@ -34,14 +34,14 @@ pub struct Stripes {
 /// Blocks, in order. Contracts see them as a list. A number that 64 bits don't hold stands as the greatest that they hold.
 #[derive(Drop)]
 pub struct Blocks {
-    items: Vec<Block>,
+    items: Vec<IndexedBlock>,
 }
 
 impl Model for Blocks {
     ghost use Rattle.std.specs.Prelude.{List};
-    ghost use Rattle.derived_types.specs.declared.block.Block.{Block};
+    ghost use Rattle.derived_types.specs.declared.block.IndexedBlock.{IndexedBlock};
 
-    ghost Value = { List Block };
+    ghost Value = { List IndexedBlock };
 
     ghost view = { λ b. b.items.items };
 }
@@ -57,14 +57,14 @@ impl Blocks {
     }
 
     /// Adds a block at the end.
-    pub(crate) fn push(&mut self, block: Block) -> Result<(), AllocFailed<Block>>
+    pub(crate) fn push(&mut self, block: IndexedBlock) -> Result<(), AllocFailed<IndexedBlock>>
         ensures { OnOk result (self.new ≡ self.old ++ block ∷ []) }
     {
         self.items.push(block)
     }
 
     /// The blocks, in order.
-    pub fn as_slice(&self) -> &[Block]
+    pub fn as_slice(&self) -> &[IndexedBlock]
         ensures { result.now ≡ self.now }
     {
         self.items.as_slice()
@@ -86,7 +86,7 @@ pub enum LayoutForm {
 impl LayoutForm {
     /// The layout that this form makes of copies of another one (MPI 3.1, 4.1.2). An error is one of 13, where a limit is
     /// passed, and of 14.
-    pub fn layout_made(&self, alloc: Global, old: &Layout) -> Result<Layout, Refusal>
+    pub fn layout_made(&self, alloc: Global, old: &Layout) -> Result<Layout, LayoutRefusal>
         ensures { LayoutGives old.now.basic (offsets_made self.now old.now.offsets) result }
     {
         match self {

@@ -3,15 +3,15 @@
 ghost use Rattle.std.specs.Prelude.{◌≡◌};
 ghost use Rattle.std.specs.List.{position};
 ghost use Rattle.statements.specs.Reading.{action_by, block_of, contiguous_of, form_word_of, formed_by, indexed_of, is_colon, last, old_of, one_block, stripes_of, vector_of};
-ghost use Rattle.line_words.specs.Fields.{each};
-ghost use Rattle.line_words.specs.Results.{Gives};
+ghost use Rattle.tokens.specs.Fields.{each};
+ghost use Rattle.tokens.specs.Results.{Gives};
 
 use crate::action::Action;
 use crate::front::{first_two, four_alone, two_alone};
 use crate::layout_line::{Blocks, LayoutForm, LayoutLine, OldLayout, Stripes};
 use crate::verb::Verb;
-use datatypes::Block;
-use line_words::{LineError, Word, basic_type_of, is, large_of, name_of, required};
+use datatypes::IndexedBlock;
+use tokens::{LineError, Token, basic_type_of, is, large_of, name_of, require};
 use std::alloc::Global;
 
 /// How a layout is made, by its word.
@@ -60,7 +60,7 @@ fn colon_place(word: &[u8]) -> Option<usize>
 
 /// `LEN:DISP`
 #[tactic(auto, unfolding(crate::specs::Reading::block_of))]
-fn block_of(word: &[u8]) -> Result<Block, LineError>
+fn block_of(word: &[u8]) -> Result<IndexedBlock, LineError>
     ensures { Gives (λ x. x) result (block_of word.now) }
 {
     let Some(place) = colon_place(word) else {
@@ -70,13 +70,13 @@ fn block_of(word: &[u8]) -> Result<Block, LineError>
     let (_, displacement) = back.split_at(1);
     let length = large_of(length)?;
     let displacement = large_of(displacement)?;
-    Ok(Block {
+    Ok(IndexedBlock {
         length,
         displacement,
     })
 }
 
-fn blocks_of(alloc: Global, words: &[Word]) -> Result<Blocks, LineError>
+fn blocks_of(alloc: Global, words: &[Token]) -> Result<Blocks, LineError>
     ensures { Gives (λ x. x) result (each one_block words.now) }
 {
     let mut blocks = Blocks::new(alloc);
@@ -88,7 +88,7 @@ fn blocks_of(alloc: Global, words: &[Word]) -> Result<Blocks, LineError>
 }
 
 /// The words before the last one, and the last one.
-fn last(words: &[Word]) -> Result<(&[Word], &[u8]), LineError>
+fn last(words: &[Token]) -> Result<(&[Token], &[u8]), LineError>
     ensures { Gives (λ x. (x.0.now, x.1.now)) result (last words.now) }
 {
     match words.split_last() {
@@ -99,7 +99,7 @@ fn last(words: &[Word]) -> Result<(&[Word], &[u8]), LineError>
 
 /// `N OLD`
 #[tactic(auto, unfolding(crate::specs::Reading::contiguous_of))]
-fn contiguous_of(alloc: Global, words: &[Word]) -> Result<(LayoutForm, OldLayout), LineError>
+fn contiguous_of(alloc: Global, words: &[Token]) -> Result<(LayoutForm, OldLayout), LineError>
     ensures { Gives (λ x. x) result (contiguous_of words.now) }
 {
     let (count, old) = two_alone(words)?;
@@ -121,7 +121,7 @@ fn stripes_of(count: &[u8], blocklength: &[u8], stride: &[u8]) -> Result<Stripes
 
 /// `C B S OLD`
 #[tactic(auto, unfolding(crate::specs::Reading::vector_of))]
-fn vector_of(alloc: Global, words: &[Word]) -> Result<(LayoutForm, OldLayout), LineError>
+fn vector_of(alloc: Global, words: &[Token]) -> Result<(LayoutForm, OldLayout), LineError>
     ensures { Gives (λ x. x) result (vector_of words.now) }
 {
     let (count, blocklength, stride, old) = four_alone(words)?;
@@ -132,7 +132,7 @@ fn vector_of(alloc: Global, words: &[Word]) -> Result<(LayoutForm, OldLayout), L
 
 /// `LEN:DISP .. OLD`
 #[tactic(auto, unfolding(crate::specs::Reading::indexed_of))]
-fn indexed_of(alloc: Global, words: &[Word]) -> Result<(LayoutForm, OldLayout), LineError>
+fn indexed_of(alloc: Global, words: &[Token]) -> Result<(LayoutForm, OldLayout), LineError>
     ensures { Gives (λ x. x) result (indexed_of words.now) }
 {
     let (front, old) = last(words)?;
@@ -145,7 +145,7 @@ fn indexed_of(alloc: Global, words: &[Word]) -> Result<(LayoutForm, OldLayout), 
 fn formed_by(
     alloc: Global,
     form: FormWord,
-    words: &[Word],
+    words: &[Token],
 ) -> Result<(LayoutForm, OldLayout), LineError>
     ensures { Gives (λ x. x) result (formed_by form words.now) }
 {
@@ -158,11 +158,11 @@ fn formed_by(
 
 /// A layout's name, and how it is made.
 #[tactic(auto, unfolding(crate::specs::Reading::layout_of))]
-pub(crate) fn layout_of(alloc: Global, words: &[Word]) -> Result<Action, LineError>
+pub(crate) fn layout_of(alloc: Global, words: &[Token]) -> Result<Action, LineError>
     ensures { Gives (λ x. x) result (action_by Verb.Layout words.now) }
 {
     let (name, form, rest) = first_two(words)?;
-    let form = required(form_word_of(form))?;
+    let form = require(form_word_of(form))?;
     let name = name_of(alloc, name)?;
     let (form, made_of) = formed_by(alloc, form, rest)?;
     Ok(Action::Layout(LayoutLine {

@@ -1,7 +1,7 @@
 //! Statements: what ranks do, in the language that files of events and scripts of ranks share.
 //!
 //! Which words spell what a rank does stands here; which lines a file may have, each reader says for itself. The lines
-//! and their words are those of `line_words`. The language is this project's own.
+//! and their words are those of `tokens`. The language is this project's own.
 #![tactic(auto)]
 
 mod action;
@@ -18,11 +18,11 @@ mod values;
 mod verb;
 
 pub use action::{
-    Action, BufferLine, Communicator, Landing, Probing, Receiving, Requested, RequestedList,
-    Sending, Splitting, Through,
+    Action, BufferLine, CommunicatorName, Landing, Probing, Receiving, RequestName, RequestNames,
+    Sending, Splitting, LayoutClause,
 };
 pub use collective_line::{Broadcasting, Gathering, Reducing, ReducingToAll, Scattering};
 pub use layout_line::{Blocks, LayoutForm, LayoutLine, OldLayout, Stripes};
-pub use line_words::{LineError, Name, ParseError, Word, Words};
+pub use tokens::{LineError, Name, ParseError, Token, Tokens};
 pub use payload::Operation;
 pub use reading::{action_of, receiving_of, sending_of};

@@ -2,18 +2,18 @@
 
 ghost use Rattle.std.specs.Prelude.{◌≡◌};
 ghost use Rattle.statements.specs.Reading.{action_by, landing_of, probing_of};
-ghost use Rattle.line_words.specs.Results.{Gives};
+ghost use Rattle.tokens.specs.Results.{Gives};
 
 use crate::action::{Action, Landing, Probing};
 use crate::fields::{communicator_of, source_of, tag_of, through_of};
 use crate::front::{first_two, one_alone};
 use crate::verb::Verb;
-use line_words::{LineError, Word, first, name_of};
+use tokens::{LineError, Token, first, name_of};
 use std::alloc::Global;
 
 /// `COMM SRC TAG`
 #[tactic(auto, unfolding(crate::specs::Reading::probing_of))]
-pub(crate) fn probing_of(alloc: Global, words: &[Word]) -> Result<Probing, LineError>
+pub(crate) fn probing_of(alloc: Global, words: &[Token]) -> Result<Probing, LineError>
     ensures { Gives (λ x. x) result (probing_of words.now) }
 {
     let (communicator, source, rest) = first_two(words)?;
@@ -30,7 +30,7 @@ pub(crate) fn probing_of(alloc: Global, words: &[Word]) -> Result<Probing, LineE
 
 /// `B`, with or without `as L N`.
 #[tactic(auto, unfolding(crate::specs::Reading::landing_of))]
-fn landing_of(alloc: Global, words: &[Word]) -> Result<Landing, LineError>
+fn landing_of(alloc: Global, words: &[Token]) -> Result<Landing, LineError>
     ensures { Gives (λ x. x) result (landing_of words.now) }
 {
     let (buffer, rest) = first(words)?;
@@ -41,7 +41,7 @@ fn landing_of(alloc: Global, words: &[Word]) -> Result<Landing, LineError>
 
 /// `M COMM SRC TAG`
 #[tactic(auto, unfolding(crate::specs::Reading::improbe_of))]
-pub(crate) fn improbe_of(alloc: Global, words: &[Word]) -> Result<Action, LineError>
+pub(crate) fn improbe_of(alloc: Global, words: &[Token]) -> Result<Action, LineError>
     ensures { Gives (λ x. x) result (action_by Verb.Improbe words.now) }
 {
     let (message, rest) = first(words)?;
@@ -51,7 +51,7 @@ pub(crate) fn improbe_of(alloc: Global, words: &[Word]) -> Result<Action, LineEr
 
 /// `M B`, with or without `as L N`.
 #[tactic(auto, unfolding(crate::specs::Reading::mrecv_of))]
-pub(crate) fn mrecv_of(alloc: Global, words: &[Word]) -> Result<Action, LineError>
+pub(crate) fn mrecv_of(alloc: Global, words: &[Token]) -> Result<Action, LineError>
     ensures { Gives (λ x. x) result (action_by Verb.Mrecv words.now) }
 {
     let (message, rest) = first(words)?;

@@ -2,9 +2,9 @@
 
 ghost use Rattle.std.specs.Prelude.{◌≡◌};
 ghost use Rattle.statements.specs.Reading.{places_of, sending_of, receiving_of, isend_of, one_of, action_by, action_of};
-ghost use Rattle.line_words.specs.Results.{Gives};
+ghost use Rattle.tokens.specs.Results.{Gives};
 
-use crate::action::{Action, BufferLine, Communicator, Receiving, Requested, Sending, Through};
+use crate::action::{Action, BufferLine, CommunicatorName, Receiving, RequestName, Sending, LayoutClause};
 use crate::collective_reading::{allreduce_of, bcast_of, gather_of, reduce_of, scatter_of};
 use crate::communicator_reading::{communicator_alone, dup_of, split_of, two_communicators};
 use crate::fields::{
@@ -15,15 +15,15 @@ use crate::layout_reading::layout_of;
 use crate::probe_reading::{improbe_of, mrecv_of, probing_of};
 use crate::values::buffer_with;
 use crate::verb::{Verb, verb_of};
-use line_words::{LineError, Name, Word, basic_type_of, first, name_of, required};
+use tokens::{LineError, Name, Token, basic_type_of, first, name_of, require};
 use std::alloc::Global;
 
 #[tactic(auto, unfolding(crate::specs::Reading::buffer_of))]
-fn buffer_of(alloc: Global, words: &[Word]) -> Result<Action, LineError>
+fn buffer_of(alloc: Global, words: &[Token]) -> Result<Action, LineError>
     ensures { Gives (λ x. x) result (action_by Verb.Buffer words.now) }
 {
     let (name, basic, rest) = first_two(words)?;
-    let basic = required(basic_type_of(basic))?;
+    let basic = require(basic_type_of(basic))?;
     let name = name_of(alloc, name)?;
     let value = buffer_with(alloc, basic, rest)?;
     Ok(Action::Buffer(BufferLine { name, value }))
@@ -34,8 +34,8 @@ fn places_of(
     alloc: Global,
     communicator: &[u8],
     buffer: &[u8],
-    words: &[Word],
-) -> Result<(Communicator, Name, Option<Through>), LineError>
+    words: &[Token],
+) -> Result<(CommunicatorName, Name, Option<LayoutClause>), LineError>
     ensures { Gives (λ x. x) result (places_of communicator.now buffer.now words.now) }
 {
     let (communicator, buffer) = communicator_and_buffer(alloc, communicator, buffer)?;
@@ -45,7 +45,7 @@ fn places_of(
 
 /// The arguments of a send, which the words `COMM DEST TAG B` spell, with or without `as L N`.
 #[tactic(auto, unfolding(crate::specs::Reading::sending_of))]
-pub fn sending_of(alloc: Global, words: &[Word]) -> Result<Sending, LineError>
+pub fn sending_of(alloc: Global, words: &[Token]) -> Result<Sending, LineError>
     ensures { Gives (λ x. x) result (sending_of words.now) }
 {
     let (communicator, target, tag, buffer, rest) = first_four(words)?;
@@ -63,7 +63,7 @@ pub fn sending_of(alloc: Global, words: &[Word]) -> Result<Sending, LineError>
 
 /// The arguments of a receive, which the words `COMM SRC TAG B` spell, with or without `as L N`.
 #[tactic(auto, unfolding(crate::specs::Reading::receiving_of))]
-pub fn receiving_of(alloc: Global, words: &[Word]) -> Result<Receiving, LineError>
+pub fn receiving_of(alloc: Global, words: &[Token]) -> Result<Receiving, LineError>
     ensures { Gives (λ x. x) result (receiving_of words.now) }
 {
     let (communicator, source, tag, buffer, rest) = first_four(words)?;
@@ -81,7 +81,7 @@ pub fn receiving_of(alloc: Global, words: &[Word]) -> Result<Receiving, LineErro
 
 /// `Q COMM DEST TAG B`: the name of a send's request, and its arguments.
 #[tactic(auto, unfolding(crate::specs::Reading::isend_of))]
-fn isend_of(alloc: Global, words: &[Word]) -> Result<(Name, Sending), LineError>
+fn isend_of(alloc: Global, words: &[Token]) -> Result<(Name, Sending), LineError>
     ensures { Gives (λ x. x) result (isend_of words.now) }
 {
     let (request, rest) = first(words)?;
@@ -91,7 +91,7 @@ fn isend_of(alloc: Global, words: &[Word]) -> Result<(Name, Sending), LineError>
 }
 
 #[tactic(auto, unfolding(crate::specs::Reading::irecv_of))]
-fn irecv_of(alloc: Global, words: &[Word]) -> Result<Action, LineError>
+fn irecv_of(alloc: Global, words: &[Token]) -> Result<Action, LineError>
     ensures { Gives (λ x. x) result (action_by Verb.Irecv words.now) }
 {
     let (request, rest) = first(words)?;
@@ -100,14 +100,14 @@ fn irecv_of(alloc: Global, words: &[Word]) -> Result<Action, LineError>
 }
 
 #[tactic(auto, unfolding(crate::specs::Reading::one_of))]
-fn one_of(alloc: Global, words: &[Word]) -> Result<Requested, LineError>
+fn one_of(alloc: Global, words: &[Token]) -> Result<RequestName, LineError>
     ensures { Gives (λ x. x) result (one_of words.now) }
 {
     requested_of(alloc, one_alone(words)?)
 }
 
 /// What a rank does, which the words behind its verb spell.
-fn action_by(alloc: Global, verb: Verb, rest: &[Word]) -> Result<Action, LineError>
+fn action_by(alloc: Global, verb: Verb, rest: &[Token]) -> Result<Action, LineError>
     ensures { Gives (λ x. x) result (action_by verb rest.now) }
 {
     match verb {
@@ -149,10 +149,10 @@ fn action_by(alloc: Global, verb: Verb, rest: &[Word]) -> Result<Action, LineErr
 
 /// What a rank does, which the words spell.
 #[tactic(auto, unfolding(crate::specs::Reading::action_of))]
-pub fn action_of(alloc: Global, words: &[Word]) -> Result<Action, LineError>
+pub fn action_of(alloc: Global, words: &[Token]) -> Result<Action, LineError>
     ensures { Gives (λ x. x) result (action_of words.now) }
 {
     let (verb, rest) = first(words)?;
-    let verb = required(verb_of(verb))?;
+    let verb = require(verb_of(verb))?;
     action_by(alloc, verb, rest)
 }

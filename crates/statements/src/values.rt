@@ -4,11 +4,11 @@ ghost use Rattle.std.specs.Prelude.{◌≡◌, ◌<◌, IfOk, IfSome};
 ghost use Rattle.std.specs.List.{position};
 ghost use Rattle.datatypes.specs.Elements.{numbers_of};
 ghost use Rattle.statements.specs.Reading.{value_of, is_star, copies_of, buffer_with};
-ghost use Rattle.line_words.specs.Numbers.{count_of};
-ghost use Rattle.line_words.specs.Results.{Gives};
+ghost use Rattle.tokens.specs.Numbers.{count_of};
+ghost use Rattle.tokens.specs.Results.{Gives};
 
 use datatypes::{Buffer, number_of};
-use line_words::{LineError, Word, number_up_to, numeral_of, required};
+use tokens::{LineError, Token, number_up_to, numeral_of, require};
 use std::alloc::Global;
 use vocabulary::BasicType;
 
@@ -55,14 +55,14 @@ fn required_value(basic: BasicType, word: &[u8]) -> Result<u64, LineError>
     ensures exact { Gives (λ x. x) result (value_of basic word.now) }
     ensures within { IfOk result (λ number. number < numbers_of basic) }
 {
-    required(value_of(basic, word))
+    require(value_of(basic, word))
 }
 
 /// The buffer of the elements that the words spell.
 pub(crate) fn buffer_with(
     alloc: Global,
     basic: BasicType,
-    words: &[Word],
+    words: &[Token],
 ) -> Result<Buffer, LineError>
     ensures { Gives (λ x. x) result (buffer_with basic words.now) }
 {

@@ -3,7 +3,7 @@
 ghost use Rattle.std.specs.Prelude.{◌≡◌};
 ghost use Rattle.statements.specs.Words.{communicator_verb_of, verb_of};
 
-use line_words::is;
+use tokens::is;
 
 /// What a rank does, by its first word.
 #[derive(Clone, Copy)]

@@ -1,12 +1,12 @@
 -- What an engine is left with by a call, by whether it was refused.
 use Rattle.std.proofs.Common.{◌≡◌, Some, None, sym, subst, ◌∙◌}
 use Rattle.std.proofs.lemmas.Option.{same_Some}
-use Rattle.engine_parts.specs.Calls.{CallGives, IsTaken, RefusedLeaves}
-use Rattle.engine_parts.specs.EngineState.{EngineState}
-use Rattle.engine_parts.specs.declared.call.Call.{Call}
-use Rattle.engine_parts.specs.declared.reply.Reply.{Reply}
-use Rattle.engine_parts.specs.declared.reply.Reply.TheVariants as replies
-use Rattle.rank_calls.specs.declared.refused.Refused.{Refused}
+use Rattle.engine_calls.specs.Calls.{CallGives, IsTaken, RefusedLeaves}
+use Rattle.engine_calls.specs.EngineState.{EngineState}
+use Rattle.engine_calls.specs.declared.call.Call.{Call}
+use Rattle.engine_calls.specs.declared.reply.Reply.{Reply}
+use Rattle.engine_calls.specs.declared.reply.Reply.TheVariants as replies
+use Rattle.point_to_point_calls.specs.declared.refusal.Refusal.{Refusal}
 use Rattle.world.specs.Views.{refusal_of}
 
 -- a reply that is no refusal is that of a call that was taken
@@ -23,14 +23,14 @@ is_taken (replies.Probed found) is = tt
 is_taken (replies.Matched found) is = tt
 
 -- a call that is refused hands itself back, and leaves the engine as it was
-pub refused_call : (old new : EngineState) (call : Call) (r : Reply) (why e : Refused) → refusal_of r ≡ Some why → e ≡ why → CallGives old call r new → RefusedLeaves r old new →
+pub refused_call : (old new : EngineState) (call : Call) (r : Reply) (why e : Refusal) → refusal_of r ≡ Some why → e ≡ why → CallGives old call r new → RefusedLeaves r old new →
     (new ≡ old) × ((back : Call) × CallGives old call (replies.Refused e back) old)
 refused_call old new call (replies.Refused x back) why e is same gives leaves = (
   leaves,
   (
     back,
     subst (λ (n : EngineState). CallGives old call (replies.Refused e back) n) leaves
-        (subst (λ (w : Refused). CallGives old call (replies.Refused w back) new) (same_Some _ _ is ∙ sym same) gives),
+        (subst (λ (w : Refusal). CallGives old call (replies.Refused w back) new) (same_Some _ _ is ∙ sym same) gives),
   ),
 )
 refused_call old new call (replies.Started request) why e is same gives leaves = absurd cc

@@ -4,7 +4,7 @@ use Rattle.std.specs.Prelude.{Result, Ok, Err, slice_get}
 use Rattle.std.specs.List.{AllByRecursion}
 use Rattle.std.proofs.lemmas.List.{length-set}
 use Rattle.std.proofs.lemmas.Option.{same_Some}
-use Rattle.engine_parts.specs.EngineState.{EngineState, member_of}
+use Rattle.engine_calls.specs.EngineState.{EngineState, member_of}
 use Rattle.incarnation.specs.declared.place.Place.{Place}
 use Rattle.perfect_groups.specs.Calls.{held_at}
 use Rattle.perfect_groups.specs.Communicators.{Communicator}
@@ -27,11 +27,11 @@ use Rattle.world.specs.EventByEvent.{AllShareGroups, AreOwnSteps, AreStepsOf, Go
 use Rattle.world.specs.Headline.{IsSound, history_seen}
 use Rattle.world.specs.Steps.{ByTheEngine, ByTheWorld, ForRoom, Gave, IsRefusedBy, IsWhy, RanAt, StepGives, Went}
 use Rattle.world.specs.WorldState.{WorldState, opening_world}
-use Rattle.world.specs.declared.event.Entry.{Entry}
+use Rattle.world.specs.declared.event.HistoryEntry.{HistoryEntry}
 use Rattle.world.specs.declared.event.Event.{Event}
 use Rattle.world.specs.declared.event.Failed.{Failed}
 use Rattle.world.specs.declared.event.Stepped.{Stepped}
-use Rattle.world.specs.declared.refused.Refused.{Refused}
+use Rattle.world.specs.declared.refusal.WorldRefusal.{WorldRefusal}
 
 -- ---- A WORLD AND A RUN
 
@@ -78,7 +78,7 @@ same_run : (a b : WorldState) (run_events : List machine.Event) → a ≡ b → 
 same_run a b run_events is h = subst (λ (w : WorldState). HasRun w run_events) (sym is) h
 
 -- so has one that is made so
-pub made_has_none : (n : ℕ) (engines : List EngineState) (datagrams : List (ℕ × List ℕ)) (history : List Entry) (datagram_room entry_room : ℕ) → n ≤ 1024 → engines ≡ opening_engines n 0 n → datagrams ≡ [] → history ≡ [] →
+pub made_has_none : (n : ℕ) (engines : List EngineState) (datagrams : List (ℕ × List ℕ)) (history : List HistoryEntry) (datagram_room entry_room : ℕ) → n ≤ 1024 → engines ≡ opening_engines n 0 n → datagrams ≡ [] → history ≡ [] →
     datagram_room ≡ 0 → entry_room ≡ 0 → HasRun (record { engines = engines; datagrams = datagrams; history = history; datagram_room = datagram_room; entry_room = entry_room }) []
 made_has_none n engines datagrams history datagram_room entry_room few es ds hs dr er =
     same_run (record { engines = engines; datagrams = datagrams; history = history; datagram_room = datagram_room; entry_room = entry_room }) (opening_world n) []
@@ -136,14 +136,14 @@ went_on old new event added run_events w sound h = (a.more, a.own, a.has)
     on : IsSoundOn w.ran.rank h.happenings new.engines new.datagrams new.history
     on =
         subst (λ (d : List (ℕ × List ℕ)). IsSoundOn w.ran.rank h.happenings new.engines d new.history) (sym w.datagrams)
-        (subst (λ (es : List Entry). IsSoundOn w.ran.rank h.happenings new.engines (old.datagrams ++ w.gave.out) es) (sym w.history)
+        (subst (λ (es : List HistoryEntry). IsSoundOn w.ran.rank h.happenings new.engines (old.datagrams ++ w.gave.out) es) (sym w.history)
         (event_sound_on h.happenings old.engines new.engines old.datagrams old.history event w.gave h.sound w.allowed w.ran sound.world))
 
     a : Adds old new event run_events
     a = event_adds old new event run_events h w.gave w.ran on
 
 -- a refusal adds nothing
-refused_stands : (old : WorldState) (event : Event) (refused : Refused) (out : List (ℕ × List ℕ)) (happenings : List Happening) → IsWhy old event refused out → IsSoundBy happenings old.engines old.datagrams old.history →
+refused_stands : (old : WorldState) (event : Event) (refused : WorldRefusal) (out : List (ℕ × List ℕ)) (happenings : List Happening) → IsWhy old event refused out → IsSoundBy happenings old.engines old.datagrams old.history →
     IsSoundBy happenings old.engines (old.datagrams ++ out) old.history
 refused_stands old event refused out happenings (ByTheWorld fault none) s = silent none
   where

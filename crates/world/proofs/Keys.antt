@@ -3,10 +3,10 @@ use Rattle.std.proofs.Common.{◌≡◌, ℕ, ◌<◌, ◌≤◌, ◌⊎◌, Boo
 use Rattle.std.specs.Prelude.{Ok, option_and_then, slice_get, slice_set}
 use Rattle.std.specs.List.{AllByRecursion}
 use Rattle.std.proofs.lemmas.Option.{slice_get_within}
-use Rattle.engine_parts.specs.EngineState.{EngineState, opening}
-use Rattle.engine_parts.specs.declared.call.Call.{Call}
-use Rattle.engine_parts.specs.declared.call.Call.TheVariants as calls
-use Rattle.engine_parts.specs.declared.reply.Reply.{Reply}
+use Rattle.engine_calls.specs.EngineState.{EngineState, opening}
+use Rattle.engine_calls.specs.declared.call.Call.{Call}
+use Rattle.engine_calls.specs.declared.call.Call.TheVariants as calls
+use Rattle.engine_calls.specs.declared.reply.Reply.{Reply}
 use Rattle.incarnation.specs.declared.place.Place.{Place}
 use Rattle.perfect_groups.specs.Calls as machine
 use Rattle.perfect_queues.specs.Completions as completions
@@ -22,10 +22,10 @@ use Rattle.proof_network_bridge.specs.Joined.{IsFollowed, network_after}
 use Rattle.proof_network_bridge.specs.Seen.{call_meant, call_seen}
 use Rattle.proof_request_keys.proofs.Engines.{calls_keep_keys, datagrams_keep_keys, given_are_named, named_are_own, ticks_keep_keys}
 use Rattle.proof_request_keys.specs.Keys.{AreGiven, IsBelow, IsNamed, KeepsKeys, request_given}
-use Rattle.rank_core.specs.CoreState.{CoreState}
+use Rattle.point_to_point.specs.CoreState.{CoreState}
 use Rattle.requests.specs.Regions.{handed_of}
 use Rattle.requests.specs.Table.{slot_at}
-use Rattle.requests.specs.declared.table.Entry as table
+use Rattle.requests.specs.declared.table.TableEntry as table
 use Rattle.requests.specs.declared.table.Request.{Request}
 use Rattle.vocabulary.specs.declared.endpoint.Endpoint.{Endpoint}
 use Rattle.world.specs.Faults.{event_fault}
@@ -33,14 +33,14 @@ use Rattle.world.specs.Given.{AreNamed, GivesRequest, IsPast, NamesOwn, WasGiven
 use Rattle.world.specs.Headline.{history_seen}
 use Rattle.world.specs.Steps.{CallRuns, DatagramRuns, DeliveryRuns, EventRuns, Gave, Ran, RestartRuns, TakesBytes, TakesCall, TakesTime, TickRuns, entry_of, nothing_of}
 use Rattle.world.specs.WorldState.{ArePlaced}
-use Rattle.world.specs.declared.event.Entry.{Entry}
+use Rattle.world.specs.declared.event.HistoryEntry.{HistoryEntry}
 use Rattle.world.specs.declared.event.Event.{Event}
 use Rattle.world.specs.declared.event.Event.TheVariants as events
 use Rattle.world.proofs.Strays.{stray_breaks}
 
 -- ---- one entry more
 
-given_more : (h : List Entry) (entry : Entry) (x : Endpoint) (q : Request) → WasGiven (h ++ entry ∷ []) x q → WasGiven h x q ⊎ GivesRequest entry x q
+given_more : (h : List HistoryEntry) (entry : HistoryEntry) (x : Endpoint) (q : Request) → WasGiven (h ++ entry ∷ []) x q → WasGiven h x q ⊎ GivesRequest entry x q
 given_more [] entry x q (inl g) = inr g
 given_more [] entry x q (inr g) = inl g
 given_more (y ∷ h) entry x q (inl g) = inl (inl g)
@@ -50,18 +50,18 @@ given_more (y ∷ h) entry x q (inr g) = go (given_more h entry x q g)
     go (inl before) = inl (inr before)
     go (inr now) = inr now
 
-past_more : (x : Endpoint) (h : List Entry) (entry : Entry) → AllByRecursion (IsPast x) h → IsPast x entry → AllByRecursion (IsPast x) (h ++ entry ∷ [])
+past_more : (x : Endpoint) (h : List HistoryEntry) (entry : HistoryEntry) → AllByRecursion (IsPast x) h → IsPast x entry → AllByRecursion (IsPast x) (h ++ entry ∷ [])
 past_more x [] entry all here = (here, tt)
 past_more x (y ∷ h) entry all here = (all.0, past_more x h entry all.1 here)
 
 -- what is past at an endpoint is so at a later one of its rank
-past_later : (x y : Endpoint) (h : List Entry) → y.rank ≡ x.rank → x.incarnation ≤ y.incarnation → AllByRecursion (IsPast x) h → AllByRecursion (IsPast y) h
+past_later : (x y : Endpoint) (h : List HistoryEntry) → y.rank ≡ x.rank → x.incarnation ≤ y.incarnation → AllByRecursion (IsPast x) h → AllByRecursion (IsPast y) h
 past_later x y [] rank later all = tt
 past_later x y (entry ∷ h) rank later all =
     (λ is. (let before : entry.endpoint.incarnation ≤ x.incarnation = all.0 (is ∙ rank) in omega (arith, before, later)), past_later x y h rank later all.1)
 
 -- nothing was given at an endpoint that is to come
-none_to_come : (x y : Endpoint) (h : List Entry) (q : Request) → y.rank ≡ x.rank → x.incarnation < y.incarnation → AllByRecursion (IsPast x) h → WasGiven h y q → ⊥
+none_to_come : (x y : Endpoint) (h : List HistoryEntry) (q : Request) → y.rank ≡ x.rank → x.incarnation < y.incarnation → AllByRecursion (IsPast x) h → WasGiven h y q → ⊥
 none_to_come x y [] q rank later all given = given
 none_to_come x y (entry ∷ h) q rank later all (inl g) =
     let before : entry.endpoint.incarnation ≤ x.incarnation = all.0 (ap (λ (e : Endpoint). e.rank) g.endpoint ∙ rank) in
@@ -72,7 +72,7 @@ none_to_come x y (entry ∷ h) q rank later all (inr g) = none_to_come x y h q r
 -- ---- an engine after an event
 
 -- of another rank nothing changed
-named_elsewhere : (h : List Entry) (entry : Entry) (e : EngineState) → (entry.endpoint.rank ≡ e.sessions.place.endpoint.rank → ⊥) → AreNamed h e → AreNamed (h ++ entry ∷ []) e
+named_elsewhere : (h : List HistoryEntry) (entry : HistoryEntry) (e : EngineState) → (entry.endpoint.rank ≡ e.sessions.place.endpoint.rank → ⊥) → AreNamed h e → AreNamed (h ++ entry ∷ []) e
 named_elsewhere h entry e apart n = record { past = past_more e.sessions.place.endpoint h entry n.past (λ is. absurd (apart is)); named = named }
   where
     named : (q : Request) → WasGiven (h ++ entry ∷ []) e.sessions.place.endpoint q → IsNamed e.core q
@@ -83,7 +83,7 @@ named_elsewhere h entry e apart n = record { past = past_more e.sessions.place.e
         go (inr now) = absurd (apart (ap (λ (x : Endpoint). x.rank) now.endpoint))
 
 -- one that went on, and gave what the entry says
-named_after : (h : List Entry) (entry : Entry) (e next : EngineState) → next.sessions.place ≡ e.sessions.place → entry.endpoint ≡ e.sessions.place.endpoint →
+named_after : (h : List HistoryEntry) (entry : HistoryEntry) (e next : EngineState) → next.sessions.place ≡ e.sessions.place → entry.endpoint ≡ e.sessions.place.endpoint →
     ((q : Request) → IsNamed e.core q → IsNamed next.core q) → ((q : Request) → option_and_then request_given entry.reply ≡ Some q → IsNamed next.core q) → AreNamed h e → AreNamed (h ++ entry ∷ []) next
 named_after h entry e next place endpoint keeps gives n =
     record {
@@ -97,7 +97,7 @@ named_after h entry e next place endpoint keeps gives n =
     go q (inr now) = gives q now.gave
 
 -- one that gave way to the next incarnation
-named_anew : (h : List Entry) (entry : Entry) (e : EngineState) → entry.endpoint ≡ e.sessions.place.endpoint → entry.reply ≡ None → AreNamed h e → AreNamed (h ++ entry ∷ []) (opening (next_place e.sessions.place))
+named_anew : (h : List HistoryEntry) (entry : HistoryEntry) (e : EngineState) → entry.endpoint ≡ e.sessions.place.endpoint → entry.reply ≡ None → AreNamed h e → AreNamed (h ++ entry ∷ []) (opening (next_place e.sessions.place))
 named_anew h entry e endpoint silent n =
     record {
       past = past_later x y (h ++ entry ∷ []) refl (omega arith) past;
@@ -116,7 +116,7 @@ named_anew h entry e endpoint silent n =
 -- ---- what an engine of a world holds
 
 -- a serial that stands in the table was given
-given_there : (n r : ℕ) (engines : List EngineState) (datagrams : List (ℕ × List ℕ)) (h : List Entry) (e : EngineState) → IsFollowed n engines datagrams (history_seen h) → slice_get engines r ≡ Some e → AreGiven e.core
+given_there : (n r : ℕ) (engines : List EngineState) (datagrams : List (ℕ × List ℕ)) (h : List HistoryEntry) (e : EngineState) → IsFollowed n engines datagrams (history_seen h) → slice_get engines r ≡ Some e → AreGiven e.core
 given_there n r engines datagrams h e f there key = go (slot_at e.core.slots key) refl
   where
     w : GroupNetwork
@@ -125,7 +125,7 @@ given_there n r engines datagrams h e f there key = go (slot_at e.core.slots key
     shown : IsShown (announcements_in 0 f.joined.sessions (here w.net r)) e.core e.sessions.known (w.net.core (here w.net r))
     shown = (f.joined.held r e there).queues 0
 
-    go : (o : Option table.Entry) → slot_at e.core.slots key ≡ o → IsBelow e.core.serial o
+    go : (o : Option table.TableEntry) → slot_at e.core.slots key ≡ o → IsBelow e.core.serial o
     go None is = tt
     go (Some t) is =
         let row : IsRow shown.rows key t = shown.table.entries key t is in
@@ -134,14 +134,14 @@ given_there n r engines datagrams h e f there key = go (slot_at e.core.slots key
         omega (arith, low, count)
 
 -- its core stands where its sessions stand
-placed_there : (n r : ℕ) (engines : List EngineState) (datagrams : List (ℕ × List ℕ)) (h : List Entry) (e : EngineState) → IsFollowed n engines datagrams (history_seen h) → slice_get engines r ≡ Some e →
+placed_there : (n r : ℕ) (engines : List EngineState) (datagrams : List (ℕ × List ℕ)) (h : List HistoryEntry) (e : EngineState) → IsFollowed n engines datagrams (history_seen h) → slice_get engines r ≡ Some e →
     e.core.place ≡ e.sessions.place
 placed_there n r engines datagrams h e f there = (f.joined.held r e there).placed
 
 -- ---- an event
 
 -- what an engine did that took an event, by its state before what it gave was taken out
-ran_named : (h : List Entry) (event : Event) (e next : EngineState) (gave : Gave) (Takes : Option Reply → EngineState → Type 0) (ran : Ran e Takes gave next) → next.core.place ≡ next.sessions.place → e.core.place ≡ e.sessions.place →
+ran_named : (h : List HistoryEntry) (event : Event) (e next : EngineState) (gave : Gave) (Takes : Option Reply → EngineState → Type 0) (ran : Ran e Takes gave next) → next.core.place ≡ next.sessions.place → e.core.place ≡ e.sessions.place →
     KeepsKeys e.core ran.mid.core → ((q : Request) → option_and_then request_given gave.reply ≡ Some q → IsNamed ran.mid.core q) → AreNamed h e → AreNamed (h ++ entry_of event gave ∷ []) next
 ran_named h event e next gave Takes ran next_placed placed keeps gives n =
     named_after h (entry_of event gave) e next
@@ -156,7 +156,7 @@ none_given : (o : Option Reply) (q : Request) → o ≡ None → option_and_then
 none_given None q none is = absurd cc
 none_given (Some reply) q none is = absurd cc
 
-call_named : (h : List Entry) (r : ℕ) (call : Call) (e next : EngineState) (gave : Gave) → CallRuns e call (Ok gave) next → next.core.place ≡ next.sessions.place → e.core.place ≡ e.sessions.place → AreGiven e.core → AreNamed h e →
+call_named : (h : List HistoryEntry) (r : ℕ) (call : Call) (e next : EngineState) (gave : Gave) → CallRuns e call (Ok gave) next → next.core.place ≡ next.sessions.place → e.core.place ≡ e.sessions.place → AreGiven e.core → AreNamed h e →
     AreNamed (h ++ entry_of (events.Call r call) gave ∷ []) next
 call_named h r call e next gave ran next_placed placed given n = go gave.reply refl
   where
@@ -167,7 +167,7 @@ call_named h r call e next gave ran next_placed placed given n = go gave.reply r
         ran_named h (events.Call r call) e next gave (TakesCall e call) ran next_placed placed (calls_keep_keys e ran.mid call reply took.1)
         (λ q gives. given_are_named e ran.mid call reply q given took.1 (sym (ap (option_and_then request_given) is) ∙ gives)) n
 
-datagram_named : (h : List Entry) (event : Event) (bytes : List ℕ) (e next : EngineState) (gave : Gave) → DatagramRuns e bytes (Ok gave) next → next.core.place ≡ next.sessions.place → e.core.place ≡ e.sessions.place → AreNamed h e →
+datagram_named : (h : List HistoryEntry) (event : Event) (bytes : List ℕ) (e next : EngineState) (gave : Gave) → DatagramRuns e bytes (Ok gave) next → next.core.place ≡ next.sessions.place → e.core.place ≡ e.sessions.place → AreNamed h e →
     AreNamed (h ++ entry_of event gave ∷ []) next
 datagram_named h event bytes e next gave ran next_placed placed n = go gave.reply refl
   where
@@ -177,7 +177,7 @@ datagram_named h event bytes e next gave ran next_placed placed n = go gave.repl
         ran_named h event e next gave (TakesBytes e bytes) ran next_placed placed (datagrams_keep_keys e ran.mid bytes (subst (λ (o : Option Reply). TakesBytes e bytes o ran.mid) is ran.event))
         (λ q gives. absurd (none_given gave.reply q is gives)) n
 
-tick_named : (h : List Entry) (event : Event) (now : ℕ) (e next : EngineState) (gave : Gave) → TickRuns e now (Ok gave) next → next.core.place ≡ next.sessions.place → e.core.place ≡ e.sessions.place → AreNamed h e →
+tick_named : (h : List HistoryEntry) (event : Event) (now : ℕ) (e next : EngineState) (gave : Gave) → TickRuns e now (Ok gave) next → next.core.place ≡ next.sessions.place → e.core.place ≡ e.sessions.place → AreNamed h e →
     AreNamed (h ++ entry_of event gave ∷ []) next
 tick_named h event now e next gave ran next_placed placed n = go gave.reply refl
   where
@@ -187,13 +187,13 @@ tick_named h event now e next gave ran next_placed placed n = go gave.reply refl
         ran_named h event e next gave (TakesTime e now) ran next_placed placed (ticks_keep_keys e ran.mid now (subst (λ (o : Option Reply). TakesTime e now o ran.mid) is ran.event))
         (λ q gives. absurd (none_given gave.reply q is gives)) n
 
-restart_named : (h : List Entry) (event : Event) (e next : EngineState) (gave : Gave) → RestartRuns e (Ok gave) next → AreNamed h e → AreNamed (h ++ entry_of event gave ∷ []) next
+restart_named : (h : List HistoryEntry) (event : Event) (e next : EngineState) (gave : Gave) → RestartRuns e (Ok gave) next → AreNamed h e → AreNamed (h ++ entry_of event gave ∷ []) next
 restart_named h event e next gave ran n =
     subst (λ (g : Gave). AreNamed (h ++ entry_of event g ∷ []) next) (sym ran.2)
     (subst (λ (x : EngineState). AreNamed (h ++ entry_of event (nothing_of e.sessions.place.endpoint) ∷ []) x) (sym ran.1) (named_anew h (entry_of event (nothing_of e.sessions.place.endpoint)) e refl refl n))
 
 -- the engine to which it comes
-event_named : (size : ℕ) (d : List (ℕ × List ℕ)) (h : List Entry) (event : Event) (e next : EngineState) (gave : Gave) → event_fault size d event ≡ None → EventRuns d event e (Ok gave) next →
+event_named : (size : ℕ) (d : List (ℕ × List ℕ)) (h : List HistoryEntry) (event : Event) (e next : EngineState) (gave : Gave) → event_fault size d event ≡ None → EventRuns d event e (Ok gave) next →
     next.core.place ≡ next.sessions.place → e.core.place ≡ e.sessions.place → AreGiven e.core → AreNamed h e → AreNamed (h ++ entry_of event gave ∷ []) next
 event_named size d h (events.Call r call) e next gave allowed ran next_placed placed given n = call_named h r call e next gave ran next_placed placed given n
 event_named size d h (events.Deliver number) e next gave allowed ran next_placed placed given n = go (slice_get d number) ran
@@ -218,7 +218,7 @@ gave_at d (events.Tick r now) e next gave ran = ran.endpoint
 gave_at d (events.Restart r) e next gave ran = ap (λ (g : Gave). g.endpoint) ran.2
 
 -- all of them
-pub all_named : (old new : List EngineState) (d d' : List (ℕ × List ℕ)) (h : List Entry) (event : Event) (rank : ℕ) (e next : EngineState) (gave : Gave) → slice_get old rank ≡ Some e → new ≡ slice_set old rank next →
+pub all_named : (old new : List EngineState) (d d' : List (ℕ × List ℕ)) (h : List HistoryEntry) (event : Event) (rank : ℕ) (e next : EngineState) (gave : Gave) → slice_get old rank ≡ Some e → new ≡ slice_set old rank next →
     event_fault (length old) d event ≡ None → EventRuns d event e (Ok gave) next → IsFollowed (length old) old d (history_seen h) → IsFollowed (length new) new d' (history_seen (h ++ entry_of event gave ∷ [])) → ArePlaced old →
     ((r : ℕ) (x : EngineState) → slice_get old r ≡ Some x → AreNamed h x) →
     (r : ℕ) (x : EngineState) → slice_get new r ≡ Some x → AreNamed (h ++ entry_of event gave ∷ []) x
@@ -248,16 +248,16 @@ all_named old new d d' h event rank e next gave there others allowed ran before 
 own_means : (c : CoreState) (q : Request) → IsNamed c q → serial_meant c q ≡ own_serial q
 own_means c q n = ap (λ (b : Bool). if b then c.serial else q.serial) (named_are_own c q n)
 
-request_means : (h : List Entry) (e : EngineState) (o : Option Request) → AreNamed h e → WasGivenIf h e.sessions.place.endpoint o → request_by (serial_meant e.core) o ≡ request_by own_serial o
+request_means : (h : List HistoryEntry) (e : EngineState) (o : Option Request) → AreNamed h e → WasGivenIf h e.sessions.place.endpoint o → request_by (serial_meant e.core) o ≡ request_by own_serial o
 request_means h e None n given = refl
 request_means h e (Some q) n given = ap (λ (k : ℕ). Some k) (own_means e.core q (n.named q given))
 
-requests_mean : (h : List Entry) (e : EngineState) (qs : List (Option Request)) → AreNamed h e → AllByRecursion (WasGivenIf h e.sessions.place.endpoint) qs →
+requests_mean : (h : List HistoryEntry) (e : EngineState) (qs : List (Option Request)) → AreNamed h e → AllByRecursion (WasGivenIf h e.sessions.place.endpoint) qs →
     requests_by (serial_meant e.core) qs ≡ requests_by own_serial qs
 requests_mean h e [] n all = refl
 requests_mean h e (q ∷ qs) n all = ap₂ (λ (x : Option ℕ) (xs : List (Option ℕ)). x ∷ xs) (request_means h e q n all.0) (requests_mean h e qs n all.1)
 
-pub means_what_is_seen : (h : List Entry) (e : EngineState) (call : Call) → AreNamed h e → NamesOwn h e.sessions.place.endpoint call → call_meant e.core call ≡ call_seen call
+pub means_what_is_seen : (h : List HistoryEntry) (e : EngineState) (call : Call) → AreNamed h e → NamesOwn h e.sessions.place.endpoint call → call_meant e.core call ≡ call_seen call
 means_what_is_seen h e (calls.Isend s) n own = refl
 means_what_is_seen h e (calls.Irecv v) n own = refl
 means_what_is_seen h e (calls.Wait q) n own = ap (λ (k : Option ℕ). machine.Wait (completions.One k)) (request_means h e q n own.0)

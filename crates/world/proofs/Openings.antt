@@ -1,6 +1,6 @@
 -- The engines of a world at its start.
 use Rattle.std.proofs.Common.{◌≡◌, ℕ, zero, suc, ◌+◌, List, [], ◌∷◌, ◌++◌, ap, ◌∙◌, arith}
-use Rattle.engine_parts.specs.EngineState.{EngineState, opening}
+use Rattle.engine_calls.specs.EngineState.{EngineState, opening}
 use Rattle.proof_network_bridge.specs.Joined.{opening_engines}
 use Rattle.proof_link_truth.specs.Wire.{at, place_of}
 

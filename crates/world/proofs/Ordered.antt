@@ -10,7 +10,7 @@ use Rattle.reliable_link.specs.ReceiverState.{ReceiverState, held_at}
 use Rattle.reliable_link.specs.SenderState.{SenderState, frame_at}
 use Rattle.reliable_link.specs.declared.out_frame.OutFrame.{OutFrame}
 use Rattle.reliable_link.proofs.Places.{place_in_drop}
-use Rattle.engine_parts.specs.EngineState.{EngineState}
+use Rattle.engine_calls.specs.EngineState.{EngineState}
 use Rattle.sessions.specs.Peers.{peer_at}
 use Rattle.incarnation.specs.declared.place.Place.{Place}
 use Rattle.proof_pure_network.specs.Network.{Network}
@@ -24,7 +24,7 @@ use Rattle.proof_link_truth.specs.Wire.{at, wire, wires}
 use Rattle.proof_network_bridge.proofs.Halves.{sessions_there}
 use Rattle.proof_network_bridge.specs.Joined.{network_after, sessions_in}
 use Rattle.world.specs.Headline.{IsSound, NothingIsHeld, SessionsAreInOrder}
-use Rattle.world.specs.declared.event.Entry.{Entry}
+use Rattle.world.specs.declared.event.HistoryEntry.{HistoryEntry}
 use Rattle.vocabulary.specs.declared.endpoint.Endpoint.{Endpoint}
 
 -- the frame at a place is spelled there, under its number
@@ -64,7 +64,7 @@ held_is_kept n s d sender receiver link sends gets place bytes is =
         wires_at n s d 0 link.accepted q held.frame held.accepted ∙ ap (λ (j : ℕ). Some (wire n s d j held.frame)) same ∙ ap Some (sym held.spelled)
 
 -- the law of a session, of each two ranks of a world that know each other as they are
-pub sessions_are_in_order : (engines : List EngineState) (datagrams : List (ℕ × List ℕ)) (history : List Entry) → IsSound engines datagrams history → SessionsAreInOrder engines
+pub sessions_are_in_order : (engines : List EngineState) (datagrams : List (ℕ × List ℕ)) (history : List HistoryEntry) → IsSound engines datagrams history → SessionsAreInOrder engines
 sessions_are_in_order engines datagrams history s r x e d there other apart knows known =
     let n : ℕ = length engines in
     let w : Network = (network_after n s.followed.happenings).net in
@@ -90,7 +90,7 @@ sessions_are_in_order engines datagrams history s r x e d there other apart know
     }
 
 -- a quiet world holds nothing before its turn
-pub nothing_is_held : (engines : List EngineState) (datagrams : List (ℕ × List ℕ)) (history : List Entry) → IsSound engines datagrams history → AreQuiet (sessions_in engines) → NothingIsHeld engines
+pub nothing_is_held : (engines : List EngineState) (datagrams : List (ℕ × List ℕ)) (history : List HistoryEntry) → IsSound engines datagrams history → AreQuiet (sessions_in engines) → NothingIsHeld engines
 nothing_is_held engines datagrams history s quiet r x e d there other apart knows known place =
     idle_holds_nothing (length engines) x r place (sessions_in engines) datagrams s.followed.joined.texts (network_after (length engines) s.followed.happenings).net.current d.sessions e.sessions
     s.followed.joined.links quiet (sessions_there engines x d other) (sessions_there engines r e there) (false_sym x r apart) known knows

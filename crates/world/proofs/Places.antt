@@ -3,15 +3,15 @@ use Rattle.std.proofs.Common.{◌≡◌, ℕ, ◌<◌, ◌≤◌, Bool, true, fa
 use Rattle.std.specs.Prelude.{slice_get, ◌==◌, if◌then◌else◌}
 use Rattle.std.proofs.lemmas.Bool.{eqb-false}
 use Rattle.perfect_groups.specs.Events as machine
-use Rattle.engine_parts.specs.EngineState.{EngineState}
-use Rattle.rank_calls.specs.declared.refused.Refused.TheVariants as lowers
+use Rattle.engine_calls.specs.EngineState.{EngineState}
+use Rattle.point_to_point_calls.specs.declared.refusal.Refusal.TheVariants as lowers
 use Rattle.incarnation.specs.declared.place.Place.{Place}
 use Rattle.proof_network_bridge.proofs.Halves.{sessions_there}
 use Rattle.proof_network_bridge.specs.Joined.{IsFollowed}
 use Rattle.world.specs.Headline.{IsSound}
 use Rattle.world.specs.Steps.{restart_fault}
 use Rattle.world.specs.WorldState.{ArePlaced}
-use Rattle.world.specs.declared.event.Entry.{Entry}
+use Rattle.world.specs.declared.event.HistoryEntry.{HistoryEntry}
 
 -- no rank is beyond the last incarnation
 at_most_last : (n : ℕ) (engines : List EngineState) (d : List (ℕ × List ℕ)) (h : List machine.Entry) (r : ℕ) (e : EngineState) →
@@ -34,7 +34,7 @@ pub below_last : (n : ℕ) (engines : List EngineState) (d : List (ℕ × List �
 below_last n engines d h r e f there none = not_last e.sessions.place.endpoint.incarnation (at_most_last n engines d h r e f there) none
 
 -- each engine of a world stands at its own rank
-pub sound_placed : (engines : List EngineState) (d : List (ℕ × List ℕ)) (h : List Entry) → IsSound engines d h → ArePlaced engines
+pub sound_placed : (engines : List EngineState) (d : List (ℕ × List ℕ)) (h : List HistoryEntry) → IsSound engines d h → ArePlaced engines
 sound_placed engines d h s r e there =
     let place = (s.followed.joined.links.tells r e.sessions (sessions_there engines r e there)).place in
     record { size = ap (λ (p : Place). p.size) place; rank = ap (λ (p : Place). p.endpoint.rank) place; job = ap (λ (p : Place). p.job) place }

@@ -3,7 +3,7 @@ use Rattle.std.proofs.Common.{◌≡◌, ◌≢◌, ℕ, ◌<◌, Bool, true, fa
 use Rattle.std.specs.Prelude.{◌↔◌, IsTrue, All, slice_get, slice_index, ◌==◌, nat_lt, if◌then◌else◌}
 use Rattle.std.proofs.lemmas.Option.{get_or_from_slice_get, slice_get-get_or, slice_get_within}
 use Rattle.std.proofs.lemmas.Bool.{eqb-false, lt-ltb, ne_eqb}
-use Rattle.engine_parts.specs.EngineState.{EngineState}
+use Rattle.engine_calls.specs.EngineState.{EngineState}
 use Rattle.sessions.specs.Peers.{IsIdlePeer, peer_at}
 use Rattle.incarnation.specs.declared.place.Place.{Place}
 use Rattle.incarnation.specs.Judging.{is_other}

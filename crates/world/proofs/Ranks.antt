@@ -4,16 +4,16 @@ use Rattle.std.specs.Prelude.{Err, All, slice_get, slice_set}
 use Rattle.std.proofs.lemmas.List.{length-set, set-get_or}
 use Rattle.std.proofs.lemmas.List.Elements.{All-set}
 use Rattle.std.proofs.lemmas.Option.{get_or_from_slice_get, slice_get_within}
-use Rattle.engine_parts.specs.EngineState.{EngineState}
+use Rattle.engine_calls.specs.EngineState.{EngineState}
 use Rattle.world.specs.Faults.{target_of}
-use Rattle.world.specs.Steps.{DeliveryRuns, EventRuns, Gave, RanAt, Refusal}
+use Rattle.world.specs.Steps.{DeliveryRuns, EventRuns, Gave, RanAt, Rejection}
 use Rattle.world.specs.WorldState.{ArePlaced, IsReady, IsWorld, StandsIn}
 use Rattle.world.specs.declared.event.Event.{Event}
 use Rattle.world.specs.declared.event.Event.TheVariants as events
 use Rattle.world.proofs.QuietPairs.{all_at}
 
 -- an event at the engine of the rank that it comes to
-pub ran_at : (d : List (ℕ × List ℕ)) (event : Event) (old : List EngineState) (rank : ℕ) (e next : EngineState) (result : Result Gave Refusal) →
+pub ran_at : (d : List (ℕ × List ℕ)) (event : Event) (old : List EngineState) (rank : ℕ) (e next : EngineState) (result : Result Gave Rejection) →
     target_of d event ≡ Some rank → slice_get old rank ≡ Some e → EventRuns d event e result next → RanAt d event old result (slice_set old rank next)
 ran_at d event old rank e next result target there ran = record { rank = rank; target = target; engine = e; there = there; next = next; ran = ran; others = refl }
 
@@ -22,7 +22,7 @@ pub set_same : (xs : List EngineState) (k : ℕ) (x : EngineState) → slice_get
 set_same xs k x is = ap (slice_set xs k) (sym (get_or_from_slice_get xs k x x is)) ∙ set-get_or xs k x
 
 -- an engine that refuses an event stays as it was
-engine_stays : (d : List (ℕ × List ℕ)) (event : Event) (e next : EngineState) (refusal : Refusal) → EventRuns d event e (Err refusal) next → next ≡ e
+engine_stays : (d : List (ℕ × List ℕ)) (event : Event) (e next : EngineState) (refusal : Rejection) → EventRuns d event e (Err refusal) next → next ≡ e
 engine_stays d (events.Call r call) e next refusal ran = ran.0
 engine_stays d (events.Deliver number) e next refusal ran = go (slice_get d number) ran
   where
@@ -34,7 +34,7 @@ engine_stays d (events.Tick r now) e next refusal ran = ran.0
 engine_stays d (events.Restart r) e next refusal ran = ran.0
 
 -- and so do all
-pub all_stay : (d : List (ℕ × List ℕ)) (event : Event) (old new : List EngineState) (refusal : Refusal) → RanAt d event old (Err refusal) new → new ≡ old
+pub all_stay : (d : List (ℕ × List ℕ)) (event : Event) (old new : List EngineState) (refusal : Rejection) → RanAt d event old (Err refusal) new → new ≡ old
 all_stay d event old new refusal ran =
     ran.others ∙ ap (slice_set old ran.rank) (engine_stays d event ran.engine ran.next refusal ran.ran) ∙ set_same old ran.rank ran.engine ran.there
 

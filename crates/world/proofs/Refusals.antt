@@ -8,14 +8,14 @@ use Rattle.vocabulary.specs.declared.endpoint.Endpoint.{Endpoint}
 use Rattle.collective_transfers.specs.Payloads.{Whole}
 use Rattle.collective_transfers.specs.State.{is_due, whole_with}
 use Rattle.engine.specs.Datagrams.{HeardGivesBy, HearingGives, NoticeText, OfAnnouncement, OfAnswer, OfMessage, OfPiece, PieceGivesBy, notice_in}
-use Rattle.engine_parts.specs.EngineState.{EngineState, emptied, without_completion, without_out}
+use Rattle.engine_calls.specs.EngineState.{EngineState, emptied, without_completion, without_out}
 use Rattle.collective_steps.specs.declared.step.Ending.{Ending}
 use Rattle.sessions.specs.declared.heard.Unheard.{Unheard}
-use Rattle.sessions.specs.declared.refused.Refused as lower
+use Rattle.sessions.specs.declared.refusal.SessionRefusal as lower
 use Rattle.sessions.specs.Events.{TurnedAway}
 use Rattle.sessions.specs.Heard.{HeardText, heard_of}
 use Rattle.sessions.specs.SessionsState.{SessionsState}
-use Rattle.rank_calls.specs.declared.refused.Refused.{Refused}
+use Rattle.point_to_point_calls.specs.declared.refusal.Refusal.{Refusal}
 use Rattle.proof_network_bridge.specs.Following.{RefusesDatagram}
 use Rattle.proof_group_network.specs.Network.{Happening}
 use Rattle.proof_network_bridge.specs.GoingOn.{IsFollowedBy}
@@ -25,9 +25,9 @@ use Rattle.requests.specs.declared.answer.Answer.{Answer}
 use Rattle.world.specs.Faults.{event_fault, target_of}
 use Rattle.world.specs.EventByEvent.{IsSoundBy}
 use Rattle.world.specs.Headline.{IsSound, history_seen}
-use Rattle.world.specs.Steps.{DatagramRuns, DeliveryRuns, EventRuns, HasOwnBytes, IsCall, IsRefusedBy, IsWhy, RanAt, Refusal, fault_in, first_of, with_out}
+use Rattle.world.specs.Steps.{DatagramRuns, DeliveryRuns, EventRuns, HasOwnBytes, IsCall, IsRefusedBy, IsWhy, RanAt, Rejection, fault_in, first_of, with_out}
 use Rattle.world.specs.WorldState.{HasRoom, WorldState}
-use Rattle.world.specs.declared.event.Entry.{Entry}
+use Rattle.world.specs.declared.event.HistoryEntry.{HistoryEntry}
 use Rattle.world.specs.declared.event.Event.{Event}
 use Rattle.world.specs.declared.event.Event.TheVariants as events
 use Rattle.world.specs.declared.event.Failed.{Failed}
@@ -52,14 +52,14 @@ out_alone old new out alone sessions =
     ∙ ap (λ (s : SessionsState). record old { sessions = s })
     (sessions ∙ ap (λ (o : List (ℕ × List ℕ)). record old.sessions { out = o }) (sym (ap (λ (s : SessionsState). s.out) sessions)))
 
-turned_keeps : (old new : EngineState) (reset : Option Endpoint) (refused e : lower.Refused) → new ≡ record old { sessions = new.sessions } → TurnedAway reset refused old.sessions e new.sessions →
+turned_keeps : (old new : EngineState) (reset : Option Endpoint) (refused e : lower.SessionRefusal) → new ≡ record old { sessions = new.sessions } → TurnedAway reset refused old.sessions e new.sessions →
     OnlyOut old new
 turned_keeps old new None refused e alone away = out_alone old new old.sessions.out alone away.1
 turned_keeps old new (Some source) refused e alone (inl away) = out_alone old new _ alone away.1
 turned_keeps old new (Some source) refused e alone (inr away) = out_alone old new old.sessions.out alone away.1
 
 -- what is heard and refused changes nothing, whether it is a message of a collective or anything else
-heard_keeps : (notice : Option NoticeText) (h : HeardText) (old new : EngineState) (why : Refused) → HeardGivesBy notice old h (Err why) new → OnlyOut old new
+heard_keeps : (notice : Option NoticeText) (h : HeardText) (old new : EngineState) (why : Refusal) → HeardGivesBy notice old h (Err why) new → OnlyOut old new
 heard_keeps None h old new why g = same_out old new g.2
 heard_keeps (Some (OfMessage t)) h old new why g = same_out old new g.1
 heard_keeps (Some (OfAnnouncement t)) h old new why g = same_out old new g.1
@@ -73,11 +73,11 @@ heard_keeps (Some (OfPiece t)) h old new why g = piece (is_due old.payloads h.so
     piece true g = same_out old new g.1
     piece false g = same_out old new g.1
 
-hearing_keeps : (heard : Result HeardText Unheard) (old new : EngineState) (why : Refused) → HearingGives heard old (Err why) new → OnlyOut old new
+hearing_keeps : (heard : Result HeardText Unheard) (old new : EngineState) (why : Refusal) → HearingGives heard old (Err why) new → OnlyOut old new
 hearing_keeps (Ok h) old new why g = heard_keeps (notice_in h.lesson old.payloads h.source.rank h.word) h old new why g
 hearing_keeps (Err u) old new why g = turned_keeps old new u.reset u.refused g.0 g.2 g.3
 
-datagram_keeps : (old new : EngineState) (bytes : List ℕ) (why : Refused) → RefusesDatagram old bytes why new → OnlyOut old new
+datagram_keeps : (old new : EngineState) (bytes : List ℕ) (why : Refusal) → RefusesDatagram old bytes why new → OnlyOut old new
 datagram_keeps old new bytes why g = hearing_keeps (heard_of old.sessions bytes) old new why g
 
 -- the engine with this to hand out
@@ -85,7 +85,7 @@ abbrev holding : EngineState → List (ℕ × List ℕ) → EngineState
 holding e out = record e { sessions = record e.sessions { out = out } }
 
 -- out of an engine that had nothing to hand out, a refusal hands out just what it emitted for it
-pub refused_gives : (old mid : EngineState) (bytes : List ℕ) (why : Refused) (out : List (ℕ × List ℕ)) → old.sessions.out ≡ [] → out ≡ mid.sessions.out →
+pub refused_gives : (old mid : EngineState) (bytes : List ℕ) (why : Refusal) (out : List (ℕ × List ℕ)) → old.sessions.out ≡ [] → out ≡ mid.sessions.out →
     RefusesDatagram old bytes why mid → RefusesDatagram old bytes why (with_out old out)
 refused_gives old mid bytes why out none all g =
     let kept : mid ≡ holding old mid.sessions.out = datagram_keeps old mid bytes why g in
@@ -93,12 +93,12 @@ refused_gives old mid bytes why out none all g =
     subst (λ (e : EngineState). RefusesDatagram old bytes why e) (kept ∙ ap (holding old) (sym added)) g
 
 -- once what it emitted is taken out, the engine is as it was
-pub refused_is_old : (old mid : EngineState) (bytes : List ℕ) (why : Refused) → old.sessions.out ≡ [] → RefusesDatagram old bytes why mid → without_out mid ≡ old
+pub refused_is_old : (old mid : EngineState) (bytes : List ℕ) (why : Refusal) → old.sessions.out ≡ [] → RefusesDatagram old bytes why mid → without_out mid ≡ old
 refused_is_old old mid bytes why none g =
     ap without_out (datagram_keeps old mid bytes why g) ∙ ap (holding old) (sym none)
 
 -- and so it is once its answers are taken out too
-emptied_is_old : (old mid : EngineState) (bytes : List ℕ) (why : Refused) → IsClean old → RefusesDatagram old bytes why mid → emptied mid ≡ old
+emptied_is_old : (old mid : EngineState) (bytes : List ℕ) (why : Refusal) → IsClean old → RefusesDatagram old bytes why mid → emptied mid ≡ old
 emptied_is_old old mid bytes why clean g =
     ap without_completion (refused_is_old old mid bytes why clean.out g)
     ∙ ap₂ (λ (c : Option Answer) (o : Option Ending). record old { core = record old.core { completion = c }; ended = o }) (sym clean.completion) (sym clean.ended)
@@ -110,7 +110,7 @@ silent : (n : ℕ) (before : List Happening) (engines : List EngineState) (d : L
 silent n before engines d h out none f = subst (λ (x : List (ℕ × List ℕ)). IsFollowedBy n before engines x h) (sym (ap (λ (o : List (ℕ × List ℕ)). d ++ o) none ∙ append-nil d)) f
 
 -- a datagram that the engine of its rank refuses
-datagram_followed : (before : List Happening) (old : List EngineState) (d : List (ℕ × List ℕ)) (h : List machine.Entry) (number rank : ℕ) (bytes : List ℕ) (e next : EngineState) (refusal : Refusal) →
+datagram_followed : (before : List Happening) (old : List EngineState) (d : List (ℕ × List ℕ)) (h : List machine.Entry) (number rank : ℕ) (bytes : List ℕ) (e next : EngineState) (refusal : Rejection) →
     IsFollowedBy (length old) before old d h → slice_get old rank ≡ Some e → old ≡ slice_set old rank next → slice_get d number ≡ Some (rank, bytes) → DatagramRuns e bytes (Err refusal) next →
     IsFollowedBy (length old) before old (d ++ refusal.out) h
 datagram_followed before old d h number rank bytes e next refusal f there others emitted ran =
@@ -124,7 +124,7 @@ datagram_followed before old d h number rank bytes e next refusal f there others
     (refusals_stand (length old) rank number bytes before old d h e mid refusal.refused f there emitted ran.1))
 
 -- the datagram under a number
-delivery_followed : (before : List Happening) (old : List EngineState) (d : List (ℕ × List ℕ)) (h : List machine.Entry) (number rank : ℕ) (e next : EngineState) (refusal : Refusal) →
+delivery_followed : (before : List Happening) (old : List EngineState) (d : List (ℕ × List ℕ)) (h : List machine.Entry) (number rank : ℕ) (e next : EngineState) (refusal : Rejection) →
     IsFollowedBy (length old) before old d h → slice_get old rank ≡ Some e → old ≡ slice_set old rank next → target_of d (events.Deliver number) ≡ Some rank →
     DeliveryRuns (slice_get d number) e (Err refusal) next → IsFollowedBy (length old) before old (d ++ refusal.out) h
 delivery_followed before old d h number rank e next refusal f there others target ran = go (slice_get d number) refl target ran
@@ -136,7 +136,7 @@ delivery_followed before old d h number rank e next refusal f there others targe
         let to_is : to ≡ rank = same_Some to rank t in
         datagram_followed before old d h number rank bytes e next refusal f there others (is ∙ ap (λ (x : ℕ). Some (x, bytes)) to_is) n
 
-event_followed : (before : List Happening) (old : List EngineState) (d : List (ℕ × List ℕ)) (h : List machine.Entry) (event : Event) (rank : ℕ) (e next : EngineState) (refusal : Refusal) →
+event_followed : (before : List Happening) (old : List EngineState) (d : List (ℕ × List ℕ)) (h : List machine.Entry) (event : Event) (rank : ℕ) (e next : EngineState) (refusal : Rejection) →
     IsFollowedBy (length old) before old d h → event_fault (length old) d event ≡ None → slice_get old rank ≡ Some e → old ≡ slice_set old rank next → target_of d event ≡ Some rank →
     EventRuns d event e (Err refusal) next → IsFollowedBy (length old) before old (d ++ refusal.out) h
 event_followed before old d h (events.Call r call) rank e next refusal f allowed there others target ran = silent (length old) before old d h refusal.out ran.1 f
@@ -146,7 +146,7 @@ event_followed before old d h (events.Stray r bytes) rank e next refusal f allow
 event_followed before old d h (events.Tick r now) rank e next refusal f allowed there others target ran = silent (length old) before old d h refusal.out ran.1 f
 event_followed before old d h (events.Restart r) rank e next refusal f allowed there others target ran = silent (length old) before old d h refusal.out ran.1 f
 
-pub refusal_sound_by : (before : List Happening) (old : List EngineState) (d : List (ℕ × List ℕ)) (h : List Entry) (event : Event) (refusal : Refusal) →
+pub refusal_sound_by : (before : List Happening) (old : List EngineState) (d : List (ℕ × List ℕ)) (h : List HistoryEntry) (event : Event) (refusal : Rejection) →
     IsSoundBy before old d h → event_fault (length old) d event ≡ None → RanAt d event old (Err refusal) old → IsSoundBy before old (d ++ refusal.out) h
 refusal_sound_by before old d h event refusal s allowed ran =
     record {
@@ -155,7 +155,7 @@ refusal_sound_by before old d h event refusal s allowed ran =
       named = s.named;
     }
 
-pub refusal_sound : (old : List EngineState) (d : List (ℕ × List ℕ)) (h : List Entry) (event : Event) (refusal : Refusal) →
+pub refusal_sound : (old : List EngineState) (d : List (ℕ × List ℕ)) (h : List HistoryEntry) (event : Event) (refusal : Rejection) →
     IsSound old d h → event_fault (length old) d event ≡ None → RanAt d event old (Err refusal) old → IsSound old (d ++ refusal.out) h
 refusal_sound old d h event refusal s allowed ran =
     is_sound s.followed.happenings old (d ++ refusal.out) h (refusal_sound_by s.followed.happenings old d h event refusal (sound_by old d h s) allowed ran)
@@ -163,7 +163,7 @@ refusal_sound old d h event refusal s allowed ran =
 -- ---- what is told of it
 
 -- the parts of a refusal
-pub refused_so : (old : WorldState) (event : Event) (failed : Failed) (engines : List EngineState) (datagrams : List (ℕ × List ℕ)) (history : List Entry) (dr er : ℕ) (out : List (ℕ × List ℕ)) →
+pub refused_so : (old : WorldState) (event : Event) (failed : Failed) (engines : List EngineState) (datagrams : List (ℕ × List ℕ)) (history : List HistoryEntry) (dr er : ℕ) (out : List (ℕ × List ℕ)) →
     IsSound old.engines old.datagrams old.history → engines ≡ old.engines → datagrams ≡ old.datagrams ++ out → history ≡ old.history →
     failed.reset ≡ first_of (length old.datagrams) out → failed.event ≡ event → IsWhy old event failed.refused out →
     IsRefusedBy old event failed (record { engines = engines; datagrams = datagrams; history = history; datagram_room = dr; entry_room = er })
@@ -172,7 +172,7 @@ refused_so old event failed engines datagrams history dr er out s es ds hs reset
       out = out;
       unchanged = ap (λ (x : List EngineState). record { engines = x; datagrams = datagrams; history = history; datagram_room = dr; entry_room = er }) es
           ∙ ap (λ (x : List (ℕ × List ℕ)). record { engines = old.engines; datagrams = x; history = history; datagram_room = dr; entry_room = er }) ds
-          ∙ ap (λ (x : List Entry). record { engines = old.engines; datagrams = old.datagrams ++ out; history = x; datagram_room = dr; entry_room = er }) hs;
+          ∙ ap (λ (x : List HistoryEntry). record { engines = old.engines; datagrams = old.datagrams ++ out; history = x; datagram_room = dr; entry_room = er }) hs;
       reset = reset;
       back = back;
       why = why;
@@ -181,7 +181,7 @@ refused_so old event failed engines datagrams history dr er out s es ds hs reset
     }
 
 -- a refusal with which nothing goes out
-pub refused_plainly : (old : WorldState) (event : Event) (failed : Failed) (engines : List EngineState) (datagrams : List (ℕ × List ℕ)) (history : List Entry) (dr er : ℕ) →
+pub refused_plainly : (old : WorldState) (event : Event) (failed : Failed) (engines : List EngineState) (datagrams : List (ℕ × List ℕ)) (history : List HistoryEntry) (dr er : ℕ) →
     IsSound old.engines old.datagrams old.history → engines ≡ old.engines → datagrams ≡ old.datagrams → history ≡ old.history →
     failed.reset ≡ None → failed.event ≡ event → IsWhy old event failed.refused [] →
     IsRefusedBy old event failed (record { engines = engines; datagrams = datagrams; history = history; datagram_room = dr; entry_room = er })

@@ -5,10 +5,10 @@ use Rattle.std.proofs.lemmas.Grind.{flat_map-append}
 use Rattle.std.proofs.lemmas.List.{length-set}
 use Rattle.std.proofs.lemmas.Option.{same_Some}
 use Rattle.vocabulary.specs.declared.endpoint.Endpoint.{Endpoint}
-use Rattle.engine_parts.specs.EngineState.{EngineState, completion_of, emptied, opening}
-use Rattle.engine_parts.specs.declared.call.Call.{Call}
-use Rattle.engine_parts.specs.declared.reply.Completion.{Completion}
-use Rattle.engine_parts.specs.declared.reply.Reply.{Reply}
+use Rattle.engine_calls.specs.EngineState.{EngineState, completion_of, emptied, opening}
+use Rattle.engine_calls.specs.declared.call.Call.{Call}
+use Rattle.engine_calls.specs.declared.reply.Completion.{Completion}
+use Rattle.engine_calls.specs.declared.reply.Reply.{Reply}
 use Rattle.perfect_groups.specs.Events as machine
 use Rattle.proof_network_bridge.specs.Seen.{told_call, told_completion}
 use Rattle.proof_group_network.specs.Network.{Happening}
@@ -24,26 +24,26 @@ use Rattle.world.specs.WorldState.{IsWorld, StandsIn}
 use Rattle.world.specs.Headline.{IsSound, entry_seen, history_seen}
 use Rattle.world.specs.Faults.{event_fault, target_of}
 use Rattle.world.specs.Steps.{CallRuns, DatagramRuns, DeliveryRuns, EventRuns, Gave, RanAt, RestartRuns, TakesBytes, TakesCall, TakesTime, TickRuns, entry_of, nothing_of}
-use Rattle.world.specs.declared.event.Entry.{Entry}
+use Rattle.world.specs.declared.event.HistoryEntry.{HistoryEntry}
 use Rattle.world.specs.declared.event.Event.{Event}
 use Rattle.world.specs.declared.event.Event.TheVariants as events
-use Rattle.world.specs.declared.refused.Refused.{Refused}
+use Rattle.world.specs.declared.refusal.WorldRefusal.{WorldRefusal}
 use Rattle.world.proofs.Keys.{all_named}
 use Rattle.world.proofs.Places.{below_last, sound_placed}
 use Rattle.world.proofs.Strays.{stray_breaks}
 
-pub sound_same : (e e' : List EngineState) (d d' : List (ℕ × List ℕ)) (h h' : List Entry) → e' ≡ e → d' ≡ d → h' ≡ h → IsSound e d h → IsSound e' d' h'
+pub sound_same : (e e' : List EngineState) (d d' : List (ℕ × List ℕ)) (h h' : List HistoryEntry) → e' ≡ e → d' ≡ d → h' ≡ h → IsSound e d h → IsSound e' d' h'
 sound_same e e' d d' h h' es ds hs s =
-    subst (λ (x : List EngineState). IsSound x d' h') (sym es) (subst (λ (x : List (ℕ × List ℕ)). IsSound e x h') (sym ds) (subst (λ (x : List Entry). IsSound e d x) (sym hs) s))
+    subst (λ (x : List EngineState). IsSound x d' h') (sym es) (subst (λ (x : List (ℕ × List ℕ)). IsSound e x h') (sym ds) (subst (λ (x : List HistoryEntry). IsSound e d x) (sym hs) s))
 
 -- ---- by which happenings
 
 -- what holds by some happenings holds
-pub is_sound : (happenings : List Happening) (engines : List EngineState) (d : List (ℕ × List ℕ)) (h : List Entry) → IsSoundBy happenings engines d h → IsSound engines d h
+pub is_sound : (happenings : List Happening) (engines : List EngineState) (d : List (ℕ × List ℕ)) (h : List HistoryEntry) → IsSoundBy happenings engines d h → IsSound engines d h
 is_sound happenings engines d h s = record { world = s.world; followed = followed_by (length engines) happenings engines d (history_seen h) s.followed; named = s.named }
 
 -- and what holds does so by some
-pub sound_by : (engines : List EngineState) (d : List (ℕ × List ℕ)) (h : List Entry) → (s : IsSound engines d h) → IsSoundBy s.followed.happenings engines d h
+pub sound_by : (engines : List EngineState) (d : List (ℕ × List ℕ)) (h : List HistoryEntry) → (s : IsSound engines d h) → IsSoundBy s.followed.happenings engines d h
 sound_by engines d h s = record { world = s.world; followed = by_happenings (length engines) engines d (history_seen h) s.followed; named = s.named }
 
 -- ---- the opening
@@ -75,11 +75,11 @@ pub opening_sound : (n : ℕ) → n ≤ 1024 → IsSound (opening_engines n 0 n)
 opening_sound n few = is_sound [] (opening_engines n 0 n) [] [] (opening_sound_by n few)
 
 -- one entry more is seen behind the others
-seen_more : (h : List Entry) (e : Entry) → history_seen (h ++ e ∷ []) ≡ history_seen h ++ entry_seen e
+seen_more : (h : List HistoryEntry) (e : HistoryEntry) → history_seen (h ++ e ∷ []) ≡ history_seen h ++ entry_seen e
 seen_more h e = flat_map-append entry_seen h (e ∷ []) ∙ ap (λ (x : List machine.Entry). history_seen h ++ x) (append-nil (entry_seen e))
 
 -- the parts of what followed, put together
-followed : (before : List Happening) (old new : List EngineState) (d : List (ℕ × List ℕ)) (h : List Entry) (rank : ℕ) (event : Event) (gave : Gave) (mid next : EngineState) (seen : List machine.Entry) →
+followed : (before : List Happening) (old new : List EngineState) (d : List (ℕ × List ℕ)) (h : List HistoryEntry) (rank : ℕ) (event : Event) (gave : Gave) (mid next : EngineState) (seen : List machine.Entry) →
     LeavesFollowedOn (length old) before old d rank mid (history_seen h ++ seen) → next ≡ emptied mid → new ≡ slice_set old rank next → gave.out ≡ mid.sessions.out → seen ≡ entry_seen (entry_of event gave) →
     IsFollowedOn (length new) rank before new (d ++ gave.out) (history_seen (h ++ entry_of event gave ∷ []))
 followed before old new d h rank event gave mid next seen f state others out is =
@@ -93,11 +93,11 @@ followed before old new d h rank event gave mid next seen f state others out is 
     (subst (λ (m : ℕ). IsFollowedOn m rank before (slice_set old rank (emptied mid)) (d ++ mid.sessions.out) (history_seen h ++ seen)) (sym size_is) f)))
 
 -- what an event that the engine of a rank took leaves, by what the history says of it
-abbrev pub Leaves : (rank : ℕ) (before : List Happening) (new : List EngineState) (d : List (ℕ × List ℕ)) (h : List Entry) → Event → Gave → Type 0
+abbrev pub Leaves : (rank : ℕ) (before : List Happening) (new : List EngineState) (d : List (ℕ × List ℕ)) (h : List HistoryEntry) → Event → Gave → Type 0
 Leaves rank before new d h event gave = IsFollowedOn (length new) rank before new (d ++ gave.out) (history_seen (h ++ entry_of event gave ∷ []))
 
 -- an engine of a world that was followed so far, and what stands for it afterwards
-record IsEngineOf (happenings : List Happening) (old new : List EngineState) (d : List (ℕ × List ℕ)) (h : List Entry) (rank : ℕ) (e next : EngineState) : Type 0 where
+record IsEngineOf (happenings : List Happening) (old new : List EngineState) (d : List (ℕ × List ℕ)) (h : List HistoryEntry) (rank : ℕ) (e next : EngineState) : Type 0 where
   pub before : IsFollowedBy (length old) happenings old d (history_seen h)
   pub there : slice_get old rank ≡ Some e
   pub others : new ≡ slice_set old rank next
@@ -110,7 +110,7 @@ completion_at e mid gave endpoint completion =
 
 -- ---- a call
 
-call_followed : (before : List Happening) (old new : List EngineState) (d : List (ℕ × List ℕ)) (h : List Entry) (rank r : ℕ) (call : Call) (e next : EngineState) (gave : Gave) →
+call_followed : (before : List Happening) (old new : List EngineState) (d : List (ℕ × List ℕ)) (h : List HistoryEntry) (rank r : ℕ) (call : Call) (e next : EngineState) (gave : Gave) →
     IsEngineOf before old new d h rank e next → CallRuns e call (Ok gave) next → Leaves rank before new d h (events.Call r call) gave
 call_followed before old new d h rank r call e next gave at ran = go gave.reply refl
   where
@@ -128,7 +128,7 @@ call_followed before old new d h rank r call e next gave at ran = go gave.reply 
 
 -- ---- a datagram
 
-datagram_followed : (before : List Happening) (old new : List EngineState) (d : List (ℕ × List ℕ)) (h : List Entry) (number rank : ℕ) (bytes : List ℕ) (e next : EngineState) (gave : Gave) →
+datagram_followed : (before : List Happening) (old new : List EngineState) (d : List (ℕ × List ℕ)) (h : List HistoryEntry) (number rank : ℕ) (bytes : List ℕ) (e next : EngineState) (gave : Gave) →
     IsEngineOf before old new d h rank e next → slice_get d number ≡ Some (rank, bytes) → DatagramRuns e bytes (Ok gave) next →
     Leaves rank before new d h (events.Deliver number) gave
 datagram_followed before old new d h number rank bytes e next gave at emitted ran = go gave.reply refl
@@ -143,7 +143,7 @@ datagram_followed before old new d h number rank bytes e next gave at emitted ra
         ran.state at.others ran.out (completion_at e ran.mid gave ran.endpoint ran.completion)
 
 -- by the datagram under the number, which goes to the rank that the delivery comes to
-delivery_followed : (before : List Happening) (old new : List EngineState) (d : List (ℕ × List ℕ)) (h : List Entry) (number rank : ℕ) (e next : EngineState) (gave : Gave) →
+delivery_followed : (before : List Happening) (old new : List EngineState) (d : List (ℕ × List ℕ)) (h : List HistoryEntry) (number rank : ℕ) (e next : EngineState) (gave : Gave) →
     IsEngineOf before old new d h rank e next → target_of d (events.Deliver number) ≡ Some rank → DeliveryRuns (slice_get d number) e (Ok gave) next →
     Leaves rank before new d h (events.Deliver number) gave
 delivery_followed before old new d h number rank e next gave at target ran = go (slice_get d number) refl target ran
@@ -157,7 +157,7 @@ delivery_followed before old new d h number rank e next gave at target ran = go 
 
 -- ---- a tick
 
-tick_followed : (before : List Happening) (old new : List EngineState) (d : List (ℕ × List ℕ)) (h : List Entry) (rank r now : ℕ) (e next : EngineState) (gave : Gave) →
+tick_followed : (before : List Happening) (old new : List EngineState) (d : List (ℕ × List ℕ)) (h : List HistoryEntry) (rank r now : ℕ) (e next : EngineState) (gave : Gave) →
     IsEngineOf before old new d h rank e next → TickRuns e now (Ok gave) next → Leaves rank before new d h (events.Tick r now) gave
 tick_followed before old new d h rank r now e next gave at ran = go gave.reply refl
   where
@@ -172,7 +172,7 @@ tick_followed before old new d h rank r now e next gave at ran = go gave.reply r
 
 -- ---- a restart
 
-restart_followed : (before : List Happening) (old new : List EngineState) (d : List (ℕ × List ℕ)) (h : List Entry) (rank : ℕ) (e next : EngineState) (gave : Gave) →
+restart_followed : (before : List Happening) (old new : List EngineState) (d : List (ℕ × List ℕ)) (h : List HistoryEntry) (rank : ℕ) (e next : EngineState) (gave : Gave) →
     IsEngineOf before old new d h rank e next → RestartRuns e (Ok gave) next → Leaves rank before new d h (events.Restart rank) gave
 restart_followed before old new d h rank e next gave at ran =
     let after : EngineState = opening (next_place e.sessions.place) in
@@ -194,11 +194,11 @@ restart_followed before old new d h rank e next gave at ran =
 -- ---- any event
 
 -- the fault of an event by what a world's size and its datagrams equal
-pub fault_as : (size n : ℕ) (d d' : List (ℕ × List ℕ)) (event : Event) (o : Option Refused) → size ≡ n → d ≡ d' → event_fault size d event ≡ o → event_fault n d' event ≡ o
+pub fault_as : (size n : ℕ) (d d' : List (ℕ × List ℕ)) (event : Event) (o : Option WorldRefusal) → size ≡ n → d ≡ d' → event_fault size d event ≡ o → event_fault n d' event ≡ o
 fault_as size n d d' event o size_is d_is h =
     subst (λ (m : ℕ). event_fault m d' event ≡ o) size_is (subst (λ (x : List (ℕ × List ℕ)). event_fault size x event ≡ o) d_is h)
 
-event_followed : (before : List Happening) (old new : List EngineState) (d : List (ℕ × List ℕ)) (h : List Entry) (event : Event) (rank : ℕ) (e next : EngineState) (gave : Gave) →
+event_followed : (before : List Happening) (old new : List EngineState) (d : List (ℕ × List ℕ)) (h : List HistoryEntry) (event : Event) (rank : ℕ) (e next : EngineState) (gave : Gave) →
     IsEngineOf before old new d h rank e next → event_fault (length old) d event ≡ None → target_of d event ≡ Some rank → EventRuns d event e (Ok gave) next → Leaves rank before new d h event gave
 event_followed before old new d h (events.Call r call) rank e next gave at allowed target ran = call_followed before old new d h rank r call e next gave at ran
 event_followed before old new d h (events.Deliver number) rank e next gave at allowed target ran = delivery_followed before old new d h number rank e next gave at target ran
@@ -208,11 +208,11 @@ event_followed before old new d h (events.Restart r) rank e next gave at allowed
     subst (λ (x : ℕ). Leaves rank before new d h (events.Restart x) gave) (sym (same_Some r rank target)) (restart_followed before old new d h rank e next gave at ran)
 
 -- what is true of a world by some happenings is true after an event by one more, at its rank, or by none
-pub data IsSoundOn (rank : ℕ) (before : List Happening) (engines : List EngineState) (d : List (ℕ × List ℕ)) (h : List Entry) : Type 0 where
+pub data IsSoundOn (rank : ℕ) (before : List Happening) (engines : List EngineState) (d : List (ℕ × List ℕ)) (h : List HistoryEntry) : Type 0 where
   Still : IsSoundBy before engines d h → IsSoundOn rank before engines d h
   Further : (x : Happening) → rank_of x ≡ rank → IsSoundBy (before ++ x ∷ []) engines d h → IsSoundOn rank before engines d h
 
-pub event_sound_on : (before : List Happening) (old new : List EngineState) (d : List (ℕ × List ℕ)) (h : List Entry) (event : Event) (gave : Gave) →
+pub event_sound_on : (before : List Happening) (old new : List EngineState) (d : List (ℕ × List ℕ)) (h : List HistoryEntry) (event : Event) (gave : Gave) →
     IsSoundBy before old d h → event_fault (length old) d event ≡ None → (ran : RanAt d event old (Ok gave) new) → IsWorld new → IsSoundOn ran.rank before new (d ++ gave.out) (h ++ entry_of event gave ∷ [])
 event_sound_on before old new d h event gave s allowed ran w =
     go (event_followed before old new d h event ran.rank ran.engine ran.next gave (record { before = s.followed; there = ran.there; others = ran.others }) allowed ran.target ran.ran)
@@ -232,7 +232,7 @@ event_sound_on before old new d h event gave s allowed ran w =
     go (Stands f) = Still (sound before f)
     go (Happened x is f) = Further x is (sound (before ++ x ∷ []) f)
 
-pub event_sound : (old new : List EngineState) (d : List (ℕ × List ℕ)) (h : List Entry) (event : Event) (gave : Gave) →
+pub event_sound : (old new : List EngineState) (d : List (ℕ × List ℕ)) (h : List HistoryEntry) (event : Event) (gave : Gave) →
     IsSound old d h → event_fault (length old) d event ≡ None → RanAt d event old (Ok gave) new → IsWorld new → IsSound new (d ++ gave.out) (h ++ entry_of event gave ∷ [])
 event_sound old new d h event gave s allowed ran w = go (event_sound_on s.followed.happenings old new d h event gave (sound_by old d h s) allowed ran w)
   where

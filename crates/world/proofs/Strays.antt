@@ -5,29 +5,29 @@ use Rattle.std.proofs.lemmas.Option.{same_Some, slice_get_within}
 use Rattle.std.proofs.lemmas.Bool.{le-leb, leb-true, lt-leb}
 use Rattle.std.proofs.lemmas.Grind.{common_steps}
 use Rattle.datagram.specs.declared.datagram.Header.{Header}
-use Rattle.datagram.specs.declared.refused.Refused as reading
-use Rattle.datagram.specs.declared.refused.Refused.TheVariants as readings
+use Rattle.datagram.specs.declared.refusal.DatagramRefusal as reading
+use Rattle.datagram.specs.declared.refusal.DatagramRefusal.TheVariants as readings
 use Rattle.datagram.specs.Reading.{body_of, content_of, datagram_of, header_of, kind_of, number_at}
 use Rattle.datagram.specs.Spelling.{DatagramText}
 use Rattle.datagram.proofs.Fields.{bind_ok, guard_ok, ok_is}
 use Rattle.incarnation.specs.declared.judgement.Judgement.{Judgement}
-use Rattle.incarnation.specs.declared.refused.Refused as judging
-use Rattle.incarnation.specs.declared.refused.Refused.TheVariants as judgings
+use Rattle.incarnation.specs.declared.refusal.IncarnationRefusal as judging
+use Rattle.incarnation.specs.declared.refusal.IncarnationRefusal.TheVariants as judgings
 use Rattle.incarnation.specs.Judging.{judgement}
 use Rattle.incarnation.specs.Knowing.{Knowledge}
 use Rattle.sessions.specs.Heard.{heard_by, heard_in, heard_of, plainly}
 use Rattle.sessions.specs.Refusals as sessions_refusals
 use Rattle.sessions.specs.SessionsState.{SessionsState, knowledge}
-use Rattle.sessions.specs.declared.refused.Refused as sessions
-use Rattle.sessions.specs.declared.refused.Refused.TheVariants as sessions_refused
-use Rattle.engine_parts.specs.Refusals.{of_sessions}
+use Rattle.sessions.specs.declared.refusal.SessionRefusal as sessions
+use Rattle.sessions.specs.declared.refusal.SessionRefusal.TheVariants as sessions_refused
+use Rattle.engine_calls.specs.Refusals.{of_sessions}
 use Rattle.engine.specs.Datagrams.{HearingGives}
-use Rattle.engine_parts.specs.EngineState.{EngineState}
-use Rattle.rank_calls.specs.Refusals.{of_datagram}
-use Rattle.rank_calls.specs.declared.refused.Refused as lower
-use Rattle.rank_calls.specs.declared.refused.Refused.TheVariants as lowers
-use Rattle.world.specs.declared.refused.Refused.{Refused}
-use Rattle.world.specs.declared.refused.Refused.TheVariants.{CarriesJob, Engine, NoSuchRank}
+use Rattle.engine_calls.specs.EngineState.{EngineState}
+use Rattle.point_to_point_calls.specs.Refusals.{of_datagram}
+use Rattle.point_to_point_calls.specs.declared.refusal.Refusal as lower
+use Rattle.point_to_point_calls.specs.declared.refusal.Refusal.TheVariants as lowers
+use Rattle.world.specs.declared.refusal.WorldRefusal.{WorldRefusal}
+use Rattle.world.specs.declared.refusal.WorldRefusal.TheVariants.{CarriesJob, Engine, NoSuchRank}
 use Rattle.world.specs.Faults.{event_fault, first_fault, target_fault}
 use Rattle.world.specs.Steps.{ByTheEngine, ByTheWorld, ForRoom, IsAsAtTheEngine, IsWhy}
 use Rattle.world.specs.Strays.{EngineRefuses, carries_job, fault_of_text, stray_fault}
@@ -57,15 +57,15 @@ second_fails true b fails holds = fails
 second_fails false b fails holds = absurd cc
 
 -- what is refused with no reset leaves an engine as it was
-refused_plainly : (e new : EngineState) (why : sessions.Refused) (is : Refused) (result : Result (Unit {0}) lower.Refused) → is ≡ Engine (of_sessions why) →
-    HearingGives (plainly why) e result new → (new ≡ e) × ((x : lower.Refused) × (result ≡ Err x) × (is ≡ Engine x))
+refused_plainly : (e new : EngineState) (why : sessions.SessionRefusal) (is : WorldRefusal) (result : Result (Unit {0}) lower.Refusal) → is ≡ Engine (of_sessions why) →
+    HearingGives (plainly why) e result new → (new ≡ e) × ((x : lower.Refusal) × (result ≡ Err x) × (is ≡ Engine x))
 refused_plainly e new why is result same gives = (
   gives.2 ∙ ap (λ (s : SessionsState). record e { sessions = s }) gives.3.1,
-  (of_sessions gives.0, gives.1, same ∙ ap (λ (x : sessions.Refused). Engine (of_sessions x)) (sym gives.3.0)),
+  (of_sessions gives.0, gives.1, same ∙ ap (λ (x : sessions.SessionRefusal). Engine (of_sessions x)) (sym gives.3.0)),
 )
 
 -- bytes that are no datagram are refused alike
-same_unread : (e : reading.Refused) → of_datagram e ≡ of_sessions (sessions_refusals.of_datagram e)
+same_unread : (e : reading.DatagramRefusal) → of_datagram e ≡ of_sessions (sessions_refusals.of_datagram e)
 same_unread readings.OutOfMemory = refl
 same_unread readings.Short = refl
 same_unread readings.Magic = refl
@@ -78,20 +78,20 @@ same_unread readings.BadFrame = refl
 pub stray_refused : (e : EngineState) (bytes : List ℕ) → e.sessions.place.job ≡ 1 → carries_job bytes ≡ false → EngineRefuses e bytes (stray_fault bytes)
 unfolding heard_of
 stray_refused e bytes job other result new gives =
-    subst (λ (why : Refused). (new ≡ e) × ((x : lower.Refused) × (result ≡ Err x) × (why ≡ Engine x))) (sym fault_is) (go (datagram_of bytes) refl gives)
+    subst (λ (why : WorldRefusal). (new ≡ e) × ((x : lower.Refusal) × (result ≡ Err x) × (why ≡ Engine x))) (sym fault_is) (go (datagram_of bytes) refl gives)
   where
     fault_is : stray_fault bytes ≡ fault_of_text (datagram_of bytes)
     fault_is = ap (λ (b : Bool). if b then CarriesJob else fault_of_text (datagram_of bytes)) other
 
-    go : (t : Result DatagramText reading.Refused) → datagram_of bytes ≡ t → HearingGives (heard_in e.sessions t bytes) e result new →
-        (new ≡ e) × ((x : lower.Refused) × (result ≡ Err x) × (fault_of_text t ≡ Engine x))
+    go : (t : Result DatagramText reading.DatagramRefusal) → datagram_of bytes ≡ t → HearingGives (heard_in e.sessions t bytes) e result new →
+        (new ≡ e) × ((x : lower.Refusal) × (result ≡ Err x) × (fault_of_text t ≡ Engine x))
     go (Err x) is g = refused_plainly e new (sessions_refusals.of_datagram x) (Engine (of_datagram x)) result (ap Engine (same_unread x)) g
     go (Ok d) is g =
         let read = header_read bytes d is in
         let unlike : (number_at 16 8 bytes == 1) ≡ false = second_fails _ _ other read.0 in
         let apart : (d.header.job == e.sessions.place.job) ≡ false = ap (λ (j : ℕ). d.header.job == j) job ∙ (ap (λ (j : ℕ). j == 1) read.1 ∙ unlike) in
         refused_plainly e new sessions_refused.ForeignJob (Engine lowers.ForeignJob) result refl
-        (subst (λ (j : Result Judgement judging.Refused). HearingGives (heard_by j e.sessions d bytes) e result new) (foreign (knowledge e.sessions) d.header apart) g)
+        (subst (λ (j : Result Judgement judging.IncarnationRefusal). HearingGives (heard_by j e.sessions d bytes) e result new) (foreign (knowledge e.sessions) d.header apart) g)
 
 -- the fault of stray bytes at a rank that is there
 stray_fault_there : (size : ℕ) (d : List (ℕ × List ℕ)) (rank : ℕ) (bytes : List ℕ) → rank < size → event_fault size d (events.Stray rank bytes) ≡ Some (stray_fault bytes)
@@ -99,7 +99,7 @@ stray_fault_there size d rank bytes inside =
     ap (λ (b : Bool). first_fault (if b then Some NoSuchRank else None) (Some (stray_fault bytes))) (lt-leb size rank inside)
 
 -- what is answered stray bytes at a rank that is there
-stray_alike : (old : WorldState) (r : ℕ) (bytes : List ℕ) (why : Refused) (out : List (ℕ × List ℕ)) (e : EngineState) → ArePlaced old.engines → IsWhy old (events.Stray r bytes) why out →
+stray_alike : (old : WorldState) (r : ℕ) (bytes : List ℕ) (why : WorldRefusal) (out : List (ℕ × List ℕ)) (e : EngineState) → ArePlaced old.engines → IsWhy old (events.Stray r bytes) why out →
     slice_get old.engines r ≡ Some e → carries_job bytes ≡ false → EngineRefuses e bytes why
 stray_alike old r bytes why out e placed is there other = go is
   where
@@ -108,12 +108,12 @@ stray_alike old r bytes why out e placed is there other = go is
 
     go : IsWhy old (events.Stray r bytes) why out → EngineRefuses e bytes why
     go (ByTheWorld fault silent) =
-        subst (λ (x : Refused). EngineRefuses e bytes x) (same_Some (stray_fault bytes) why (sym fault_is ∙ fault)) (stray_refused e bytes (placed r e there).job other)
+        subst (λ (x : WorldRefusal). EngineRefuses e bytes x) (same_Some (stray_fault bytes) why (sym fault_is ∙ fault)) (stray_refused e bytes (placed r e there).job other)
     go (ForRoom none allowed needs room silent) = let clash : Some (stray_fault bytes) ≡ None = sym fault_is ∙ none in absurd cc
     go (ByTheEngine refusal none refused gives ran) = let clash : Some (stray_fault bytes) ≡ None = sym fault_is ∙ none in absurd cc
 
 -- whatever is answered stray bytes is what the engine of their rank would answer
-pub alike_at_engine : (old : WorldState) (event : Event) (why : Refused) (out : List (ℕ × List ℕ)) → ArePlaced old.engines → IsWhy old event why out →
+pub alike_at_engine : (old : WorldState) (event : Event) (why : WorldRefusal) (out : List (ℕ × List ℕ)) → ArePlaced old.engines → IsWhy old event why out →
     IsAsAtTheEngine old.engines event why
 alike_at_engine old (events.Call r call) why out placed is = tt
 alike_at_engine old (events.Deliver number) why out placed is = tt
@@ -125,6 +125,6 @@ alike_at_engine old (events.Stray r bytes) why out placed is = λ e there other.
 pub stray_breaks : (size : ℕ) (d : List (ℕ × List ℕ)) (r : ℕ) (bytes : List ℕ) → event_fault size d (events.Stray r bytes) ≡ None → ⊥
 stray_breaks size d r bytes none = go (target_fault size (Some r)) none
   where
-    go : (o : Option Refused) → first_fault o (Some (stray_fault bytes)) ≡ None → ⊥
+    go : (o : Option WorldRefusal) → first_fault o (Some (stray_fault bytes)) ≡ None → ⊥
     go None h = absurd cc
     go (Some fault) h = absurd cc

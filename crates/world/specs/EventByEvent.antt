@@ -5,7 +5,7 @@
 -- a world follows that network by just these happenings, `IsFollowedBy` (proof_network_bridge, GoingOn)
 use Rattle.std.specs.Prelude.{◌≡◌, ℕ, List, [], ◌∷◌, ◌++◌, length, Option, Some, Result, Ok, Err, slice_get}
 use Rattle.std.specs.List.{AllByRecursion}
-use Rattle.engine_parts.specs.EngineState.{EngineState, member_of}
+use Rattle.engine_calls.specs.EngineState.{EngineState, member_of}
 use Rattle.perfect_groups.specs.Calls.{held_at}
 use Rattle.perfect_groups.specs.Communicators.{Communicator}
 use Rattle.perfect_groups.specs.Events as machine
@@ -17,13 +17,13 @@ use Rattle.world.specs.Given.{AreNamed}
 use Rattle.world.specs.Headline.{IsRunOfMachine, history_seen}
 use Rattle.world.specs.Steps.{StepGives}
 use Rattle.world.specs.WorldState.{IsWorld, WorldState}
-use Rattle.world.specs.declared.event.Entry.{Entry}
+use Rattle.world.specs.declared.event.HistoryEntry.{HistoryEntry}
 use Rattle.world.specs.declared.event.Event.{Event}
 use Rattle.world.specs.declared.event.Failed.{Failed}
 use Rattle.world.specs.declared.event.Stepped.{Stepped}
 
 -- what is true of every world, by what happened in the pure network that it follows
-pub record IsSoundBy (happenings : List Happening) (engines : List EngineState) (datagrams : List (ℕ × List ℕ)) (history : List Entry) : Type 0 where
+pub record IsSoundBy (happenings : List Happening) (engines : List EngineState) (datagrams : List (ℕ × List ℕ)) (history : List HistoryEntry) : Type 0 where
   pub world : IsWorld engines
   pub followed : IsFollowedBy (length engines) happenings engines datagrams (history_seen history)
   pub named : (r : ℕ) (e : EngineState) → slice_get engines r ≡ Some e → AreNamed history e

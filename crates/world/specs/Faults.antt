@@ -2,8 +2,8 @@
 use Rattle.std.specs.Prelude.{ℕ, nat_le, List, Option, Some, None, option_map, slice_get, if◌then◌else◌}
 use Rattle.world.specs.declared.event.Event.{Event}
 use Rattle.world.specs.declared.event.Event.TheVariants as events
-use Rattle.world.specs.declared.refused.Refused.{Refused}
-use Rattle.world.specs.declared.refused.Refused.TheVariants.{NoSuchDatagram, NoSuchRank}
+use Rattle.world.specs.declared.refusal.WorldRefusal.{WorldRefusal}
+use Rattle.world.specs.declared.refusal.WorldRefusal.TheVariants.{NoSuchDatagram, NoSuchRank}
 use Rattle.world.specs.Strays.{stray_fault}
 
 -- the rank that an event comes to; a delivery comes to the one that its datagram was emitted to, if there is such a datagram
@@ -15,12 +15,12 @@ target_of datagrams (events.Tick rank now) = Some rank
 target_of datagrams (events.Restart rank) = Some rank
 
 -- 62 where there is no such datagram, and 61 where no rank of so many is the one that the event comes to
-abbrev pub target_fault : (size : ℕ) → (target : Option ℕ) → Option Refused
+abbrev pub target_fault : (size : ℕ) → (target : Option ℕ) → Option WorldRefusal
 target_fault size None = Some NoSuchDatagram
 target_fault size (Some rank) = if nat_le size rank then Some NoSuchRank else None
 
 -- stray bytes are refused at every rank, and nothing else is
-abbrev pub bytes_fault : Event → Option Refused
+abbrev pub bytes_fault : Event → Option WorldRefusal
 bytes_fault (events.Call rank call) = None
 bytes_fault (events.Deliver number) = None
 bytes_fault (events.Stray rank bytes) = Some (stray_fault bytes)
@@ -28,10 +28,10 @@ bytes_fault (events.Tick rank now) = None
 bytes_fault (events.Restart rank) = None
 
 -- the first of two faults
-abbrev pub first_fault : Option Refused → Option Refused → Option Refused
+abbrev pub first_fault : Option WorldRefusal → Option WorldRefusal → Option WorldRefusal
 first_fault None later = later
 first_fault (Some fault) later = Some fault
 
 -- the first rule of a world of so many ranks that an event breaks
-abbrev pub event_fault : (size : ℕ) → (datagrams : List (ℕ × List ℕ)) → Event → Option Refused
+abbrev pub event_fault : (size : ℕ) → (datagrams : List (ℕ × List ℕ)) → Event → Option WorldRefusal
 event_fault size datagrams event = first_fault (target_fault size (target_of datagrams event)) (bytes_fault event)

@@ -11,15 +11,15 @@
 -- `AreTrue` (Truth, with Told and Witness). That a world is sound, `IsSound` below, is what its proofs carry from event to event
 use Rattle.std.specs.Prelude.{◌≡◌, ℕ, ◌+◌, ◌≤◌, false, List, [], ◌∷◌, ◌++◌, length, Option, Some, None, flat_map, ◌==◌, slice_get, slice_index}
 use Rattle.vocabulary.specs.declared.endpoint.Endpoint.{Endpoint}
-use Rattle.engine_parts.specs.Calls.{CallGives, IsTaken}
-use Rattle.engine_parts.specs.EngineState.{EngineState, member_of}
-use Rattle.engine_parts.specs.declared.call.Call.{Call}
-use Rattle.engine_parts.specs.declared.reply.Reply.{Reply}
-use Rattle.engine_parts.specs.declared.reply.Reply.TheVariants as replies
+use Rattle.engine_calls.specs.Calls.{CallGives, IsTaken}
+use Rattle.engine_calls.specs.EngineState.{EngineState, member_of}
+use Rattle.engine_calls.specs.declared.call.Call.{Call}
+use Rattle.engine_calls.specs.declared.reply.Reply.{Reply}
+use Rattle.engine_calls.specs.declared.reply.Reply.TheVariants as replies
 use Rattle.sessions.specs.Peers.{peer_at}
 use Rattle.reliable_link.specs.ReceiverState.{ReceiverState, held_at as frame_held}
 use Rattle.reliable_link.specs.SenderState.{SenderState, frame_at, next_number}
-use Rattle.rank_calls.specs.declared.refused.Refused.{Refused}
+use Rattle.point_to_point_calls.specs.declared.refusal.Refusal.{Refusal}
 use Rattle.perfect_groups.specs.Calls.{held_at}
 use Rattle.perfect_groups.specs.Communicators.{Communicator}
 use Rattle.perfect_groups.specs.Events as machine
@@ -36,7 +36,7 @@ use Rattle.proof_network_bridge.specs.Joined.{IsFollowed, sessions_in}
 use Rattle.proof_network_bridge.specs.Seen.{call_meant, call_seen, told_call, told_completion}
 use Rattle.world.specs.Given.{AreNamed, NamesOwn}
 use Rattle.world.specs.WorldState.{WorldState, IsWorld}
-use Rattle.world.specs.declared.event.Entry.{Entry}
+use Rattle.world.specs.declared.event.HistoryEntry.{HistoryEntry}
 use Rattle.world.specs.declared.event.Event.{Event}
 use Rattle.world.specs.declared.event.Event.TheVariants as events
 
@@ -49,11 +49,11 @@ event_seen e (events.Tick r now) reply = []
 event_seen e (events.Restart r) reply = machine.Restarted r ∷ []
 
 -- and so is the answer to a blocked call, in whatever event it comes
-abbrev pub entry_seen : Entry → List machine.Entry
+abbrev pub entry_seen : HistoryEntry → List machine.Entry
 entry_seen e = event_seen e.endpoint e.event e.reply ++ told_completion e.endpoint e.completion
 
 -- the visible history: calls with replies, restarts, and completions, in order
-abbrev pub history_seen : List Entry → List machine.Entry
+abbrev pub history_seen : List HistoryEntry → List machine.Entry
 history_seen entries = flat_map entry_seen entries
 
 -- THE HEADLINE. There is a run of the machine of queues and groups, among as many ranks, whose visible history is the world's.
@@ -79,7 +79,7 @@ pub record IsRunOfMachine (w : WorldState) : Type 0 where
   -- a call that the engine refuses has the machine's first fault, by its number; or the machine finds none, and the number is
   -- 13 or 14 (`IsReason`). A request of another engine is there one that was never given (`call_meant`)
   pub refuses :
-      (r : ℕ) (e mid : EngineState) (call back : Call) (why : Refused) → slice_get w.engines r ≡ Some e →
+      (r : ℕ) (e mid : EngineState) (call back : Call) (why : Refusal) → slice_get w.engines r ≡ Some e →
       CallGives e call (replies.Refused why back) mid →
       IsReason (fault_in (after_run (machine_opening (length w.engines)) run_events) e.sessions.place.endpoint (call_meant e.core call)) why
   -- where a call names only requests that its own engine gave, it means there what is seen of it
@@ -140,7 +140,7 @@ NothingIsHeld engines =
 
 -- what is true of every world: its engines know how many they are, it follows the pure network, and the requests that engines gave
 -- stand under their keys
-pub record IsSound (engines : List EngineState) (datagrams : List (ℕ × List ℕ)) (history : List Entry) : Type 0 where
+pub record IsSound (engines : List EngineState) (datagrams : List (ℕ × List ℕ)) (history : List HistoryEntry) : Type 0 where
   pub world : IsWorld engines
   pub followed : IsFollowed (length engines) engines datagrams (history_seen history)
   pub named : (r : ℕ) (e : EngineState) → slice_get engines r ≡ Some e → AreNamed history e

@@ -1,6 +1,6 @@
 -- When an engine is quiet towards another one.
 use Rattle.std.specs.Prelude.{◌≡◌, true, List, All}
-use Rattle.engine_parts.specs.EngineState.{EngineState}
+use Rattle.engine_calls.specs.EngineState.{EngineState}
 use Rattle.incarnation.specs.Judging.{is_other}
 use Rattle.proof_link_truth.specs.Quiet.{IsQuietTowards}
 

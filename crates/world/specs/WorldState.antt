@@ -1,16 +1,16 @@
 -- A world: its engines, every datagram that they emitted, and what happened.
 use Rattle.std.specs.Prelude.{◌≡◌, ℕ, ◌*◌, ◌+◌, ◌<◌, ◌≤◌, Bool, ◌||◌, ◌==◌, nat_lt, List, [], length, All, Some, slice_get}
-use Rattle.engine_parts.specs.EngineState.{EngineState}
+use Rattle.engine_calls.specs.EngineState.{EngineState}
 use Rattle.proof_network_bridge.specs.Joined.{IsClean, opening_engines}
 use Rattle.vocabulary.specs.Limits.{most_ranks}
-use Rattle.world.specs.declared.event.Entry.{Entry}
+use Rattle.world.specs.declared.event.HistoryEntry.{HistoryEntry}
 
 -- a world
 pub record WorldState : Type 0 where
   pub engines : List EngineState
   -- each datagram's target rank and bytes, by its number
   pub datagrams : List (ℕ × List ℕ)
-  pub history : List Entry
+  pub history : List HistoryEntry
   -- for how many datagrams and entries there is room, those that are there included
   pub datagram_room : ℕ
   pub entry_room : ℕ

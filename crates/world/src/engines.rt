@@ -1,8 +1,8 @@
 //! What one event does to the engines of a world.
 
 ghost use Rattle.std.specs.Prelude.{◌≡◌, ◌≤◌, ◌<◌, ◌*◌, length, option_map, Option, Some, None, IfOk, IfErr, OnErr, slice_get, vec_len};
-ghost use Rattle.rank_calls.specs.declared.refused.Refused.TheVariants as lowers;
-ghost use Rattle.engine_parts.specs.EngineState.{opening};
+ghost use Rattle.point_to_point_calls.specs.declared.refusal.Refusal.TheVariants as lowers;
+ghost use Rattle.engine_calls.specs.EngineState.{opening};
 ghost use Rattle.proof_network_bridge.specs.Joined.{opening_engines};
 ghost use Rattle.proof_link_truth.specs.Wire.{at, place_of};
 ghost use Rattle.vocabulary.specs.Limits.{most_ranks};
@@ -13,8 +13,8 @@ ghost use Rattle.world.specs.Strays.{stray_fault};
 ghost use Rattle.world.specs.Views.{gave_of};
 
 use crate::event::Event;
-use crate::one_engine::{Asked, Given, Rejected, ask, happen};
-use crate::refused::Refused;
+use crate::one_engine::{EngineEvent, EngineOutput, Rejected, ask, happen};
+use crate::refusal::WorldRefusal;
 use byteorder::{BigEndian, ByteOrder};
 use datagram::Bytes;
 use engine::{Engine, Place};
@@ -49,20 +49,20 @@ fn target_of(datagrams: &[(u16, Bytes)], event: &Event) -> Option<u16>
 }
 
 /// Why stray bytes are refused.
-fn fault_of_stray(bytes: &[u8]) -> Refused
+fn fault_of_stray(bytes: &[u8]) -> WorldRefusal
     ensures { result ≡ stray_fault bytes.now }
 {
     if bytes.len() >= 24 && BigEndian::read_u64(&bytes[16..]) == JOB {
-        return Refused::CarriesJob;
+        return WorldRefusal::CarriesJob;
     }
     match datagram::read(bytes) {
-        Ok(_) => Refused::Engine(engine::Refused::ForeignJob),
-        Err(refused) => Refused::Engine(engine::Refused::of_datagram(refused)),
+        Ok(_) => WorldRefusal::Engine(engine::Refusal::ForeignJob),
+        Err(refused) => WorldRefusal::Engine(engine::Refusal::of_datagram(refused)),
     }
 }
 
 /// Why an event is refused at whatever rank it comes to: if it is one of stray bytes.
-fn fault_of_bytes(event: &Event) -> Option<Refused>
+fn fault_of_bytes(event: &Event) -> Option<WorldRefusal>
     ensures { result ≡ bytes_fault event.now }
 {
     match event {
@@ -75,17 +75,17 @@ fn fault_of_bytes(event: &Event) -> Option<Refused>
 }
 
 /// The rank that an event comes to, or the first rule of a world of `size` ranks that it breaks. It takes no memory.
-pub fn judge(size: usize, datagrams: &[(u16, Bytes)], event: &Event) -> Result<u16, Refused>
+pub fn judge(size: usize, datagrams: &[(u16, Bytes)], event: &Event) -> Result<u16, WorldRefusal>
     ensures allowed { IfOk result (λ rank. event_fault size datagrams.now event.now ≡ None) }
     ensures target { IfOk result (λ rank. target_of datagrams.now event.now ≡ Some rank) }
     ensures there { IfOk result (λ rank. rank < size) }
     ensures fault { IfErr result (λ fault. event_fault size datagrams.now event.now ≡ Some fault) }
 {
     let Some(rank) = target_of(datagrams, event) else {
-        return Err(Refused::NoSuchDatagram);
+        return Err(WorldRefusal::NoSuchDatagram);
     };
     if rank as usize >= size {
-        return Err(Refused::NoSuchRank);
+        return Err(WorldRefusal::NoSuchRank);
     }
     match fault_of_bytes(event) {
         Some(fault) => Err(fault),
@@ -95,13 +95,13 @@ pub fn judge(size: usize, datagrams: &[(u16, Bytes)], event: &Event) -> Result<u
 
 /// The rule or limit by which the engine of a rank refuses a call or a restart, whatever memory there is; of other events it
 /// isn't asked. The event comes back as it was. It takes no memory.
-pub fn ask_at(engines: &[Engine], rank: u16, event: Event) -> Asked
+pub fn ask_at(engines: &[Engine], rank: u16, event: Event) -> EngineEvent
     ensures fault { result.fault ≡ fault_by (slice_get engines.now rank) event }
     ensures event { result.event ≡ event }
 {
     match engines.get(rank as usize) {
         Some(engine) => ask(engine, event),
-        None => Asked { fault: None, event },
+        None => EngineEvent { fault: None, event },
     }
 }
 
@@ -112,7 +112,7 @@ pub fn run_event(
     datagrams: &[(u16, Bytes)],
     rank: u16,
     event: Event,
-) -> Result<Given, Rejected>
+) -> Result<EngineOutput, Rejected>
     requires there { rank < vec_len engines.old }
     requires target { target_of datagrams.now event ≡ Some rank }
     requires world { IsWorld engines.old.items }
@@ -127,11 +127,11 @@ pub fn run_event(
 }
 
 /// The engine of a rank among so many, at its first incarnation.
-fn new_engine(alloc: Global, rank: u16, size: u16) -> Result<Engine, Refused>
+fn new_engine(alloc: Global, rank: u16, size: u16) -> Result<Engine, WorldRefusal>
     requires there { rank < size }
     requires few { size ≤ most_ranks }
     ensures ok { IfOk result (λ engine. engine ≡ opening (place_of size (at rank 0))) }
-    ensures err { IfErr result (λ e. e ≡ Refused.Engine lowers.OutOfMemory) }
+    ensures err { IfErr result (λ e. e ≡ WorldRefusal.Engine lowers.OutOfMemory) }
 {
     let endpoint = Endpoint {
         rank,
@@ -144,16 +144,16 @@ fn new_engine(alloc: Global, rank: u16, size: u16) -> Result<Engine, Refused>
     };
     match Engine::new(alloc, place) {
         Ok(engine) => Ok(engine),
-        Err(refused) => Err(Refused::Engine(refused)),
+        Err(refused) => Err(WorldRefusal::Engine(refused)),
     }
 }
 
 /// The engines of a world of `size` ranks.
 #[tactic(auto, using(crate::proofs::Openings::opening_more))]
-pub fn new_engines(alloc: Global, size: u16) -> Result<Vec<Engine>, Refused>
+pub fn new_engines(alloc: Global, size: u16) -> Result<Vec<Engine>, WorldRefusal>
     requires { size ≤ most_ranks }
     ensures ok { IfOk result (λ engines. engines.items ≡ opening_engines size 0 size) }
-    ensures err { IfErr result (λ e. e ≡ Refused.Engine lowers.OutOfMemory) }
+    ensures err { IfErr result (λ e. e ≡ WorldRefusal.Engine lowers.OutOfMemory) }
 {
     let mut engines = Vec::new(alloc);
     for rank in 0..size {

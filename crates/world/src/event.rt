@@ -3,7 +3,7 @@
 ghost use Rattle.std.specs.Prelude.{◌≡◌, IfOk, OnErr};
 ghost use Rattle.world.specs.Steps.{HasOwnBytes};
 
-use crate::refused::Refused;
+use crate::refusal::WorldRefusal;
 use datagram::Bytes;
 use engine::{Call, Completion, Reply};
 use std::alloc::{AllocError, Global};
@@ -28,7 +28,7 @@ pub enum Event {
 
 /// What the history holds of an event.
 #[derive(Drop)]
-pub struct Entry {
+pub struct HistoryEntry {
     /// The endpoint at which it happened: the rank, at the incarnation that it had. Of a restart that is the former one.
     pub endpoint: Endpoint,
     /// What happened.
@@ -54,7 +54,7 @@ pub struct Stepped {
 #[derive(Drop)]
 pub struct Failed {
     /// Why the event was refused.
-    pub refused: Refused,
+    pub refused: WorldRefusal,
     /// The event, as it was handed in.
     pub event: Event,
     /// The number of the reset that went out, where the datagram was meant for a former incarnation of its target.
@@ -65,13 +65,13 @@ pub struct Failed {
 #[derive(Drop)]
 pub struct FailedRun {
     /// Why it did not begin: room for the answers was wanting.
-    pub refused: Refused,
+    pub refused: WorldRefusal,
     /// The events, as they were handed in.
     pub events: Vec<Event>,
 }
 
 /// What a step answers: what it added, or why the event was refused.
-pub type Answer = Result<Stepped, Failed>;
+pub type StepResult = Result<Stepped, Failed>;
 
 impl Event {
     /// The same event once more. The only error is want of memory, for the data of a call and for stray bytes.

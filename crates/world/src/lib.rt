@@ -5,9 +5,9 @@ mod engines;
 mod event;
 mod one_engine;
 mod quiet;
-mod refused;
+mod refusal;
 mod world;
 
-pub use event::{Answer, Entry, Event, Failed, FailedRun, Stepped};
-pub use refused::Refused;
+pub use event::{StepResult, HistoryEntry, Event, Failed, FailedRun, Stepped};
+pub use refusal::WorldRefusal;
 pub use world::World;

@@ -1,8 +1,8 @@
 //! What one event does to one engine.
 
 ghost use Rattle.std.specs.Prelude.{◌≡◌, ◌≤◌, ◌+◌, ◌*◌, [], length, is_some, IfOk, IfErr, IsTrue};
-ghost use Rattle.engine_parts.specs.EngineState.{completion_of, emptied};
-ghost use Rattle.engine_parts.specs.Faults.{fault_of};
+ghost use Rattle.engine_calls.specs.EngineState.{completion_of, emptied};
+ghost use Rattle.engine_calls.specs.Faults.{fault_of};
 ghost use Rattle.world.specs.Faults.{target_of};
 ghost use Rattle.world.specs.WorldState.{IsReady};
 ghost use Rattle.world.specs.Steps.{CallRuns, DatagramRuns, TickRuns, RestartRuns, EventRuns, asked_fault, emitted, restart_fault};
@@ -17,7 +17,7 @@ use vocabulary::Endpoint;
 
 /// What the engine of an endpoint gave in an event.
 #[derive(Drop)]
-pub struct Given {
+pub struct EngineOutput {
     /// The endpoint that the engine was before the event.
     pub endpoint: Endpoint,
     /// The datagrams that it emitted, with the rank that each goes to.
@@ -30,9 +30,9 @@ pub struct Given {
 
 /// An event that an engine was asked for.
 #[derive(Drop)]
-pub struct Asked {
+pub struct EngineEvent {
     /// The rule or limit by which the engine refuses it, if there is one.
-    pub fault: Option<engine::Refused>,
+    pub fault: Option<engine::Refusal>,
     /// The event, as it was handed in.
     pub event: Event,
 }
@@ -41,28 +41,28 @@ pub struct Asked {
 #[derive(Drop)]
 pub struct Rejected {
     /// Why it refused.
-    pub refused: engine::Refused,
+    pub refused: engine::Refusal,
     /// The datagrams that it emitted: none, or a reset.
     pub out: Vec<(u16, Bytes)>,
 }
 
 /// That there is no incarnation after this one, if there is none.
-fn fault_of_restart(place: Place) -> Option<engine::Refused>
+fn fault_of_restart(place: Place) -> Option<engine::Refusal>
     ensures { result ≡ restart_fault place }
 {
     match next_incarnation(place.endpoint.incarnation) {
         Ok(_) => None,
-        Err(_) => Some(engine::Refused::Limit),
+        Err(_) => Some(engine::Refusal::Limit),
     }
 }
 
 /// A call that its engine was asked for.
-fn ask_call(engine: &Engine, rank: u16, call: Call) -> Asked
+fn ask_call(engine: &Engine, rank: u16, call: Call) -> EngineEvent
     ensures fault { result.fault ≡ fault_of engine.now call }
     ensures event { result.event ≡ Event.Call rank call }
 {
     let judged = engine.judge(call);
-    Asked {
+    EngineEvent {
         fault: judged.fault,
         event: Event::Call(rank, judged.call),
     }
@@ -70,22 +70,22 @@ fn ask_call(engine: &Engine, rank: u16, call: Call) -> Asked
 
 /// The rule or limit by which an engine refuses a call or a restart, whatever memory there is; of other events it isn't asked.
 /// The event comes back as it was. It takes no memory.
-pub fn ask(engine: &Engine, event: Event) -> Asked
+pub fn ask(engine: &Engine, event: Event) -> EngineEvent
     ensures fault { result.fault ≡ asked_fault engine.now event }
     ensures event { result.event ≡ event }
 {
     match event {
         Event::Call(rank, call) => ask_call(engine, rank, call),
-        Event::Restart(rank) => Asked {
+        Event::Restart(rank) => EngineEvent {
             fault: fault_of_restart(engine.place()),
             event: Event::Restart(rank),
         },
-        event => Asked { fault: None, event },
+        event => EngineEvent { fault: None, event },
     }
 }
 
 /// A refusal with which nothing goes out.
-fn plain(alloc: Global, refused: engine::Refused) -> Rejected
+fn plain(alloc: Global, refused: engine::Refusal) -> Rejected
     ensures refused { result.refused ≡ refused }
     ensures out { result.out.items ≡ [] }
 {
@@ -96,7 +96,7 @@ fn plain(alloc: Global, refused: engine::Refused) -> Rejected
 }
 
 /// Takes out of an engine what it gave.
-fn take_given(engine: &mut Engine, reply: Option<Reply>) -> Given
+fn take_given(engine: &mut Engine, reply: Option<Reply>) -> EngineOutput
     ensures endpoint { result.endpoint ≡ engine.old.sessions.place.endpoint }
     ensures out { result.out.items ≡ engine.old.sessions.out }
     ensures reply { result.reply ≡ reply }
@@ -106,7 +106,7 @@ fn take_given(engine: &mut Engine, reply: Option<Reply>) -> Given
     let endpoint = engine.place().endpoint;
     let out = engine.take_out();
     let completion = engine.take_completion();
-    Given {
+    EngineOutput {
         endpoint,
         out,
         reply,
@@ -115,7 +115,7 @@ fn take_given(engine: &mut Engine, reply: Option<Reply>) -> Given
 }
 
 /// Why a call was refused, if it was.
-fn refusal_of(reply: &Reply) -> Option<engine::Refused>
+fn refusal_of(reply: &Reply) -> Option<engine::Refusal>
     ensures { result ≡ refusal_of reply.now }
 {
     match reply {
@@ -133,7 +133,7 @@ fn refusal_of(reply: &Reply) -> Option<engine::Refused>
 }
 
 /// The engine is called.
-fn call(alloc: Global, engine: &mut Engine, call: Call) -> Result<Given, Rejected>
+fn call(alloc: Global, engine: &mut Engine, call: Call) -> Result<EngineOutput, Rejected>
     requires { IsReady engine.old }
     ensures exact { CallRuns engine.old call (gave_of result) engine.new }
     ensures few { length (emitted (gave_of result)) ≤ 65 * engine.old.sessions.place.size }
@@ -151,7 +151,7 @@ fn call(alloc: Global, engine: &mut Engine, call: Call) -> Result<Given, Rejecte
 }
 
 /// Bytes come to the engine. What it emits goes out, though it refuses them.
-fn deliver(engine: &mut Engine, bytes: &[u8]) -> Result<Given, Rejected>
+fn deliver(engine: &mut Engine, bytes: &[u8]) -> Result<EngineOutput, Rejected>
     requires { IsReady engine.old }
     ensures exact { DatagramRuns engine.old bytes.now (gave_of result) engine.new }
     ensures few { length (emitted (gave_of result)) ≤ 65 * engine.old.sessions.place.size }
@@ -168,7 +168,7 @@ fn deliver(engine: &mut Engine, bytes: &[u8]) -> Result<Given, Rejected>
 }
 
 /// The engine's clock ticks.
-fn tick(alloc: Global, engine: &mut Engine, now: u64) -> Result<Given, Rejected>
+fn tick(alloc: Global, engine: &mut Engine, now: u64) -> Result<EngineOutput, Rejected>
     requires { IsReady engine.old }
     ensures exact { TickRuns engine.old now (gave_of result) engine.new }
     ensures few { length (emitted (gave_of result)) ≤ 65 * engine.old.sessions.place.size }
@@ -182,14 +182,14 @@ fn tick(alloc: Global, engine: &mut Engine, now: u64) -> Result<Given, Rejected>
 }
 
 /// What stood here gives way to this, and is dropped.
-fn give_way<T: Drop>(place: &mut T, next: T)
+fn replace<T: Drop>(place: &mut T, next: T)
     ensures { place.new ≡ next }
 {
     *place = next;
 }
 
 /// The engine gives way to a new one, at the next incarnation.
-fn restart(alloc: Global, engine: &mut Engine) -> Result<Given, Rejected>
+fn restart(alloc: Global, engine: &mut Engine) -> Result<EngineOutput, Rejected>
     requires { IsReady engine.old }
     ensures exact { RestartRuns engine.old (gave_of result) engine.new }
     ensures few { length (emitted (gave_of result)) ≤ 65 * engine.old.sessions.place.size }
@@ -198,7 +198,7 @@ fn restart(alloc: Global, engine: &mut Engine) -> Result<Given, Rejected>
 {
     let former = engine.place();
     let Ok(incarnation) = next_incarnation(former.endpoint.incarnation) else {
-        return Err(plain(alloc, engine::Refused::Limit));
+        return Err(plain(alloc, engine::Refusal::Limit));
     };
     let place = Place {
         endpoint: Endpoint {
@@ -210,8 +210,8 @@ fn restart(alloc: Global, engine: &mut Engine) -> Result<Given, Rejected>
     };
     match Engine::new(alloc, place) {
         Ok(next) => {
-            give_way(engine, next);
-            Ok(Given {
+            replace(engine, next);
+            Ok(EngineOutput {
                 endpoint: former.endpoint,
                 out: Vec::new(alloc),
                 reply: None,
@@ -228,7 +228,7 @@ pub fn happen(
     engine: &mut Engine,
     datagrams: &[(u16, Bytes)],
     event: Event,
-) -> Result<Given, Rejected>
+) -> Result<EngineOutput, Rejected>
     requires ready { IsReady engine.old }
     requires target { IsTrue (is_some (target_of datagrams.now event)) }
     ensures exact { EventRuns datagrams.now event engine.old (gave_of result) engine.new }

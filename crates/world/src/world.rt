@@ -1,7 +1,7 @@
 //! The world.
 
 ghost use Rattle.std.specs.Prelude.{◌≡◌, ◌≤◌, ◌+◌, ◌*◌, [], ◌∷◌, ◌++◌, length, Option, option_map, IfOk, IfErr, IsTrue, slice_get, Err, vec_len, vec_capacity, ◌↔◌, ◌⊎◌};
-ghost use Rattle.rank_calls.specs.declared.refused.Refused.TheVariants as lowers;
+ghost use Rattle.point_to_point_calls.specs.declared.refusal.Refusal.TheVariants as lowers;
 ghost use Rattle.proof_link_truth.specs.Quiet.{AreQuiet};
 ghost use Rattle.proof_network_bridge.specs.Joined.{sessions_in};
 ghost use Rattle.vocabulary.specs.Limits.{most_ranks};
@@ -12,10 +12,10 @@ ghost use Rattle.world.specs.Steps.{StepGives, RunGives, IsNotRun, entry_of, fir
 ghost use Rattle.world.specs.Views.{gave_in};
 
 use crate::engines::{ask_at, datagram_at, judge, new_engines, run_event};
-use crate::event::{Answer, Entry, Event, Failed, FailedRun, Stepped};
-use crate::one_engine::{Asked, Given, Rejected};
+use crate::event::{StepResult, HistoryEntry, Event, Failed, FailedRun, Stepped};
+use crate::one_engine::{EngineEvent, EngineOutput, Rejected};
 use crate::quiet::are_quiet;
-use crate::refused::{OUT_OF_MEMORY, Refused};
+use crate::refusal::{OUT_OF_MEMORY, WorldRefusal};
 use datagram::Bytes;
 use engine::{Engine, MOST_RANKS};
 use std::alloc::Global;
@@ -23,12 +23,18 @@ use std::marker::Model;
 use vocabulary::Endpoint;
 
 /// Ranks that share nothing but datagrams, and everything that happened to them.
+///
+/// ```text
+///  Call, Deliver, Stray, Tick, Restart ── step ─► Ok: one entry more in the history, what went out with its numbers
+///                                             └─► Err: the world as it was, but for a reset that goes out
+///  every datagram stays for ever: it may be delivered late, twice, or never
+/// ```
 #[derive(Drop)]
 pub struct World {
     alloc: Global,
     engines: Vec<Engine>,
     datagrams: Vec<(u16, Bytes)>,
-    history: Vec<Entry>,
+    history: Vec<HistoryEntry>,
 }
 
 impl Model for World {
@@ -44,7 +50,7 @@ impl Model for World {
 }
 
 /// Makes the room that an event may take, 65 datagrams for each rank and an entry, and tells whether it could.
-fn make_room(datagrams: &mut Vec<(u16, Bytes)>, history: &mut Vec<Entry>, size: usize) -> bool
+fn make_room(datagrams: &mut Vec<(u16, Bytes)>, history: &mut Vec<HistoryEntry>, size: usize) -> bool
     requires { size ≤ most_ranks }
     ensures datagrams { datagrams.new.items ≡ datagrams.old.items }
     ensures history { history.new.items ≡ history.old.items }
@@ -59,7 +65,7 @@ fn make_room(datagrams: &mut Vec<(u16, Bytes)>, history: &mut Vec<Entry>, size: 
 fn refuse(datagrams: &mut Vec<(u16, Bytes)>, mut rejected: Rejected, event: Event) -> Failed
     requires { vec_len datagrams.old + vec_len rejected.out ≤ vec_capacity datagrams.old }
     ensures numbered { datagrams.new.items ≡ datagrams.old.items ++ rejected.out.items }
-    ensures refused { result.refused ≡ Refused.Engine rejected.refused }
+    ensures refused { result.refused ≡ WorldRefusal.Engine rejected.refused }
     ensures event { result.event ≡ event }
     ensures reset { result.reset ≡ first_of (vec_len datagrams.old) rejected.out.items }
 {
@@ -71,7 +77,7 @@ fn refuse(datagrams: &mut Vec<(u16, Bytes)>, mut rejected: Rejected, event: Even
     // There is room.
     datagrams.append(&mut rejected.out).unwrap();
     Failed {
-        refused: Refused::Engine(rejected.refused),
+        refused: WorldRefusal::Engine(rejected.refused),
         event,
         reset,
     }
@@ -80,9 +86,9 @@ fn refuse(datagrams: &mut Vec<(u16, Bytes)>, mut rejected: Rejected, event: Even
 /// What an engine gave is numbered, and what it answered stands in the history.
 fn note(
     datagrams: &mut Vec<(u16, Bytes)>,
-    history: &mut Vec<Entry>,
+    history: &mut Vec<HistoryEntry>,
     event: Event,
-    mut given: Given,
+    mut given: EngineOutput,
 ) -> Stepped
     requires datagrams { vec_len datagrams.old + vec_len given.out ≤ vec_capacity datagrams.old }
     requires history { vec_len history.old + 1 ≤ vec_capacity history.old }
@@ -99,7 +105,7 @@ fn note(
     let place = history.len();
     // There is room for both.
     datagrams.append(&mut given.out).unwrap();
-    let entry = Entry {
+    let entry = HistoryEntry {
         endpoint: given.endpoint,
         event,
         reply: given.reply,
@@ -114,7 +120,7 @@ fn note(
 }
 
 /// A refusal with which nothing goes out.
-fn plain(refused: Refused, event: Event) -> Failed
+fn plain(refused: WorldRefusal, event: Event) -> Failed
     ensures refused { result.refused ≡ refused }
     ensures event { result.event ≡ event }
     ensures reset { result.reset ≡ None }
@@ -132,9 +138,9 @@ fn advance(
     alloc: Global,
     engines: &mut Vec<Engine>,
     datagrams: &mut Vec<(u16, Bytes)>,
-    history: &mut Vec<Entry>,
+    history: &mut Vec<HistoryEntry>,
     event: Event,
-) -> Answer
+) -> StepResult
     requires { IsSound engines.old.items datagrams.old.items history.old.items }
     ensures exact { StepGives
         (record { engines = engines.old.items; datagrams = datagrams.old.items; history = history.old.items; datagram_room = vec_capacity datagrams.old; entry_room = vec_capacity history.old })
@@ -146,9 +152,9 @@ fn advance(
         Ok(rank) => rank,
         Err(refused) => return Err(plain(refused, event)),
     };
-    let Asked { fault, event } = ask_at(engines, rank, event);
+    let EngineEvent { fault, event } = ask_at(engines, rank, event);
     if let Some(refused) = fault {
-        return Err(plain(Refused::Engine(refused), event));
+        return Err(plain(WorldRefusal::Engine(refused), event));
     }
     if !make_room(datagrams, history, engines.len()) {
         return Err(plain(OUT_OF_MEMORY, event));
@@ -167,14 +173,14 @@ impl World {
     /// A world of so many ranks, 1 to 1,024, in which nothing happened yet.
     ///
     /// Refused with 13 for another number, and with 14. The run of the machine that it has come by is that of no event.
-    pub fn new(alloc: Global, size: u16) -> Result<World, Refused>
+    pub fn new(alloc: Global, size: u16) -> Result<World, WorldRefusal>
         ensures opening { IfOk result (λ w. w ≡ opening_world size) }
         ensures run { IfOk result (λ w. HasRun w []) }
-        ensures limit { (result ≡ Err (Refused.Engine lowers.Limit)) ↔ IsTrue (is_outside size) }
-        ensures refused { IfErr result (λ e. (e ≡ Refused.Engine lowers.Limit) ⊎ (e ≡ Refused.Engine lowers.OutOfMemory)) }
+        ensures limit { (result ≡ Err (WorldRefusal.Engine lowers.Limit)) ↔ IsTrue (is_outside size) }
+        ensures refused { IfErr result (λ e. (e ≡ WorldRefusal.Engine lowers.Limit) ⊎ (e ≡ WorldRefusal.Engine lowers.OutOfMemory)) }
     {
         if size == 0 || size > MOST_RANKS {
-            return Err(Refused::Engine(engine::Refused::Limit));
+            return Err(WorldRefusal::Engine(engine::Refusal::Limit));
         }
         let engines = new_engines(alloc, size)?;
         Ok(World {
@@ -219,7 +225,7 @@ impl World {
     /// Every world has come by some such run (`run`), from which the next event goes on: see `step`. Ranks of this world and of any
     /// later one whose run goes on from this one's share one group for each context, also where a rank was started anew between
     /// them (`groups`).
-    pub fn history(&self) -> &[Entry]
+    pub fn history(&self) -> &[HistoryEntry]
         ensures entries { result.now ≡ self.now.history }
         ensures headline { IsRunOfMachine self.now }
         ensures law { SessionsAreTrue self.now }
@@ -261,7 +267,7 @@ impl World {
     /// Whatever run of the machine the world had come by, it has now come by that run and steps of the machine at the event's own
     /// endpoint alone, which is that of the rank's engine before the event; and by the very same run where the event is refused
     /// (`event_by_event`).
-    pub fn step(&mut self, event: Event) -> Answer
+    pub fn step(&mut self, event: Event) -> StepResult
         ensures exact { StepGives self.old event result self.new }
         ensures headline { IsRunOfMachine self.new }
         ensures event_by_event { GoesOn self.old event result self.new }
@@ -283,7 +289,7 @@ impl World {
     /// queues and groups, which has come to rest where the world is quiet: see `history`. Each of these runs goes on from the one
     /// before by its event's own steps: see `step`. And of any two worlds on the way, be it that a rank was started anew between
     /// them, ranks share one group for each context (`event_by_event`).
-    pub fn run(&mut self, events: Vec<Event>) -> Result<Vec<Answer>, FailedRun>
+    pub fn run(&mut self, events: Vec<Event>) -> Result<Vec<StepResult>, FailedRun>
         ensures exact { IfOk result (λ answers. RunGives self.old events.items answers.items self.new) }
         ensures refused { IfErr result (λ failed. IsNotRun self.old events.items failed self.new) }
         ensures event_by_event { IfOk result (λ answers. GoesAllTheWay self.old events.items answers.items self.new) }
@@ -304,7 +310,7 @@ impl World {
     }
 
     /// Runs the events, and appends the answer of each, for which there is room.
-    fn run_into(&mut self, events: Vec<Event>, answers: &mut Vec<Answer>)
+    fn run_into(&mut self, events: Vec<Event>, answers: &mut Vec<StepResult>)
         requires empty { vec_len answers.old ≡ 0 }
         requires room { vec_len events ≤ vec_capacity answers.old }
         ensures exact { RunGives self.old events.items answers.new.items self.new }

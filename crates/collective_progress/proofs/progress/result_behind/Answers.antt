@@ -1,7 +1,7 @@
 -- The place among the rest, behind those before the start.
 use Rattle.std.proofs.Common.{◌≡◌, ◌+◌, ◌∙◌, Some, None, arith, ap, drop, option_map, position, sym}
 use Rattle.std.proofs.lemmas.Grind.{common_steps}
-use Rattle.collective_notes.specs.Notes.{tells_result}
+use Rattle.collective_messages.specs.Notes.{tells_result}
 use Rattle.collective_progress.proofs.Places.{position_behind}
 use Rattle.collective_progress.proofs.progress.result_behind.Goals as goal
 

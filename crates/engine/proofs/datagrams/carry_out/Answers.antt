@@ -1,12 +1,12 @@
 -- The sessions send what the core calls for.
 use Rattle.std.proofs.Common.{List, Some, map, ap, subst, ◌∙◌}
 use Rattle.std.specs.List.{AllByRecursion}
-use Rattle.rank_calls.specs.Hearing.{CanGo, NewsText}
-use Rattle.rank_core.specs.Hearing.{news_frames}
+use Rattle.point_to_point_calls.specs.Hearing.{CanGo, NewsText}
+use Rattle.point_to_point.specs.Arrivals.{news_frames}
 use Rattle.sessions.specs.Events.{Sending, after_event, event_limit, sendings}
 use Rattle.sessions.specs.Heard.{heard_text}
-use Rattle.engine_parts.specs.Frames.{outgoing_of}
-use Rattle.engine_parts.specs.Refusals.{of_sessions}
+use Rattle.engine_calls.specs.Frames.{outgoing_of}
+use Rattle.engine_calls.specs.Refusals.{of_sessions}
 use Rattle.engine.proofs.Replies.{only_memory, outgoing_can_go, outgoing_says}
 use Rattle.engine.proofs.datagrams.carry_out.Goals as goal
 

@@ -4,9 +4,9 @@ use Rattle.sessions.specs.Heard.{heard_text}
 use Rattle.datagram.specs.Spelling.{data_text, eager_text}
 use Rattle.engine.proofs.Hearing.{message_refused, piece_refused}
 use Rattle.engine.specs.Datagrams.{HeardGivesBy, NoticeText, notice_text, received}
-use Rattle.engine.specs.declared.noticing.Notice.{Notice}
-use Rattle.engine_parts.specs.Asks.{groups_of}
-use Rattle.engine_parts.specs.Steps.{engine_held}
+use Rattle.engine.specs.declared.notice_kinds.Notice.{Notice}
+use Rattle.engine_calls.specs.Asks.{groups_of}
+use Rattle.engine_calls.specs.Steps.{engine_held}
 use Rattle.engine.proofs.datagrams.hear.Goals as goal
 
 pub returns-in-None-clause-err : goal.returns-in-None-clause-err

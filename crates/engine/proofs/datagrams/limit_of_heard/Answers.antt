@@ -1,10 +1,10 @@
 -- The limit of the frames that the core calls for depends on how many they are.
 use Rattle.std.proofs.Common.{length, sym, ap, ◌∙◌}
-use Rattle.rank_calls.specs.Hearing.{NewsText}
-use Rattle.rank_core.specs.Hearing.{news_frames}
+use Rattle.point_to_point_calls.specs.Hearing.{NewsText}
+use Rattle.point_to_point.specs.Arrivals.{news_frames}
 use Rattle.sessions.specs.Heard.{heard_text}
 use Rattle.engine.specs.Datagrams.{replies}
-use Rattle.engine_parts.specs.Refusals.{fault_of_sessions}
+use Rattle.engine_calls.specs.Refusals.{fault_of_sessions}
 use Rattle.engine.proofs.Replies.{replies_are_for}
 use Rattle.engine.proofs.datagrams.limit_of_heard.Goals as goal
 

@@ -1,5 +1,5 @@
 use Rattle.std.proofs.Common.{◌+◌}
-use Rattle.line_words.proofs.LineSteps.{all_read}
+use Rattle.tokens.proofs.LineSteps.{all_read}
 use Rattle.event_files.specs.Reading.{line_read}
 use Rattle.event_files.proofs.StartSteps.{begins}
 use Rattle.event_files.proofs.parsing.lines_behind.Goals as goal

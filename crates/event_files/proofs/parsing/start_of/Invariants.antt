@@ -1,5 +1,5 @@
 use Rattle.std.proofs.Common.{◌≡◌, ◌+◌, ◌≤◌, length, drop}
-use Rattle.line_words.proofs.Lists.{shown}
+use Rattle.tokens.proofs.Lists.{shown}
 use Rattle.event_files.specs.Starts.{file_from}
 use Rattle.event_files.proofs.parsing.start_of.Given as goal
 

@@ -4,4 +4,4 @@ use Rattle.reductions.proofs.operation.wrapped_product.Goals as goal
 
 pub returns : goal.returns
 returns c =
-    c.reduced.ensures ∙ mod_mod c.args.basic (c.args.first * c.args.second)
+    c.modulo_type.ensures ∙ mod_mod c.args.basic (c.args.first * c.args.second)

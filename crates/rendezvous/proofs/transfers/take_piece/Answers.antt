@@ -2,7 +2,7 @@
 use Rattle.std.proofs.Common.{rules, ◌≡◌, true, get_or, Option, Some, sym, ap, ◌∙◌}
 use Rattle.std.proofs.lemmas.List.Quantifiers.{position-Some}
 use Rattle.std.proofs.lemmas.Option.{slice_get-get_or}
-use Rattle.rendezvous.specs.Collecting.{Collecting, is_from, takes}
+use Rattle.rendezvous.specs.Collecting.{Collecting, is_from, is_next_data}
 use Rattle.rendezvous.specs.State.{blank, collection_for, collection_at, is_taken}
 use Rattle.rendezvous.proofs.Steps.{fits_behind, remove_set}
 use Rattle.rendezvous.proofs.transfers.take_piece.Goals as goal
@@ -26,7 +26,7 @@ push_piece-requires-clause-room c =
     let there = (position-Some (is_from c.args.source c.args.transfer) collections place blank at).0 in
     let found : collection_at collections (collection_for c.args.source c.args.transfer collections) ≡ Some before =
     ap (collection_at collections) at ∙ slice_get-get_or collections place blank there in
-    let due : takes before c.args.offset c.args.bytes.now ≡ true =
+    let due : is_next_data before c.args.offset c.args.bytes.now ≡ true =
     sym (ap (λ (o : Option Collecting). is_taken o c.args.offset c.args.bytes.now) found) ∙ c.requires in
     fits_behind before c.args.offset c.args.bytes.now due
 

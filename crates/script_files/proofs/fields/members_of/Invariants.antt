@@ -1,7 +1,7 @@
 use Rattle.std.proofs.Common.{◌≡◌, drop}
 use Rattle.script_files.specs.Reading.{one_member}
-use Rattle.line_words.specs.Fields.{each}
-use Rattle.line_words.proofs.EachLaws.{with_more}
+use Rattle.tokens.specs.Fields.{each}
+use Rattle.tokens.proofs.EachLaws.{with_more}
 use Rattle.script_files.proofs.fields.members_of.Given as goal
 
 abbrev pub invariant-loop-word : goal.invariant-loop-word

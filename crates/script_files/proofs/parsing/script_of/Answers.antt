@@ -1,5 +1,5 @@
 use Rattle.std.proofs.Common.{◌+◌, sym, arith}
-use Rattle.line_words.proofs.LineSteps.{all_read}
+use Rattle.tokens.proofs.LineSteps.{all_read}
 use Rattle.script_files.specs.Reading.{line_read}
 use Rattle.script_files.proofs.parsing.script_of.Goals as goal
 

@@ -1,6 +1,6 @@
 use Rattle.std.proofs.Common.{◌≡◌, ◌+◌, drop}
-use Rattle.line_words.specs.Lines.{lines_from, with_front}
-use Rattle.line_words.proofs.Lists.{shown}
+use Rattle.tokens.specs.Lines.{lines_from, with_front}
+use Rattle.tokens.proofs.Lists.{shown}
 use Rattle.script_files.specs.Reading.{line_read}
 use Rattle.script_files.proofs.parsing.script_of.Given as goal
 

@@ -1,7 +1,7 @@
 use Rattle.std.proofs.Common.{◌≡◌, drop}
 use Rattle.statements.specs.Reading.{one_request}
-use Rattle.line_words.specs.Fields.{each}
-use Rattle.line_words.proofs.EachLaws.{with_more}
+use Rattle.tokens.specs.Fields.{each}
+use Rattle.tokens.proofs.EachLaws.{with_more}
 use Rattle.statements.proofs.fields.requests_of.Given as goal
 
 abbrev pub invariant-loop-word : goal.invariant-loop-word

@@ -2,7 +2,7 @@ use Rattle.std.proofs.Common.{replicate}
 use Rattle.std.proofs.lemmas.Result.{err_from_is_err_and}
 use Rattle.statements.specs.Reading.{elements_of}
 use Rattle.statements.proofs.ElementSteps.{elements_fail, elements_are, buffer_fails, buffer_is}
-use Rattle.line_words.proofs.EachLaws.{each_goes_on, each_ends, each_is_done}
+use Rattle.tokens.proofs.EachLaws.{each_goes_on, each_ends, each_is_done}
 use Rattle.statements.proofs.values.buffer_with.Goals as goal
 
 pub returns-in_err-count : goal.returns-in_err-count

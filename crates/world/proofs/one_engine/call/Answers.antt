@@ -1,5 +1,5 @@
 use Rattle.std.proofs.Common.{Option, sym, ap, subst, ◌∙◌}
-use Rattle.engine_parts.specs.declared.reply.Reply.{Reply}
+use Rattle.engine_calls.specs.declared.reply.Reply.{Reply}
 use Rattle.incarnation.specs.declared.place.Place.{Place}
 use Rattle.world.proofs.Called.{is_taken, refused_call}
 use Rattle.world.specs.Steps.{TakesCall}

@@ -3,7 +3,7 @@ use Rattle.std.specs.Prelude.{vec_capacity}
 use Rattle.std.proofs.lemmas.Grind.{common_steps}
 use Rattle.world.specs.Steps.{ByTheEngine, ByTheWorld, ForRoom, HasOwnBytes, IsWhy}
 use Rattle.world.specs.Views.{gave_in, refusal_in}
-use Rattle.world.specs.declared.refused.Refused.{Refused}
+use Rattle.world.specs.declared.refusal.WorldRefusal.{WorldRefusal}
 use Rattle.world.proofs.Asked.{asked_and_refused, none_asked}
 use Rattle.world.proofs.Places.{sound_placed}
 use Rattle.world.proofs.Sound.{event_sound, fault_as, sound_same}
@@ -17,7 +17,7 @@ pub returns-in-Err-clause-exact : goal.returns-in-Err-clause-exact
 returns-in-Err-clause-exact c =
     refused_plainly (record { engines = c.args.engines.now.items; datagrams = c.args.datagrams.now.items; history = c.args.history.now.items; datagram_room = vec_capacity c.args.datagrams.now; entry_room = vec_capacity c.args.history.now }) _ _ _ _ _ _ _
     c.requires refl refl refl c.plain.ensures.reset c.plain.ensures.event
-    (subst (λ (x : Refused). IsWhy (record { engines = c.args.engines.now.items; datagrams = c.args.datagrams.now.items; history = c.args.history.now.items; datagram_room = vec_capacity c.args.datagrams.now; entry_room = vec_capacity c.args.history.now }) c.args.event x []) (sym c.plain.ensures.refused)
+    (subst (λ (x : WorldRefusal). IsWhy (record { engines = c.args.engines.now.items; datagrams = c.args.datagrams.now.items; history = c.args.history.now.items; datagram_room = vec_capacity c.args.datagrams.now; entry_room = vec_capacity c.args.history.now }) c.args.event x []) (sym c.plain.ensures.refused)
     (ByTheWorld (fault_as _ _ _ _ _ _ (c.len.ensures ∙ c.args.engines.now.ok.0) c.deref.ensures.value c.in-Err.ensures.fault) refl))
 
 pub returns-in-Some-clause-exact : goal.returns-in-Some-clause-exact

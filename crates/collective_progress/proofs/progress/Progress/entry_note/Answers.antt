@@ -1,7 +1,7 @@
 -- It stands at its place.
 use Rattle.std.proofs.Common.{◌≡◌, ◌∙◌, Some, arith, position, sym}
 use Rattle.std.proofs.lemmas.Grind.{common_steps}
-use Rattle.collective_notes.specs.Notes.{member_at, tells_entry}
+use Rattle.collective_messages.specs.Notes.{member_at, tells_entry}
 use Rattle.collective_progress.proofs.Places.{found_there}
 use Rattle.collective_progress.proofs.progress.Progress.entry_note.Goals as goal
 

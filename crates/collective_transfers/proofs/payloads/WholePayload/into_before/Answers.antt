@@ -2,8 +2,8 @@
 use Rattle.std.proofs.Common.{rules}
 use Rattle.collective_transfers.proofs.payloads.WholePayload.into_before.Goals as goal
 
-pub cut-requires : goal.cut-requires
-cut-requires c = search rules
+pub truncate-requires : goal.truncate-requires
+truncate-requires c = search rules
 
 pub returns : goal.returns
 returns c = search rules

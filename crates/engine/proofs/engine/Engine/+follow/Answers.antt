@@ -3,11 +3,11 @@ use Rattle.std.proofs.Common.{◌≡◌, ◌<◌, ◌-◌, ◌∙◌, length, re
 use Rattle.std.proofs.lemmas.Grind.{common_steps}
 use Rattle.std.proofs.lemmas.List.{length-set}
 use Rattle.std.specs.Option.{option_map}
-use Rattle.rank_calls.specs.declared.refused.Refused.{Refused}
+use Rattle.point_to_point_calls.specs.declared.refusal.Refusal.{Refusal}
 use Rattle.sessions.specs.Following.{turn_of}
 use Rattle.sessions.specs.Heard.{CanHear, HeardText, heard_text}
 use Rattle.sessions.specs.Windows.{StaysWithin, room}
-use Rattle.engine_parts.specs.EngineState.{EngineState}
+use Rattle.engine_calls.specs.EngineState.{EngineState}
 use Rattle.engine.specs.Datagrams.{HeardGives, notice_in, without_next}
 use Rattle.engine.specs.Following.{FollowEnds}
 use Rattle.engine.proofs.Hearing.{unheard_leaves}
@@ -114,7 +114,7 @@ returns-in-Err-BadFrame-clause-exact t c =
     let h : HeardText = heard_text c.in-Some-turn_in.heard in
     let is = ap (option_map (turn_of c.args.source)) (sym c.in-Ok.ensures.ok ∙ c.in-Some.is) ∙ ap Some (sym c.in-Some-turn_in.ensures.exact) in
     refused c.args.turns c.args.at c.args.source old mid c.discard-in-Err-BadFrame.new.self h (grind (arith, common_steps, c.if-turns-eq0.false)) is
-    (subst (λ (r : Refused). HeardGives old h (Err r) mid) c.in-Err-BadFrame.field-0-is
+    (subst (λ (r : Refusal). HeardGives old h (Err r) mid) c.in-Err-BadFrame.field-0-is
     (subst (λ (e : EngineState). HeardGives e h (Err c.in-Err-BadFrame.field-0) mid) c.spell_turn.ensures.kept c.in-Err-BadFrame.ensures.exact))
     c.discard-in-Err-BadFrame.ensures
 

@@ -1,6 +1,6 @@
 use Rattle.std.proofs.Common.{refl, sym, ◌∙◌}
 use Rattle.engine.proofs.Entered.{entered_at, stays_out}
-use Rattle.engine_parts.specs.Steps.{engine_held}
+use Rattle.engine_calls.specs.Steps.{engine_held}
 use Rattle.engine.proofs.engine.Engine.enter.Goals.{in-Ok, in-Err}
 use Rattle.engine.proofs.engine.Engine.enter.Goals as goal
 

@@ -1,8 +1,8 @@
 use Rattle.std.proofs.Common.{sym, ap, ◌∙◌}
 use Rattle.std.specs.Prelude.{option_map}
 use Rattle.engine.proofs.Ruled.{question_ruled}
-use Rattle.engine_parts.specs.Refusals.{of_rule}
-use Rattle.engine_parts.specs.Steps.{engine_held}
+use Rattle.engine_calls.specs.Refusals.{of_rule}
+use Rattle.engine_calls.specs.Steps.{engine_held}
 use Rattle.engine.proofs.engine.Engine.fault_of_question.Goals as goal
 
 pub returns-in-Some : goal.returns-in-Some

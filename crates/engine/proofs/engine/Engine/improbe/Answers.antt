@@ -1,5 +1,5 @@
-use Rattle.engine_parts.proofs.Answering.{core_leaves}
-use Rattle.engine_parts.specs.declared.call.Call.TheVariants as calls
+use Rattle.engine_calls.proofs.Answering.{core_leaves}
+use Rattle.engine_calls.specs.declared.call.Call.TheVariants as calls
 use Rattle.engine.proofs.engine.Engine.improbe.Goals as goal
 
 pub returns-clause-unchanged : goal.returns-clause-unchanged

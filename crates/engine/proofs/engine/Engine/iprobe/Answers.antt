@@ -1,5 +1,5 @@
-use Rattle.engine_parts.proofs.Looks.{looking_gives, looking_refused}
-use Rattle.engine_parts.specs.Steps.{engine_held}
+use Rattle.engine_calls.proofs.Looks.{looking_gives, looking_refused}
+use Rattle.engine_calls.specs.Steps.{engine_held}
 use Rattle.engine.proofs.engine.Engine.iprobe.Goals as goal
 
 pub returns-in-Ok : goal.returns-in-Ok

@@ -1,11 +1,11 @@
 use Rattle.std.proofs.Common.{◌≡◌, Result, Ok, Err, OnOk, sym, subst}
-use Rattle.rank_calls.specs.declared.refused.Refused.{Refused}
+use Rattle.point_to_point_calls.specs.declared.refusal.Refusal.{Refusal}
 use Rattle.sessions.specs.Events.{taught_known}
 use Rattle.sessions.specs.Heard.{HeardText, heard_text}
 use Rattle.engine.proofs.Hearing.{heard_is_known, hearing_is, refusal_leaves, turned_away}
 use Rattle.engine.specs.Datagrams.{HearingGives}
-use Rattle.engine_parts.specs.EngineState.{EngineState}
-use Rattle.engine_parts.specs.Steps.{engine_held}
+use Rattle.engine_calls.specs.EngineState.{EngineState}
+use Rattle.engine_calls.specs.Steps.{engine_held}
 use Rattle.engine.proofs.engine.Engine.on_datagram.Goals as goal
 
 pub returns-in-Ok-clause-exact : goal.returns-in-Ok-clause-exact
@@ -35,5 +35,5 @@ returns-in-Ok-clause-unchanged c = refusal_leaves c.args.self.now _ c.args.bytes
 
 pub returns-in-Err-clause-unchanged : goal.returns-in-Err-clause-unchanged
 returns-in-Err-clause-unchanged c =
-    let failed : Refused → Result (Unit {0}) Refused = λ r. Err r in
+    let failed : Refusal → Result (Unit {0}) Refusal = λ r. Err r in
     refusal_leaves c.args.self.now _ c.args.bytes.now (failed c.of_sessions.result) (returns-in-Err-clause-exact c)

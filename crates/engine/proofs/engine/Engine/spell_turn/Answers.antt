@@ -2,7 +2,7 @@
 use Rattle.std.proofs.Common.{◌<◌, length, sym, ap, subst, ◌∙◌, arith}
 use Rattle.std.specs.Option.{is_some}
 use Rattle.sessions.specs.Heard.{heard_text}
-use Rattle.engine_parts.specs.EngineState.{EngineState}
+use Rattle.engine_calls.specs.EngineState.{EngineState}
 use Rattle.engine.proofs.Turning.{can_hear, left, of_bytes}
 use Rattle.engine.proofs.engine.Engine.spell_turn.Goals as goal
 

@@ -4,7 +4,7 @@ use Rattle.datagram.specs.Spelling.{frame_text}
 use Rattle.sessions.specs.Heard.{HeardText, heard_text, word_text}
 use Rattle.sessions.specs.Windows.{room}
 use Rattle.sessions.proofs.Windows.{few_within}
-use Rattle.engine_parts.specs.EngineState.{EngineState}
+use Rattle.engine_calls.specs.EngineState.{EngineState}
 use Rattle.engine.specs.Datagrams.{FollowedBy, notice_in, says_nothing}
 use Rattle.engine.proofs.Hearing.{known_carried, taken_unless, unheard_leaves}
 use Rattle.engine.proofs.Turning.{acknowledged_first, follows_handed, follows_none, heard_carried}

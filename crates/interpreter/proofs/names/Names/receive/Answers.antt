@@ -1,6 +1,6 @@
 use Rattle.std.proofs.Common.{◌∙◌, Some, sym, ap}
-use Rattle.statement_calls.specs.declared.awaited.Pending.TheVariants as pendings
-use Rattle.interpreter.specs.declared.steps.Asked.{Asked}
+use Rattle.script_calls.specs.declared.pending.Pending.TheVariants as pendings
+use Rattle.interpreter.specs.declared.steps.StatementCall.{StatementCall}
 use Rattle.interpreter.specs.Acting.{Acts, places_named}
 use Rattle.interpreter.specs.NamesState.{here, place_named}
 use Rattle.interpreter.proofs.CallLaws.{receive_made}
@@ -11,4 +11,4 @@ returns c =
     receive_made c.args.receiving (place_named c.args.self.now c.args.receiving.communicator)
     (places_named c.args.self.now c.args.receiving.through) (here c.args.self.now c.args.receiving.buffer) c.args.self.now
     (pendings.Starting c.args.request (Some c.args.receiving.buffer)) c.in_ok-call.call c.lend_for.new.self c.in_ok-call.ensures
-    ∙ ap (λ (asked : Asked). let acted : Acts = (asked, c.lend_for.new.self) in acted) (sym c.asked_by.ensures)
+    ∙ ap (λ (asked : StatementCall). let acted : Acts = (asked, c.lend_for.new.self) in acted) (sym c.asked_by.ensures)

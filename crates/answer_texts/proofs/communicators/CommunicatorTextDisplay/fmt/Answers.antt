@@ -1,6 +1,0 @@
--- Answered so that a wrong body is refused soon.
-use Rattle.std.proofs.Common.{rules}
-use Rattle.answer_texts.proofs.communicators.CommunicatorTextDisplay.fmt.Goals as goal
-
-pub returns-in-None-clause-writes : goal.returns-in-None-clause-writes
-returns-in-None-clause-writes g c = search rules

@@ -1,8 +1,0 @@
-use Rattle.std.proofs.Common.{take}
-use Rattle.std.specs.Fmt.{HasWritten, IsPlainFormatter}
-use Rattle.answer_texts.specs.Answers.{elements_text}
-use Rattle.answer_texts.proofs.outcomes.ElementsDisplay.fmt.Given as goal
-
-abbrev pub invariant-loop-place : goal.invariant-loop-place
-invariant-loop-place g l =
-    IsPlainFormatter l.initial.f → HasWritten g.W.Write.write_str_gives l.initial.f (elements_text (record { basic = l.self.buffer.now.basic; values = take l.place l.self.buffer.now.values })) l.f

@@ -1,0 +1,24 @@
+-- Answered so that a wrong body is refused soon.
+use Rattle.std.proofs.Common.{rules}
+use Rattle.collective_progress.proofs.fold.reduction_of.Goals as goal
+
+pub op_of-requires : goal.op_of-requires
+op_of-requires c = search rules
+
+pub basic-requires : goal.basic-requires
+basic-requires c = search rules
+
+pub on-requires : goal.on-requires
+on-requires c = search rules
+
+pub returns-in_default : goal.returns-in_default
+returns-in_default c = search rules
+
+pub fold_blocks-requires : goal.fold_blocks-requires
+fold_blocks-requires c = search rules
+
+pub returns-in-Ok-fold_blocks : goal.returns-in-Ok-fold_blocks
+returns-in-Ok-fold_blocks c = search rules
+
+pub returns-in-Err : goal.returns-in-Err
+returns-in-Err c = search rules

@@ -1,0 +1,15 @@
+-- Answered so that a wrong body is refused soon.
+use Rattle.std.proofs.Common.{rules}
+use Rattle.collective_steps.proofs.contents.mine.Goals as goal
+
+pub iter-requires : goal.iter-requires
+iter-requires c = search rules
+
+pub find-requires-clause-can : goal.find-requires-clause-can
+find-requires-clause-can c = search rules
+
+pub find-requires-clause-finite : goal.find-requires-clause-finite
+find-requires-clause-finite c = search rules
+
+pub find-requires-clause-callable : goal.find-requires-clause-callable
+find-requires-clause-callable c = search rules

@@ -1,0 +1,16 @@
+-- The blocks are those of its members, or there is none for each.
+use Rattle.std.proofs.Common.{arith}
+use Rattle.std.proofs.lemmas.Grind.{common_steps}
+use Rattle.collective_steps.proofs.data_movement.scatter_step.Goals as goal
+
+pub returns-then-ne-clause-ok : goal.returns-then-ne-clause-ok
+returns-then-ne-clause-ok c = grind (arith, common_steps)
+
+pub returns-then-rooted-size-clause-ok : goal.returns-then-rooted-size-clause-ok
+returns-then-rooted-size-clause-ok c = grind (arith, common_steps)
+
+pub scatter_block-requires-clause-total : goal.scatter_block-requires-clause-total
+scatter_block-requires-clause-total c = grind (arith, common_steps)
+
+pub returns-clause-ok : goal.returns-clause-ok
+returns-clause-ok c = grind (arith, common_steps)

@@ -1,0 +1,7 @@
+-- The rows of the ranks so far.
+use Rattle.std.proofs.Common.{◌≡◌, take}
+use Rattle.collective_steps.specs.Steps.{rows_from}
+use Rattle.collective_steps.proofs.split.rows_of.Given as goal
+
+abbrev pub invariant-loop-place : goal.invariant-loop-place
+invariant-loop-place l = l.rows.items ≡ rows_from l.own l.inside l.notes 0 (take l.place l.ranks)

@@ -1,0 +1,390 @@
+//! What a rank does in the collectives that move elements, made ready: it takes memory, and changes nothing.
+
+ghost use Rattle.std.specs.Prelude.{IsOkUnless, ◌≡◌, ◌<◌, ◌≤◌, ◌+◌, ◌*◌, ◌++◌, ◌∷◌, [], length, map, IfOk, OnOk, Some, None, if◌then◌else◌};
+ghost use Rattle.std.specs.Option.{option_copied};
+ghost use Rattle.collective_messages.specs.Verdicts.{is_at};
+ghost use Rattle.collective_progress.specs.Progress.{IsProgress};
+ghost use Rattle.collective_messages.specs.declared.message.MessageContent.TheVariants as given;
+ghost use Rattle.collective_steps.specs.Steps.{bcast_step, block_of, blocks_to, gather_blocks, handed_in, leaving, leaving_on, leaving_with, message_to, reduce_blocks, scatter_step, telling_all, to_others};
+ghost use Rattle.payload.specs.declared.payload.Direction.TheVariants.{FromRoot};
+ghost use Rattle.collective_steps.specs.declared.step.StepOutcome.TheVariants.{Leaves};
+
+use crate::preparation::silent_step;
+use crate::step::{StepOutcome, Step};
+use crate::contents::{block_content, member, message_to, others};
+use collective_messages::{Inside, CollectiveMessage, Note, CollectiveRefusal, is_at, is_same};
+use collective_progress::Progress;
+use datatypes::Buffer;
+use groups::Group;
+use payload::{Direction, Operation, Rooted};
+use std::alloc::{AllocError, Global};
+use vocabulary::Endpoint;
+
+/// A root leaves with what was made of the blocks, where something was.
+fn leaving_with(alloc: Global, made: Option<Buffer>) -> Step
+    ensures { result ≡ leaving_with made }
+{
+    match made {
+        Some(block) => silent_step(alloc, StepOutcome::Leaves(Some(block))),
+        None => silent_step(alloc, StepOutcome::Stays),
+    }
+}
+
+/// The same elements to each of these ranks.
+fn elements_to_each(
+    alloc: Global,
+    inside: &Inside,
+    ranks: &[u16],
+    elements: &Buffer,
+) -> Result<Vec<CollectiveMessage>, AllocError>
+    ensures { IfOk result (λ messages. messages.items ≡ map (λ r. message_to inside.now (given.Elements FromRoot elements.now) r) ranks.now) }
+{
+    let mut messages = Vec::new(alloc);
+    for rank in ranks {
+        let given = block_content(alloc, Direction::FromRoot, elements)?;
+        messages.push(message_to(inside, *rank, given))?;
+    }
+    Ok(messages)
+}
+
+/// The same elements to each of these members but the rank itself.
+pub(crate) fn elements_to_others(
+    alloc: Global,
+    own: Endpoint,
+    inside: &Inside,
+    ranks: &[u16],
+    elements: &Buffer,
+) -> Result<Vec<CollectiveMessage>, AllocError>
+    ensures { IfOk result (λ messages. messages.items ≡ to_others own inside.now (λ r. given.Elements FromRoot elements.now) ranks.now) }
+{
+    let others = others(alloc, own, inside, ranks)?;
+    elements_to_each(alloc, inside, &others, elements)
+}
+
+/// The root of a bcast tells its elements on, and gets none (MPI 3.1, 5.4).
+pub(crate) fn bcast_step(
+    alloc: Global,
+    own: Endpoint,
+    inside: &Inside,
+    elements: &Buffer,
+) -> Result<Step, CollectiveRefusal>
+    ensures ok { IfOk result (λ step. step ≡ bcast_step own inside.now elements.now) }
+    ensures err { IsOkUnless result CollectiveRefusal.OutOfMemory }
+{
+    let Ok(messages) = elements_to_others(alloc, own, inside, inside.role.onward(), elements) else {
+        return Err(CollectiveRefusal::OutOfMemory);
+    };
+    Ok(Step {
+        outcome: StepOutcome::Leaves(None),
+        drawn: 0,
+        messages,
+    })
+}
+
+/// The blocks of all members one after the other, where each is known.
+fn gather_blocks(
+    alloc: Global,
+    own: Endpoint,
+    inside: &Inside,
+    ranks: &[u16],
+    notes: &[Note],
+    progress: &Progress,
+    block: &Buffer,
+) -> Result<Option<Buffer>, AllocError>
+    requires { IsProgress inside.now notes.now progress.now }
+    ensures { IfOk result (λ all. all ≡ gather_blocks own inside.now notes.now ranks.now block.now) }
+{
+    if !collective_progress::are_known(own, inside, block, notes, progress, ranks) {
+        return Ok(None);
+    }
+    match collective_progress::concatenation_of(alloc, own, inside, block, notes, progress, ranks) {
+        Ok(all) => Ok(Some(all)),
+        Err(refused) => Err(refused),
+    }
+}
+
+/// The fold of the blocks of all members in rank order, where each is known and the operation is defined on the type.
+pub(crate) fn reduce_blocks(
+    alloc: Global,
+    own: Endpoint,
+    inside: &Inside,
+    ranks: &[u16],
+    notes: &[Note],
+    progress: &Progress,
+    operation: Operation,
+    block: &Buffer,
+) -> Result<Option<Buffer>, AllocError>
+    requires { IsProgress inside.now notes.now progress.now }
+    ensures { IfOk result (λ all. all ≡ reduce_blocks own inside.now notes.now ranks.now operation block.now) }
+{
+    if ranks.is_empty() {
+        return Ok(None);
+    }
+    if !collective_progress::are_known(own, inside, block, notes, progress, ranks) {
+        return Ok(None);
+    }
+    collective_progress::reduction_of(alloc, operation, own, inside, block, notes, progress, ranks)
+}
+
+/// A gather: its root leaves with all blocks (MPI 3.1, 5.5), another member with none.
+pub(crate) fn gather_step(
+    alloc: Global,
+    own: Endpoint,
+    inside: &Inside,
+    ranks: &[u16],
+    notes: &[Note],
+    progress: &Progress,
+    root: u32,
+    block: &Buffer,
+) -> Result<Step, CollectiveRefusal>
+    requires { IsProgress inside.now notes.now progress.now }
+    ensures ok { IfOk result (λ step. step ≡ (if is_at own inside.now.incarnation ranks.now root then leaving_with (gather_blocks own inside.now notes.now inside.now.role.feeders block.now) else leaving None)) }
+    ensures err { IsOkUnless result CollectiveRefusal.OutOfMemory }
+{
+    if !is_at(own, inside.incarnation, ranks, root) {
+        return Ok(silent_step(alloc, StepOutcome::Leaves(None)));
+    }
+    match gather_blocks(
+        alloc,
+        own,
+        inside,
+        inside.role.feeders(),
+        notes,
+        progress,
+        block,
+    ) {
+        Ok(made) => Ok(leaving_with(alloc, made)),
+        Err(_) => Err(CollectiveRefusal::OutOfMemory),
+    }
+}
+
+/// A reduction to a root: that leaves with the fold (MPI 3.1, 5.9.1), another member with nothing.
+pub(crate) fn reduce_step(
+    alloc: Global,
+    own: Endpoint,
+    inside: &Inside,
+    ranks: &[u16],
+    notes: &[Note],
+    progress: &Progress,
+    operation: Operation,
+    root: u32,
+    block: &Buffer,
+) -> Result<Step, CollectiveRefusal>
+    requires { IsProgress inside.now notes.now progress.now }
+    ensures ok { IfOk result (λ step. step ≡ (if is_at own inside.now.incarnation ranks.now root then leaving_with (reduce_blocks own inside.now notes.now inside.now.role.feeders operation block.now) else leaving_on own inside.now (reduce_blocks own inside.now notes.now inside.now.role.feeders operation block.now))) }
+    ensures err { IsOkUnless result CollectiveRefusal.OutOfMemory }
+{
+    let Ok(made) = reduce_blocks(
+        alloc,
+        own,
+        inside,
+        inside.role.feeders(),
+        notes,
+        progress,
+        operation,
+        block,
+    ) else {
+        return Err(CollectiveRefusal::OutOfMemory);
+    };
+    if is_at(own, inside.incarnation, ranks, root) {
+        return Ok(leaving_with(alloc, made));
+    }
+    leaving_on(alloc, own, inside, made)
+}
+
+/// A rank leaves a reduction with nothing; member 0 tells the root what was made.
+fn leaving_on(
+    alloc: Global,
+    own: Endpoint,
+    inside: &Inside,
+    made: Option<Buffer>,
+) -> Result<Step, CollectiveRefusal>
+    ensures ok { IfOk result (λ step. step ≡ leaving_on own inside.now made) }
+    ensures err { IsOkUnless result CollectiveRefusal.OutOfMemory }
+{
+    let Some(all) = made else {
+        return Ok(silent_step(alloc, StepOutcome::Leaves(None)));
+    };
+    bcast_step(alloc, own, inside, &all)
+}
+
+/// Member 0 leaves with these elements, and tells them all others.
+fn telling_all(
+    alloc: Global,
+    own: Endpoint,
+    inside: &Inside,
+    ranks: &[u16],
+    made: Option<Buffer>,
+) -> Result<Step, CollectiveRefusal>
+    ensures ok { IfOk result (λ step. step ≡ telling_all own inside.now ranks.now made) }
+    ensures err { IsOkUnless result CollectiveRefusal.OutOfMemory }
+{
+    let Some(all) = made else {
+        return Ok(silent_step(alloc, StepOutcome::Stays));
+    };
+    match elements_to_others(alloc, own, inside, ranks, &all) {
+        Ok(messages) => Ok(Step {
+            outcome: StepOutcome::Leaves(Some(all)),
+            drawn: 0,
+            messages,
+        }),
+        Err(_) => Err(CollectiveRefusal::OutOfMemory),
+    }
+}
+
+/// A reduction to all, at member 0 (MPI 3.1, 5.9.6).
+pub(crate) fn allreduce_step(
+    alloc: Global,
+    own: Endpoint,
+    inside: &Inside,
+    ranks: &[u16],
+    notes: &[Note],
+    progress: &Progress,
+    operation: Operation,
+    block: &Buffer,
+) -> Result<Step, CollectiveRefusal>
+    requires { IsProgress inside.now notes.now progress.now }
+    ensures ok { IfOk result (λ step. step ≡ telling_all own inside.now ranks.now (reduce_blocks own inside.now notes.now inside.now.role.feeders operation block.now)) }
+    ensures err { IsOkUnless result CollectiveRefusal.OutOfMemory }
+{
+    match reduce_blocks(
+        alloc,
+        own,
+        inside,
+        inside.role.feeders(),
+        notes,
+        progress,
+        operation,
+        block,
+    ) {
+        Ok(made) => telling_all(alloc, own, inside, ranks, made),
+        Err(_) => Err(CollectiveRefusal::OutOfMemory),
+    }
+}
+
+/// What the member with this rank in the communicator is told of a scatter: its block, unless it is the rank itself.
+fn tell_block(
+    alloc: Global,
+    messages: &mut Vec<CollectiveMessage>,
+    own: Endpoint,
+    inside: &Inside,
+    all: &Buffer,
+    count: u32,
+    place: u16,
+    rank: u16,
+) -> Result<(), AllocError>
+    requires { place * count + count ≤ length all.now.values }
+    ensures { OnOk result (messages.new.items ≡ messages.old.items ++ blocks_to own inside.now all.now count place (rank ∷ [])) }
+{
+    if is_same(member(inside, rank), own) {
+        return Ok(());
+    }
+    let block = collective_progress::block_at(alloc, all, place, count)?;
+    let given = block_content(alloc, Direction::FromRoot, &block)?;
+    messages.push(message_to(inside, rank, given))?;
+    Ok(())
+}
+
+/// Its block to each of these members but the rank itself.
+#[tactic(auto, using(crate::proofs::Scattered::blocks_more, crate::proofs::Scattered::block_fits))]
+fn blocks_to_others(
+    alloc: Global,
+    own: Endpoint,
+    inside: &Inside,
+    group: &Group,
+    all: &Buffer,
+    count: u32,
+) -> Result<Vec<CollectiveMessage>, AllocError>
+    requires { length all.now.values ≡ length group.now * count }
+    ensures { IfOk result (λ messages. messages.items ≡ blocks_to own inside.now all.now count 0 group.now) }
+{
+    let ranks = group.ranks();
+    let mut messages = Vec::new(alloc);
+    for place in 0..group.len() {
+        tell_block(
+            alloc,
+            &mut messages,
+            own,
+            inside,
+            all,
+            count,
+            place as u16,
+            ranks[place],
+        )?;
+    }
+    Ok(messages)
+}
+
+/// What the root of a scatter does that has a block for each member: it leaves with its own.
+#[tactic(auto, using(crate::proofs::Scattered::block_fits))]
+fn scatter_block(
+    alloc: Global,
+    own: Endpoint,
+    inside: &Inside,
+    group: &Group,
+    root: u16,
+    count: u32,
+    all: &Buffer,
+) -> Result<Step, CollectiveRefusal>
+    requires root { root < length group.now }
+    requires total { length all.now.values ≡ length group.now * count }
+    ensures ok { IfOk result (λ step. step ≡ record { outcome = Leaves (Some (block_of all.now count root)); drawn = 0; messages = blocks_to own inside.now all.now count 0 group.now }) }
+    ensures err { IsOkUnless result CollectiveRefusal.OutOfMemory }
+{
+    let Ok(messages) = blocks_to_others(alloc, own, inside, group, all, count) else {
+        return Err(CollectiveRefusal::OutOfMemory);
+    };
+    match collective_progress::block_at(alloc, all, root, count) {
+        Ok(block) => Ok(Step {
+            outcome: StepOutcome::Leaves(Some(block)),
+            drawn: 0,
+            messages,
+        }),
+        Err(_) => Err(CollectiveRefusal::OutOfMemory),
+    }
+}
+
+/// The root of a scatter leaves with its own block, and tells each other member its own, where there is one of the type for
+/// each (MPI 3.1, 5.6).
+fn scatter_step(
+    alloc: Global,
+    own: Endpoint,
+    inside: &Inside,
+    group: &Group,
+    rooted: Rooted,
+    all: &Buffer,
+) -> Result<Step, CollectiveRefusal>
+    ensures ok { IfOk result (λ step. step ≡ scatter_step own inside.now group.now rooted.root rooted.elements all.now) }
+    ensures err { IsOkUnless result CollectiveRefusal.OutOfMemory }
+{
+    let size = group.len();
+    let count = rooted.elements.count;
+    if all.basic() != rooted.elements.basic {
+        return Ok(silent_step(alloc, StepOutcome::Stays));
+    }
+    if rooted.root as usize >= size || all.len() != size * count as usize {
+        return Ok(silent_step(alloc, StepOutcome::Stays));
+    }
+    scatter_block(alloc, own, inside, group, rooted.root as u16, count, all)
+}
+
+/// The same by what the root hands in, if anything: nothing is no elements of the blocks' type.
+pub(crate) fn scatter_with(
+    alloc: Global,
+    own: Endpoint,
+    inside: &Inside,
+    group: &Group,
+    rooted: Rooted,
+    all: Option<&Buffer>,
+) -> Result<Step, CollectiveRefusal>
+    ensures ok { IfOk result (λ step. step ≡ scatter_step own inside.now group.now rooted.root rooted.elements (handed_in rooted.elements (option_copied all.entry))) }
+    ensures err { IsOkUnless result CollectiveRefusal.OutOfMemory }
+{
+    match all {
+        Some(all) => scatter_step(alloc, own, inside, group, rooted, all),
+        None => {
+            let none = Buffer::new(alloc, rooted.elements.basic);
+            scatter_step(alloc, own, inside, group, rooted, &none)
+        }
+    }
+}

@@ -1,0 +1,18 @@
+-- Answered so that a wrong body is refused soon.
+use Rattle.std.proofs.Common.{rules}
+use Rattle.context_agreement.proofs.contexts.Contexts.next_context.Goals as goal
+
+pub serials_left-requires : goal.serials_left-requires
+serials_left-requires c = search rules
+
+pub returns-then-further-serials_left : goal.returns-then-further-serials_left
+returns-then-further-serials_left c = search rules
+
+pub overflow_add-result : goal.overflow_add-result
+overflow_add-result c = search rules
+
+pub overflow_cast-result : goal.overflow_cast-result
+overflow_cast-result c = search rules
+
+pub returns : goal.returns
+returns c = search rules

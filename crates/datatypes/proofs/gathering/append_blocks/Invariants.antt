@@ -1,7 +1,0 @@
-use Rattle.std.proofs.Common.{◌≡◌, ◌*◌, ◌++◌, take}
-use Rattle.derived_types.specs.Layouts.{moved}
-use Rattle.datatypes.specs.Pieces.{pieces_of}
-use Rattle.datatypes.proofs.gathering.append_blocks.Given as goal
-
-abbrev pub invariant-loop-number : goal.invariant-loop-number
-invariant-loop-number l = l.out.items ≡ l.fn.out.items ++ pieces_of l.size l.bytes (moved l.from (take (l.number * l.block) l.offsets))

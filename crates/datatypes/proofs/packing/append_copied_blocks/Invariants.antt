@@ -1,0 +1,7 @@
+use Rattle.std.proofs.Common.{◌≡◌, ◌++◌}
+use Rattle.derived_types.specs.Layouts.{places}
+use Rattle.datatypes.specs.Pieces.{pieces_of}
+use Rattle.datatypes.proofs.packing.append_copied_blocks.Given as goal
+
+abbrev pub invariant-loop-copy : goal.invariant-loop-copy
+invariant-loop-copy l = l.out.items ≡ l.fn.out.items ++ pieces_of l.size l.bytes (places l.copy l.offsets)

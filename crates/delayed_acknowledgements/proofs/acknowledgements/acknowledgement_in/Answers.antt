@@ -1,0 +1,15 @@
+-- Answered so that a wrong body is refused soon.
+use Rattle.std.proofs.Common.{rules}
+use Rattle.delayed_acknowledgements.proofs.acknowledgements.acknowledgement_in.Goals as goal
+
+pub read-requires : goal.read-requires
+read-requires c = search rules
+
+pub returns-in-Ok-Ack : goal.returns-in-Ok-Ack
+returns-in-Ok-Ack c = search rules
+
+pub returns-in_default : goal.returns-in_default
+returns-in_default c = search rules
+
+pub returns-in_default-2 : goal.returns-in_default-2
+returns-in_default-2 c = search rules

@@ -1,0 +1,313 @@
+//! How payloads of collectives go in pieces: announcements and answers of them.
+
+ghost use Rattle.std.specs.Prelude.{◌≡◌, ◌≤◌, ◌<◌, [], ◌∷◌, All, List, true, length, map, is_some, IfErr, IfOk, None, Ok, OnErr, OnOk, Option, Some};
+ghost use Rattle.collective_steps.specs.declared.step.Ending.{Ending};
+ghost use Rattle.collective_transfers.specs.State.{after_answer, announced_to};
+ghost use Rattle.datagram.specs.Spelling.{clear_text, request_text};
+ghost use Rattle.point_to_point_calls.specs.Hearing.{framed};
+ghost use Rattle.point_to_point_calls.specs.Refusals.{IsRefusal};
+ghost use Rattle.point_to_point.specs.CoreState.{with_numbers};
+ghost use Rattle.point_to_point.specs.Arrivals.{after_news};
+ghost use Rattle.rendezvous.specs.State.{with_announced};
+ghost use Rattle.sessions.specs.Windows.{StaysWithin};
+ghost use Rattle.sessions.specs.Heard.{heard_text, CanHear};
+ghost use Rattle.sessions.specs.Events.{AreFor, CanSend, Sending, after_event, event_limit, sendings};
+ghost use Rattle.vocabulary.specs.Limits.{send_limit};
+ghost use Rattle.engine_calls.specs.EngineState.{or_before};
+ghost use Rattle.engine_calls.specs.Frames.{outgoing_of};
+ghost use Rattle.engine_calls.specs.Refusals.{fault_of_sessions};
+ghost use Rattle.engine_calls.specs.Steps.{engine_held};
+ghost use Rattle.engine.specs.Datagrams.{AnnouncementGives, announcement_fault, answer_fault, answer_to, coming_by, data_for, data_sent, lesson_alone, numbers_met};
+
+use crate::notices::{forget, learn, lesson_in, numbers_met};
+use collective_transfers::{CollectiveTransfers, ComingPayload};
+use collectives::Ending;
+use communicators::Communicators;
+use datagram::{ClearToSend, Clearance, Data, Frame, RequestToSend};
+use engine_calls::of_sessions;
+use point_to_point::{Core, News, Refusal};
+use rendezvous::{Piece, announce, count_of, pieces_of};
+use sessions::{Heard, Outgoing, Sessions};
+use std::alloc::Global;
+use vocabulary::Mode;
+
+/// The limit that what is heard meets, which so many frames answer: see `Sessions::limit_of_replies`.
+pub(crate) fn limit_of(sessions: &Sessions, heard: Heard<'_>, count: usize) -> Option<Refusal>
+    requires { CanHear sessions.now (Some (heard_text heard)) }
+    ensures { (frames : List Sending) → AreFor heard.entry.source.rank count frames →
+        result ≡ fault_of_sessions (event_limit sessions.now (Some (heard_text heard.entry)) frames) }
+{
+    match sessions.limit_of_replies(heard, count) {
+        Some(limit) => Some(of_sessions(limit)),
+        None => None,
+    }
+}
+
+/// The sessions take in what is heard, which meets no limit with these frames; or there is no memory (14), and nothing changes.
+pub(crate) fn carry_out(
+    sessions: &mut Sessions,
+    heard: Heard<'_>,
+    frames: &[Outgoing<'_>],
+) -> Result<(), Refusal>
+    requires can { CanHear sessions.old (Some (heard_text heard)) }
+    requires go { All (CanSend sessions.old.place) (sendings frames.now) }
+    requires limit { fault_of_sessions (event_limit sessions.old (Some (heard_text heard)) (sendings frames.now)) ≡ None }
+    ensures ok { OnOk result (sessions.new ≡ after_event sessions.old (Some (heard_text heard.entry)) (sendings frames.now)) }
+    ensures unchanged { OnErr result (sessions.new ≡ sessions.old) }
+    ensures err { IfErr result (λ e. e ≡ Refusal.OutOfMemory) }
+    ensures within { OnOk result (StaysWithin (Some (heard_text heard.entry)) sessions.old sessions.new) }
+    ensures placed { sessions.new.place ≡ sessions.old.place }
+{
+    match sessions.carry_out(Some(heard), frames) {
+        Ok(()) => Ok(()),
+        Err(_) => Err(Refusal::OutOfMemory),
+    }
+}
+
+/// The first rule or limit that the announcement of a payload meets: it is of a synchronous send, which no payload is (30), its
+/// number isn't the next one of its session (30), or the sessions meet their limit (13). It takes no memory.
+fn fault_of_announcement(
+    core: &Core,
+    sessions: &Sessions,
+    heard: Heard<'_>,
+    request: RequestToSend,
+) -> Option<Refusal>
+    requires { CanHear sessions.now (Some (heard_text heard)) }
+    ensures { result ≡ announcement_fault core.now.state sessions.now (heard_text heard.entry) (request_text request) }
+{
+    if let Mode::Synchronous = request.mode {
+        return Some(Refusal::BadFrame);
+    }
+    if !core.is_next(heard.source.rank, heard.lesson, request.transfer) {
+        return Some(Refusal::BadFrame);
+    }
+    limit_of(sessions, heard, 1)
+}
+
+/// The sessions take in the announcement of a payload, which breaks no rule and meets no limit, and send the answer to it; or
+/// there is no memory (14), and nothing changes.
+fn send_answer(
+    sessions: &mut Sessions,
+    heard: Heard<'_>,
+    request: RequestToSend,
+) -> Result<(), Refusal>
+    requires can { CanHear sessions.old (Some (heard_text heard)) }
+    requires there { heard.source.rank < sessions.old.place.size }
+    requires limit { fault_of_sessions (event_limit sessions.old (Some (heard_text heard)) (answer_to (heard_text heard) (request_text request) ∷ [])) ≡ None }
+    ensures ok { OnOk result (sessions.new ≡ after_event sessions.old (Some (heard_text heard.entry)) (answer_to (heard_text heard.entry) (request_text request) ∷ [])) }
+    ensures unchanged { OnErr result (sessions.new ≡ sessions.old) }
+    ensures err { IfErr result (λ e. e ≡ Refusal.OutOfMemory) }
+    ensures within { OnOk result (StaysWithin (Some (heard_text heard.entry)) sessions.old sessions.new) }
+    ensures placed { sessions.new.place ≡ sessions.old.place }
+{
+    let answer = Outgoing {
+        target: heard.source.rank,
+        frame: Frame::ClearToSend(ClearToSend {
+            clearance: Clearance::Send,
+            transfer: request.transfer,
+        }),
+    };
+    carry_out(sessions, heard, &[answer])
+}
+
+/// The place for a payload that is announced, for which there is room; or want of memory (14), and nothing changes.
+fn make_place(
+    alloc: Global,
+    payloads: &mut CollectiveTransfers,
+    heard: Heard<'_>,
+    request: RequestToSend,
+) -> Result<ComingPayload, Refusal>
+    ensures ok { IfOk result (λ payload. payload ≡ coming_by (heard_text heard.entry) (request_text request)) }
+    ensures room { OnOk result (0 < payloads.new.more_coming) }
+    ensures kept { payloads.new.state ≡ payloads.old.state }
+    ensures err { IfErr result (λ e. e ≡ Refusal.OutOfMemory) }
+{
+    let Ok(payload) = ComingPayload::new(
+        alloc,
+        heard.source.rank,
+        request.transfer,
+        request.context,
+        request.tag,
+        request.count as usize,
+    ) else {
+        return Err(Refusal::OutOfMemory);
+    };
+    match payloads.reserve_coming() {
+        Ok(()) => Ok(payload),
+        Err(_) => Err(Refusal::OutOfMemory),
+    }
+}
+
+/// The core and the sessions take in the announcement of a payload, which breaks no rule and meets no limit: it is counted, and the
+/// answer to it is sent; or there is no memory (14), and nothing changes.
+fn count_and_answer(
+    core: &mut Core,
+    sessions: &mut Sessions,
+    heard: Heard<'_>,
+    request: RequestToSend,
+) -> Result<(), Refusal>
+    requires can { CanHear sessions.old (Some (heard_text heard)) }
+    requires there { heard.source.rank < sessions.old.place.size }
+    requires allowed { announcement_fault core.old.state sessions.old (heard_text heard) (request_text request) ≡ None }
+    ensures core { OnOk result (core.new.state ≡ with_numbers (after_news core.old.state (lesson_alone (heard_text heard.entry))) (with_announced (numbers_met core.old.state (heard_text heard.entry)) heard.entry.source.rank)) }
+    ensures sessions { OnOk result (sessions.new ≡ after_event sessions.old (Some (heard_text heard.entry)) (answer_to (heard_text heard.entry) (request_text request) ∷ [])) }
+    ensures err { IfErr result (λ e. e ≡ Refusal.OutOfMemory) }
+    ensures kept { OnErr result (core.new.state ≡ core.old.state) }
+    ensures unchanged { OnErr result (sessions.new ≡ sessions.old) }
+    ensures within { OnOk result (StaysWithin (Some (heard_text heard.entry)) sessions.old sessions.new) }
+    ensures placed { sessions.new.place ≡ sessions.old.place }
+    ensures core_placed { core.new.state.place ≡ core.old.state.place }
+{
+    let mut numbers = numbers_met(core, heard)?;
+    let news = News {
+        source: heard.source,
+        lesson: heard.lesson,
+        frame: None,
+    };
+    let prepared = core.prepare_news(news)?;
+    send_answer(sessions, heard, request)?;
+    announce(&mut numbers, heard.source.rank, request.transfer);
+    core.take_news(news, prepared);
+    core.set_numbers(numbers);
+    Ok(())
+}
+
+/// Takes in the announcement of a payload: it is counted, it is answered, and its payload begins to come. Answered is with what a
+/// collective ends by its lesson. Refused is 30, 13 and 14; then nothing changes.
+pub(crate) fn take_announcement(
+    alloc: Global,
+    core: &mut Core,
+    communicators: &mut Communicators,
+    payloads: &mut CollectiveTransfers,
+    sessions: &mut Sessions,
+    heard: Heard<'_>,
+    request: RequestToSend,
+) -> Result<Option<Ending>, Refusal>
+    requires can { CanHear sessions.old (Some (heard_text heard)) }
+    requires there { heard.source.rank < sessions.old.place.size }
+    ensures ok { IfOk result (λ ending. (before : Option Ending) → AnnouncementGives (engine_held core.old communicators.old before payloads.old.state sessions.old)
+        (heard_text heard.entry) (request_text request) (Ok tt) (engine_held core.new communicators.new (or_before ending before) payloads.new.state sessions.new)) }
+    ensures err { IfErr result (IsRefusal (announcement_fault core.old.state sessions.old (heard_text heard.entry) (request_text request))) }
+    ensures core { OnErr result (core.new.state ≡ core.old.state) }
+    ensures communicators { OnErr result (communicators.new ≡ communicators.old) }
+    ensures payloads { OnErr result (payloads.new.state ≡ payloads.old.state) }
+    ensures sessions { OnErr result (sessions.new ≡ sessions.old) }
+    ensures within { OnOk result (StaysWithin (Some (heard_text heard.entry)) sessions.old sessions.new) }
+    ensures placed { sessions.new.place ≡ sessions.old.place }
+    ensures core_placed { core.new.state.place ≡ core.old.state.place }
+{
+    if let Some(fault) = fault_of_announcement(core, sessions, heard, request) {
+        return Err(fault);
+    }
+    let coming = make_place(alloc, payloads, heard, request)?;
+    match count_and_answer(core, sessions, heard, request) {
+        Ok(()) => {
+            let lesson = lesson_in(heard);
+            forget(payloads, lesson);
+            payloads.begin(coming);
+            Ok(learn(communicators, lesson))
+        }
+        Err(refused) => Err(refused),
+    }
+}
+
+/// The frames of pieces of a transfer for a rank; or want of memory (14).
+fn frames_of<'a>(
+    alloc: Global,
+    rank: u16,
+    transfer: u32,
+    pieces: &[Piece<'a>],
+) -> Result<Vec<Outgoing<'a>>, Refusal>
+    ensures ok { IfOk result (λ frames. frames.items ≡ map (λ piece. outgoing_of (framed rank transfer piece)) pieces.now) }
+    ensures err { IfErr result (λ e. e ≡ Refusal.OutOfMemory) }
+{
+    match pieces
+        .iter()
+        .map(|piece| Outgoing {
+            target: rank,
+            frame: Frame::Data(Data {
+                transfer,
+                offset: piece.offset,
+                bytes: piece.bytes,
+            }),
+        })
+        .collect(alloc)
+    {
+        Ok(frames) => Ok(frames),
+        Err(_) => Err(Refusal::OutOfMemory),
+    }
+}
+
+/// The frames of all data of a payload for a rank, lent from it; or want of memory (14).
+fn data_frames<'a>(
+    alloc: Global,
+    rank: u16,
+    transfer: u32,
+    bytes: &'a [u8],
+) -> Result<Vec<Outgoing<'a>>, Refusal>
+    ensures ok { IfOk result (λ frames. sendings frames.items ≡ data_sent rank transfer bytes.now) }
+    ensures err { IfErr result (λ e. e ≡ Refusal.OutOfMemory) }
+{
+    let Ok(pieces) = pieces_of(alloc, bytes) else {
+        return Err(Refusal::OutOfMemory);
+    };
+    frames_of(alloc, rank, transfer, &pieces)
+}
+
+/// The sessions take in the answer to a payload of so many bytes, and send all its data. Refused is 13 where the sessions meet
+/// their limit, and 14; then nothing changes.
+fn send_data(
+    alloc: Global,
+    sessions: &mut Sessions,
+    heard: Heard<'_>,
+    transfer: u32,
+    bytes: &[u8],
+) -> Result<(), Refusal>
+    requires can { CanHear sessions.old (Some (heard_text heard)) }
+    requires there { heard.source.rank < sessions.old.place.size }
+    requires limit { length bytes.now ≤ send_limit }
+    ensures none { OnOk result (fault_of_sessions (event_limit sessions.old (Some (heard_text heard.entry)) (data_sent heard.entry.source.rank transfer bytes.now)) ≡ None) }
+    ensures sent { OnOk result (sessions.new ≡ after_event sessions.old (Some (heard_text heard.entry)) (data_sent heard.entry.source.rank transfer bytes.now)) }
+    ensures err { IfErr result (IsRefusal (fault_of_sessions (event_limit sessions.old (Some (heard_text heard.entry)) (data_sent heard.entry.source.rank transfer bytes.now)))) }
+    ensures unchanged { OnErr result (sessions.new ≡ sessions.old) }
+    ensures within { OnOk result (StaysWithin (Some (heard_text heard.entry)) sessions.old sessions.new) }
+    ensures placed { sessions.new.place ≡ sessions.old.place }
+{
+    if let Some(limit) = limit_of(sessions, heard, count_of(bytes)) {
+        return Err(limit);
+    }
+    let frames = data_frames(alloc, heard.source.rank, transfer, bytes)?;
+    carry_out(sessions, heard, &frames)
+}
+
+/// Takes in the answer to a payload that this rank announced: all its data go out, and it isn't kept any more. Refused is 30
+/// where the answer doesn't ask for the data, 13 and 14; then nothing changes.
+pub(crate) fn take_answer(
+    alloc: Global,
+    payloads: &mut CollectiveTransfers,
+    sessions: &mut Sessions,
+    heard: Heard<'_>,
+    answer: ClearToSend,
+) -> Result<(), Refusal>
+    requires can { CanHear sessions.old (Some (heard_text heard)) }
+    requires there { heard.source.rank < sessions.old.place.size }
+    requires announced { is_some (announced_to payloads.old.state heard.source.rank answer.transfer) ≡ true }
+    ensures none { OnOk result (answer_fault payloads.old.state sessions.old (heard_text heard.entry) (clear_text answer) ≡ None) }
+    ensures payloads { OnOk result (payloads.new.state ≡ after_answer payloads.old.state heard.entry.source.rank answer.transfer) }
+    ensures sent { OnOk result (sessions.new ≡ after_event sessions.old (Some (heard_text heard.entry)) (data_for payloads.old.state (heard_text heard.entry) (clear_text answer))) }
+    ensures err { IfErr result (IsRefusal (answer_fault payloads.old.state sessions.old (heard_text heard.entry) (clear_text answer))) }
+    ensures kept { OnErr result (payloads.new.state ≡ payloads.old.state) }
+    ensures unchanged { OnErr result (sessions.new ≡ sessions.old) }
+    ensures within { OnOk result (StaysWithin (Some (heard_text heard.entry)) sessions.old sessions.new) }
+    ensures placed { sessions.new.place ≡ sessions.old.place }
+{
+    if let Clearance::Drop = answer.clearance {
+        return Err(Refusal::BadFrame);
+    }
+    let Some(payload) = payloads.announced_to(heard.source.rank, answer.transfer) else {
+        return Err(Refusal::BadFrame);
+    };
+    send_data(alloc, sessions, heard, answer.transfer, payload.bytes())?;
+    payloads.on_answer(heard.source.rank, answer.transfer);
+    Ok(())
+}

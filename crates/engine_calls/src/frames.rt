@@ -1,0 +1,392 @@
+//! The frames of a step of a collective.
+
+ghost use Rattle.std.specs.Prelude.{◌≡◌, ◌≤◌, ◌++◌, ◌==◌, [], ◌∷◌, false, All, IfErr, IfOk, IfSome, None, Some, OnErr, OnOk, filter, length, map};
+ghost use Rattle.collective_messages.specs.Messages.{IsFitting, says};
+ghost use Rattle.payload.specs.Spelling.{spelling};
+ghost use Rattle.sessions.specs.Events.{CanSend, after_event, event_limit, sending_text, sendings};
+ghost use Rattle.sessions.specs.Heard.{CanHear, heard_option};
+ghost use Rattle.sessions.specs.Windows.{StaysWithin};
+ghost use Rattle.vocabulary.specs.Limits.{eager_limit, send_limit};
+ghost use Rattle.engine_calls.specs.Frames.{AreWhole, IsWhole, all_can_go, by_rank, can_go, is_sendable, payload_frame, payload_kept, step_limit, step_numbers, step_payloads, step_sendings};
+ghost use Rattle.engine_calls.specs.Refusals.{fault_of_sessions};
+ghost use Rattle.rendezvous.specs.State.{is_full_to, next_to, with_begun};
+ghost use Rattle.engine_calls.specs.Steps.{AreReady, IsAdded, IsLeftOut, StepStops, part_frame, written};
+
+use crate::refusal::of_sessions;
+use collective_messages::CollectiveMessage;
+use collective_transfers::{AnnouncedPayload, CollectiveTransfers};
+use datagram::{Eager, Frame, Plane, RequestToSend};
+use incarnation::Place;
+use payload::write_payload;
+use point_to_point::Refusal;
+use rendezvous::{Numbers, begin, is_full_to};
+use sessions::{Heard, Outgoing, Sessions};
+use std::alloc::Global;
+use vocabulary::{BasicType, EAGER_LIMIT, HIGHEST_TAG, Mode, SEND_LIMIT};
+
+/// What goes in the frame of a message.
+#[derive(Drop)]
+pub enum FrameContent {
+    /// The bytes that spell what it says.
+    Whole(Vec<u8>),
+    /// The number of the transfer under which these bytes are announced.
+    Announced(u32),
+}
+
+/// A message of a collective, written out.
+#[derive(Drop)]
+pub struct Written {
+    /// The rank that it goes to.
+    pub target: u16,
+    /// The context of the communicator.
+    pub context: u64,
+    /// The number of the collective on the communicator.
+    pub number: u32,
+    /// How many bytes spell what it says.
+    pub count: u32,
+    /// What goes in its frame.
+    pub part: FrameContent,
+}
+
+/// The context of the communicator that a message is of.
+fn context_of(message: &CollectiveMessage) -> u64
+    ensures { result ≡ message.now.context }
+{
+    message.context
+}
+
+/// Writes what a message of a collective says.
+fn write(alloc: Global, message: &CollectiveMessage) -> Result<Vec<u8>, Refusal>
+    requires { IsFitting message.now }
+    ensures ok { IfOk result (λ bytes. bytes.items ≡ spelling (says message.now)) }
+    ensures whole { OnOk result (IsWhole message.now) }
+    ensures err { IfErr result (λ e. e ≡ Refusal.OutOfMemory) }
+{
+    let _context = context_of(message);
+    let mut bytes = Vec::new(alloc);
+    match write_payload(&message.payload(), &mut bytes) {
+        Ok(()) => Ok(bytes),
+        Err(_) => Err(Refusal::OutOfMemory),
+    }
+}
+
+/// Whether so many bytes can go to a rank: in a frame, or under a number that is left for a transfer.
+fn is_sendable(numbers: &[Numbers], rank: u16, count: usize) -> bool
+    ensures { result ≡ is_sendable numbers.now rank count }
+{
+    count <= EAGER_LIMIT || (count <= SEND_LIMIT && !is_full_to(numbers, rank))
+}
+
+/// Whether a message can go that is spelled in so many bytes: to a rank of the job, under a number that a tag can be.
+fn can_go(place: Place, numbers: &[Numbers], message: &CollectiveMessage, count: usize) -> bool
+    requires { count ≡ length (spelling (says message.now)) }
+    ensures { result ≡ can_go place numbers.now message.now }
+{
+    message.target.rank < place.size
+        && message.number <= HIGHEST_TAG
+        && is_sendable(numbers, message.target.rank, count)
+}
+
+/// Puts a frame behind those of a step.
+fn add_frame(
+    frames: &mut Vec<Written>,
+    message: &CollectiveMessage,
+    count: u32,
+    part: FrameContent,
+) -> Result<(), Refusal>
+    ensures ok { OnOk result (map written frames.new.items ≡ map written frames.old.items
+        ++ (record { rank = message.now.target.rank; frame = part_frame message.now.context message.now.number count part }) ∷ []) }
+    ensures err { IfErr result (λ e. e ≡ Refusal.OutOfMemory) }
+{
+    let one = Written {
+        target: message.target.rank,
+        context: message.context,
+        number: message.number,
+        count,
+        part,
+    };
+    match frames.push(one) {
+        Ok(()) => Ok(()),
+        Err(_) => Err(Refusal::OutOfMemory),
+    }
+}
+
+/// Adds the frame of a message whose bytes go in it.
+fn add_whole(message: &CollectiveMessage, bytes: Vec<u8>, frames: &mut Vec<Written>) -> Result<(), Refusal>
+    requires says { bytes.items ≡ spelling (says message.now) }
+    requires small { length bytes.items ≤ eager_limit }
+    ensures ok { OnOk result (map written frames.new.items ≡ map written frames.old.items
+        ++ (record { rank = message.now.target.rank; frame = payload_frame None message.now.context message.now.number (spelling (says message.now)) }) ∷ []) }
+    ensures err { IfErr result (λ e. e ≡ Refusal.OutOfMemory) }
+{
+    let count = bytes.len() as u32;
+    add_frame(frames, message, count, FrameContent::Whole(bytes))
+}
+
+/// Adds the announcement of a message under the next number of its rank, and keeps its bytes.
+fn add_announced(
+    message: &CollectiveMessage,
+    bytes: Vec<u8>,
+    numbers: &mut Vec<Numbers>,
+    frames: &mut Vec<Written>,
+    announced: &mut Vec<AnnouncedPayload>,
+) -> Result<(), Refusal>
+    requires says { bytes.items ≡ spelling (says message.now) }
+    requires limit { length bytes.items ≤ send_limit }
+    requires left { is_full_to numbers.old.items message.now.target.rank ≡ false }
+    ensures numbers { OnOk result (numbers.new.items ≡ with_begun numbers.old.items message.now.target.rank) }
+    ensures frames { OnOk result (map written frames.new.items ≡ map written frames.old.items
+        ++ (record { rank = message.now.target.rank; frame = payload_frame (Some (next_to numbers.old.items message.now.target.rank)) message.now.context message.now.number (spelling (says message.now)) }) ∷ []) }
+    ensures announced { OnOk result (announced.new.items ≡ announced.old.items
+        ++ payload_kept (Some (next_to numbers.old.items message.now.target.rank)) message.now.target.rank (spelling (says message.now))) }
+    ensures err { IfErr result (λ e. e ≡ Refusal.OutOfMemory) }
+{
+    let rank = message.target.rank;
+    let count = bytes.len() as u32;
+    let transfer = begin(numbers, rank);
+    let payload = AnnouncedPayload::new(rank, transfer, bytes);
+    if announced.push(payload).is_err() {
+        return Err(Refusal::OutOfMemory);
+    }
+    add_frame(frames, message, count, FrameContent::Announced(transfer))
+}
+
+/// Adds one more message to those of a step that are written out: its bytes, or their announcement. It fails where the message
+/// can't go, and for want of memory.
+fn add_message(
+    alloc: Global,
+    place: Place,
+    message: &CollectiveMessage,
+    numbers: &mut Vec<Numbers>,
+    frames: &mut Vec<Written>,
+    announced: &mut Vec<AnnouncedPayload>,
+) -> Result<(), Refusal>
+    requires { IsFitting message.now }
+    ensures ok { OnOk result (IsAdded place numbers.old.items message.now (map written frames.old.items) (map written frames.new.items) announced.old.items announced.new.items numbers.new.items) }
+    ensures err { IfErr result (IsLeftOut (can_go place numbers.old.items message.now)) }
+{
+    let bytes = write(alloc, message)?;
+    if !can_go(place, numbers, message, bytes.len()) {
+        return Err(Refusal::Limit);
+    }
+    if bytes.len() <= EAGER_LIMIT {
+        add_whole(message, bytes, frames)
+    } else {
+        add_announced(message, bytes, numbers, frames, announced)
+    }
+}
+
+/// The messages of a step, written out, and the payloads that are announced.
+#[derive(Drop)]
+pub struct WrittenStep {
+    /// The messages, in order.
+    pub frames: Vec<Written>,
+    /// The payloads of those that are announced.
+    pub announced: Vec<AnnouncedPayload>,
+}
+
+/// Writes each message of a step, where these are the numbers of the sessions' transfers; they count on.
+fn write_each(
+    alloc: Global,
+    place: Place,
+    messages: &[CollectiveMessage],
+    numbers: &mut Vec<Numbers>,
+) -> Result<WrittenStep, Refusal>
+    requires { All IsFitting messages.now }
+    ensures ok { IfOk result (λ step. AreReady place numbers.old.items messages.now (map written step.frames.items) step.announced.items numbers.new.items) }
+    ensures err { IfErr result (IsLeftOut (all_can_go place numbers.old.items messages.now)) }
+{
+    let mut frames = Vec::new(alloc);
+    let mut announced = Vec::new(alloc);
+    for message in messages {
+        add_message(alloc, place, message, numbers, &mut frames, &mut announced)?;
+    }
+    Ok(WrittenStep { frames, announced })
+}
+
+/// The frame of a message that was written out.
+fn frame_of(message: &Written) -> Outgoing<'_>
+    ensures { sending_text result ≡ written message.now }
+{
+    let frame = match &message.part {
+        FrameContent::Whole(bytes) => Frame::Eager(Eager {
+            plane: Plane::Collective,
+            basic: BasicType::Byte,
+            tag: message.number,
+            context: message.context,
+            count: message.count,
+            elements: bytes,
+        }),
+        FrameContent::Announced(transfer) => Frame::RequestToSend(RequestToSend {
+            mode: Mode::Standard,
+            plane: Plane::Collective,
+            basic: BasicType::Byte,
+            tag: message.number,
+            context: message.context,
+            count: message.count,
+            transfer: *transfer,
+        }),
+    };
+    Outgoing {
+        target: message.target,
+        frame,
+    }
+}
+
+/// Puts the frame of a message behind these.
+fn put_frame<'a>(message: &'a Written, frames: &mut Vec<Outgoing<'a>>) -> Result<(), Refusal>
+    ensures ok { OnOk result (sendings frames.new.items ≡ sendings frames.old.items ++ written message.now ∷ []) }
+    ensures err { IfErr result (λ e. e ≡ Refusal.OutOfMemory) }
+{
+    match frames.push(frame_of(message)) {
+        Ok(()) => Ok(()),
+        Err(_) => Err(Refusal::OutOfMemory),
+    }
+}
+
+/// The frames of messages that stand in the order of the ranks that they go to, each of these so many; nothing where they don't.
+fn frames_in_order<'a>(
+    alloc: Global,
+    size: u16,
+    messages: &'a [Written],
+) -> Result<Option<Vec<Outgoing<'a>>>, Refusal>
+    ensures ok { IfOk result (λ ordered. IfSome ordered (λ frames. sendings frames.items ≡ by_rank size (map written messages.now))) }
+    ensures err { IfErr result (λ e. e ≡ Refusal.OutOfMemory) }
+{
+    let mut frames = Vec::new(alloc);
+    let mut last = 0;
+    for message in messages {
+        if message.target < last || message.target >= size {
+            return Ok(None);
+        }
+        last = message.target;
+        put_frame(message, &mut frames)?;
+    }
+    Ok(Some(frames))
+}
+
+/// Puts the frame of a message behind these, if it goes to this rank.
+fn add_if_for<'a>(
+    rank: u16,
+    message: &'a Written,
+    frames: &mut Vec<Outgoing<'a>>,
+) -> Result<(), Refusal>
+    ensures ok { OnOk result (sendings frames.new.items ≡ sendings frames.old.items ++ filter (λ f. f.rank == rank) (written message.now ∷ [])) }
+    ensures err { IfErr result (λ e. e ≡ Refusal.OutOfMemory) }
+{
+    if message.target != rank {
+        return Ok(());
+    }
+    put_frame(message, frames)
+}
+
+/// Puts the frames of those messages behind these that go to this rank.
+fn add_for<'a>(
+    rank: u16,
+    messages: &'a [Written],
+    frames: &mut Vec<Outgoing<'a>>,
+) -> Result<(), Refusal>
+    ensures ok { OnOk result (sendings frames.new.items ≡ sendings frames.old.items ++ filter (λ f. f.rank == rank) (map written messages.now)) }
+    ensures err { IfErr result (λ e. e ≡ Refusal.OutOfMemory) }
+{
+    for message in messages {
+        add_if_for(rank, message, frames)?;
+    }
+    Ok(())
+}
+
+/// The frames of messages that go to the first rank, then those that go to the second, and so on.
+#[tactic(auto, using(crate::proofs::Stepping::by_rank_more))]
+fn frames_rank_for_rank<'a>(
+    alloc: Global,
+    size: u16,
+    messages: &'a [Written],
+) -> Result<Vec<Outgoing<'a>>, Refusal>
+    ensures ok { IfOk result (λ frames. sendings frames.items ≡ by_rank size (map written messages.now)) }
+    ensures err { IfErr result (λ e. e ≡ Refusal.OutOfMemory) }
+{
+    let mut frames = Vec::new(alloc);
+    for rank in 0..size {
+        add_for(rank, messages, &mut frames)?;
+    }
+    Ok(frames)
+}
+
+/// The frames of messages, in the order of the ranks that they go to. Mostly they stand in it.
+fn frames_by_rank<'a>(
+    alloc: Global,
+    size: u16,
+    messages: &'a [Written],
+) -> Result<Vec<Outgoing<'a>>, Refusal>
+    ensures ok { IfOk result (λ frames. sendings frames.items ≡ by_rank size (map written messages.now)) }
+    ensures err { IfErr result (λ e. e ≡ Refusal.OutOfMemory) }
+{
+    match frames_in_order(alloc, size, messages) {
+        Ok(Some(frames)) => Ok(frames),
+        Ok(None) => frames_rank_for_rank(alloc, size, messages),
+        Err(refused) => Err(refused),
+    }
+}
+
+/// The sessions take in what was heard, if anything was, and send messages that were written out, in the order of the ranks.
+/// Refused is 13 where the sessions meet their limit, and 14; then nothing changes.
+fn send_written(
+    alloc: Global,
+    sessions: &mut Sessions,
+    heard: Option<Heard<'_>>,
+    messages: &[Written],
+) -> Result<(), Refusal>
+    requires can { CanHear sessions.old (heard_option heard) }
+    requires go { All (CanSend sessions.old.place) (map written messages.now) }
+    ensures limit { OnOk result (event_limit sessions.old (heard_option heard.entry) (by_rank sessions.old.place.size (map written messages.now)) ≡ None) }
+    ensures sent { OnOk result (sessions.new ≡ after_event sessions.old (heard_option heard.entry) (by_rank sessions.old.place.size (map written messages.now))) }
+    ensures why { IfErr result (StepStops (fault_of_sessions (event_limit sessions.old (heard_option heard.entry) (by_rank sessions.old.place.size (map written messages.now))))) }
+    ensures unchanged { OnErr result (sessions.new ≡ sessions.old) }
+    ensures within { OnOk result (StaysWithin (heard_option heard.entry) sessions.old sessions.new) }
+    ensures placed { sessions.new.place ≡ sessions.old.place }
+{
+    let place = sessions.place();
+    let frames = frames_by_rank(alloc, place.size, messages)?;
+    match sessions.carry_out(heard, &frames) {
+        Ok(()) => Ok(()),
+        Err(refused) => Err(of_sessions(refused)),
+    }
+}
+
+/// The sessions take in what was heard, if anything was, and send a step of a collective in the order of the ranks; there is
+/// room for the payloads that are announced by it, which are answered. The numbers of the sessions' transfers count on.
+///
+/// Refused is 13 where one of its messages can't go, or the sessions meet their limit, and 14; then nothing changes but the
+/// numbers that were handed in.
+pub fn send_step(
+    alloc: Global,
+    payloads: &mut CollectiveTransfers,
+    sessions: &mut Sessions,
+    heard: Option<Heard<'_>>,
+    messages: &[CollectiveMessage],
+    numbers: &mut Vec<Numbers>,
+) -> Result<Vec<AnnouncedPayload>, Refusal>
+    requires can { CanHear sessions.old (heard_option heard) }
+    requires fits { All IsFitting messages.now }
+    ensures whole { OnOk result (AreWhole messages.now) }
+    ensures goes { OnOk result (step_limit sessions.old numbers.old.items (heard_option heard.entry) messages.now ≡ None) }
+    ensures sent { OnOk result (sessions.new ≡ after_event sessions.old (heard_option heard.entry) (step_sendings sessions.old.place numbers.old.items messages.now)) }
+    ensures numbers { OnOk result (numbers.new.items ≡ step_numbers numbers.old.items messages.now) }
+    ensures width { OnOk result (length numbers.new.items ≡ length numbers.old.items) }
+    ensures announced { IfOk result (λ announced. announced.items ≡ step_payloads numbers.old.items messages.now) }
+    ensures room { IfOk result (λ announced. length announced.items ≤ payloads.new.more_announced) }
+    ensures payloads { payloads.new.state ≡ payloads.old.state }
+    ensures coming { payloads.new.more_coming ≡ payloads.old.more_coming }
+    ensures why { IfErr result (StepStops (step_limit sessions.old numbers.old.items (heard_option heard.entry) messages.now)) }
+    ensures unchanged { OnErr result (sessions.new ≡ sessions.old) }
+    ensures within { OnOk result (StaysWithin (heard_option heard.entry) sessions.old sessions.new) }
+    ensures placed { sessions.new.place ≡ sessions.old.place }
+{
+    let place = sessions.place();
+    let step = write_each(alloc, place, messages, numbers)?;
+    let Ok(()) = payloads.reserve_announced(step.announced.len()) else {
+        return Err(Refusal::OutOfMemory);
+    };
+    send_written(alloc, sessions, heard, &step.frames)?;
+    Ok(step.announced)
+}

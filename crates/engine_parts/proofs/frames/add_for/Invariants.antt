@@ -1,8 +1,0 @@
-use Rattle.std.proofs.Common.{◌≡◌, ◌++◌, ◌==◌, map, take, filter}
-use Rattle.sessions.specs.Events.{sendings}
-use Rattle.engine_parts.specs.Steps.{written}
-use Rattle.engine_parts.proofs.frames.add_for.Given as goal
-
-abbrev pub invariant-loop-message : goal.invariant-loop-message
-invariant-loop-message l =
-    sendings l.frames.items ≡ sendings l.fn.frames.items ++ filter (λ f. f.rank == l.rank) (map written (take l.message-index l.messages))

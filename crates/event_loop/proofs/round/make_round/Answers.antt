@@ -1,0 +1,18 @@
+use Rattle.std.proofs.Common.{inl, inr, refl}
+use Rattle.event_loop.proofs.round.make_round.Goals as goal
+
+pub returns-in_default-clause-exact : goal.returns-in_default-clause-exact
+returns-in_default-clause-exact g c = inl (c.in_default.ensures.exact, refl, refl)
+
+pub returns-in_default-rest-clause-exact : goal.returns-in_default-rest-clause-exact
+returns-in_default-rest-clause-exact g c = inr (
+  c.turn.new.transport,
+  record {
+    turned = c.in-Ok.turned;
+    turn = c.in-Ok.ensures.exact;
+    heard = c.time_of-standing.ensures;
+    moved = c.time_of-standing-2.ensures;
+  },
+  (c.is_idle-idle.result, c.is_idle-idle.ensures, cc),
+  c.in_default-rest.ensures.passed,
+)

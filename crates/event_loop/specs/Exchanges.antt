@@ -1,0 +1,26 @@
+-- What passes between a rank and its transport.
+use Rattle.std.specs.Prelude.{◌≡◌, ℕ, ◌<◌, List, [], ◌∷◌, take, Option, Some, None, Result, Ok, Err}
+use Rattle.event_loop.specs.declared.exchange.Exchange.{Exchange}
+use Rattle.event_loop.specs.declared.exchange.Exchange.TheVariants.{Received, Nothing, Failed}
+use Rattle.event_loop.specs.declared.transport.TransportFault.{TransportFault}
+
+-- what passed in a receive
+abbrev pub receipt : Result (Option ℕ) TransportFault → List ℕ → Exchange
+receipt (Ok (Some n)) buffer = Received (take n buffer)
+receipt (Ok None) buffer = Nothing
+receipt (Err e) buffer = Failed
+
+-- what passed in a call that hands this over
+abbrev pub parcel : Result (Unit {0}) TransportFault → Exchange → Exchange
+parcel (Ok x) handed = handed
+parcel (Err e) handed = Failed
+
+-- what passed in a wait
+abbrev pub waited : Result (Unit {0}) TransportFault → List Exchange
+waited (Ok x) = []
+waited (Err e) = Failed ∷ []
+
+-- the number of failures rises exactly where a fault is answered
+abbrev pub FailsWith : {X : Type 0} → Result X TransportFault → ℕ → ℕ → Type 0
+FailsWith (Ok x) before after = after ≡ before
+FailsWith (Err e) before after = before < after

@@ -1,0 +1,143 @@
+-- What a turn of a rank is.
+use Rattle.std.specs.Prelude.{◌≡◌, ℕ, ◌<◌, ◌⊎◌, List, [], ◌∷◌, ◌++◌, map, take, length, Bool, true, false, ◌||◌, is_some, Option, Some, None, Result, Ok, Err}
+use Rattle.point_to_point_calls.specs.declared.refusal.Refusal.{Refusal}
+use Rattle.engine_calls.specs.declared.reply.Reply.{Reply}
+use Rattle.engine_calls.specs.declared.reply.Reply.TheVariants as replies
+use Rattle.engine_calls.specs.EngineState.{EngineState, completion_of, without_completion, without_out}
+use Rattle.engine_calls.specs.Calls.{CallGives}
+use Rattle.engine.specs.Ticks.{TickGives}
+use Rattle.engine_calls.specs.declared.reply.Completion.{Completion}
+use Rattle.engine_calls.specs.declared.reply.Completion.TheVariants as completions
+use Rattle.event_loop.specs.declared.exchange.Exchange.{Exchange}
+use Rattle.event_loop.specs.declared.exchange.Exchange.TheVariants.{Nothing, Printed, Failed}
+use Rattle.event_loop.specs.declared.runner.RunnerStep.{RunnerStep}
+use Rattle.event_loop.specs.declared.runner.RunnerStep.TheVariants as steps
+use Rattle.event_loop.specs.declared.loop_state.RunnerState.{RunnerState}
+use Rattle.event_loop.specs.declared.loop_state.RunnerState.TheVariants.{Ready, Blocked, Over}
+use Rattle.event_loop.specs.declared.loop_state.TurnResult.{TurnResult}
+use Rattle.event_loop.specs.declared.transport.TransportFault.{TransportFault}
+use Rattle.event_loop.specs.Listening.{TakesIn, Word, after_all, nothing_heard, received}
+use Rattle.event_loop.specs.Speaking.{Speaks}
+use Rattle.event_loop.specs.Sending.{sent}
+
+-- the clock of the engine ticks; a tick that is refused is dropped
+abbrev pub TickLeaves : EngineState → ℕ → EngineState → Type 0
+TickLeaves old now new = (r : Result (Unit {0}) Refusal) × TickGives old now r new
+
+-- what the runner is told of this answer of a blocked call
+abbrev pub reply_of : Completion → Reply
+reply_of (completions.Requests answer) = replies.Done answer
+reply_of (completions.Collective ending) = replies.Left ending
+
+-- what the runner waits for, once this answer of a blocked call, or none, has come
+abbrev pub stage_with : RunnerState → Option Completion → RunnerState
+stage_with stage None = stage
+stage_with stage (Some (completions.Requests answer)) = Ready (Some (replies.Done answer))
+stage_with stage (Some (completions.Collective ending)) = Ready (Some (replies.Left ending))
+
+-- what the runner waits for after a reply
+abbrev pub stage_after : Reply → RunnerState
+stage_after replies.Blocked = Blocked
+stage_after (replies.Started r) = Ready (Some (replies.Started r))
+stage_after (replies.Done answer) = Ready (Some (replies.Done answer))
+stage_after replies.Pending = Ready (Some replies.Pending)
+stage_after replies.Accepted = Ready (Some replies.Accepted)
+stage_after (replies.Left ending) = Ready (Some (replies.Left ending))
+stage_after (replies.Fact fact) = Ready (Some (replies.Fact fact))
+stage_after (replies.Probed found) = Ready (Some (replies.Probed found))
+stage_after (replies.Matched found) = Ready (Some (replies.Matched found))
+stage_after (replies.Refused e back) = Ready (Some (replies.Refused e back))
+
+abbrev pub is_ready : RunnerState → Bool
+is_ready (Ready reply) = true
+is_ready Blocked = false
+is_ready (Over status line) = false
+
+-- the runner's call goes to the engine; its end is the end
+abbrev pub TakesStep : EngineState → RunnerStep → RunnerState → EngineState → Type 0
+TakesStep old (steps.Call call) stage new = (reply : Reply) × CallGives old call reply new × (stage ≡ stage_after reply)
+TakesStep old (steps.Print line) stage new = ⊥
+TakesStep old (steps.End status line) stage new = (stage ≡ Over status line) × (new ≡ old)
+
+-- where a call is blocked, or the runner has ended, nothing is done; else its lines come, and its next call or its end
+abbrev pub GoesOn : {P : Type 0} → (P → Option Reply → RunnerStep → P → Type 0) → P → RunnerState → List (List ℕ) → EngineState → RunnerState → P → EngineState → Type 0
+GoesOn does p (Ready reply) lines e stage p' e' = (step : RunnerStep) × Speaks does p reply lines step p' × TakesStep e step stage e'
+GoesOn does p Blocked lines e stage p' e' = (lines ≡ []) × (stage ≡ Blocked) × (p' ≡ p) × (e' ≡ e)
+GoesOn does p (Over status line) lines e stage p' e' = (lines ≡ []) × (stage ≡ Over status line) × (p' ≡ p) × (e' ≡ e)
+
+-- A line of a runner that goes on can't be printed
+abbrev pub StopsAtLine : {P : Type 0} → (P → Option Reply → RunnerStep → P → Type 0) → P → RunnerState → List (List ℕ) → P → Type 0
+StopsAtLine does p (Ready reply) lines p' = (line : List ℕ) × Speaks does p reply lines (steps.Print line) p'
+StopsAtLine does p Blocked lines p' = ⊥
+StopsAtLine does p (Over status line) lines p' = ⊥
+
+abbrev pub GoesOnTo : {P T : Type 0} → (P → Option Reply → RunnerStep → P → Type 0) → (T → List Exchange → T → Type 0)
+    → EngineState → P → RunnerState → T → Result (Unit {0}) TransportFault → EngineState → P → RunnerState → T → Type 0
+GoesOnTo does passed e p stage t (Ok x) e' p' stage' t' =
+    (lines : List (List ℕ)) × GoesOn does p stage lines e stage' p' e' × passed t (map Printed lines) t'
+GoesOnTo does passed e p stage t (Err f) e' p' stage' t' =
+    (lines : List (List ℕ)) × StopsAtLine does p stage lines p' × (e' ≡ e) × (stage' ≡ Ready None) × passed t (map Printed lines ++ Failed ∷ []) t'
+
+-- The engine up to its next call: its clock ticked, and it took in these datagrams.
+pub record Listened (e : EngineState) (now : ℕ) (words : List Word) (e' : EngineState) : Type 0 where
+  pub ticked : EngineState
+  pub tick : TickLeaves e now ticked
+  pub takes : TakesIn ticked words e'
+
+-- A turn: the clock ticks; the datagrams that are there are taken in; the runner goes on, unless its call is blocked;
+-- what the engine emitted is sent.
+pub record IsTurn {P T : Type 0} (does : P → Option Reply → RunnerStep → P → Type 0) (passed : T → List Exchange → T → Type 0)
+    (e : EngineState) (p : P) (stage : RunnerState) (t : T) (now : ℕ) (turned : TurnResult) (e' : EngineState) (p' : P) (stage' : RunnerState) (t' : T) : Type 0 where
+  pub words : List Word
+  pub heard : EngineState
+  pub lines : List (List ℕ)
+  pub called : EngineState
+  pub listened : Listened e now words heard
+  pub goes : GoesOn does p (stage_with stage (completion_of heard)) lines (without_completion heard) stage' p' called
+  pub state : e' ≡ without_out called
+  pub passes : passed t ((map received words ++ Nothing ∷ []) ++ map Printed lines ++ map sent called.sessions.out) t'
+  pub came : turned.came ≡ (after_all nothing_heard words).any
+  pub moved : turned.moved ≡ ((after_all nothing_heard words).accepted || is_some (completion_of heard) || is_ready stage')
+
+-- a turn that stops short: a receive failed
+pub record StopsListening {P T : Type 0} (passed : T → List Exchange → T → Type 0)
+    (e : EngineState) (p : P) (stage : RunnerState) (t : T) (now : ℕ) (e' : EngineState) (p' : P) (stage' : RunnerState) (t' : T) : Type 0 where
+  pub words : List Word
+  pub listened : Listened e now words e'
+  pub runner : p' ≡ p
+  pub waits : stage' ≡ stage
+  pub passes : passed t (map received words ++ Failed ∷ []) t'
+
+-- a line can't be printed; its runner was told what it waited for
+pub record StopsSpeaking {P T : Type 0} (does : P → Option Reply → RunnerStep → P → Type 0) (passed : T → List Exchange → T → Type 0)
+    (e : EngineState) (p : P) (stage : RunnerState) (t : T) (now : ℕ) (e' : EngineState) (p' : P) (stage' : RunnerState) (t' : T) : Type 0 where
+  pub words : List Word
+  pub heard : EngineState
+  pub lines : List (List ℕ)
+  pub listened : Listened e now words heard
+  pub speaks : StopsAtLine does p (stage_with stage (completion_of heard)) lines p'
+  pub state : e' ≡ without_completion heard
+  pub told : stage' ≡ Ready None
+  pub passes : passed t ((map received words ++ Nothing ∷ []) ++ map Printed lines ++ Failed ∷ []) t'
+
+-- a datagram can't be sent
+pub record StopsSending {P T : Type 0} (does : P → Option Reply → RunnerStep → P → Type 0) (passed : T → List Exchange → T → Type 0)
+    (e : EngineState) (p : P) (stage : RunnerState) (t : T) (now : ℕ) (e' : EngineState) (p' : P) (stage' : RunnerState) (t' : T) : Type 0 where
+  pub words : List Word
+  pub heard : EngineState
+  pub lines : List (List ℕ)
+  pub called : EngineState
+  pub gone : ℕ
+  pub listened : Listened e now words heard
+  pub goes : GoesOn does p (stage_with stage (completion_of heard)) lines (without_completion heard) stage' p' called
+  pub state : e' ≡ without_out called
+  pub rest : gone < length called.sessions.out
+  pub passes : passed t ((map received words ++ Nothing ∷ []) ++ map Printed lines ++ map sent (take gone called.sessions.out) ++ Failed ∷ []) t'
+
+-- what a turn gives: a whole one, or one that a fault stops short
+abbrev pub TurnGives : {P T : Type 0} → (P → Option Reply → RunnerStep → P → Type 0) → (T → List Exchange → T → Type 0)
+    → EngineState → P → RunnerState → T → ℕ → Result TurnResult TransportFault → EngineState → P → RunnerState → T → Type 0
+TurnGives does passed e p stage t now (Ok turned) e' p' stage' t' = IsTurn does passed e p stage t now turned e' p' stage' t'
+TurnGives does passed e p stage t now (Err f) e' p' stage' t' =
+    StopsListening passed e p stage t now e' p' stage' t' ⊎
+    (StopsSpeaking does passed e p stage t now e' p' stage' t' ⊎ StopsSending does passed e p stage t now e' p' stage' t')

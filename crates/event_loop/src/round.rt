@@ -1,0 +1,152 @@
+//! One turn, and what follows it.
+
+ghost use Rattle.std.specs.Prelude.{◌≡◌, ◌≤◌, ◌+◌, ◌-◌, ◌<◌, ◌^◌, true, false, if◌then◌else◌};
+ghost use Rattle.event_loop.specs.Exchanges.{FailsWith, waited};
+ghost use Rattle.event_loop.specs.Drives.{RoundGives, ending_of, patience_ends, status_of};
+
+use crate::runner::Runner;
+use crate::loop_state::{RunnerState, LoopState};
+use crate::transport::{Transport, TransportFault};
+use crate::turn::{is_ready, turn};
+use engine::Engine;
+use std::sync::Wait;
+
+/// How many milliseconds a rank stays after its script's end, from the last datagram that came.
+const LINGER: u64 = 100;
+
+/// How many milliseconds a rank waits at most while frames are unacknowledged, so that they are sent again in time.
+const SHORT_WAIT: u64 = 5;
+
+/// How a rank ended.
+#[derive(Clone, Copy, Debug, PartialEq, Eq)]
+pub enum Ended {
+    /// By its runner, with this status; the line of the script where that is a faulty one.
+    Runner(u8, Option<usize>),
+    /// Nothing moved for as long as its patience lasts.
+    Patience,
+}
+
+impl Ended {
+    /// The status of the rank's program: its runner's, or 4 where its patience ended.
+    pub fn status(self) -> u8
+        ensures { result ≡ status_of self }
+    {
+        match self {
+            Ended::Runner(status, _) => status,
+            Ended::Patience => 4,
+        }
+    }
+}
+
+fn patience_ends(patience: u64, still: u64) -> Option<Ended>
+    ensures { result ≡ patience_ends patience still }
+{
+    if patience <= still {
+        Some(Ended::Patience)
+    } else {
+        None
+    }
+}
+
+/// Whether a rank ends, where no datagram came for `quiet` milliseconds, and nothing moved for `still`.
+fn ending_of(stage: &RunnerState, idle: bool, patience: u64, quiet: u64, still: u64) -> Option<Ended>
+    ensures { result ≡ ending_of stage.now idle patience quiet still }
+{
+    match stage {
+        RunnerState::Over(status, line) => {
+            if *status == 0 {
+                if idle && LINGER <= quiet {
+                    Some(Ended::Runner(*status, *line))
+                } else {
+                    patience_ends(patience, still)
+                }
+            } else {
+                Some(Ended::Runner(*status, *line))
+            }
+        }
+        _ => patience_ends(patience, still),
+    }
+}
+
+/// The later time where this happened.
+fn time_of(happened: bool, now: u64, before: u64) -> u64
+    ensures { result ≡ (if happened then now else before) }
+{
+    if happened { now } else { before }
+}
+
+/// For how many milliseconds a rank waits at most for a datagram: until something is due of itself.
+fn wait_of(stage: &RunnerState, idle: bool, patience: u64, quiet: u64, still: u64) -> u64
+    ensures some { 0 < result }
+    ensures soon { idle ≡ false → result ≤ 5 }
+    ensures within { still < patience → result ≤ patience - still }
+{
+    let over = patience.saturating_sub(still).max(1);
+    if !idle {
+        return SHORT_WAIT.min(over);
+    }
+    match stage {
+        RunnerState::Over(_, _) => LINGER.saturating_sub(quiet).max(1).min(over),
+        _ => over,
+    }
+}
+
+/// Waits for a datagram, unless the runner may go on at once.
+fn rest<T: Transport>(transport: &mut T, ready: bool, most: u64) -> Result<(), TransportFault>
+    requires { T.failed transport.old + 1 < 2 ^ 64 }
+    ensures passed { T.passed transport.old (waited result) transport.new }
+    ensures at_once { ready ≡ true → transport.new ≡ transport.old }
+    ensures failures { FailsWith result (T.failed transport.old) (T.failed transport.new) }
+{
+    if ready {
+        return Ok(());
+    }
+    transport.wait(most)
+}
+
+/// One turn at this time, and a wait for a datagram behind it where the rank goes on and has nothing to do. Answers how the rank
+/// ended, if it has.
+pub(crate) fn make_round<R: Wait, P: Runner, T: Transport>(
+    rt: &R,
+    engine: &mut Engine,
+    runner: &mut P,
+    standing: &mut LoopState,
+    patience: u64,
+    transport: &mut T,
+    buffer: &mut [u8],
+    now: u64,
+) -> Result<Option<Ended>, TransportFault>
+    requires { T.failed transport.old + 1 < 2 ^ 64 }
+    ensures exact { RoundGives P.does T.passed patience
+        (record { engine = engine.old; runner = runner.old; standing = standing.old; transport = transport.old })
+        now result engine.new runner.new standing.new transport.new }
+    ensures failures { FailsWith result (T.failed transport.old) (T.failed transport.new) }
+{
+    let Ok(turned) = turn(
+        rt,
+        engine,
+        runner,
+        &mut standing.stage,
+        transport,
+        buffer,
+        now,
+    ) else {
+        return Err(TransportFault);
+    };
+    standing.heard = time_of(turned.came, now, standing.heard);
+    standing.moved = time_of(turned.moved, now, standing.moved);
+    let idle = engine.is_idle();
+    let quiet = now.saturating_sub(standing.heard);
+    let still = now.saturating_sub(standing.moved);
+    if let Some(ended) = ending_of(&standing.stage, idle, patience, quiet, still) {
+        return Ok(Some(ended));
+    }
+    let Ok(_) = rest(
+        transport,
+        is_ready(&standing.stage),
+        wait_of(&standing.stage, idle, patience, quiet, still),
+    ) else {
+        return Err(TransportFault);
+    };
+    Ok(None)
+}

@@ -1,0 +1,160 @@
+//! One turn of a rank.
+
+ghost use Rattle.std.specs.Prelude.{◌≡◌, ◌+◌, ◌<◌, ◌^◌, Option, None};
+ghost use Rattle.event_loop.specs.Exchanges.{FailsWith};
+ghost use Rattle.event_loop.specs.Speaking.{IsNoLine};
+ghost use Rattle.event_loop.specs.Turns.{TakesStep, GoesOnTo, TurnGives, stage_after, stage_with, reply_of, is_ready};
+
+use crate::input::listen;
+use crate::runner::{Runner, RunnerStep};
+use crate::output::send_all;
+use crate::runner_turn::speak;
+use crate::loop_state::{RunnerState, TurnResult};
+use crate::transport::{Transport, TransportFault};
+use engine::{Completion, Engine, Reply};
+use std::sync::Wait;
+
+/// What stood here gives way to this, and is dropped.
+fn replace<T: Drop>(place: &mut T, next: T)
+    ensures { place.new ≡ next }
+{
+    *place = next;
+}
+
+/// What the runner is told of this answer of a blocked call.
+fn reply_of(completion: Completion) -> Reply
+    ensures { result ≡ reply_of completion }
+{
+    match completion {
+        Completion::Requests(answer) => Reply::Done(answer),
+        Completion::Collective(ending) => Reply::Left(ending),
+    }
+}
+
+/// This answer of a blocked call, or none, has come.
+fn hear_answer(stage: &mut RunnerState, completion: Option<Completion>)
+    ensures { stage.new ≡ stage_with stage.old completion }
+{
+    if let Some(completion) = completion {
+        replace(stage, RunnerState::Ready(Some(reply_of(completion))));
+    }
+}
+
+/// Whether the runner goes on at the next turn.
+pub(crate) fn is_ready(stage: &RunnerState) -> bool
+    ensures { result ≡ is_ready stage.now }
+{
+    matches!(stage, RunnerState::Ready(_))
+}
+
+/// What the runner waits for after a reply.
+fn stage_after(reply: Reply) -> RunnerState
+    ensures { result ≡ stage_after reply }
+{
+    match reply {
+        Reply::Blocked => RunnerState::Blocked,
+        reply => RunnerState::Ready(Some(reply)),
+    }
+}
+
+/// The runner's call goes to its engine; its end is the end.
+fn take_step(engine: &mut Engine, step: RunnerStep) -> RunnerState
+    requires { IsNoLine step }
+    ensures { TakesStep engine.old step result engine.new }
+{
+    match step {
+        RunnerStep::Call(call) => stage_after(engine.call(call)),
+        RunnerStep::Print(_) => unreachable!(),
+        RunnerStep::End(status, line) => RunnerState::Over(status, line),
+    }
+}
+
+/// The runner, which had something else to do before and now has this line to print, prints it and goes on behind it.
+// It stands apart, so that calls of the runner don't pay for what its lines need.
+#[inline(never)]
+fn go_on_behind<R: Wait, P: Runner, T: Transport>(
+    rt: &R,
+    engine: &mut Engine,
+    runner: &mut P,
+    stage: &mut RunnerState,
+    transport: &mut T,
+    line: &[u8],
+) -> Result<(), TransportFault>
+    requires room { T.failed transport.old + 1 < 2 ^ 64 }
+    requires ready { stage.old ≡ RunnerState.Ready None }
+    ensures exact { (before : P) (reply : Option Reply) → P.does before reply (RunnerStep.Print line.now) runner.old →
+        GoesOnTo P.does T.passed engine.old before (RunnerState.Ready reply) transport.old result engine.new runner.new stage.new transport.new }
+    ensures failures { FailsWith result (T.failed transport.old) (T.failed transport.new) }
+{
+    let Ok(_) = transport.print(line) else {
+        return Err(TransportFault);
+    };
+    let Ok(step) = speak(rt, runner, None, transport) else {
+        return Err(TransportFault);
+    };
+    replace(stage, take_step(engine, step));
+    Ok(())
+}
+
+/// The runner goes on, unless its call is blocked or it has ended.
+fn go_on<R: Wait, P: Runner, T: Transport>(
+    rt: &R,
+    engine: &mut Engine,
+    runner: &mut P,
+    stage: &mut RunnerState,
+    transport: &mut T,
+) -> Result<(), TransportFault>
+    requires { T.failed transport.old + 1 < 2 ^ 64 }
+    ensures exact { GoesOnTo P.does T.passed engine.old runner.old stage.old transport.old result engine.new runner.new stage.new transport.new }
+    ensures failures { FailsWith result (T.failed transport.old) (T.failed transport.new) }
+{
+    let reply = match stage {
+        RunnerState::Ready(reply) => reply.take(),
+        RunnerState::Blocked | RunnerState::Over(_, _) => return Ok(()),
+    };
+    match runner.next(reply) {
+        RunnerStep::Call(call) => replace(stage, stage_after(engine.call(call))),
+        RunnerStep::Print(line) => {
+            return go_on_behind(rt, engine, runner, stage, transport, line.as_slice());
+        }
+        RunnerStep::End(status, line) => replace(stage, RunnerState::Over(status, line)),
+    }
+    Ok(())
+}
+
+/// One turn: the clock ticks, all datagrams that are there are taken in, the runner's lines are written and its next
+/// call goes to the engine, unless one is blocked, and what the engine emitted is sent.
+pub(crate) fn turn<R: Wait, P: Runner, T: Transport>(
+    rt: &R,
+    engine: &mut Engine,
+    runner: &mut P,
+    stage: &mut RunnerState,
+    transport: &mut T,
+    buffer: &mut [u8],
+    now: u64,
+) -> Result<TurnResult, TransportFault>
+    requires { T.failed transport.old + 1 < 2 ^ 64 }
+    ensures exact { TurnGives P.does T.passed engine.old runner.old stage.old transport.old now result
+        engine.new runner.new stage.new transport.new }
+    ensures failures { FailsWith result (T.failed transport.old) (T.failed transport.new) }
+{
+    let _ = engine.tick(now);
+    let Ok(heard) = listen(rt, engine, transport, buffer) else {
+        return Err(TransportFault);
+    };
+    let completion = engine.take_completion();
+    let answered = completion.is_some();
+    hear_answer(stage, completion);
+    let Ok(_) = go_on(rt, engine, runner, stage, transport) else {
+        return Err(TransportFault);
+    };
+    let out = engine.take_out();
+    let Ok(_) = send_all(transport, &out) else {
+        return Err(TransportFault);
+    };
+    engine.give_back(out);
+    Ok(TurnResult {
+        came: heard.any,
+        moved: heard.accepted || answered || is_ready(stage),
+    })
+}

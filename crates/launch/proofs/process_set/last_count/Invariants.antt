@@ -1,7 +1,0 @@
-use Rattle.std.proofs.Common.{◌≡◌, drop}
-use Rattle.launch.specs.declared.stage.Stage.TheVariants.{Empty}
-use Rattle.launch.specs.Judging.{stage_behind}
-use Rattle.launch.proofs.process_set.last_count.Given as goal
-
-abbrev pub invariant-loop-word : goal.invariant-loop-word
-invariant-loop-word l = stage_behind l.stage (drop l.word-index l.words) ≡ stage_behind Empty l.words

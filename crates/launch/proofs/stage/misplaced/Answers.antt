@@ -1,9 +1,0 @@
--- Answered so that a wrong body is refused soon.
-use Rattle.std.proofs.Common.{rules}
-use Rattle.launch.proofs.stage.misplaced.Goals as goal
-
-pub returns-in-LeftOut : goal.returns-in-LeftOut
-returns-in-LeftOut c = search rules
-
-pub returns-in_default : goal.returns-in_default
-returns-in_default c = search rules

@@ -1,8 +1,0 @@
-use Rattle.std.proofs.Common.{◌≡◌, take}
-use Rattle.std.specs.Prelude.{filter}
-use Rattle.line_words.specs.Lines.{is_nonempty}
-use Rattle.line_words.proofs.Lists.{shown}
-use Rattle.line_words.proofs.lines.words_among.Given as goal
-
-abbrev pub invariant-loop-piece : goal.invariant-loop-piece
-invariant-loop-piece l = l.words ≡ filter is_nonempty (shown (take l.piece-index l.pieces))

@@ -1,9 +1,0 @@
--- Answered so that a wrong body is refused soon.
-use Rattle.std.proofs.Common.{rules}
-use Rattle.line_words.proofs.word.is.Goals as goal
-
-pub eq-requires : goal.eq-requires
-eq-requires c κs = search rules
-
-pub returns : goal.returns
-returns c = search rules

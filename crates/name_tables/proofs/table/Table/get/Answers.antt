@@ -1,6 +1,0 @@
-use Rattle.std.proofs.Common.{◌∙◌}
-use Rattle.name_tables.proofs.TableLaws.{stands}
-use Rattle.name_tables.proofs.table.Table.get.Goals as goal
-
-pub returns : goal.returns
-returns g c = c.get.ensures.value ∙ stands c.self.inside.values.entries c.as_bytes.result.now c.self.view_is c.as_bytes.ensures

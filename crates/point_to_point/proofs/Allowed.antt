@@ -1,0 +1,142 @@
+-- What is known of a call that breaks no rule and meets no limit.
+use Rattle.std.proofs.Common.{◌≡◌, ◌≤◌, ◌*◌, length, sym, Bool, false, true, Option, Some, None, refl, subst, arith}
+use Rattle.std.specs.Prelude.{IfSome, if◌then◌else◌, ℕ, ◌<◌}
+use Rattle.std.proofs.lemmas.Grind.{common_steps}
+use Rattle.perfect_queues.specs.Buffers.{differs_in_type, is_too_short}
+use Rattle.requests.specs.declared.awaited_requests.Awaited.{Awaited}
+use Rattle.vocabulary.specs.BasicTypes.{size_of}
+use Rattle.vocabulary.specs.Limits.{send_limit}
+use Rattle.datatypes.specs.Contents.{Contents}
+use Rattle.requests.specs.Regions.{CanReceive, handed_of, is_unfit_to_receive, sent_from}
+use Rattle.requests.specs.Table.{is_full}
+use Rattle.point_to_point_calls.specs.declared.call.CoreCall.{CoreCall}
+use Rattle.point_to_point_calls.specs.declared.call.CoreCall.TheVariants.{Isend, Irecv, Mrecv}
+use Rattle.point_to_point_calls.specs.declared.call.CoreReceive.{CoreReceive}
+use Rattle.point_to_point_calls.specs.declared.call.CoreSend.{CoreSend}
+use Rattle.point_to_point_calls.specs.declared.refusal.Refusal.{Refusal}
+use Rattle.point_to_point.specs.Calls.{call_fault, fault_at, free_fault}
+use Rattle.point_to_point.specs.CoreState.{CoreState}
+use Rattle.point_to_point.specs.Receiving.{receive_fault}
+use Rattle.point_to_point.specs.Messages.{message_fault, region_rule}
+use Rattle.point_to_point_calls.specs.Hearing.{first_of}
+use Rattle.requests.specs.declared.region.Region.{Region}
+use Rattle.requests.specs.declared.table.Request.{Request}
+use Rattle.rendezvous.specs.State.{State, is_full_to}
+use Rattle.point_to_point_calls.specs.Sending.{announced_to, destination, is_announced, or_worn_out, rank_to, send_fault}
+use Rattle.point_to_point.specs.Sending.{or_full}
+use Rattle.point_to_point_calls.proofs.Sends.{long_enough, rank_is_there, same_type, within_limit}
+
+-- nothing else was found while no earlier call is blocked
+unblocked : (a : Option Awaited) (c : CoreState) (call : CoreCall) → fault_at a c call ≡ None → free_fault c call ≡ None
+unblocked None c call none = none
+unblocked (Some a) c call none = absurd cc
+
+-- no rule was broken where not even the limit is met
+no_rule : (fault : Option Refusal) (c : CoreState) → or_full fault c ≡ None → fault ≡ None
+no_rule None c none = refl
+no_rule (Some fault) c none = absurd cc
+
+-- nor was one where a transfer can begin
+no_limit : (fault : Option Refusal) (rank : Option ℕ) (t : State) → or_worn_out fault rank t ≡ None → fault ≡ None
+no_limit None rank t none = refl
+no_limit (Some fault) rank t none = absurd cc
+
+-- a transfer can begin, where one is needed
+left_to : (b : Bool) (rank : ℕ) (t : State) → is_full_to t.numbers rank ≡ b → or_worn_out None (Some rank) t ≡ None → b ≡ false
+left_to false rank t is none = refl
+left_to true rank t is none = absurd (grind (arith, is, none))
+
+-- so it is of a send
+left_of : (fault : Option Refusal) (to : Option ℕ) (rank : ℕ) (t : State) → to ≡ Some rank → or_worn_out fault to t ≡ None → is_full_to t.numbers rank ≡ false
+left_of (Some fault) to rank t is none = absurd cc
+left_of None None rank t is none = absurd cc
+left_of None (Some other) rank t is none =
+    subst (λ (r : ℕ). is_full_to t.numbers r ≡ false) (same_some other rank is) (left_to (is_full_to t.numbers other) other t refl none)
+  where
+    same_some : (a b : ℕ) → Some a ≡ Some b → a ≡ b
+    same_some a b e = cc
+
+-- a send breaks no rule
+free_send : (c : CoreState) (s : CoreSend) → free_fault c (Isend s) ≡ None → send_fault c.place s ≡ None
+free_send c s none = no_rule (send_fault c.place s) c (no_limit (or_full (send_fault c.place s) c) (announced_to c.place s) c.transfers none)
+
+-- the same of a call
+sendable : (c : CoreState) (s : CoreSend) → call_fault c (Isend s) ≡ None → send_fault c.place s ≡ None
+sendable c s none = free_send c s (unblocked c.blocked c (Isend s) none)
+
+-- a transfer can begin to the rank to which its message is announced
+pub announces : (c : CoreState) (s : CoreSend) (rank : ℕ) → free_fault c (Isend s) ≡ None → announced_to c.place s ≡ Some rank → is_full_to c.transfers.numbers rank ≡ false
+announces c s rank none is = left_of (or_full (send_fault c.place s) c) (announced_to c.place s) rank c.transfers is none
+
+there_if : (b : Bool) (o : Option ℕ) (n rank : ℕ) → (if b then o else None) ≡ Some rank → IfSome o (λ (r : ℕ). r < n) → rank < n
+there_if true None n rank is there = absurd cc
+there_if true (Some r) n rank is there = subst (λ (k : ℕ). k < n) (same_some r rank is) there
+  where
+    same_some : (a b : ℕ) → Some a ≡ Some b → a ≡ b
+    same_some a b e = cc
+there_if false o n rank is there = absurd cc
+
+-- what it offers goes to a rank of the job
+pub offer_is_there : (c : CoreState) (s : CoreSend) (rank : ℕ) → free_fault c (Isend s) ≡ None → announced_to c.place s ≡ Some rank → rank < c.place.size
+offer_is_there c s rank none is =
+    there_if (is_announced s.mode (sent_from s.from)) (rank_to c.place (destination s.target s.tag s.context)) c.place.size rank is (rank_is_there c.place s (free_send c s none))
+
+-- and is within the limit of a message
+pub offer_is_within : (c : CoreState) (s : CoreSend) (elements : Contents) → free_fault c (Isend s) ≡ None → elements ≡ sent_from s.from →
+    length elements.values * size_of elements.basic ≤ send_limit
+offer_is_within c s elements none same =
+    subst (λ (e : Contents). length e.values * size_of e.basic ≤ send_limit) (sym same) (within_limit c.place s (free_send c s none))
+
+-- it breaks no other rule
+pub allowed_send : (c : CoreState) (s : CoreSend) → call_fault c (Isend s) ≡ None → free_fault c (Isend s) ≡ None
+allowed_send c s none = unblocked c.blocked c (Isend s) none
+
+-- a send's buffer and layout are of one basic type
+pub send_types : (c : CoreState) (s : CoreSend) → call_fault c (Isend s) ≡ None → differs_in_type (handed_of s.from) ≡ false
+send_types c s none = same_type c.place s (sendable c s none)
+
+-- its buffer is long enough
+pub send_room : (c : CoreState) (s : CoreSend) → call_fault c (Isend s) ≡ None → is_too_short (handed_of s.from) ≡ false
+send_room c s none = long_enough c.place s (sendable c s none)
+
+-- its frame goes to a rank of the job
+pub send_there : (c : CoreState) (s : CoreSend) → call_fault c (Isend s) ≡ None →
+    IfSome (rank_to c.place (destination s.target s.tag s.context)) (λ (rank : ℕ). rank < c.place.size)
+send_there c s none = rank_is_there c.place s (sendable c s none)
+
+-- a receive's types and places fit
+fit : (c : CoreState) (v : CoreReceive) → receive_fault c v ≡ None → is_unfit_to_receive (handed_of v.into) ≡ false
+unfolding receive_fault
+fit c v none = grind (arith, common_steps, none)
+
+-- its buffer is long enough
+enough : (c : CoreState) (v : CoreReceive) → receive_fault c v ≡ None → is_too_short (handed_of v.into) ≡ false
+unfolding receive_fault
+enough c v none = grind (arith, common_steps, none)
+
+-- a request can be started
+free : (c : CoreState) (v : CoreReceive) → receive_fault c v ≡ None → is_full c.slots c.serial ≡ false
+unfolding receive_fault
+free c v none = grind (arith, common_steps, none)
+
+-- data can be received where a receive wants them
+pub receive_fits : (c : CoreState) (v : CoreReceive) → call_fault c (Irecv v) ≡ None → CanReceive v.into
+receive_fits c v none =
+    let rules = unblocked c.blocked c (Irecv v) none in
+    record { types = fit c v rules; room = enough c v rules }
+
+-- and into the region of the receive of a message
+pub message_fits : (c : CoreState) (q : Option Request) (into : Region) → call_fault c (Mrecv q into) ≡ None → CanReceive into
+unfolding region_rule
+message_fits c q into none =
+    let rules = unblocked c.blocked c (Mrecv q into) none in
+    let region : region_rule into ≡ None = second (message_fault c q) (region_rule into) rules in
+    record { types = grind (arith, common_steps, region); room = grind (arith, common_steps, region) }
+  where
+    second : (a b : Option Refusal) → first_of a b ≡ None → b ≡ None
+    second None b h = h
+    second (Some e) b h = absurd cc
+
+-- its request can be started
+pub receive_starts : (c : CoreState) (v : CoreReceive) → call_fault c (Irecv v) ≡ None → is_full c.slots c.serial ≡ false
+receive_starts c v none = free c v (unblocked c.blocked c (Irecv v) none)

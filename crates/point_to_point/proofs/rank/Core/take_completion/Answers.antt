@@ -1,0 +1,24 @@
+-- Answered so that a wrong body is refused soon.
+use Rattle.std.proofs.Common.{rules}
+use Rattle.point_to_point.proofs.rank.Core.take_completion.Goals as goal
+
+pub is_none-requires : goal.is_none-requires
+is_none-requires c = search rules
+
+pub returns-then-is_none-clause-completion : goal.returns-then-is_none-clause-completion
+returns-then-is_none-clause-completion c = search rules
+
+pub returns-then-is_none-clause-rest : goal.returns-then-is_none-clause-rest
+returns-then-is_none-clause-rest c = search rules
+
+pub take-requires : goal.take-requires
+take-requires c = search rules
+
+pub invariant_of-self : goal.invariant_of-self
+invariant_of-self c = search rules
+
+pub returns-clause-completion : goal.returns-clause-completion
+returns-clause-completion c = search rules
+
+pub returns-clause-rest : goal.returns-clause-rest
+returns-clause-rest c = search rules

@@ -1,0 +1,10 @@
+pub mod CoreState
+pub mod Receiving
+pub mod Sending
+pub mod Waiting
+pub mod Calls
+pub mod Arrivals
+pub use Rattle.datagram.specs.Spelling
+pub use Rattle.match_queues.specs.State
+pub use Rattle.requests.specs.Table
+pub mod Messages

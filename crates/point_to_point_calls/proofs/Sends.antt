@@ -1,0 +1,101 @@
+-- What is known of a send that breaks no rule.
+use Rattle.std.proofs.Common.{◌≡◌, ◌<◌, ◌≤◌, ◌*◌, ℕ, ◌==◌, length, Bool, true, false, Option, Some, None, refl, arith}
+use Rattle.std.specs.Prelude.{IfSome}
+use Rattle.std.proofs.lemmas.Grind.{common_steps}
+use Rattle.vocabulary.specs.BasicTypes.{size_of}
+use Rattle.vocabulary.specs.declared.envelope.Source.{Source}
+use Rattle.vocabulary.specs.declared.envelope.Source.TheVariants.{Any, Rank, Null}
+use Rattle.vocabulary.specs.Limits.{send_limit}
+use Rattle.datatypes.specs.Contents.{Contents, bytes_of}
+use Rattle.datatypes.specs.ContentLaws.{length-bytes_of, sizes}
+use Rattle.perfect_queues.specs.Buffers.{differs_in_type, is_too_short}
+use Rattle.perfect_queues.specs.Refusals.{is_no_tag, is_no_target}
+use Rattle.requests.specs.Regions.{byte_count, handed_of, sent_from}
+use Rattle.incarnation.specs.declared.place.Place.{Place}
+use Rattle.point_to_point_calls.specs.declared.call.CoreSend.{CoreSend}
+use Rattle.point_to_point_calls.specs.declared.sends.Destination.{Destination}
+use Rattle.vocabulary.specs.declared.mode.Mode.{Mode}
+use Rattle.vocabulary.specs.declared.mode.Mode.TheVariants.{Standard, Synchronous}
+use Rattle.vocabulary.specs.Modes.{may_be_announced}
+use Rattle.point_to_point_calls.specs.Sending.{IsSendable, destination, is_announced, rank_to, rank_unless, send_fault}
+
+-- THE RULES
+
+-- buffer and layout are of one basic type
+pub same_type : (p : Place) (s : CoreSend) → send_fault p s ≡ None → differs_in_type (handed_of s.from) ≡ false
+unfolding send_fault
+same_type p s none = grind (arith, common_steps, none)
+
+-- the buffer is long enough
+pub long_enough : (p : Place) (s : CoreSend) → send_fault p s ≡ None → is_too_short (handed_of s.from) ≡ false
+unfolding send_fault
+long_enough p s none = grind (arith, common_steps, none)
+
+-- it has no more bytes than a message may have
+pub within_limit : (p : Place) (s : CoreSend) → send_fault p s ≡ None → byte_count s.from ≤ send_limit
+unfolding send_fault
+within_limit p s none = grind (arith, common_steps, none)
+
+-- it has a tag
+has_tag : (p : Place) (s : CoreSend) → send_fault p s ≡ None → is_no_tag s.tag ≡ false
+unfolding send_fault
+has_tag p s none = grind (arith, common_steps, none)
+
+-- it has a target
+has_target : (p : Place) (s : CoreSend) → send_fault p s ≡ None → is_no_target p.size s.target ≡ false
+unfolding send_fault
+has_target p s none = grind (arith, common_steps, none)
+
+-- THE FRAME
+
+-- what is announced may be
+pub announced_is : (m : Mode) (c : Contents) → is_announced m c ≡ true → may_be_announced m (length c.values * size_of c.basic) ≡ true
+announced_is Standard c h = h
+announced_is Synchronous c h = refl
+
+-- what may be sent has few elements
+pub few_elements : (tag : ℕ) (c : Contents) → IsSendable tag c → length c.values ≤ send_limit
+few_elements tag c small =
+    let sized : length (bytes_of (size_of c.basic) c.values) ≡ length c.values * size_of c.basic = length-bytes_of (size_of c.basic) c.values in
+    let size : 0 < size_of c.basic = (sizes c.basic).positive in
+    let least : length c.values ≤ length c.values * size_of c.basic = grind arith in
+    omega (arith, sized, least, small.count)
+
+-- few bytes under a tag may be sent
+sendable_at : (t : Source) (g : Option ℕ) (x : ℕ) (c : Contents) → length c.values * size_of c.basic ≤ send_limit → is_no_tag g ≡ false →
+    IfSome (destination t g x) (λ (d : Destination). IsSendable d.tag c)
+sendable_at Any g x c few tagged = tt
+sendable_at Null g x c few tagged = tt
+sendable_at (Rank to) None x c few tagged = tt
+sendable_at (Rank to) (Some tag) x c few tagged =
+    let sized : length (bytes_of (size_of c.basic) c.values) ≡ length c.values * size_of c.basic = length-bytes_of (size_of c.basic) c.values in
+    record { count = omega (arith, sized, few); tag_is = grind (arith, common_steps, tagged) }
+
+-- a target that is a rank is one of the job's
+there_at : (n : ℕ) (t : Source) (g : Option ℕ) (x : ℕ) → is_no_target n t ≡ false → IfSome (destination t g x) (λ (d : Destination). d.rank < n)
+there_at n Any g x there = tt
+there_at n Null g x there = tt
+there_at n (Rank to) None x there = tt
+there_at n (Rank to) (Some tag) x there = grind (arith, common_steps, there)
+
+-- what it sends may be sent
+pub is_sendable : (p : Place) (s : CoreSend) → send_fault p s ≡ None → IfSome (destination s.target s.tag s.context) (λ (d : Destination). IsSendable d.tag (sent_from s.from))
+is_sendable p s none = sendable_at s.target s.tag s.context (sent_from s.from) (within_limit p s none) (has_tag p s none)
+
+-- it goes to a rank of the job
+pub is_there : (p : Place) (s : CoreSend) → send_fault p s ≡ None → IfSome (destination s.target s.tag s.context) (λ (d : Destination). d.rank < p.size)
+is_there p s none = there_at p.size s.target s.tag s.context (has_target p s none)
+
+-- so does its frame
+rank_at : (own : Bool) (n : ℕ) (d : Destination) → d.rank < n → IfSome (rank_unless own d) (λ (rank : ℕ). rank < n)
+rank_at true n d there = tt
+rank_at false n d there = there
+
+-- whatever the destination
+rank_within : (p : Place) (d : Option Destination) → IfSome d (λ (d : Destination). d.rank < p.size) → IfSome (rank_to p d) (λ (rank : ℕ). rank < p.size)
+rank_within p None there = tt
+rank_within p (Some d) there = rank_at (d.rank == p.endpoint.rank) p.size d there
+
+-- the rank that its frame goes to is one of the job's
+pub rank_is_there : (p : Place) (s : CoreSend) → send_fault p s ≡ None → IfSome (rank_to p (destination s.target s.tag s.context)) (λ (rank : ℕ). rank < p.size)
+rank_is_there p s none = rank_within p (destination s.target s.tag s.context) (is_there p s none)

@@ -1,0 +1,24 @@
+-- Answered so that a wrong body is refused soon.
+use Rattle.std.proofs.Common.{rules}
+use Rattle.point_to_point_calls.proofs.news.collection_of_match.Goals as goal
+
+pub collection_on_match-requires : goal.collection_on_match-requires
+collection_on_match-requires c = search rules
+
+pub returns-in-Some-clause-ok : goal.returns-in-Some-clause-ok
+returns-in-Some-clause-ok c = search rules
+
+pub returns-in-Some-clause-err : goal.returns-in-Some-clause-err
+returns-in-Some-clause-err c = search rules
+
+pub returns-in-Some-clause-need : goal.returns-in-Some-clause-need
+returns-in-Some-clause-need c = search rules
+
+pub returns-in-None-clause-ok : goal.returns-in-None-clause-ok
+returns-in-None-clause-ok c = search rules
+
+pub returns-in-None-clause-err : goal.returns-in-None-clause-err
+returns-in-None-clause-err c = search rules
+
+pub returns-in-None-clause-need : goal.returns-in-None-clause-need
+returns-in-None-clause-need c = search rules

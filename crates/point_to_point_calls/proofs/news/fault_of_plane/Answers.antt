@@ -1,0 +1,9 @@
+-- Answered so that a wrong body is refused soon.
+use Rattle.std.proofs.Common.{rules}
+use Rattle.point_to_point_calls.proofs.news.fault_of_plane.Goals as goal
+
+pub returns-in-Collective : goal.returns-in-Collective
+returns-in-Collective c = search rules
+
+pub returns-in-PointToPoint : goal.returns-in-PointToPoint
+returns-in-PointToPoint c = search rules

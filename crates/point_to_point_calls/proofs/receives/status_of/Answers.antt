@@ -1,0 +1,9 @@
+-- Answered so that a wrong body is refused soon.
+use Rattle.std.proofs.Common.{rules}
+use Rattle.point_to_point_calls.proofs.receives.status_of.Goals as goal
+
+pub count-requires : goal.count-requires
+count-requires c = search rules
+
+pub returns : goal.returns
+returns c = search rules

@@ -1,0 +1,305 @@
+//! What a send is: the first rule that it breaks, its frame, and its message to the own rank.
+
+ghost use Rattle.std.specs.Prelude.{◌≡◌, ◌<◌, Some, None, IfSome, false, true};
+ghost use Rattle.datagram.specs.Spelling.{frame_text, FrameFits};
+ghost use Rattle.perfect_queues.specs.Refusals.{is_no_tag, is_no_target};
+ghost use Rattle.requests.specs.Regions.{sent_from};
+ghost use Rattle.point_to_point_calls.specs.Calls.{IsPacked, IsWithin};
+ghost use Rattle.point_to_point_calls.specs.declared.call.CoreCall.TheVariants as calls;
+ghost use Rattle.point_to_point_calls.specs.Frames.{addressed};
+ghost use Rattle.point_to_point_calls.specs.Sending.{IsSendable, announced_to, destination, eager_frame, frame_to, frame_with, is_announced, is_large, is_own, own_message, rank_to, request_frame, send_fault};
+
+use crate::call::CoreSend;
+use crate::prepared_call::PreparedCall;
+use crate::receives::is_tag_above;
+use crate::refusal::Refusal;
+use datagram::{Eager, Frame, Plane, RequestToSend};
+use datatypes::Buffer;
+use incarnation::Place;
+use match_queues::{Body, Message, OwnSend};
+use rendezvous::Transfers;
+use requests::Request;
+use vocabulary::{EAGER_LIMIT, Mode, SEND_LIMIT, Source};
+
+/// A frame for a rank.
+#[derive(Clone, Copy)]
+pub struct Addressed<'a> {
+    /// The rank that it goes to.
+    pub rank: u16,
+    /// The frame.
+    pub frame: Frame<'a>,
+}
+
+/// The rank that a message goes to, its tag and its context.
+#[derive(Clone, Copy)]
+pub struct Destination {
+    /// The rank of world.
+    pub rank: u16,
+    /// The tag.
+    pub tag: u32,
+    /// The context of its communicator.
+    pub context: u64,
+}
+
+fn is_no_tag(tag: Option<u32>) -> bool
+    ensures { result ≡ is_no_tag tag }
+{
+    match tag {
+        None => true,
+        Some(_) => is_tag_above(tag),
+    }
+}
+
+fn is_no_target(size: u16, target: Source) -> bool
+    ensures { result ≡ is_no_target size target }
+{
+    match target {
+        Source::Rank(rank) => rank >= size,
+        Source::Any => true,
+        Source::Null => false,
+    }
+}
+
+/// The first rule that a send breaks.
+#[tactic(auto, unfolding(crate::specs::Sending::send_fault))]
+pub fn fault_of(place: Place, send: &CoreSend) -> Option<Refusal>
+    ensures { result ≡ send_fault place send.now }
+{
+    if send.from.differs_in_type() {
+        return Some(Refusal::WrongType);
+    }
+    if send.from.is_above(SEND_LIMIT) {
+        return Some(Refusal::Count);
+    }
+    if send.from.is_too_short() {
+        return Some(Refusal::Count);
+    }
+    if is_no_tag(send.tag) {
+        return Some(Refusal::Tag);
+    }
+    if is_no_target(place.size, send.target) {
+        return Some(Refusal::Rank);
+    }
+    None
+}
+
+/// The rank that a send goes to, with its tag and context: none where it goes to the null process (MPI 3.1, 3.11).
+pub fn destination_of(target: Source, tag: Option<u32>, context: u64) -> Option<Destination>
+    ensures { result ≡ destination target tag context }
+{
+    match (target, tag) {
+        (Source::Rank(rank), Some(tag)) => Some(Destination { rank, tag, context }),
+        _ => None,
+    }
+}
+
+/// Whether this is the own rank: what goes there goes into its own queues without a frame (MPI 3.1, 3.2.4).
+pub fn is_own(place: Place, destination: Option<Destination>) -> bool
+    ensures { result ≡ is_own place destination }
+{
+    match destination {
+        Some(destination) => destination.rank == place.endpoint.rank,
+        None => false,
+    }
+}
+
+/// To which other rank a frame goes.
+pub fn rank_to(place: Place, destination: Option<Destination>) -> Option<u16>
+    ensures { result ≡ rank_to place destination }
+{
+    match destination {
+        Some(destination) => {
+            if destination.rank == place.endpoint.rank {
+                None
+            } else {
+                Some(destination.rank)
+            }
+        }
+        None => None,
+    }
+}
+
+/// Whether these elements do not go in one frame.
+fn is_large(elements: &Buffer) -> bool
+    ensures { result ≡ is_large elements.now }
+{
+    elements.byte_len() > EAGER_LIMIT
+}
+
+/// To which other rank the message of a send is announced, if it is: that of a synchronous send, or one that does not go in one
+/// frame.
+pub fn announced_to(place: Place, send: &CoreSend) -> Option<u16>
+    ensures { result ≡ announced_to place send.now }
+{
+    if let Mode::Standard = send.mode
+        && !send.from.is_above(EAGER_LIMIT)
+    {
+        return None;
+    }
+    rank_to(place, destination_of(send.target, send.tag, send.context))
+}
+
+/// Whether the message of these elements is announced.
+fn is_announced(mode: Mode, elements: &Buffer) -> bool
+    ensures exact { result ≡ is_announced mode elements.now }
+    ensures small { result ≡ false → is_large elements.now ≡ false }
+{
+    match mode {
+        Mode::Standard => is_large(elements),
+        Mode::Synchronous => true,
+    }
+}
+
+/// The frame of these elements in a context and under a tag, lent from them.
+fn eager_frame(context: u64, tag: u32, elements: &Buffer) -> Frame<'_>
+    requires sendable { IsSendable tag elements.now }
+    requires small { is_large elements.now ≡ false }
+    ensures exact { frame_text result ≡ eager_frame context tag elements.now }
+    ensures fits { FrameFits (frame_text result) }
+{
+    Frame::Eager(Eager {
+        plane: Plane::PointToPoint,
+        basic: elements.basic(),
+        tag,
+        context,
+        count: elements.len() as u32,
+        elements: elements.as_bytes(),
+    })
+}
+
+/// The frame that announces these elements in a context and under a tag, as the transfer with this number.
+fn request_frame(
+    mode: Mode,
+    transfer: u32,
+    context: u64,
+    tag: u32,
+    elements: &Buffer,
+) -> Frame<'static>
+    requires sendable { IsSendable tag elements.now }
+    requires large { is_announced mode elements.now ≡ true }
+    ensures exact { frame_text result ≡ request_frame mode transfer context tag elements.now }
+    ensures fits { FrameFits (frame_text result) }
+{
+    Frame::RequestToSend(RequestToSend {
+        mode,
+        plane: Plane::PointToPoint,
+        basic: elements.basic(),
+        tag,
+        context,
+        count: elements.len() as u32,
+        transfer,
+    })
+}
+
+/// The frame of these elements for a rank: they go in it, or it announces them as the next transfer there.
+fn frame_with<'a>(
+    transfers: &Transfers,
+    mode: Mode,
+    destination: Destination,
+    elements: &'a Buffer,
+) -> Frame<'a>
+    requires { IsSendable destination.tag elements.now }
+    ensures exact { frame_text result ≡ frame_with transfers.now.state mode destination elements.now }
+    ensures fits { FrameFits (frame_text result) }
+{
+    if is_announced(mode, elements) {
+        return request_frame(
+            mode,
+            transfers.next_to(destination.rank),
+            destination.context,
+            destination.tag,
+            elements,
+        );
+    }
+    eager_frame(destination.context, destination.tag, elements)
+}
+
+/// The frame with which these elements go to another rank; none goes to the own one.
+pub fn frame_to<'a>(
+    place: Place,
+    transfers: &Transfers,
+    mode: Mode,
+    destination: Option<Destination>,
+    elements: &'a Buffer,
+) -> Option<Addressed<'a>>
+    requires sendable { IfSome destination (λ d. IsSendable d.tag elements.now) }
+    requires there { IfSome destination (λ d. d.rank < place.size) }
+    ensures exact { addressed result ≡ frame_to place transfers.now.state mode destination elements.now }
+    ensures fits { IfSome result (λ a. FrameFits (frame_text a.frame)) }
+    ensures there { IfSome result (λ a. a.rank < place.size) }
+{
+    match destination {
+        Some(destination) => {
+            if destination.rank == place.endpoint.rank {
+                return None;
+            }
+            Some(Addressed {
+                rank: destination.rank,
+                frame: frame_with(transfers, mode, destination, elements),
+            })
+        }
+        None => None,
+    }
+}
+
+/// The elements of a send: those that were packed, or all of its buffer.
+#[tactic(auto, using(crate::proofs::Packs::stand_ready))]
+pub fn elements_of<'a>(send: &'a CoreSend, prepared: &'a PreparedCall) -> &'a Buffer
+    requires { IsPacked send.now prepared.now }
+    ensures { result.now ≡ sent_from send.now.from }
+{
+    match prepared {
+        PreparedCall::Packed(elements) => elements,
+        PreparedCall::Nothing => &send.from.buffer,
+        PreparedCall::Room(_) | PreparedCall::Place(_) => unreachable!(),
+    }
+}
+
+/// The same, taken out.
+#[tactic(auto, using(crate::proofs::Packs::stand_ready))]
+pub fn into_elements(send: CoreSend, prepared: PreparedCall) -> Buffer
+    requires { IsPacked send prepared }
+    ensures { result ≡ sent_from send.from }
+{
+    let CoreSend { from, .. } = send;
+    match prepared {
+        PreparedCall::Packed(elements) => elements,
+        PreparedCall::Nothing => from.buffer,
+        PreparedCall::Room(_) | PreparedCall::Place(_) => unreachable!(),
+    }
+}
+
+/// The message of these elements to the own rank, in a context and under a tag; and of this send, if one waits for its match.
+pub fn own_message(
+    place: Place,
+    context: u64,
+    tag: u32,
+    waiting: Option<Request>,
+    elements: Buffer,
+) -> Message
+    ensures { result ≡ own_message place context tag waiting elements }
+{
+    let body = match waiting {
+        None => Body::Whole(elements),
+        Some(request) => Body::Own(OwnSend {
+            key: request.key,
+            serial: request.serial,
+            elements,
+        }),
+    };
+    Message {
+        sender: place.endpoint,
+        context,
+        tag,
+        body,
+    }
+}
+
+/// What a send shows of itself: by the bytes of its buffer each element has the width of its type, and its context has 64
+/// bits.
+pub fn show_widths(send: &CoreSend)
+    ensures { IsWithin (calls.Isend send.now) }
+{
+    let _bytes = send.from.buffer.as_bytes();
+    let _context = send.context;
+}

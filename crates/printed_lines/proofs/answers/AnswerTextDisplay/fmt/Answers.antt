@@ -1,0 +1,6 @@
+-- Answered so that a wrong body is refused soon.
+use Rattle.std.proofs.Common.{rules}
+use Rattle.printed_lines.proofs.answers.AnswerTextDisplay.fmt.Goals as goal
+
+pub returns-in-Data-clause-writes : goal.returns-in-Data-clause-writes
+returns-in-Data-clause-writes g c = search rules

@@ -1,0 +1,16 @@
+-- Answered so that a wrong body is refused soon.
+use Rattle.std.proofs.Common.{arith, rules}
+use Rattle.std.proofs.lemmas.Grind.{common_steps}
+use Rattle.printed_lines.proofs.communicators.PositionTextDisplay.fmt.Goals as goal
+
+pub fact_in-write : goal.fact_in-write
+fact_in-write g c = search rules
+
+pub fact_in-write-2 : goal.fact_in-write-2
+fact_in-write-2 g c = search rules
+
+pub returns-clause-writes : goal.returns-clause-writes
+returns-clause-writes g c = grind (arith, common_steps)
+
+pub returns-clause-styled : goal.returns-clause-styled
+returns-clause-styled g c = search rules

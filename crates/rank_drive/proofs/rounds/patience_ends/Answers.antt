@@ -1,9 +1,0 @@
--- Answered so that a wrong body is refused soon.
-use Rattle.std.proofs.Common.{rules}
-use Rattle.rank_drive.proofs.rounds.patience_ends.Goals as goal
-
-pub returns-then-patience-still : goal.returns-then-patience-still
-returns-then-patience-still c = search rules
-
-pub returns-else-patience-still : goal.returns-else-patience-still
-returns-else-patience-still c = search rules

@@ -1,0 +1,229 @@
+//! Running a rank: its words, its script, its engine, and its end.
+
+ghost use Rattle.std.specs.Prelude.{◌≡◌};
+
+use crate::clock::HostClock;
+use crate::error_lines::{ErrorReport, tell, tell_of, tell_port, tell_unread, tell_usage, tell_words};
+use crate::udp::Udp;
+use engine::{Engine, Place};
+use event_loop::{Ended, TransportFault, drive};
+use rank_settings::{SettingsRefusal, Settings, settings_of};
+use script_files::{ParseError, Script, parse};
+use script_runner::ScriptRunner;
+use std::io::ErrorKind;
+use std::net::Net;
+use std::rt::{Env, Files};
+use std::sync::Wait;
+use std::time::Clock;
+use std::{env, fs, io};
+use vocabulary::Endpoint;
+
+/// The script is faulty or can't be read.
+const SCRIPT: u8 = 1;
+
+/// The words are wrong.
+const WORDS: u8 = 2;
+
+/// The socket or the output failed.
+const TRANSPORT: u8 = 3;
+
+/// Memory was refused to the runner or at the start.
+const MEMORY: u8 = 6;
+
+/// The status of a start that failed so.
+fn status_of(error: &io::Error) -> u8 {
+    match error.kind() {
+        ErrorKind::OutOfMemory => MEMORY,
+        _ => TRANSPORT,
+    }
+}
+
+/// The text of the script's file, or the status where it can't be read.
+fn read_text<R: Files + Eprint + AllocGlobal>(rt: &R, settings: &Settings) -> Result<Vec<u8>, u8> {
+    match fs::read(rt, settings.file) {
+        Ok(text) => Ok(text),
+        Err(error) => {
+            if error.kind() == ErrorKind::OutOfMemory {
+                return Err(MEMORY);
+            }
+            tell_unread(rt, settings);
+            Err(SCRIPT)
+        }
+    }
+}
+
+/// The script of this text, or the status where there is none.
+fn read_script<R: Eprint + AllocGlobal>(rt: &R, told: &ErrorReport) -> Result<Script, u8> {
+    match parse(rt.alloc(), told.text) {
+        Ok(script) => Ok(script),
+        Err(ParseError::OutOfMemory) => Err(MEMORY),
+        Err(ParseError::Line(line)) => {
+            told.tell_faulty(rt, line);
+            Err(SCRIPT)
+        }
+    }
+}
+
+/// The engine of the rank.
+fn new_engine<R: AllocGlobal>(rt: &R, settings: &Settings) -> Result<Engine, u8> {
+    let place = Place {
+        endpoint: Endpoint {
+            rank: settings.rank,
+            incarnation: settings.incarnation,
+        },
+        size: settings.size,
+        job: settings.job,
+    };
+    match Engine::new(rt.alloc(), place) {
+        Ok(engine) => Ok(engine),
+        Err(_) => Err(MEMORY),
+    }
+}
+
+/// Tells why a rank ended so, where its script doesn't say so itself.
+fn tell_end<R: Print + Eprint + AllocGlobal + Clock>(
+    rt: &R,
+    told: &ErrorReport,
+    runner: &ScriptRunner,
+    udp: &Udp<'_, R>,
+    ended: Result<Ended, TransportFault>,
+) {
+    match ended {
+        Ok(Ended::Runner(SCRIPT, line)) => told.tell_stopped(rt, runner, line),
+        Ok(Ended::Runner(_, _)) => {}
+        Ok(Ended::Patience) => told.tell_patience(rt, runner),
+        Err(_) if udp.has_lost_line() => tell_of(rt, told.settings.rank, "its output failed"),
+        Err(_) => tell_of(rt, told.settings.rank, "its socket failed"),
+    }
+}
+
+/// The status of a rank that ended so. What its socket kept back goes before.
+fn end<R: Print + Eprint + AllocGlobal + Clock>(
+    rt: &R,
+    told: &ErrorReport,
+    runner: &ScriptRunner,
+    udp: &mut Udp<'_, R>,
+    ended: Result<Ended, TransportFault>,
+) -> Result<u8, u8> {
+    let last = udp.finish();
+    tell_end(rt, told, runner, udp, ended);
+    match (ended, last) {
+        (Ok(ended), Ok(_)) => Ok(ended.status()),
+        (Ok(_), Err(_)) => {
+            tell_of(rt, told.settings.rank, "its socket failed");
+            Err(TRANSPORT)
+        }
+        (Err(_), _) => Err(TRANSPORT),
+    }
+}
+
+/// Drives the rank over its socket until it ends, and answers its status.
+fn meet<R: Wait + Print + Eprint + AllocGlobal + Clock>(
+    rt: &R,
+    told: &ErrorReport,
+    runner: &mut ScriptRunner,
+    engine: &mut Engine,
+    udp: &mut Udp<'_, R>,
+) -> Result<u8, u8>
+    requires { udp.old.failures ≡ 0 }
+{
+    let mut clock = match HostClock::new(rt) {
+        Ok(clock) => clock,
+        Err(error) => return Err(status_of(&error)),
+    };
+    let ended = drive(rt, engine, runner, told.settings.patience, udp, &mut clock);
+    end(rt, told, runner, udp, ended)
+}
+
+/// Opens the rank's socket, and meets the others over it.
+fn open<R: Net + Wait + Print + Eprint + AllocGlobal + Clock>(
+    rt: &R,
+    told: &ErrorReport,
+    runner: &mut ScriptRunner,
+    engine: &mut Engine,
+) -> Result<u8, u8> {
+    match Udp::new(rt, rt.alloc(), told.settings.rank, told.settings.port) {
+        Ok(mut udp) => meet(rt, told, runner, engine, &mut udp),
+        Err(error) => {
+            let status = status_of(&error);
+            if status == TRANSPORT {
+                tell_port(rt, told.settings);
+            }
+            Err(status)
+        }
+    }
+}
+
+/// Makes the rank's engine, and opens its socket.
+fn start<R: Net + Wait + Print + Eprint + AllocGlobal + Clock>(
+    rt: &R,
+    told: &ErrorReport,
+    runner: &mut ScriptRunner,
+) -> Result<u8, u8> {
+    match new_engine(rt, told.settings) {
+        Ok(mut engine) => open(rt, told, runner, &mut engine),
+        Err(status) => Err(status),
+    }
+}
+
+/// Runs the rank of these settings, and answers its status.
+fn run_rank<R: Net + Wait + Files + Print + Eprint + AllocGlobal + Clock>(
+    rt: &R,
+    settings: &Settings,
+) -> Result<u8, u8> {
+    let text = read_text(rt, settings)?;
+    let told = ErrorReport {
+        settings,
+        text: &text,
+    };
+    let script = read_script(rt, &told)?;
+    match ScriptRunner::new(rt.alloc(), script, settings.rank, settings.incarnation) {
+        Ok(mut runner) => start(rt, &told, &mut runner),
+        Err(_) => Err(MEMORY),
+    }
+}
+
+/// Runs the rank that these words ask for, the first of which is the program's name, and answers its status: 0 where the script
+/// ended, 1 where it is faulty or can't be read, 2 where the words are wrong, 3 where the socket or the output failed, 4 where
+/// its patience was over, 5 where the script says so, and 6 where memory was wanting.
+pub fn run_words<R: Net + Wait + Files + Print + Eprint + AllocGlobal + Clock>(
+    rt: &R,
+    words: &[String],
+) -> u8 {
+    match settings_of(rt.alloc(), words) {
+        Ok(settings) => {
+            let status = match run_rank(rt, &settings) {
+                Ok(status) => status,
+                Err(status) => status,
+            };
+            if status == MEMORY {
+                tell_of(rt, settings.rank, "memory was refused");
+            }
+            status
+        }
+        Err(SettingsRefusal::OutOfMemory) => MEMORY,
+        Err(SettingsRefusal::Words) => {
+            tell_words(rt, words);
+            WORDS
+        }
+    }
+}
+
+/// Runs the rank that the words of this process ask for, and answers its status.
+pub fn run<R: Net + Wait + Env + Files + Print + Eprint + AllocGlobal + Clock>(rt: &R) -> u8 {
+    let words = match env::args(rt) {
+        Ok(words) => words.collect::<Vec<String>>(rt.alloc()),
+        Err(error) => {
+            if error.kind() == ErrorKind::OutOfMemory {
+                return MEMORY;
+            }
+            tell(rt, 64, None);
+            tell_usage(rt);
+            return WORDS;
+        }
+    };
+    match words {
+        Ok(words) => run_words(rt, words.as_slice()),
+        Err(_) => MEMORY,
+    }
+}

@@ -1,0 +1,24 @@
+-- Answered so that a wrong body is refused soon.
+use Rattle.std.proofs.Common.{rules}
+use Rattle.script_calls.proofs.outcomes.status_after.Goals as goal
+
+pub empty_status-requires : goal.empty_status-requires
+empty_status-requires c = search rules
+
+pub returns-in-Received : goal.returns-in-Received
+returns-in-Received c = search rules
+
+pub returns-in-Empty : goal.returns-in-Empty
+returns-in-Empty c = search rules
+
+pub returns-in-Sent : goal.returns-in-Sent
+returns-in-Sent c = search rules
+
+pub returns-in-Ended : goal.returns-in-Ended
+returns-in-Ended c = search rules
+
+pub returns-in-Replaced : goal.returns-in-Replaced
+returns-in-Replaced c = search rules
+
+pub returns-in-Cancelled : goal.returns-in-Cancelled
+returns-in-Cancelled c = search rules

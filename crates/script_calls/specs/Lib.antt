@@ -1,0 +1,4 @@
+pub mod Tables
+pub mod Awaited
+pub mod Entries
+pub mod Told

@@ -1,6 +1,0 @@
-use Rattle.std.proofs.Common.{◌≡◌, take}
-use Rattle.script_lines.specs.Lines.{further_errors}
-use Rattle.script_lines.proofs.lines.further_errors.Given as goal
-
-abbrev pub invariant-loop-number : goal.invariant-loop-number
-invariant-loop-number l = l.text.items ≡ further_errors (take l.number-index l.numbers)

@@ -1,0 +1,194 @@
+//! A rank that runs a script: what its names stand for, and what it waits for.
+
+ghost use Rattle.std.specs.Prelude.{◌≡◌, IfOk, Some, None, is_some};
+ghost use Rattle.line_diagnostics.specs.Lacks.{lack_of_statement};
+ghost use Rattle.interpreter.specs.NamesState.{here, holdings};
+ghost use Rattle.interpreter.specs.Acting.{count_of};
+ghost use Rattle.script_runner.specs.ScriptRanks.{acts, does, follows, heeds, IsSpoken, opening, prints_count, prints_elements, says, states};
+
+use crate::lines::line_of;
+use engine_calls::Reply;
+use line_diagnostics::{LineFault, lack_of_statement};
+use interpreter::{StatementCall, AnswerEffect, Names};
+use event_loop::RunnerStep;
+use script_files::{RankLine, ScriptStatement};
+use printed_lines::{count_line, elements_line, error_line, status_line, words_line};
+use script_calls::Pending;
+use statements::Name;
+use std::alloc::{AllocError, Global};
+use std::marker::Model;
+
+/// A rank that runs a script: what its names stand for, and what the answer to its last call is for, while it isn't here.
+#[derive(Drop)]
+pub struct ScriptRank {
+    alloc: Global,
+    names: Names,
+    pending: Option<Pending>,
+}
+
+impl Model for ScriptRank {
+    ghost use Rattle.script_runner.specs.ScriptRanks.{RankState};
+
+    ghost Value = { RankState };
+
+    ghost view = { λ r. record { names = r.names; pending = r.pending } };
+}
+
+/// What stood here gives way to this, and is dropped.
+fn replace<T: Drop>(place: &mut T, next: T)
+    ensures { place.new ≡ next }
+{
+    *place = next;
+}
+
+impl ScriptRank {
+    /// A rank of `world` at the start of its script: no name is set.
+    pub fn new(alloc: Global, rank: u16) -> ScriptRank
+        ensures { result ≡ opening rank }
+    {
+        ScriptRank {
+            alloc,
+            names: Names::new(alloc, Some(rank)),
+            pending: None,
+        }
+    }
+
+    /// Whether its last call isn't answered yet.
+    pub fn awaits_answer(&self) -> bool
+        ensures { result ≡ is_some self.now.pending }
+    {
+        self.pending.is_some()
+    }
+
+    /// What the line of this number asks for is done.
+    fn on_statement_call(&mut self, number: usize, asked: StatementCall) -> Result<Option<RunnerStep>, AllocError>
+        ensures { IfOk result (λ step. does number asked self.old.names ≡ (step, self.new)) }
+    {
+        match asked {
+            StatementCall::Nothing => {
+                replace(&mut self.pending, None);
+                Ok(None)
+            }
+            StatementCall::Call(call, pending) => {
+                replace(&mut self.pending, Some(pending));
+                Ok(Some(RunnerStep::Call(call)))
+            }
+            StatementCall::Refused(refusal) => {
+                replace(&mut self.pending, None);
+                Ok(Some(RunnerStep::Print(error_line(self.alloc, refusal)?)))
+            }
+            StatementCall::Faulty => {
+                replace(&mut self.pending, None);
+                Ok(Some(RunnerStep::End(1, Some(number))))
+            }
+        }
+    }
+
+    fn print(&self, number: usize, name: &Name) -> Result<RunnerStep, AllocError>
+        ensures { IfOk result (λ step. step ≡ prints_elements number (here self.now.names name.now)) }
+    {
+        match self.names.copy_of(name)? {
+            Some(buffer) => Ok(RunnerStep::Print(elements_line(self.alloc, &buffer)?)),
+            None => Ok(RunnerStep::End(1, Some(number))),
+        }
+    }
+
+    fn count(&self, number: usize, name: &Name) -> Result<RunnerStep, AllocError>
+        ensures { IfOk result (λ step. step ≡ prints_count number (count_of self.now.names name.now)) }
+    {
+        match self.names.count_of(name) {
+            Some(copies) => Ok(RunnerStep::Print(count_line(self.alloc, copies)?)),
+            None => Ok(RunnerStep::End(1, Some(number))),
+        }
+    }
+
+    /// What asks for no call: a line is printed, or the script ends.
+    fn speak(&self, number: usize, statement: ScriptStatement) -> Result<RunnerStep, AllocError>
+        requires { IsSpoken statement }
+        ensures { IfOk result (λ step. states number statement self.now.names ≡ says step self.now.names) }
+    {
+        match statement {
+            ScriptStatement::Print(name) => self.print(number, &name),
+            ScriptStatement::Status => {
+                let status = self.names.last_status();
+                Ok(RunnerStep::Print(status_line(self.alloc, status)?))
+            }
+            ScriptStatement::Count(name) => self.count(number, &name),
+            ScriptStatement::Say(words) => Ok(RunnerStep::Print(words_line(self.alloc, &words)?)),
+            ScriptStatement::Fail => Ok(RunnerStep::End(5, None)),
+            _ => unreachable!(),
+        }
+    }
+
+    fn state(&mut self, number: usize, statement: ScriptStatement) -> Result<Option<RunnerStep>, AllocError>
+        ensures { IfOk result (λ step. states number statement self.old.names ≡ (step, self.new)) }
+    {
+        match statement {
+            ScriptStatement::Action(action) => {
+                let asked = self.names.act(action)?;
+                self.on_statement_call(number, asked)
+            }
+            ScriptStatement::Send(sending) => {
+                let asked = self.names.send_to_wait(&sending)?;
+                self.on_statement_call(number, asked)
+            }
+            ScriptStatement::Recv(receiving) => {
+                let asked = self.names.receive_to_wait(receiving)?;
+                self.on_statement_call(number, asked)
+            }
+            spoken => {
+                let step = self.speak(number, spoken)?;
+                replace(&mut self.pending, None);
+                Ok(Some(step))
+            }
+        }
+    }
+
+    /// What the line asks for, if that is more than a change of names. A name that isn't set, or a buffer that is lent, ends the
+    /// script with the line's number. The only error is want of memory.
+    pub fn act(&mut self, line: RankLine) -> Result<Option<RunnerStep>, AllocError>
+        ensures { IfOk result (λ step. acts line self.old ≡ (step, self.new)) }
+    {
+        let RankLine { number, statement } = line;
+        self.state(number, statement)
+    }
+
+    /// What follows from an answer is done.
+    fn follow(&mut self, heard: AnswerEffect) -> Result<Option<RunnerStep>, AllocError>
+        requires { self.old.pending ≡ None }
+        ensures { IfOk result (λ step. follows heard self.old.names ≡ (step, self.new)) }
+    {
+        match heard {
+            AnswerEffect::Nothing => Ok(None),
+            AnswerEffect::Call(call, pending) => {
+                replace(&mut self.pending, Some(pending));
+                Ok(Some(RunnerStep::Call(call)))
+            }
+            AnswerEffect::Told(told) => Ok(Some(RunnerStep::Print(line_of(self.alloc, told)?))),
+        }
+    }
+
+    /// What is made of the answer to the last call: what follows from it at once, if anything does. The only error is want of memory.
+    pub fn on_reply(&mut self, reply: Reply) -> Result<Option<RunnerStep>, AllocError>
+        ensures { IfOk result (λ step. heeds reply self.old ≡ (step, self.new)) }
+    {
+        match self.pending.take() {
+            Some(pending) => {
+                let heard = self.names.hear(pending, reply)?;
+                self.follow(heard)
+            }
+            None => {
+                drop(reply);
+                Ok(None)
+            }
+        }
+    }
+
+    /// Why a statement can't be followed by what the names stand for now: the first of the names that it uses that isn't set, or whose
+    /// buffer is lent. None where it can. The only error is want of memory.
+    pub fn lack_of(&self, alloc: Global, statement: &ScriptStatement) -> Result<Option<LineFault>, AllocError>
+        ensures { IfOk result (λ fault. fault ≡ lack_of_statement (holdings self.now.names) statement.now) }
+    {
+        lack_of_statement(alloc, &self.names, statement)
+    }
+}
