@@ -13,13 +13,7 @@ use crate::loop_state::{RunnerState, TurnResult};
 use crate::transport::{Transport, TransportFault};
 use engine::{Completion, Engine, Reply};
 use std::sync::Wait;
-
-/// What stood here gives way to this, and is dropped.
-fn replace<T: Drop>(place: &mut T, next: T)
-    ensures { place.new ≡ next }
-{
-    *place = next;
-}
+use vocabulary::replace;
 
 /// What the runner is told of this answer of a blocked call.
 fn reply_of(completion: Completion) -> Reply

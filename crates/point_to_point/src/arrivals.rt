@@ -11,12 +11,12 @@ ghost use Rattle.point_to_point.specs.Waiting.{after_wake};
 ghost use Rattle.point_to_point_calls.specs.Hearing.{news_text, frame_option, IsWhole, needs_message_room, heard_fault, message_from, announced_of};
 ghost use Rattle.point_to_point.specs.Arrivals.{news_fault, CanTake, KeysFit, after_any, collection_for, after_lesson, after_announcement, after_answer, after_piece, after_news};
 
-use crate::rank::{Core, replace};
+use crate::rank::Core;
 use datagram::{ClearToSend, Data, Frame, RequestToSend};
 use match_queues::{Arrival, Body, Message};
 use point_to_point_calls::{News, PreparedNews, announced_of, status_of};
 use rendezvous::Collection;
-use vocabulary::Endpoint;
+use vocabulary::{Endpoint, replace};
 
 impl Core {
     /// The message ends the oldest receive that accepts it, or is kept in the room that there is. One that was announced is

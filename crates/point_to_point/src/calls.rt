@@ -19,7 +19,7 @@ ghost use Rattle.point_to_point.specs.Messages.{Receives, Searches, collection_o
 ghost use Rattle.std.specs.Option.{option_copied};
 ghost use Rattle.point_to_point_calls.specs.declared.call.CoreCall.TheVariants as calls;
 
-use crate::rank::{Core, replace};
+use crate::rank::Core;
 use datatypes::Buffer;
 use match_queues::{Body, Message};
 use point_to_point_calls::{
@@ -32,7 +32,7 @@ use requests::{
     RequestList, TakenOut,
 };
 use communicator_members::status_in;
-use vocabulary::{Mode, Source};
+use vocabulary::{Mode, Source, replace};
 
 /// The key of the own send that waits for the match of this message, if one does.
 fn own_send_of(message: Option<&Message>) -> Option<usize>

@@ -57,14 +57,6 @@ impl Model for Core {
     ghost invariant = { λ c. IsKept c.place c.queues.state c.transfers.state c.requests.slots };
 }
 
-/// What stood here gives way to this, and is dropped. Where its type is open, its drop is one step of a proof, and not one for
-/// each variant.
-pub(crate) fn replace<T: Drop>(place: &mut T, next: T)
-    ensures { place.new ≡ next }
-{
-    *place = next;
-}
-
 impl Core {
     /// The core of a rank at its start: nothing is pending. It fails for want of memory alone (14).
     pub fn new(alloc: Global, place: Place) -> Result<Core, Refusal>

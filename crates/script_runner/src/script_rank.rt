@@ -17,6 +17,7 @@ use script_calls::Pending;
 use statements::Name;
 use std::alloc::{AllocError, Global};
 use std::marker::Model;
+use vocabulary::replace;
 
 /// A rank that runs a script: what its names stand for, and what the answer to its last call is for, while it isn't here.
 #[derive(Drop)]
@@ -32,13 +33,6 @@ impl Model for ScriptRank {
     ghost Value = { RankState };
 
     ghost view = { λ r. record { names = r.names; pending = r.pending } };
-}
-
-/// What stood here gives way to this, and is dropped.
-fn replace<T: Drop>(place: &mut T, next: T)
-    ensures { place.new ≡ next }
-{
-    *place = next;
 }
 
 impl ScriptRank {

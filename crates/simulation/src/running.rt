@@ -12,6 +12,7 @@ use statements::{Action, ParseError};
 use std::alloc::{AllocError, Global};
 use std::collections::BTreeMap;
 use std::io::Write;
+use vocabulary::replace;
 use world::{Event, Failed, Stepped, World};
 
 /// A world that follows a file of events, and the names of its ranks' lines.
@@ -30,11 +31,6 @@ pub struct Simulation {
 struct PendingCall {
     call: Call,
     pending: Pending,
-}
-
-/// What stood here gives way to this, and is dropped.
-fn replace<T: Drop>(place: &mut T, next: T) {
-    *place = next;
 }
 
 /// Whether what a call answers isn't printed by itself: it is one question of a statement that prints one line, or none.

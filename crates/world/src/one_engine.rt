@@ -13,7 +13,7 @@ use datagram::Bytes;
 use engine::{Call, Completion, Engine, Place, Reply};
 use incarnation::next_incarnation;
 use std::alloc::Global;
-use vocabulary::Endpoint;
+use vocabulary::{Endpoint, replace};
 
 /// What the engine of an endpoint gave in an event.
 #[derive(Drop)]
@@ -179,13 +179,6 @@ fn tick(alloc: Global, engine: &mut Engine, now: u64) -> Result<EngineOutput, Re
         Ok(()) => Ok(take_given(engine, None)),
         Err(refused) => Err(plain(alloc, refused)),
     }
-}
-
-/// What stood here gives way to this, and is dropped.
-fn replace<T: Drop>(place: &mut T, next: T)
-    ensures { place.new ≡ next }
-{
-    *place = next;
 }
 
 /// The engine gives way to a new one, at the next incarnation.
