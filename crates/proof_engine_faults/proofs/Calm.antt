@@ -2,7 +2,7 @@
 use Rattle.std.proofs.Common.{◌≡◌, ℕ, zero, suc, Bool, true, false, ◌&&◌, ◌||◌, not, List, [], ◌∷◌, map, Option, Some, None, option_map, if◌then◌else◌, ◌==◌, is_some, refl, ap, ap₂, ◌∙◌}
 use Rattle.std.specs.List.{list_any}
 use mathlib.Core.Path.{fun_ext}
-use Rattle.proof_engine_view.specs.Seen.{has_serial, is_foreign}
+use Rattle.observation.specs.CoreCalls.{has_serial, is_foreign}
 use Rattle.requests.specs.Lists.{is_one_absent}
 use Rattle.requests.specs.Table.{as_request, is_message, is_receive, progress_at, progress_of, slot_at}
 use Rattle.requests.specs.declared.outcome.Outcome.TheVariants as outcomes

@@ -21,12 +21,12 @@ use Rattle.proof_engine_faults.proofs.Rows.{calm_core, calm_is_shown, core_of, n
 use Rattle.proof_engine_faults.specs.Own.{IsOrderly, OwnJudgements, OwnRefusals, OwnTakings, found, own_fault, standing_of}
 use Rattle.proof_engine_steps.proofs.RefusedWaits.{cancel_present, wait_present}
 use Rattle.proof_engine_steps.proofs.Standings.{IsPresent, awaited_own, meant_present, request_own}
-use Rattle.proof_engine_steps.specs.Refused.{IsOutOfRoom, IsReason, MachinesFault, NoRoom}
+use Rattle.observation.specs.Reasons.{IsOutOfRoom, IsReason, MachinesFault, NoRoom}
 use Rattle.proof_network_bridge.proofs.Reasons.{answered, asked, entered, looked}
 use Rattle.proof_network_bridge.proofs.Refusals.{by_rule, free_faultless, free_reason}
 use Rattle.proof_network_bridge.proofs.Routed.{IsFree}
-use Rattle.proof_network_bridge.specs.Following.{IsFaultless}
-use Rattle.proof_network_bridge.specs.Seen.{call_by, call_meant, call_seen}
+use Rattle.observation.specs.Faults.{IsFaultless}
+use Rattle.observation.specs.EngineCalls.{call_by, call_meant, call_seen}
 use Rattle.proof_pure_network.specs.Core.{view}
 use Rattle.proof_pure_network.specs.Held.{blank}
 use Rattle.point_to_point_calls.specs.declared.refusal.Refusal.{Refusal}

@@ -9,7 +9,7 @@ use Rattle.perfect_queues.specs.Refusals.{standing}
 use Rattle.proof_engine_faults.proofs.Calm.{calm, calm_at, calm_entry, calm_progress}
 use Rattle.proof_engine_faults.specs.Own.{found, standing_of}
 use Rattle.proof_engine_view.specs.Rows.{Fits, Holds, IsRow, IsTable, Row, Stands, jobs_of, posted_job, posted_rows}
-use Rattle.proof_engine_view.specs.Seen.{outcome_seen}
+use Rattle.observation.specs.CoreCalls.{outcome_seen}
 use Rattle.proof_engine_view.specs.Shown.{IsShown}
 use Rattle.proof_engine_view.specs.Transfers.{Announcements, Transfer}
 use Rattle.proof_engine_view.specs.UnderWay.{AreTaken, AreUnderWay, IsNumbered, IsTakenAt, IsTakenBy}

@@ -12,11 +12,11 @@ use Rattle.perfect_groups.specs.Calls as machine
 use Rattle.perfect_groups.specs.Events.{Entry}
 use Rattle.perfect_groups.specs.Faults.{fault_by}
 use Rattle.perfect_queues.specs.Refusals.{Missing, OfMessage, Receiving, Sends, Standing, standing_of_outcome}
-use Rattle.proof_engine_steps.specs.Refused.{IsReason}
-use Rattle.proof_engine_view.specs.Seen.{outcome_seen}
-use Rattle.proof_network_bridge.specs.Following.{IsFaultless}
+use Rattle.observation.specs.Reasons.{IsReason}
+use Rattle.observation.specs.CoreCalls.{outcome_seen}
+use Rattle.observation.specs.Faults.{IsFaultless}
 use Rattle.proof_network_bridge.specs.Joined.{IsFollowed}
-use Rattle.proof_network_bridge.specs.Seen.{call_meant, call_seen}
+use Rattle.observation.specs.EngineCalls.{call_meant, call_seen}
 use Rattle.proof_queue_calls.specs.Halves.{AreInWorld}
 use Rattle.point_to_point_calls.specs.declared.refusal.Refusal.{Refusal}
 use Rattle.requests.specs.Table.{slot_at}

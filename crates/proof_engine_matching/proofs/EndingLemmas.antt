@@ -19,7 +19,7 @@ use Rattle.vocabulary.specs.declared.envelope.Status.{Status}
 use Rattle.requests.specs.declared.outcome.Failure.TheVariants.{WrongType, Truncated}
 use Rattle.requests.specs.declared.outcome.Outcome.TheVariants as outcomes
 use Rattle.point_to_point_calls.specs.Receiving.{status_of}
-use Rattle.proof_engine_view.specs.Seen.{outcome_seen}
+use Rattle.observation.specs.CoreCalls.{outcome_seen}
 use Rattle.proof_engine_matching.specs.Matches.{OutcomesAgree, OwnOutcomesAgree}
 
 -- by whether the types are one and whether the message has room

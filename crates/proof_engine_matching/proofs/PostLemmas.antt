@@ -12,7 +12,7 @@ use Rattle.proof_pure_network.specs.Matching.{found}
 use Rattle.proof_engine_view.specs.Rows.{held_of}
 use Rattle.vocabulary.specs.declared.endpoint.Endpoint.{Endpoint}
 use Rattle.proof_engine_view.specs.Transfers.{Transfer}
-use Rattle.proof_engine_view.specs.Seen.{receive_seen}
+use Rattle.observation.specs.CoreCalls.{receive_seen}
 use Rattle.proof_engine_matching.specs.Matches.{Finds, FindsNone, PostsMatch, Takes, TakesMatch, TakesNone}
 use Rattle.proof_engine_matching.proofs.Accepting.{posted_record, same_test}
 use Rattle.proof_engine_matching.proofs.Positions.{position_here, position_later, remove_first}

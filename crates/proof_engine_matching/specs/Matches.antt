@@ -23,7 +23,7 @@ use Rattle.proof_pure_network.specs.Held.{Held, fits, full}
 use Rattle.proof_pure_network.specs.Jobs.{Job, Waiting, matched_job, oldest_posted}
 use Rattle.proof_pure_network.specs.Matching.{found}
 use Rattle.proof_engine_view.specs.Rows.{Fits, IsPosted, Row, body_seen, held_of, jobs_of, posted_job, posted_rows}
-use Rattle.proof_engine_view.specs.Seen.{outcome_seen, receive_seen}
+use Rattle.observation.specs.CoreCalls.{outcome_seen, receive_seen}
 use Rattle.proof_engine_view.specs.Transfers.{Transfer}
 
 -- the message waits behind the others

@@ -22,7 +22,7 @@ use Rattle.requests.specs.declared.table.RequestProgress.TheVariants.{Receiving,
 use Rattle.requests.specs.declared.table.RequestProgress.TheVariants as progresses
 use Rattle.requests.specs.declared.table.Request.{Request}
 use Rattle.proof_engine_view.specs.Rows.{IsMatched, IsTable, IsTaken, Row, Stands, jobs_of}
-use Rattle.proof_engine_view.specs.Seen.{answer_seen, awaited_seen, outcome_seen, own_serial, requests_by}
+use Rattle.observation.specs.CoreCalls.{answer_seen, awaited_seen, outcome_seen, own_serial, requests_by}
 use Rattle.proof_engine_view.specs.Shown.{IsNamed}
 use Rattle.proof_engine_steps.proofs.RowLemmas.{job_at, over_row}
 use Rattle.proof_engine_steps.proofs.Settling.{progress_collecting, progress_offering, progress_over, progress_probed, progress_unmatched, progress_waiting}

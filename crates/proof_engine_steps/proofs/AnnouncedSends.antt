@@ -30,7 +30,7 @@ use Rattle.proof_pure_network.specs.Jobs as jobs
 use Rattle.proof_pure_network.specs.Jobs.{Job}
 use Rattle.proof_engine_view.specs.Frames.{endpoint_of}
 use Rattle.proof_engine_view.specs.Rows.{Row, posted_rows}
-use Rattle.proof_engine_view.specs.Seen.{call_seen}
+use Rattle.observation.specs.CoreCalls.{call_seen}
 use Rattle.proof_engine_view.specs.Shown.{IsShown}
 use Rattle.proof_engine_view.specs.Standing.{AreSent, CanLeave, all_gone}
 use Rattle.proof_engine_view.specs.Transfers.{Announcements, after_out}

@@ -27,7 +27,7 @@ use Rattle.proof_pure_network.specs.Held.{Held, full}
 use Rattle.proof_pure_network.specs.Jobs.{Job, Over, Waiting, oldest_posted}
 use Rattle.proof_pure_network.specs.Matching.{arrived, arrived_at}
 use Rattle.proof_engine_view.specs.Rows.{Fits, Holds, IsTable, Row, held_of, jobs_of, posted_rows}
-use Rattle.proof_engine_view.specs.Seen.{outcome_seen}
+use Rattle.observation.specs.CoreCalls.{outcome_seen}
 use Rattle.proof_engine_view.specs.Transfers.{Announcements}
 use Rattle.proof_engine_view.specs.UnderWay.{AreTaken, IsFromLink}
 use Rattle.proof_engine_matching.specs.Matches.{ArrivalsMatch, IsKept, IsMatchedTo, OutcomesAgree}

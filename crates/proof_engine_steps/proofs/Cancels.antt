@@ -31,7 +31,7 @@ use Rattle.point_to_point_calls.specs.declared.call.CoreReply.TheVariants as rep
 use Rattle.point_to_point.specs.CoreState.{CoreState}
 use Rattle.point_to_point.specs.Waiting.{Cancels, cancel_fault, cancelled_at}
 use Rattle.proof_engine_view.specs.Rows.{Fits, Holds, Row, held_of, posted_job, posted_rows}
-use Rattle.proof_engine_view.specs.Seen.{outcome_seen, own_serial, request_by}
+use Rattle.observation.specs.CoreCalls.{outcome_seen, own_serial, request_by}
 use Rattle.proof_engine_view.specs.Shown.{IsShown}
 use Rattle.proof_engine_view.specs.Transfers.{Announcements}
 use Rattle.proof_engine_steps.proofs.Found.{CollectsFor, HasRow, HoldsMessage, OffersValues, WaitsForMatch, collecting_of, finished_row, offering_of, probed_of, row_of, waiting_of}

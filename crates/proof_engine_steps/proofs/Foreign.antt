@@ -9,7 +9,7 @@ use Rattle.requests.specs.declared.table.RequestProgress.{RequestProgress}
 use Rattle.requests.specs.declared.table.Request.{Request}
 use Rattle.point_to_point.specs.CoreState.{CoreState}
 use Rattle.proof_engine_view.specs.Rows.{Holds}
-use Rattle.proof_engine_view.specs.Seen.{has_serial, is_foreign, serial_meant}
+use Rattle.observation.specs.CoreCalls.{has_serial, is_foreign, serial_meant}
 
 -- WHETHER A SLOT HOLDS A SERIAL
 

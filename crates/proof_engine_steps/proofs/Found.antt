@@ -18,7 +18,7 @@ use Rattle.requests.specs.declared.table.RequestProgress.TheVariants.{Receiving,
 use Rattle.requests.specs.declared.table.RequestProgress.TheVariants as progresses
 use Rattle.requests.specs.declared.table.Request.{Request}
 use Rattle.proof_engine_view.specs.Rows.{Fits, IsMatched, IsRow, IsTable, Row}
-use Rattle.proof_engine_view.specs.Seen.{outcome_seen}
+use Rattle.observation.specs.CoreCalls.{outcome_seen}
 use Rattle.proof_engine_view.specs.Shown.{IsNamed}
 
 -- the row of a request that stands in the table

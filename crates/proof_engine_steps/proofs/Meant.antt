@@ -16,7 +16,7 @@ use Rattle.point_to_point.specs.Calls.{call_frame}
 use Rattle.point_to_point.specs.CoreState.{CoreState}
 use Rattle.point_to_point_calls.specs.Frames.{FrameFor, as_list}
 use Rattle.proof_engine_view.specs.Faults.{queue_fault}
-use Rattle.proof_engine_view.specs.Seen.{answer_seen, call_seen, match_seen, told_call}
+use Rattle.observation.specs.CoreCalls.{answer_seen, call_seen, match_seen, told_call}
 use Rattle.proof_engine_view.specs.Shown.{IsShown}
 use Rattle.proof_engine_view.specs.Standing.{AreSent, CanLeave, all_gone}
 use Rattle.proof_engine_view.specs.Transfers.{Announcements, after_out}

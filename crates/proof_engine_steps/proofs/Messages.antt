@@ -55,7 +55,7 @@ use Rattle.proof_pure_network.specs.Jobs.{Job, Over, Probed, Unmatched, matched_
 use Rattle.proof_pure_network.specs.Matching.{answer, awaits, matched_own, taken_at}
 use Rattle.proof_engine_view.specs.Faults.{queue_fault}
 use Rattle.proof_engine_view.specs.Rows.{Row, held_of}
-use Rattle.proof_engine_view.specs.Seen.{receive_seen}
+use Rattle.observation.specs.CoreCalls.{receive_seen}
 use Rattle.proof_engine_view.specs.Shown.{IsShown}
 use Rattle.proof_engine_view.specs.Standing.{AreSent, all_gone}
 use Rattle.proof_engine_view.specs.Transfers.{Announcements, Transfer, after_out}

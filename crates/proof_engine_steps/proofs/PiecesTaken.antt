@@ -41,7 +41,7 @@ use Rattle.proof_pure_network.specs.Jobs.{Job, Collecting, Over, collecting, is_
 use Rattle.proof_pure_network.specs.Transfers.{collected}
 use Rattle.proof_engine_matching.specs.Matches.{OutcomesAgree}
 use Rattle.proof_engine_view.specs.Rows.{Fits, Holds, IsTable, Row, jobs_of, posted_job}
-use Rattle.proof_engine_view.specs.Seen.{outcome_seen}
+use Rattle.observation.specs.CoreCalls.{outcome_seen}
 use Rattle.proof_engine_view.specs.Standing.{AreSent}
 use Rattle.proof_engine_view.specs.Transfers.{Announcements, Transfer}
 use Rattle.proof_engine_view.specs.UnderWay.{AreTaken, AreUnderWay, IsCollectionOf}

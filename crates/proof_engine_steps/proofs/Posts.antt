@@ -46,7 +46,7 @@ use Rattle.proof_pure_network.specs.Matching.{found, posted, posted_at}
 use Rattle.proof_pure_network.specs.Matching as matching
 use Rattle.proof_engine_view.specs.Faults.{queue_fault}
 use Rattle.proof_engine_view.specs.Rows.{Row, held_of, posted_job, posted_rows}
-use Rattle.proof_engine_view.specs.Seen.{outcome_seen, receive_seen}
+use Rattle.observation.specs.CoreCalls.{outcome_seen, receive_seen}
 use Rattle.proof_engine_view.specs.Shown.{IsShown}
 use Rattle.proof_engine_view.specs.Standing.{AreSent, CanLeave, all_gone}
 use Rattle.proof_engine_view.specs.Transfers.{Announcements, after_out}

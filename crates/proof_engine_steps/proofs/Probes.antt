@@ -45,7 +45,7 @@ use Rattle.proof_pure_network.proofs.JobLemmas.{push_at}
 use Rattle.std.proofs.lemmas.List.{length-map}
 use Rattle.proof_engine_view.specs.Faults.{queue_fault, queue_fault_by}
 use Rattle.proof_engine_view.specs.Rows.{Row, body_seen, held_of, posted_rows}
-use Rattle.proof_engine_view.specs.Seen.{match_seen, probe_seen}
+use Rattle.observation.specs.CoreCalls.{match_seen, probe_seen}
 use Rattle.proof_engine_view.specs.Shown.{IsBlocked, IsShown}
 use Rattle.proof_engine_view.specs.Transfers.{Announcements, AnnouncementsGrow, Transfer}
 use Rattle.proof_engine_view.specs.UnderWay.{AreUnderWay, IsFromLink}

@@ -6,7 +6,8 @@ use Rattle.point_to_point_calls.specs.declared.call.CoreCall.{CoreCall}
 use Rattle.point_to_point_calls.specs.declared.refusal.Refusal.{Refusal}
 use Rattle.point_to_point_calls.specs.declared.refusal.Refusal.TheVariants as refusals
 use Rattle.point_to_point.specs.CoreState.{CoreState}
-use Rattle.proof_engine_steps.specs.Refused.{HasReason, IsOutOfRoom}
+use Rattle.proof_engine_steps.specs.Refused.{HasReason}
+use Rattle.observation.specs.Reasons.{IsOutOfRoom}
 
 -- THE MACHINE'S RULES
 

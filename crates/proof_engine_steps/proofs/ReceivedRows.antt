@@ -32,7 +32,7 @@ use Rattle.proof_pure_network.specs.Core.{Core, with_jobs}
 use Rattle.proof_pure_network.specs.Held.{Held, count_of, fits, full}
 use Rattle.proof_pure_network.specs.Jobs.{Closed, Collecting, Job, Offering, Over, Probed, Unmatched, Waiting, matched_part}
 use Rattle.proof_engine_view.specs.Rows.{Fits, Holds, IsMatched, IsTable, Row, held_of, posted_job}
-use Rattle.proof_engine_view.specs.Seen.{outcome_seen}
+use Rattle.observation.specs.CoreCalls.{outcome_seen}
 use Rattle.proof_engine_view.specs.Transfers.{Announcements, Transfer}
 use Rattle.proof_engine_view.specs.UnderWay.{AreTaken, AreUnderWay, IsCollectionOf, IsPartOf, IsTakenAt, IsTakenBy, IsTakenIf, collection_keys}
 use Rattle.proof_engine_steps.proofs.Collects.{matched_under_way, written_set}

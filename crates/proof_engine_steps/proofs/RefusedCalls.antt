@@ -15,10 +15,11 @@ use Rattle.point_to_point_calls.specs.declared.refusal.Refusal.TheVariants as re
 use Rattle.point_to_point.specs.Calls.{fault_at, free_fault}
 use Rattle.point_to_point.specs.CoreState.{CoreState}
 use Rattle.proof_engine_view.specs.Faults.{queue_fault, queue_fault_by}
-use Rattle.proof_engine_view.specs.Seen.{call_meant, call_seen}
+use Rattle.observation.specs.CoreCalls.{call_meant, call_seen}
 use Rattle.proof_engine_view.specs.Shown.{IsBlocked, IsShown}
 use Rattle.proof_engine_view.specs.Transfers.{Announcements}
-use Rattle.proof_engine_steps.specs.Refused.{AllowedCallsAreFaultless, FaultsHaveReasons, HasReason, IsFaultless, MachinesFault, NoRoom, RoomIsAReason, fault_seen}
+use Rattle.proof_engine_steps.specs.Refused.{AllowedCallsAreFaultless, FaultsHaveReasons, HasReason, IsFaultless, RoomIsAReason, fault_seen}
+use Rattle.observation.specs.Reasons.{MachinesFault, NoRoom}
 use Rattle.proof_engine_steps.proofs.Reasons.{reason_is}
 use Rattle.proof_engine_steps.proofs.RefusedProbes.{message_reason, message_without_fault, search_reason, search_without_fault}
 use Rattle.proof_engine_steps.proofs.RefusedReceives.{receive_faultless, receive_reason}

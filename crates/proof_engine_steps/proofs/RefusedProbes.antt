@@ -25,10 +25,11 @@ use Rattle.point_to_point.specs.Calls.{free_fault}
 use Rattle.point_to_point.specs.CoreState.{CoreState}
 use Rattle.point_to_point.specs.Messages.{found_for, full_if, message_fault, probe_rule, region_rule, search_limit}
 use Rattle.proof_engine_view.specs.Faults.{queue_fault}
-use Rattle.proof_engine_view.specs.Seen.{call_seen, own_serial, request_by, serial_meant}
+use Rattle.observation.specs.CoreCalls.{call_seen, own_serial, request_by, serial_meant}
 use Rattle.proof_engine_view.specs.Shown.{IsShown}
 use Rattle.proof_engine_view.specs.Transfers.{Announcements}
-use Rattle.proof_engine_steps.specs.Refused.{HasReason, IsFaultless, IsOutOfRoom, MachinesFault, NoRoom}
+use Rattle.proof_engine_steps.specs.Refused.{HasReason, IsFaultless}
+use Rattle.observation.specs.Reasons.{IsOutOfRoom, MachinesFault, NoRoom}
 use Rattle.proof_engine_steps.proofs.Probes.{search_fit, searches_judged}
 use Rattle.proof_engine_steps.proofs.Reasons.{count_fault, limit_met, reason_is, type_fault}
 use Rattle.proof_engine_steps.proofs.Standings.{IsPresent, meant_present, message_seen}

@@ -13,10 +13,11 @@ use Rattle.point_to_point_calls.specs.declared.refusal.Refusal.TheVariants as re
 use Rattle.point_to_point.specs.CoreState.{CoreState}
 use Rattle.point_to_point.specs.Receiving.{receive_fault}
 use Rattle.proof_engine_view.specs.Faults.{queue_fault}
-use Rattle.proof_engine_view.specs.Seen.{call_seen}
+use Rattle.observation.specs.CoreCalls.{call_seen}
 use Rattle.proof_engine_view.specs.Shown.{IsShown}
 use Rattle.proof_engine_view.specs.Transfers.{Announcements}
-use Rattle.proof_engine_steps.specs.Refused.{HasReason, MachinesFault, NoRoom}
+use Rattle.proof_engine_steps.specs.Refused.{HasReason}
+use Rattle.observation.specs.Reasons.{MachinesFault, NoRoom}
 use Rattle.proof_engine_steps.proofs.Posts.{post_fit, receive_rules}
 use Rattle.proof_engine_steps.proofs.Reasons.{count_fault, limit_met, rank_fault, reason_is, tag_fault, type_fault}
 use Rattle.proof_engine_steps.proofs.Starting.{core_free, fault_free}

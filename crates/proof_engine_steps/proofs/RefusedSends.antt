@@ -18,10 +18,11 @@ use Rattle.point_to_point_calls.specs.Sending.{announced_to, or_worn_out, send_f
 use Rattle.point_to_point.specs.Sending.{or_full}
 use Rattle.rendezvous.specs.State.{is_full_to}
 use Rattle.proof_engine_view.specs.Faults.{queue_fault}
-use Rattle.proof_engine_view.specs.Seen.{call_seen}
+use Rattle.observation.specs.CoreCalls.{call_seen}
 use Rattle.proof_engine_view.specs.Shown.{IsShown}
 use Rattle.proof_engine_view.specs.Transfers.{Announcements}
-use Rattle.proof_engine_steps.specs.Refused.{HasReason, IsOutOfRoom, MachinesFault, NoRoom}
+use Rattle.proof_engine_steps.specs.Refused.{HasReason}
+use Rattle.observation.specs.Reasons.{IsOutOfRoom, MachinesFault, NoRoom}
 use Rattle.proof_engine_steps.proofs.Reasons.{count_fault, limit_met, rank_fault, reason_is, tag_fault, type_fault}
 use Rattle.proof_engine_steps.proofs.Sends.{send_count, send_fit, send_over, send_rules}
 use Rattle.proof_engine_steps.proofs.Starting.{core_free, fault_free}

@@ -20,10 +20,11 @@ use Rattle.point_to_point_calls.specs.declared.refusal.Refusal.TheVariants as re
 use Rattle.point_to_point.specs.CoreState.{CoreState}
 use Rattle.point_to_point.specs.Waiting.{cancel_fault, wait_fault}
 use Rattle.proof_engine_view.specs.Faults.{queue_fault, queue_fault_by}
-use Rattle.proof_engine_view.specs.Seen.{awaited_by, awaited_seen, call_seen, own_serial, request_by, serial_meant}
+use Rattle.observation.specs.CoreCalls.{awaited_by, awaited_seen, call_seen, own_serial, request_by, serial_meant}
 use Rattle.proof_engine_view.specs.Shown.{IsShown}
 use Rattle.proof_engine_view.specs.Transfers.{Announcements}
-use Rattle.proof_engine_steps.specs.Refused.{HasReason, IsFaultless, IsReason, MachinesFault}
+use Rattle.proof_engine_steps.specs.Refused.{HasReason, IsFaultless}
+use Rattle.observation.specs.Reasons.{IsReason, MachinesFault}
 use Rattle.proof_engine_steps.proofs.Standings.{IsPresent, all_present, awaited_meant, awaited_own, meant_present, neither, receive_seen, request_own, standing_at, wrong_same}
 use Rattle.proof_engine_steps.proofs.Starting.{core_free, fault_free}
 

@@ -42,7 +42,7 @@ use Rattle.requests.specs.declared.table.TableEntry.{TableEntry}
 use Rattle.proof_engine_view.specs.Faults.{queue_fault}
 use Rattle.proof_engine_view.specs.Frames.{endpoint_of}
 use Rattle.proof_engine_view.specs.Rows.{Row, posted_rows}
-use Rattle.proof_engine_view.specs.Seen.{call_seen}
+use Rattle.observation.specs.CoreCalls.{call_seen}
 use Rattle.proof_engine_view.specs.Shown.{IsShown}
 use Rattle.proof_engine_view.specs.Standing.{AreSent, CanLeave, all_gone}
 use Rattle.proof_engine_view.specs.Transfers.{Announcements, after_out}

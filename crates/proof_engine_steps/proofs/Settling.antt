@@ -20,7 +20,7 @@ use Rattle.requests.specs.declared.table.RequestProgress.TheVariants.{Receiving,
 use Rattle.requests.specs.declared.table.RequestProgress.TheVariants as progresses
 use Rattle.requests.specs.Table.{progress_at, progress_of, slot_at}
 use Rattle.proof_engine_view.specs.Rows.{Fits, Holds, IsMatched, IsTable, IsTaken, Row}
-use Rattle.proof_engine_view.specs.Seen.{outcome_seen}
+use Rattle.observation.specs.CoreCalls.{outcome_seen}
 use Rattle.proof_engine_view.specs.Shown.{IsSettled}
 use Rattle.proof_engine_steps.proofs.Tables.{held_at}
 

@@ -24,7 +24,7 @@ use Rattle.requests.specs.declared.table.RequestProgress.TheVariants as progress
 use Rattle.requests.specs.declared.table.Request.{Request}
 use Rattle.point_to_point.specs.CoreState.{CoreState}
 use Rattle.proof_engine_view.specs.Rows.{Row, Stands}
-use Rattle.proof_engine_view.specs.Seen.{awaited_by, is_foreign, outcome_seen, own_serial, request_by, requests_by, serial_meant}
+use Rattle.observation.specs.CoreCalls.{awaited_by, is_foreign, outcome_seen, own_serial, request_by, requests_by, serial_meant}
 use Rattle.proof_engine_view.specs.Shown.{IsShown}
 use Rattle.proof_engine_view.specs.Transfers.{Announcements}
 use Rattle.proof_engine_steps.proofs.Foreign.{foreign_of, held_own, meant_foreign, meant_own}

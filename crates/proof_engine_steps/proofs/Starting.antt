@@ -23,7 +23,7 @@ use Rattle.point_to_point.specs.Calls.{call_frame}
 use Rattle.point_to_point.specs.CoreState.{CoreState}
 use Rattle.proof_engine_view.specs.Faults.{queue_fault, queue_fault_by}
 use Rattle.proof_engine_view.specs.Rows.{Fits, Row, held_of, posted_job, posted_rows}
-use Rattle.proof_engine_view.specs.Seen.{call_seen}
+use Rattle.observation.specs.CoreCalls.{call_seen}
 use Rattle.proof_engine_view.specs.Shown.{IsBlocked, IsShown}
 use Rattle.proof_engine_view.specs.Standing.{AreSent, CanLeave, all_gone}
 use Rattle.proof_engine_view.specs.Transfers.{Announcements, AnnouncementsGrow, after_out}

@@ -22,7 +22,7 @@ use Rattle.requests.specs.declared.table.RequestProgress.TheVariants.{Receiving,
 use Rattle.requests.specs.declared.table.RequestProgress.TheVariants as progresses
 use Rattle.requests.specs.declared.table.Request.{Request}
 use Rattle.proof_engine_view.specs.Rows.{Holds, IsTable, Row, jobs_of, posted_job, posted_rows}
-use Rattle.proof_engine_view.specs.Seen.{outcome_seen}
+use Rattle.observation.specs.CoreCalls.{outcome_seen}
 use Rattle.proof_engine_steps.proofs.Agreeing.{serials_of}
 use Rattle.proof_engine_steps.proofs.Found.{finished_row}
 use Rattle.proof_engine_steps.proofs.Named.{all_follow}

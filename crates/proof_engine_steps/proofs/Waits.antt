@@ -19,7 +19,7 @@ use Rattle.point_to_point_calls.specs.declared.call.CoreReply.{CoreReply}
 use Rattle.point_to_point_calls.specs.declared.call.CoreReply.TheVariants as replies
 use Rattle.point_to_point.specs.CoreState.{CoreState}
 use Rattle.point_to_point.specs.Waiting.{Tests, TestsBy, Waits, WaitsBy, wait_fault}
-use Rattle.proof_engine_view.specs.Seen.{answer_seen, awaited_seen, own_serial, request_by}
+use Rattle.observation.specs.CoreCalls.{answer_seen, awaited_seen, own_serial, request_by}
 use Rattle.proof_engine_view.specs.Shown.{IsNamed, IsShown}
 use Rattle.proof_engine_view.specs.Transfers.{Announcements}
 use Rattle.proof_engine_steps.proofs.Agreeing.{completion_seen, serials_of}

@@ -19,7 +19,7 @@ use Rattle.requests.specs.declared.table.Request.{Request}
 use Rattle.point_to_point.specs.CoreState.{CoreState}
 use Rattle.point_to_point.specs.Waiting.{answered_by, after_wake, woken_by}
 use Rattle.proof_engine_view.specs.Rows.{IsTable, Row, held_of, jobs_of, posted_rows}
-use Rattle.proof_engine_view.specs.Seen.{answer_seen, awaited_seen, told_completion}
+use Rattle.observation.specs.CoreCalls.{answer_seen, awaited_seen, told_completion}
 use Rattle.proof_engine_view.specs.Shown.{IsBlocked, IsNamed, IsSettled, IsShown}
 use Rattle.proof_engine_view.specs.Transfers.{Announcements}
 use Rattle.proof_engine_view.specs.UnderWay.{AreTaken, AreUnderWay}

@@ -9,24 +9,14 @@ use Rattle.point_to_point_calls.specs.Refusals.{number_of_refusal}
 use Rattle.proof_pure_network.specs.Core.{Core, view}
 use Rattle.proof_pure_network.specs.Held.{blank}
 use Rattle.proof_engine_view.specs.Faults.{queue_fault}
-use Rattle.proof_engine_view.specs.Seen.{call_meant, call_seen}
+use Rattle.observation.specs.CoreCalls.{call_meant, call_seen}
 use Rattle.proof_engine_view.specs.Shown.{IsShown}
 use Rattle.proof_engine_view.specs.Transfers.{Announcements}
+pub use Rattle.observation.specs.Reasons.{IsOutOfRoom, IsReason, MachinesFault, NoRoom}
 
 -- the fault that the machine finds with what a call means at a rank, but for the rule on its communicator
 abbrev pub fault_seen : CoreState → Core → CoreCall → Option ℕ
 fault_seen old core call = queue_fault old.place.size (view blank core) (call_meant old call)
-
--- the number of a limit or of want of memory: 13 or 14
-abbrev pub IsOutOfRoom : Refusal → Type 0
-IsOutOfRoom why = (why ≡ refusals.Limit) ⊎ (why ≡ refusals.OutOfMemory)
-
--- Why a call is refused, where the machine finds this fault with it or none
-pub data IsReason (found : Option ℕ) (why : Refusal) : Type 0 where
-  -- by the machine's fault: the number is the same
-  MachinesFault : found ≡ Some (number_of_refusal why) → IsReason found why
-  -- the machine finds none, and the number is 13 or 14
-  NoRoom : IsOutOfRoom why → found ≡ None → IsReason found why
 
 -- a call is refused for such a reason, by the fault that the machine finds
 abbrev pub HasReason : CoreState → Core → CoreCall → Refusal → Type 0

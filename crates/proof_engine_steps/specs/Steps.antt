@@ -23,7 +23,7 @@ use Rattle.proof_pure_network.specs.Held.{blank}
 use Rattle.proof_pure_network.specs.Jobs.{Job, is_collecting}
 use Rattle.proof_engine_view.specs.Frames.{known_after}
 use Rattle.proof_engine_view.specs.Faults.{queue_fault}
-use Rattle.proof_engine_view.specs.Seen.{call_seen, told_call, told_completion}
+use Rattle.observation.specs.CoreCalls.{call_seen, told_call, told_completion}
 use Rattle.proof_engine_view.specs.Shown.{IsSettled, IsShown}
 use Rattle.proof_engine_view.specs.Standing.{AreSent, CanLeave, IsMeant, all_gone}
 use Rattle.proof_engine_view.specs.Transfers.{Announcements, AnnouncementsGrow, after_out}

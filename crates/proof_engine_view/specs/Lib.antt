@@ -1,4 +1,3 @@
-pub mod Seen
 pub mod Faults
 pub mod Frames
 pub mod Transfers

@@ -20,7 +20,7 @@ use Rattle.perfect_queues.specs.Receives.{Receive}
 use Rattle.proof_pure_network.specs.Held.{Held, Own, Part, Whole, count_of, fits}
 use Rattle.proof_pure_network.specs.Held as held
 use Rattle.proof_pure_network.specs.Jobs.{Job, Waiting, Collecting, Offering, Over, Closed, Unmatched, Probed}
-use Rattle.proof_engine_view.specs.Seen.{outcome_seen}
+use Rattle.observation.specs.CoreCalls.{outcome_seen}
 use Rattle.proof_engine_view.specs.Transfers.{Transfer, serial_at}
 
 -- a request: its key in the table, and its job

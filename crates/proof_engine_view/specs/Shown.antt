@@ -9,7 +9,7 @@ use Rattle.proof_pure_network.specs.Core.{Core}
 use Rattle.proof_pure_network.specs.Engine.{core_ready}
 use Rattle.proof_pure_network.specs.Jobs.{Closed}
 use Rattle.proof_engine_view.specs.Rows.{Row, IsTable, held_of, jobs_of, posted_rows}
-use Rattle.proof_engine_view.specs.Seen.{awaited_seen}
+use Rattle.observation.specs.CoreCalls.{awaited_seen}
 use Rattle.proof_engine_view.specs.Transfers.{Announcements}
 use Rattle.proof_engine_view.specs.UnderWay.{AreTaken, AreUnderWay}
 

@@ -10,12 +10,12 @@ use Rattle.sessions.specs.declared.peers.Peer.{Peer}
 use Rattle.sessions.specs.SessionsState.{SessionsState}
 use Rattle.sessions.specs.Peers.{peer_at, peer_or_new}
 use Rattle.proof_link_truth.specs.Events.{LeavesTrue, emptied}
-use Rattle.proof_link_truth.specs.Links.{Links}
-use Rattle.proof_link_truth.specs.Sessions.{SessionsTell, PeerTells}
-use Rattle.proof_link_truth.specs.Told.{IsTold}
-use Rattle.proof_link_truth.specs.Truth.{AreTrue}
-use Rattle.proof_link_truth.specs.Wire.{at, place_of, wires}
-use Rattle.proof_link_truth.specs.Witness.{AreHeldEmitted, IsWitnessed}
+use Rattle.link_truth.specs.Links.{Links}
+use Rattle.link_truth.specs.Sessions.{SessionsTell, PeerTells}
+use Rattle.link_truth.specs.Told.{IsTold}
+use Rattle.link_truth.specs.Truth.{AreTrue}
+use Rattle.link_truth.specs.Wire.{at, place_of, wires}
+use Rattle.link_truth.specs.Witness.{AreHeldEmitted, IsWitnessed}
 use Rattle.proof_link_truth.proofs.Growing.{Grows, LinksFit, told_more}
 use Rattle.proof_link_truth.proofs.Lists.{All_append, All_more, false_sym, set_each}
 use Rattle.proof_link_truth.proofs.Receivers.{receiver_more}

@@ -24,12 +24,12 @@ use Rattle.sessions.specs.Peers.{peer_at}
 use Rattle.sessions.specs.SessionsState.{SessionsState, knowledge}
 use Rattle.sessions.specs.Spellings.{header_to}
 use Rattle.proof_link_truth.specs.Events.{HearingIsTrue, HearsTruth, IsAt, IsFromDatagram, IsHeard, IsLesson, IsTrueWord, LeavesTrue, links_heard, links_heeded}
-use Rattle.proof_link_truth.specs.Links.{Links}
-use Rattle.proof_link_truth.specs.Sessions.{PeerTells, SessionsTell}
-use Rattle.proof_link_truth.specs.Told.{IsTold}
-use Rattle.proof_link_truth.specs.Truth.{AreTrue}
-use Rattle.proof_link_truth.specs.Wire.{at, place_of, wire}
-use Rattle.proof_link_truth.specs.Witness.{IsAmong}
+use Rattle.link_truth.specs.Links.{Links}
+use Rattle.link_truth.specs.Sessions.{PeerTells, SessionsTell}
+use Rattle.link_truth.specs.Told.{IsTold}
+use Rattle.link_truth.specs.Truth.{AreTrue}
+use Rattle.link_truth.specs.Wire.{at, place_of, wire}
+use Rattle.link_truth.specs.Witness.{IsAmong}
 use Rattle.proof_link_truth.proofs.Hearing.{Bears, Hears, heeded, hears, peer_of}
 use Rattle.proof_link_truth.proofs.Judging.{IsCurrent, IsLater, is_current, is_later, same_endpoint}
 use Rattle.proof_link_truth.proofs.Learning.{taught_peer}

@@ -19,11 +19,11 @@ use Rattle.sessions.specs.SessionsState.{SessionsState}
 use Rattle.sessions.specs.Spellings.{ack_bytes, ack_of}
 use Rattle.proof_link_truth.specs.Deliveries.{DeliveriesBegin, DiscardsAreTrue, IsMidway, TurnIsTrue, TurnsAreTrue, TurnsTellTheTruth, turn_from}
 use Rattle.proof_link_truth.specs.Events.{HearsTruth, LeavesTrue, MaySendAll, IsAt, all_addressed, emptied, links_heard}
-use Rattle.proof_link_truth.specs.Links.{Link, Links, accept_all, handed_on}
-use Rattle.proof_link_truth.specs.Sessions.{IsHeldOf, IsLink, PeerTells, SessionsTell}
-use Rattle.proof_link_truth.specs.Truth.{AreTrue}
-use Rattle.proof_link_truth.specs.Wire.{CanBeSent, at, place_of, text_of, wire}
-use Rattle.proof_link_truth.specs.Witness.{AreHeldEmitted, IsAmong}
+use Rattle.link_truth.specs.Links.{Link, Links, accept_all, handed_on}
+use Rattle.link_truth.specs.Sessions.{IsHeldOf, IsLink, PeerTells, SessionsTell}
+use Rattle.link_truth.specs.Truth.{AreTrue}
+use Rattle.link_truth.specs.Wire.{CanBeSent, at, place_of, text_of, wire}
+use Rattle.link_truth.specs.Witness.{AreHeldEmitted, IsAmong}
 use Rattle.proof_link_truth.proofs.Changing.{peer_set, sessions_with, world_leaves}
 use Rattle.proof_link_truth.proofs.Datagrams.{hearing_is_true}
 use Rattle.proof_link_truth.proofs.Exchanging.{IsReadAck, exchanged}

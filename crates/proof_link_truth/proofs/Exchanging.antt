@@ -12,12 +12,12 @@ use Rattle.datagram.specs.Spelling.{AckBody, BodyText, DatagramText, FrameBody, 
 use Rattle.sessions.specs.Peers.{peer_at}
 use Rattle.sessions.specs.SessionsState.{SessionsState}
 use Rattle.sessions.specs.Spellings.{ack_bytes}
-use Rattle.proof_link_truth.specs.Links.{Links}
-use Rattle.proof_link_truth.specs.Sessions.{IsHeldOf, IsLink, PeerTells, is_pair}
-use Rattle.proof_link_truth.specs.Told.{IsTold}
-use Rattle.proof_link_truth.specs.Truth.{AreTrue}
-use Rattle.proof_link_truth.specs.Wire.{CanBeSent, at, place_of, text_of, wire}
-use Rattle.proof_link_truth.specs.Witness.{AreHeldEmitted, IsAcknowledged, IsAmong, IsEmitted, IsWitnessed}
+use Rattle.link_truth.specs.Links.{Links}
+use Rattle.link_truth.specs.Sessions.{IsHeldOf, IsLink, PeerTells, is_pair}
+use Rattle.link_truth.specs.Told.{IsTold}
+use Rattle.link_truth.specs.Truth.{AreTrue}
+use Rattle.link_truth.specs.Wire.{CanBeSent, at, place_of, text_of, wire}
+use Rattle.link_truth.specs.Witness.{AreHeldEmitted, IsAcknowledged, IsAmong, IsEmitted, IsWitnessed}
 use Rattle.proof_link_truth.proofs.Lists.{All_get, All_set}
 use Rattle.proof_link_truth.proofs.Reading.{HaveWidths, ack_is_read, ack_text, frame_is_read}
 

@@ -8,11 +8,11 @@ use Rattle.perfect_queues.proofs.EndpointLemmas.{same_eq, same_refl}
 use Rattle.datagram.specs.Spelling.{FrameText}
 use Rattle.reliable_link.proofs.Places.{place_stays}
 use Rattle.sessions.specs.SessionsState.{SessionsState}
-use Rattle.proof_link_truth.specs.Links.{Link, Links, accept, handed_on, with_link}
-use Rattle.proof_link_truth.specs.Sessions.{IsLink, is_pair}
-use Rattle.proof_link_truth.specs.Told.{IsTold, Tells, TellsAck, TellsFrame, TellsReset}
-use Rattle.proof_link_truth.specs.Truth.{AreTrue}
-use Rattle.proof_link_truth.specs.Wire.{CanBeSent}
+use Rattle.link_truth.specs.Links.{Link, Links, accept, handed_on, with_link}
+use Rattle.link_truth.specs.Sessions.{IsLink, is_pair}
+use Rattle.link_truth.specs.Told.{IsTold, Tells, TellsAck, TellsFrame, TellsReset}
+use Rattle.link_truth.specs.Truth.{AreTrue}
+use Rattle.link_truth.specs.Wire.{CanBeSent}
 use Rattle.proof_link_truth.proofs.Lists.{All_append}
 
 -- a link is the changed one, or as it was

@@ -15,12 +15,12 @@ use Rattle.sessions.specs.Peers.{frames_out, peer_at}
 use Rattle.sessions.specs.SessionsState.{SessionsState}
 use Rattle.sessions.specs.Spellings.{ack_bytes, ack_of}
 use Rattle.proof_link_truth.specs.Events.{IsBehind, IsHeard, IsNext, LeavesTrue, links_heeded}
-use Rattle.proof_link_truth.specs.Links.{Link, Links, handed_on}
-use Rattle.proof_link_truth.specs.Sessions.{PeerTells, ReceiverTells, SenderTells, SessionsTell}
-use Rattle.proof_link_truth.specs.Told.{IsTold, TellsAck}
-use Rattle.proof_link_truth.specs.Truth.{AreTrue}
-use Rattle.proof_link_truth.specs.Wire.{at, place_of, wire}
-use Rattle.proof_link_truth.specs.Witness.{AreHeldEmitted, IsAmong, IsEmitted, IsWitnessed}
+use Rattle.link_truth.specs.Links.{Link, Links, handed_on}
+use Rattle.link_truth.specs.Sessions.{PeerTells, ReceiverTells, SenderTells, SessionsTell}
+use Rattle.link_truth.specs.Told.{IsTold, TellsAck}
+use Rattle.link_truth.specs.Truth.{AreTrue}
+use Rattle.link_truth.specs.Wire.{at, place_of, wire}
+use Rattle.link_truth.specs.Witness.{AreHeldEmitted, IsAmong, IsEmitted, IsWitnessed}
 use Rattle.proof_link_truth.proofs.Witnesses.{all_witnessed, witnessed_more, witnessed_next}
 use Rattle.proof_link_truth.proofs.Changing.{sessions_stay, sessions_with, world_leaves}
 use Rattle.proof_link_truth.proofs.Growing.{Grows, grows_none, handed_accepted, handed_fits, handed_grows, link_cases, link_here, links_fit}

@@ -5,7 +5,7 @@ use Rattle.reliable_link.specs.ReceiverState.{held_at}
 use Rattle.sessions.specs.declared.peers.Peer.{Peer}
 use Rattle.sessions.specs.Peers.{peer_at}
 use Rattle.sessions.specs.SessionsState.{SessionsState}
-use Rattle.proof_link_truth.specs.Witness.{AreHeldEmitted, IsAmong}
+use Rattle.link_truth.specs.Witness.{AreHeldEmitted, IsAmong}
 use Rattle.proof_link_truth.proofs.Changing.{peer_set, peer_set_other}
 
 -- what one session holds was emitted to its rank

@@ -12,9 +12,9 @@ use Rattle.sessions.specs.Peers.{peer_at}
 use Rattle.sessions.specs.SessionsState.{SessionsState}
 use Rattle.incarnation.specs.declared.place.Place.{Place}
 use Rattle.proof_link_truth.specs.Events.{IdleHoldsNothing, IdleIsStill}
-use Rattle.proof_link_truth.specs.Links.{Link, Links, in_flight}
-use Rattle.proof_link_truth.specs.Sessions.{IsHeldOf, SessionsTell, PeerTells, SenderTells, bytes_kept, is_pair}
-use Rattle.proof_link_truth.specs.Wire.{at, wires}
+use Rattle.link_truth.specs.Links.{Link, Links, in_flight}
+use Rattle.link_truth.specs.Sessions.{IsHeldOf, SessionsTell, PeerTells, SenderTells, bytes_kept, is_pair}
+use Rattle.link_truth.specs.Wire.{at, wires}
 use Rattle.proof_link_truth.proofs.Lists.{false_sym, get_within}
 use Rattle.proof_link_truth.proofs.Wires.{wires_length}
 

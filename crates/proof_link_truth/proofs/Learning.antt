@@ -11,10 +11,10 @@ use Rattle.sessions.specs.Heard.{session_met}
 use Rattle.sessions.specs.Peers.{new_session, peer_at}
 use Rattle.sessions.specs.SessionsState.{SessionsState}
 use Rattle.proof_link_truth.specs.Events.{IsHeard, IsLesson}
-use Rattle.proof_link_truth.specs.Links.{Links}
-use Rattle.proof_link_truth.specs.Sessions.{PeerTells, SessionsTell}
-use Rattle.proof_link_truth.specs.Wire.{at, wires}
-use Rattle.proof_link_truth.specs.Witness.{AreHeldEmitted}
+use Rattle.link_truth.specs.Links.{Links}
+use Rattle.link_truth.specs.Sessions.{PeerTells, SessionsTell}
+use Rattle.link_truth.specs.Wire.{at, wires}
+use Rattle.link_truth.specs.Witness.{AreHeldEmitted}
 use Rattle.proof_link_truth.proofs.Changing.{IsKnown, peer_set, sessions_know}
 use Rattle.proof_link_truth.proofs.Holding.{held_with}
 use Rattle.proof_link_truth.proofs.Receivers.{none_held, receiver_new}

@@ -10,10 +10,10 @@ use Rattle.sessions.specs.declared.peers.Peer.{Peer}
 use Rattle.sessions.specs.SessionsState.{SessionsState, opening}
 use Rattle.sessions.specs.Peers.{new_peer, peer_at}
 use Rattle.proof_link_truth.specs.Events.{OpeningIsTrue, no_links, opening_sessions}
-use Rattle.proof_link_truth.specs.Links.{Links}
-use Rattle.proof_link_truth.specs.Sessions.{SessionsTell, PeerTells}
-use Rattle.proof_link_truth.specs.Wire.{at, place_of, wires}
-use Rattle.proof_link_truth.specs.Witness.{AreHeldEmitted}
+use Rattle.link_truth.specs.Links.{Links}
+use Rattle.link_truth.specs.Sessions.{SessionsTell, PeerTells}
+use Rattle.link_truth.specs.Wire.{at, place_of, wires}
+use Rattle.link_truth.specs.Witness.{AreHeldEmitted}
 use Rattle.proof_link_truth.proofs.Receivers.{none_held, receiver_new}
 
 -- every session is a new one

@@ -11,7 +11,7 @@ use Rattle.datagram.specs.Reading.{datagram_of}
 use Rattle.datagram.specs.Spelling.{AckBody, BodyText, ClearFrame, DataFrame, DatagramFits, DatagramText, EagerFrame, FrameBody, FrameText, HeaderIsWithinFields, RequestFrame, ResetBody, content_text, datagram_text, frame_text, spelling}
 use Rattle.datagram.proofs.Grammar.{is_only}
 use Rattle.sessions.specs.Spellings.{ack_bytes, header_to, reset_bytes}
-use Rattle.proof_link_truth.specs.Wire.{CanBeSent, place_of, text_of, wire}
+use Rattle.link_truth.specs.Wire.{CanBeSent, place_of, text_of, wire}
 
 -- two endpoints of n ranks whose numbers have the widths of a header
 pub record HaveWidths (n : ℕ) (s d : Endpoint) : Type 0 where

@@ -9,8 +9,8 @@ use Rattle.reliable_link.specs.ReceiverState.{ReceiverState, advanced, after_fra
 use Rattle.reliable_link.proofs.Bits.{bits_few}
 use Rattle.reliable_link.proofs.Holding.{first_gone, held_other, held_there}
 use Rattle.sessions.specs.Peers.{new_receiver}
-use Rattle.proof_link_truth.specs.Links.{Link}
-use Rattle.proof_link_truth.specs.Sessions.{IsHeldOf, ReceiverTells}
+use Rattle.link_truth.specs.Links.{Link}
+use Rattle.link_truth.specs.Sessions.{IsHeldOf, ReceiverTells}
 
 -- ---- what was held before
 

@@ -17,11 +17,11 @@ use Rattle.sessions.specs.Peers.{peer_at}
 use Rattle.sessions.specs.SessionsState.{SessionsState, knowledge}
 use Rattle.sessions.specs.Spellings.{reset_bytes}
 use Rattle.proof_link_truth.specs.Events.{IsAt, LeavesTrue, RefusalsAreTrue}
-use Rattle.proof_link_truth.specs.Links.{Links}
-use Rattle.proof_link_truth.specs.Sessions.{SessionsTell}
-use Rattle.proof_link_truth.specs.Told.{IsTold, TellsReset}
-use Rattle.proof_link_truth.specs.Truth.{AreTrue}
-use Rattle.proof_link_truth.specs.Wire.{at}
+use Rattle.link_truth.specs.Links.{Links}
+use Rattle.link_truth.specs.Sessions.{SessionsTell}
+use Rattle.link_truth.specs.Told.{IsTold, TellsReset}
+use Rattle.link_truth.specs.Truth.{AreTrue}
+use Rattle.link_truth.specs.Wire.{at}
 use Rattle.proof_link_truth.proofs.Datagrams.{IsComing, heard_read, is_coming}
 use Rattle.proof_link_truth.proofs.Hearing.{stays}
 use Rattle.proof_link_truth.proofs.Lists.{false_sym}

@@ -10,11 +10,11 @@ use Rattle.sessions.specs.SessionsState.{SessionsState}
 use Rattle.sessions.specs.Spellings.{ack_bytes}
 use Rattle.proof_link_truth.specs.Deliveries.{OrderIsFree}
 use Rattle.proof_link_truth.specs.Events.{emptied}
-use Rattle.proof_link_truth.specs.Links.{Links}
-use Rattle.proof_link_truth.specs.Told.{IsTold}
-use Rattle.proof_link_truth.specs.Truth.{AreTrue}
-use Rattle.proof_link_truth.specs.Wire.{place_of, wire}
-use Rattle.proof_link_truth.specs.Witness.{IsAcknowledged, IsAmong, IsEmitted}
+use Rattle.link_truth.specs.Links.{Links}
+use Rattle.link_truth.specs.Told.{IsTold}
+use Rattle.link_truth.specs.Truth.{AreTrue}
+use Rattle.link_truth.specs.Wire.{place_of, wire}
+use Rattle.link_truth.specs.Witness.{IsAcknowledged, IsAmong, IsEmitted}
 use Rattle.proof_link_truth.proofs.Lists.{All_each, All_get}
 
 -- whatever is among datagrams is among them in any order

@@ -5,12 +5,12 @@ use Rattle.std.proofs.lemmas.List.{length-set}
 use Rattle.perfect_queues.specs.State.{with_number}
 use Rattle.sessions.specs.SessionsState.{SessionsState, opening}
 use Rattle.proof_link_truth.specs.Events.{RestartsAreTrue}
-use Rattle.proof_link_truth.specs.Links.{Links}
-use Rattle.proof_link_truth.specs.Sessions.{SessionsTell}
-use Rattle.proof_link_truth.specs.Told.{IsTold}
-use Rattle.proof_link_truth.specs.Truth.{AreTrue}
-use Rattle.proof_link_truth.specs.Wire.{at, place_of}
-use Rattle.proof_link_truth.specs.Witness.{AreHeldEmitted}
+use Rattle.link_truth.specs.Links.{Links}
+use Rattle.link_truth.specs.Sessions.{SessionsTell}
+use Rattle.link_truth.specs.Told.{IsTold}
+use Rattle.link_truth.specs.Truth.{AreTrue}
+use Rattle.link_truth.specs.Wire.{at, place_of}
+use Rattle.link_truth.specs.Witness.{AreHeldEmitted}
 use Rattle.proof_link_truth.proofs.Changing.{sessions_later}
 use Rattle.proof_link_truth.proofs.Growing.{told_later}
 use Rattle.proof_link_truth.proofs.Lists.{All_more, set_each}

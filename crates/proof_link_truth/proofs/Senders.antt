@@ -13,10 +13,10 @@ use Rattle.reliable_link.proofs.KeptBytes.{bytes_after_accept, bytes_after_ack, 
 use Rattle.reliable_link.proofs.Places.{place_in_drop}
 use Rattle.reliable_link.proofs.Senders.{is_passed, lowest_after_ack, lowest_passed}
 use Rattle.sessions.specs.Peers.{frame_out, frames_out}
-use Rattle.proof_link_truth.specs.Links.{Link, Links}
-use Rattle.proof_link_truth.specs.Sessions.{SenderTells}
-use Rattle.proof_link_truth.specs.Told.{IsTold, Tells, TellsFrame}
-use Rattle.proof_link_truth.specs.Wire.{wire, wires}
+use Rattle.link_truth.specs.Links.{Link, Links}
+use Rattle.link_truth.specs.Sessions.{SenderTells}
+use Rattle.link_truth.specs.Told.{IsTold, Tells, TellsFrame}
+use Rattle.link_truth.specs.Wire.{wire, wires}
 use Rattle.proof_link_truth.proofs.Lists.{All_flat}
 use Rattle.proof_link_truth.proofs.Wires.{IsWire, wires_get, wires_length, wires_push}
 

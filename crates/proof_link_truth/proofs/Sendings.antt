@@ -18,12 +18,12 @@ use Rattle.sessions.specs.Peers.{peer_at}
 use Rattle.sessions.specs.SessionsState.{SessionsState, known_endpoint}
 use Rattle.sessions.specs.Spellings.{frame_bytes}
 use Rattle.proof_link_truth.specs.Events.{Comes, EventsAreTrue, IsAt, LeavesTrue, MaySend, MaySendAll, RestIsTrue, addressed, all_addressed, emptied, links_heard}
-use Rattle.proof_link_truth.specs.Links.{Link, Links, accept, accept_all}
-use Rattle.proof_link_truth.specs.Sessions.{PeerTells, SenderTells, SessionsTell, is_pair}
-use Rattle.proof_link_truth.specs.Told.{IsTold, TellsFrame}
-use Rattle.proof_link_truth.specs.Truth.{AreTrue}
-use Rattle.proof_link_truth.specs.Wire.{at, place_of, wire}
-use Rattle.proof_link_truth.specs.Witness.{AreHeldEmitted}
+use Rattle.link_truth.specs.Links.{Link, Links, accept, accept_all}
+use Rattle.link_truth.specs.Sessions.{PeerTells, SenderTells, SessionsTell, is_pair}
+use Rattle.link_truth.specs.Told.{IsTold, TellsFrame}
+use Rattle.link_truth.specs.Truth.{AreTrue}
+use Rattle.link_truth.specs.Wire.{at, place_of, wire}
+use Rattle.link_truth.specs.Witness.{AreHeldEmitted}
 use Rattle.proof_link_truth.proofs.Changing.{sessions_with, world_leaves}
 use Rattle.proof_link_truth.proofs.Datagrams.{heard_leaves}
 use Rattle.proof_link_truth.proofs.Growing.{Grows, accept_fits, accept_grows, accepted_handed, link_cases, link_here, links_fit}

@@ -13,11 +13,11 @@ use Rattle.sessions.specs.SessionsState.{SessionsState}
 use Rattle.sessions.specs.Peers.{after_all_due, due_out, due_peer, frames_out, peer_at}
 use Rattle.sessions.specs.Ticks.{after_tick}
 use Rattle.proof_link_truth.specs.Events.{TicksAreTrue}
-use Rattle.proof_link_truth.specs.Links.{Links}
-use Rattle.proof_link_truth.specs.Sessions.{SessionsTell, PeerTells}
-use Rattle.proof_link_truth.specs.Told.{IsTold}
-use Rattle.proof_link_truth.specs.Wire.{at}
-use Rattle.proof_link_truth.specs.Witness.{AreHeldEmitted}
+use Rattle.link_truth.specs.Links.{Links}
+use Rattle.link_truth.specs.Sessions.{SessionsTell, PeerTells}
+use Rattle.link_truth.specs.Told.{IsTold}
+use Rattle.link_truth.specs.Wire.{at}
+use Rattle.link_truth.specs.Witness.{AreHeldEmitted}
 use Rattle.proof_link_truth.proofs.Changing.{world_leaves}
 use Rattle.proof_link_truth.proofs.Growing.{grows_none, links_fit}
 use Rattle.proof_link_truth.proofs.Lists.{All_append, false_sym}

@@ -7,10 +7,10 @@ use Rattle.datagram.specs.Spelling.{FrameText}
 use Rattle.sessions.specs.Spellings.{ack_bytes}
 use Rattle.sessions.specs.SessionsState.{SessionsState}
 use Rattle.reliable_link.proofs.Places.{place_stays}
-use Rattle.proof_link_truth.specs.Links.{Link, Links}
-use Rattle.proof_link_truth.specs.Truth.{AreTrue}
-use Rattle.proof_link_truth.specs.Wire.{place_of, wire}
-use Rattle.proof_link_truth.specs.Witness.{AreHeldEmitted, IsAcknowledged, IsAmong, IsEmitted, IsWitnessed}
+use Rattle.link_truth.specs.Links.{Link, Links}
+use Rattle.link_truth.specs.Truth.{AreTrue}
+use Rattle.link_truth.specs.Wire.{place_of, wire}
+use Rattle.link_truth.specs.Witness.{AreHeldEmitted, IsAcknowledged, IsAmong, IsEmitted, IsWitnessed}
 use Rattle.proof_link_truth.proofs.Growing.{Grows}
 
 -- what was emitted stays among the datagrams

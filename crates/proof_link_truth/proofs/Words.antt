@@ -5,11 +5,11 @@ use Rattle.vocabulary.specs.declared.endpoint.Endpoint.{Endpoint}
 use Rattle.datagram.specs.Reading.{datagram_of}
 use Rattle.datagram.specs.Spelling.{AckBody, BodyText, DatagramText, FrameBody, FrameText, ResetBody}
 use Rattle.sessions.specs.Spellings.{header_to}
-use Rattle.proof_link_truth.specs.Links.{Links}
-use Rattle.proof_link_truth.specs.Sessions.{IsLink}
-use Rattle.proof_link_truth.specs.Told.{Tells, TellsAck, TellsFrame, TellsReset}
-use Rattle.proof_link_truth.specs.Wire.{CanBeSent, place_of, wire}
-use Rattle.proof_link_truth.specs.Witness.{IsAmong}
+use Rattle.link_truth.specs.Links.{Links}
+use Rattle.link_truth.specs.Sessions.{IsLink}
+use Rattle.link_truth.specs.Told.{Tells, TellsAck, TellsFrame, TellsReset}
+use Rattle.link_truth.specs.Wire.{CanBeSent, place_of, wire}
+use Rattle.link_truth.specs.Witness.{IsAmong}
 use Rattle.proof_link_truth.proofs.Lists.{All_get}
 use Rattle.proof_link_truth.proofs.Reading.{HaveWidths, ack_is_read, frame_is_read, reset_is_read}
 

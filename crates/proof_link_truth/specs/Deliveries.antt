@@ -12,9 +12,9 @@ use Rattle.sessions.specs.Peers.{peer_at}
 use Rattle.sessions.specs.SessionsState.{SessionsState}
 use Rattle.sessions.specs.Spellings.{ack_of}
 use Rattle.proof_link_truth.specs.Events.{HearsTruth, IsAt, IsFromDatagram, LeavesTrue, MaySendAll, all_addressed, links_heard}
-use Rattle.proof_link_truth.specs.Links.{Links, accept_all}
-use Rattle.proof_link_truth.specs.Truth.{AreTrue}
-use Rattle.proof_link_truth.specs.Wire.{at}
+use Rattle.link_truth.specs.Links.{Links, accept_all}
+use Rattle.link_truth.specs.Truth.{AreTrue}
+use Rattle.link_truth.specs.Wire.{at}
 
 -- ---- in the middle of a delivery
 

@@ -13,11 +13,11 @@ use Rattle.sessions.specs.Peers.{peer_at}
 use Rattle.sessions.specs.Heard.{Acknowledges, EarlyText, Follows, Hands, HeardText, Holds, Nothing, Repeats, WordText, heard_of}
 use Rattle.sessions.specs.SessionsState.{SessionsState, known_endpoint, opening}
 use Rattle.sessions.specs.Ticks.{after_tick}
-use Rattle.proof_link_truth.specs.Links.{Links, accept_all, handed_on, in_flight}
-use Rattle.proof_link_truth.specs.Quiet.{AreQuiet}
-use Rattle.proof_link_truth.specs.Sessions.{IsHeldOf}
-use Rattle.proof_link_truth.specs.Truth.{AreTrue}
-use Rattle.proof_link_truth.specs.Wire.{CanBeSent, at, place_of}
+use Rattle.link_truth.specs.Links.{Links, accept_all, handed_on, in_flight}
+use Rattle.link_truth.specs.Quiet.{AreQuiet}
+use Rattle.link_truth.specs.Sessions.{IsHeldOf}
+use Rattle.link_truth.specs.Truth.{AreTrue}
+use Rattle.link_truth.specs.Wire.{CanBeSent, at, place_of}
 
 -- ---- the sessions of a world, rank by rank
 

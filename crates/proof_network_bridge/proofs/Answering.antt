@@ -27,7 +27,7 @@ use Rattle.proof_group_network.specs.NoticesStand.{heard_member}
 use Rattle.proof_group_network.specs.SessionLaws.{IsNext}
 use Rattle.proof_link_truth.specs.Events as below
 use Rattle.proof_link_truth.specs.Events.{MaySendAll, all_addressed}
-use Rattle.proof_link_truth.specs.Wire.{place_of}
+use Rattle.link_truth.specs.Wire.{place_of}
 use Rattle.endpoint_links.specs.Links.{LinksOf, accept_all, handed_on}
 use Rattle.proof_pure_network.specs.Frames.{Cts, Frame}
 use Rattle.proof_pure_network.specs.Network.{here}

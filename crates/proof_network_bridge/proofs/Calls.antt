@@ -17,7 +17,7 @@ use Rattle.proof_network_bridge.proofs.Followed.{followed}
 use Rattle.proof_network_bridge.proofs.Reasons.{IsAnsweredWith, IsLookedWith, answered, asked, entered, looked}
 use Rattle.proof_network_bridge.specs.GoingOn.{CallsFollowOn, LeavesFollowedOn}
 use Rattle.proof_network_bridge.specs.Joined.{IsFollowed}
-use Rattle.proof_network_bridge.specs.Seen.{told_call, told_completion}
+use Rattle.observation.specs.EngineCalls.{told_call, told_completion}
 use Rattle.vocabulary.specs.declared.envelope.Status.{Status}
 
 -- what a call leaves that was answered so

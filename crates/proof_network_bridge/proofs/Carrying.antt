@@ -8,7 +8,7 @@ use Rattle.point_to_point_calls.specs.Frames.{FrameFor}
 use Rattle.engine_calls.specs.Frames.{sending_of}
 use Rattle.proof_engine_view.specs.Standing.{CanLeave, all_gone, gone_to}
 use Rattle.proof_link_truth.specs.Events.{MaySendAll, all_addressed}
-use Rattle.proof_link_truth.specs.Wire.{place_of}
+use Rattle.link_truth.specs.Wire.{place_of}
 
 -- what can leave a rank may be sent
 pub may_send : (n : ℕ) (own : Endpoint) (fs : List FrameFor) → AllByRecursion (CanLeave (place_of n own)) fs → MaySendAll n own.rank (map sending_of fs)

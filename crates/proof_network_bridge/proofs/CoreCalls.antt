@@ -35,7 +35,7 @@ use Rattle.perfect_queues.specs.State.{Local}
 use Rattle.proof_collective_steps.specs.Shown as collectives
 use Rattle.proof_engine_steps.specs.Steps.{CallsAreShown, IsCalled}
 use Rattle.proof_engine_view.proofs.Growing.{sent_more}
-use Rattle.proof_engine_view.specs.Seen as in_queues
+use Rattle.observation.specs.CoreCalls as in_queues
 use Rattle.proof_engine_view.specs.Shown.{IsShown}
 use Rattle.proof_engine_view.specs.Standing.{AreSent, CanLeave, all_gone}
 use Rattle.proof_engine_view.specs.Transfers.{Announcements, after_out}
@@ -46,7 +46,7 @@ use Rattle.proof_group_network.specs.Network.{Ask, GroupNetwork, happens}
 use Rattle.proof_link_truth.specs.Events.{EventsAreTrue, LeavesTrue, MaySendAll, all_addressed}
 use Rattle.endpoint_links.specs.Links.{LinksOf}
 use Rattle.endpoint_links.specs.Links as carriers
-use Rattle.proof_link_truth.specs.Wire.{place_of}
+use Rattle.link_truth.specs.Wire.{place_of}
 use Rattle.proof_pure_network.specs.Claims.{ClaimsOnce}
 use Rattle.proof_pure_network.specs.Core.{Core, view}
 use Rattle.proof_pure_network.specs.Engine.{called, core_ready, core_settled}
@@ -71,10 +71,11 @@ use Rattle.requests.specs.Regions.{handed_of}
 use Rattle.sessions.specs.Events.{Sending, after_event, sends_limit}
 use Rattle.sessions.specs.SessionsState.{SessionsState}
 use Rattle.vocabulary.specs.declared.endpoint.Endpoint.{Endpoint}
-use Rattle.proof_network_bridge.specs.Joined.{IsClean, IsHeldBy, network_after, sessions_in}
+use Rattle.proof_network_bridge.specs.Joined.{IsClean, IsHeldBy, network_after}
+use Rattle.observation.specs.Sessions.{sessions_in}
 use Rattle.proof_network_bridge.specs.GoingOn.{LeavesFollowedOn}
 use Rattle.proof_network_bridge.specs.Payloads.{ArePayloads}
-use Rattle.proof_network_bridge.specs.Seen.{call_seen, told_call, told_completion}
+use Rattle.observation.specs.EngineCalls.{call_seen, told_call, told_completion}
 use Rattle.proof_network_bridge.proofs.Calls.{CoreCallsFollow}
 use Rattle.proof_network_bridge.proofs.Carrying.{all_same, may_send}
 use Rattle.proof_network_bridge.proofs.Finding.{idle_by}

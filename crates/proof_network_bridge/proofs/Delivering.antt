@@ -13,7 +13,7 @@ use Rattle.perfect_groups.specs.Membership as membership
 use Rattle.proof_collective_steps.proofs.RankSteps.{lessons_of_ranks_follow, settlings_of_ranks_follow}
 use Rattle.proof_collective_steps.specs.RankLaws.{lesson_at, lesson_ends}
 use Rattle.proof_collective_steps.specs.Shown as collectives
-use Rattle.proof_collective_steps.specs.Shown.{ending_is}
+use Rattle.observation.specs.Endings.{ending_is}
 use Rattle.proof_engine_steps.proofs.Further.{met_known}
 use Rattle.proof_engine_steps.specs.Steps.{IsWoken, NewsAreShown, WakesAreShown}
 use Rattle.proof_engine_view.specs.Shown.{IsShown}
@@ -29,8 +29,8 @@ use Rattle.proof_link_truth.specs.Deliveries as deliveries
 use Rattle.proof_link_truth.specs.Deliveries.{DeliveriesBegin, DiscardsAreTrue, OrderIsFree, TurnIsTrue, TurnsAreTrue, TurnsTellTheTruth}
 use Rattle.proof_link_truth.specs.Events as below
 use Rattle.proof_link_truth.specs.Events.{EventsAreTrue, HearingIsTrue, HearsTruth, IsFromDatagram, LeavesTrue, RestIsTrue}
-use Rattle.proof_link_truth.specs.Truth.{AreTrue}
-use Rattle.proof_link_truth.specs.Wire.{at}
+use Rattle.link_truth.specs.Truth.{AreTrue}
+use Rattle.link_truth.specs.Wire.{at}
 use Rattle.endpoint_links.specs.Links.{LinksOf}
 use Rattle.proof_pure_network.specs.Core.{Core}
 use Rattle.proof_pure_network.specs.Engine.{core_ready, core_settled, met}
@@ -44,9 +44,10 @@ use Rattle.sessions.specs.SessionsState.{SessionsState}
 use Rattle.sessions.specs.declared.heard.Unheard.{Unheard}
 use Rattle.vocabulary.specs.declared.endpoint.Endpoint.{Endpoint}
 use Rattle.proof_network_bridge.specs.GoingOn.{DatagramsFollowOn, Happened, LeavesFollowedOn, Stands}
-use Rattle.proof_network_bridge.specs.Joined.{IsClean, IsFollowed, IsHeldBy, IsJoined, network_after, sessions_in}
+use Rattle.proof_network_bridge.specs.Joined.{IsClean, IsFollowed, IsHeldBy, IsJoined, network_after}
+use Rattle.observation.specs.Sessions.{sessions_in}
 use Rattle.proof_network_bridge.specs.Payloads.{ArePayloads}
-use Rattle.proof_network_bridge.specs.Seen.{told_completion}
+use Rattle.observation.specs.EngineCalls.{told_completion}
 use Rattle.proof_network_bridge.proofs.Datagrams.{heard_step}
 use Rattle.proof_network_bridge.proofs.Followed.{IsHeldUnder, clean_emptied, followed, followed_unanswered, held_by, held_emptied}
 use Rattle.proof_network_bridge.proofs.Halves.{leaves_engines, sessions_set}

@@ -18,7 +18,7 @@ use Rattle.perfect_queues.specs.Calls as queues
 use Rattle.perfect_queues.specs.Receives as receives
 use Rattle.perfect_queues.specs.Receives.{such_receive}
 use Rattle.proof_engine_steps.specs.Probes.{LooksAreShown, SearchesFindAll, told_of as told_of_probe}
-use Rattle.proof_engine_view.specs.Seen.{probe_seen}
+use Rattle.observation.specs.CoreCalls.{probe_seen}
 use Rattle.proof_engine_view.specs.Shown.{IsShown}
 use Rattle.proof_engine_view.specs.Transfers.{Announcements}
 use Rattle.proof_pure_network.specs.Core.{Core}
@@ -33,7 +33,7 @@ use Rattle.point_to_point.specs.Calls.{Answers}
 use Rattle.point_to_point.specs.Messages.{looked}
 use Rattle.requests.specs.declared.awaited_requests.Awaited.{Awaited}
 use Rattle.vocabulary.specs.declared.envelope.Status.{Status}
-use Rattle.proof_network_bridge.specs.Seen.{call_seen}
+use Rattle.observation.specs.EngineCalls.{call_seen}
 use Rattle.proof_network_bridge.proofs.Halves.{neither_fault}
 
 -- nothing is blocked where it isn't busy

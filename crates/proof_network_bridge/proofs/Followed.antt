@@ -15,7 +15,7 @@ use Rattle.proof_group_network.specs.Happened.{IsAfter}
 use Rattle.proof_group_network.specs.Network.{GroupNetwork, Happening, NoticeLink, happens, new_group_network}
 use Rattle.proof_group_network.specs.Notices.{Member}
 use Rattle.proof_link_truth.specs.Events.{LeavesTrue}
-use Rattle.proof_link_truth.specs.Truth.{AreTrue}
+use Rattle.link_truth.specs.Truth.{AreTrue}
 use Rattle.endpoint_links.specs.Links.{LinksOf}
 use Rattle.proof_pure_network.specs.Core.{Core}
 use Rattle.proof_pure_network.specs.Links.{Link}
@@ -27,9 +27,10 @@ use Rattle.point_to_point.specs.CoreState.{CoreState}
 use Rattle.vocabulary.specs.Endpoints.{is_same}
 use Rattle.vocabulary.specs.declared.endpoint.Endpoint.{Endpoint}
 use Rattle.proof_network_bridge.specs.GoingOn.{Happened, IsFollowedBy, IsFollowedOn, LeavesFollowedOn, Stands}
-use Rattle.proof_network_bridge.specs.Joined.{IsClean, IsFollowed, IsHeldBy, IsJoined, network_after, sessions_in}
+use Rattle.proof_network_bridge.specs.Joined.{IsClean, IsFollowed, IsHeldBy, IsJoined, network_after}
+use Rattle.observation.specs.Sessions.{sessions_in}
 use Rattle.proof_network_bridge.specs.Payloads.{ArePayloads, SaidGrows}
-use Rattle.proof_network_bridge.specs.Seen.{told_completion}
+use Rattle.observation.specs.EngineCalls.{told_completion}
 use Rattle.proof_network_runs.specs.Runs.{rank_of}
 use Rattle.proof_network_bridge.proofs.Payloads.{payloads_grow}
 use Rattle.proof_network_bridge.proofs.Halves.{leaves_engines}

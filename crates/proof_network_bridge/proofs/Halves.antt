@@ -11,9 +11,9 @@ use Rattle.engine_calls.specs.EngineState.{EngineState, emptied}
 use Rattle.engine_calls.specs.Refusals.{fault_of_sessions, first_fault}
 use Rattle.vocabulary.specs.declared.endpoint.Endpoint.{Endpoint}
 use Rattle.proof_link_truth.specs.Events.{LeavesTrue}
-use Rattle.proof_link_truth.specs.Links.{Links}
-use Rattle.proof_link_truth.specs.Truth.{AreTrue}
-use Rattle.proof_network_bridge.specs.Joined.{sessions_in}
+use Rattle.link_truth.specs.Links.{Links}
+use Rattle.link_truth.specs.Truth.{AreTrue}
+use Rattle.observation.specs.Sessions.{sessions_in}
 
 -- ---- the sessions of engines
 

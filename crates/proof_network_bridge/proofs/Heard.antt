@@ -17,20 +17,20 @@ use Rattle.requests.specs.declared.answer.Answer.{Answer}
 use Rattle.sessions.specs.Events.{taught_known}
 use Rattle.vocabulary.specs.declared.endpoint.Endpoint.{Endpoint}
 use Rattle.proof_collective_steps.specs.RankLaws.{lesson_at, lesson_ends}
-use Rattle.proof_collective_steps.specs.Shown.{ending_is}
+use Rattle.observation.specs.Endings.{ending_is}
 use Rattle.proof_engine_steps.specs.Steps.{IsFromOther}
 use Rattle.proof_engine_view.specs.Frames.{known_after}
-use Rattle.proof_engine_view.specs.Seen as in_queues
+use Rattle.observation.specs.CoreCalls as in_queues
 use Rattle.proof_group_network.specs.Carried.{Sessions}
 use Rattle.proof_group_network.specs.Happened.{IsWord}
 use Rattle.proof_group_network.specs.Network.{GroupNetwork}
 use Rattle.proof_link_truth.specs.Events as below
 use Rattle.proof_link_truth.specs.Events.{IsLesson}
-use Rattle.proof_link_truth.specs.Wire.{at, place_of}
+use Rattle.link_truth.specs.Wire.{at, place_of}
 use Rattle.proof_pure_network.specs.Network.{here}
 use Rattle.proof_network_bridge.specs.Joined.{IsHeldBy, IsJoined}
 use Rattle.proof_network_bridge.specs.OnWorld.{entries_on_world}
-use Rattle.proof_network_bridge.specs.Seen.{told_completion}
+use Rattle.observation.specs.EngineCalls.{told_completion}
 use Rattle.proof_network_bridge.proofs.Worlds.{place_is}
 
 -- ---- what the two halves say of a word

@@ -13,7 +13,7 @@ use Rattle.proof_group_network.specs.Midway.{Stands, unsettled}
 use Rattle.proof_group_network.specs.Network.{GroupNetwork, NoticeLink}
 use Rattle.proof_group_network.specs.Notices.{Member}
 use Rattle.proof_link_truth.specs.Events.{IsTrueWord, MaySendAll, all_addressed, links_heeded}
-use Rattle.proof_link_truth.specs.Wire.{at, place_of}
+use Rattle.link_truth.specs.Wire.{at, place_of}
 use Rattle.endpoint_links.specs.Links.{LinksOf, accept_all}
 use Rattle.proof_pure_network.specs.Core.{Core, new_core}
 use Rattle.proof_pure_network.specs.Links.{Link}

@@ -45,8 +45,8 @@ use Rattle.proof_group_network.specs.Network.{GroupNetwork, NoticeLink, also, no
 use Rattle.proof_group_network.specs.Notices.{Notice}
 use Rattle.proof_group_network.specs.SessionLaws.{IsNext}
 use Rattle.proof_link_truth.specs.Events.{all_addressed}
-use Rattle.proof_link_truth.specs.Links as lower
-use Rattle.proof_link_truth.specs.Wire.{place_of}
+use Rattle.link_truth.specs.Links as lower
+use Rattle.link_truth.specs.Wire.{place_of}
 use Rattle.endpoint_links.specs.Links.{LinksOf}
 use Rattle.proof_pure_network.specs.Core.{Core}
 use Rattle.proof_pure_network.specs.Network.{here}

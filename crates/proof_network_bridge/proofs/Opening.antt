@@ -17,8 +17,8 @@ use Rattle.proof_group_network.specs.Notices.{Member}
 use Rattle.proof_group_network.specs.SessionLaws.{NewSessionsArePart}
 use Rattle.proof_group_network.specs.Unborn.{MembersAreNew, UnbornAreNew}
 use Rattle.proof_link_truth.specs.Events.{OpeningIsTrue, RestartsAreTrue, no_links, opening_sessions}
-use Rattle.proof_link_truth.specs.Truth.{AreTrue}
-use Rattle.proof_link_truth.specs.Wire.{at, place_of}
+use Rattle.link_truth.specs.Truth.{AreTrue}
+use Rattle.link_truth.specs.Wire.{at, place_of}
 use Rattle.proof_pure_network.proofs.EventKept.{current_more}
 use Rattle.proof_pure_network.specs.Core.{Core, new_core}
 use Rattle.proof_pure_network.specs.Network.{here}
@@ -27,7 +27,8 @@ use Rattle.sessions.specs.SessionsState.{SessionsState}
 use Rattle.vocabulary.specs.declared.endpoint.Endpoint.{Endpoint}
 use Rattle.proof_network_bridge.specs.Following.{next_place}
 use Rattle.proof_network_bridge.specs.GoingOn.{Happened, OpeningFollowsNone, RestartsFollowOn}
-use Rattle.proof_network_bridge.specs.Joined.{IsClean, IsJoined, network_after, opening_engines, sessions_in}
+use Rattle.proof_network_bridge.specs.Joined.{IsClean, IsJoined, network_after, opening_engines}
+use Rattle.observation.specs.Sessions.{sessions_in}
 use Rattle.proof_network_bridge.specs.Payloads.{ArePayloads}
 use Rattle.proof_network_bridge.proofs.Followed.{IsHeldUnder, held_at, held_by}
 use Rattle.proof_network_bridge.proofs.Halves.{sessions_set, sessions_there}

@@ -16,7 +16,7 @@ use Rattle.proof_group_network.specs.Network.{GroupNetwork, hear_member}
 use Rattle.proof_group_network.specs.Notices.{Member}
 use Rattle.proof_group_network.specs.NoticesStand.{heard_member}
 use Rattle.proof_link_truth.specs.Events as below
-use Rattle.proof_link_truth.specs.Wire.{at, place_of}
+use Rattle.link_truth.specs.Wire.{at, place_of}
 use Rattle.endpoint_links.specs.Links.{LinksOf}
 use Rattle.proof_pure_network.specs.Announced.{MeetingsStand}
 use Rattle.proof_pure_network.specs.Core.{Core}

@@ -16,13 +16,14 @@ use Rattle.perfect_groups.specs.Membership.{Membership}
 use Rattle.proof_group_network.specs.Happened.{IsAfter, QuestionsHappen, reply_of}
 use Rattle.proof_group_network.specs.Network.{Ask, GroupNetwork, happens}
 use Rattle.proof_link_truth.specs.Events.{RestIsTrue}
-use Rattle.proof_link_truth.specs.Wire.{place_of}
+use Rattle.link_truth.specs.Wire.{place_of}
 use Rattle.proof_pure_network.specs.Network.{here}
 use Rattle.proof_session_carrying.specs.MessageLaws.{OthersAreCarried}
 use Rattle.vocabulary.specs.declared.endpoint.Endpoint.{Endpoint}
 use Rattle.proof_network_bridge.specs.GoingOn.{LeavesFollowedOn}
-use Rattle.proof_network_bridge.specs.Joined.{IsClean, IsHeldBy, network_after, sessions_in}
-use Rattle.proof_network_bridge.specs.Seen.{told_call, told_completion}
+use Rattle.proof_network_bridge.specs.Joined.{IsClean, IsHeldBy, network_after}
+use Rattle.observation.specs.Sessions.{sessions_in}
+use Rattle.observation.specs.EngineCalls.{told_call, told_completion}
 use Rattle.proof_network_bridge.proofs.Calls.{LeavesCalled, QuestionsFollow}
 use Rattle.proof_network_bridge.proofs.Followed as followed
 use Rattle.proof_network_bridge.proofs.Followed.{followed_after}

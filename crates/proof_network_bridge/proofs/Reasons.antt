@@ -19,7 +19,7 @@ use Rattle.perfect_groups.specs.Events.{Entry}
 use Rattle.perfect_groups.specs.Faults.{fault, fault_by, is_within}
 use Rattle.perfect_queues.specs.Refusals.{standing}
 use Rattle.proof_collective_steps.specs.Shown as collectives
-use Rattle.proof_engine_steps.specs.Refused.{IsReason}
+use Rattle.observation.specs.Reasons.{IsReason}
 use Rattle.proof_engine_view.specs.Transfers.{Announcements}
 use Rattle.proof_session_carrying.specs.Announced.{announcements_in}
 use Rattle.proof_group_network.proofs.NoticesStand.{notices_stand}
@@ -31,9 +31,9 @@ use Rattle.proof_network_bridge.proofs.Refusals.{by_rule, free_faultless, free_r
 use Rattle.proof_network_bridge.proofs.Routed.{IsFree}
 use Rattle.proof_network_bridge.proofs.Worlds.{place_is}
 use Rattle.proof_network_bridge.specs.Alone.{EnginesAreRanks, EnginesJudgeAsTheMachine, EnginesRefuseAsTheMachine, EnginesTakeNoFault, IsRank}
-use Rattle.proof_network_bridge.specs.Following.{IsFaultless}
+use Rattle.observation.specs.Faults.{IsFaultless}
 use Rattle.proof_network_bridge.specs.Joined.{IsFollowed, network_after}
-use Rattle.proof_network_bridge.specs.Seen.{call_meant, call_seen}
+use Rattle.observation.specs.EngineCalls.{call_meant, call_seen}
 use Rattle.proof_pure_network.specs.Core.{Core, view}
 use Rattle.proof_pure_network.specs.Held.{blank}
 use Rattle.proof_pure_network.specs.Network.{here}

@@ -37,15 +37,16 @@ use Rattle.perfect_queues.specs.Refusals.{Standing, is_held, standing}
 use Rattle.perfect_queues.specs.State.{Local}
 use Rattle.proof_engine_steps.proofs.RefusedCalls.{allowed_calls_are_faultless, faults_have_reasons, room_is_a_reason}
 use Rattle.proof_engine_steps.proofs.Starting.{core_free}
-use Rattle.proof_engine_steps.specs.Refused.{HasReason, IsOutOfRoom, IsReason, MachinesFault, NoRoom}
+use Rattle.proof_engine_steps.specs.Refused.{HasReason}
+use Rattle.observation.specs.Reasons.{IsOutOfRoom, IsReason, MachinesFault, NoRoom}
 use Rattle.proof_engine_view.specs.Faults.{queue_fault}
-use Rattle.proof_engine_view.specs.Seen as in_queues
+use Rattle.observation.specs.CoreCalls as in_queues
 use Rattle.proof_engine_view.specs.Transfers.{Announcements}
 use Rattle.proof_network_bridge.proofs.Halves.{neither_fault}
 use Rattle.proof_network_bridge.proofs.Members.{named_same}
 use Rattle.proof_network_bridge.proofs.Routed.{IsFree, fault_cut, group_full, group_routed_full, or_fault, routed_full, rule_broken, rule_kept}
-use Rattle.proof_network_bridge.specs.Following.{IsFaultless}
-use Rattle.proof_network_bridge.specs.Seen.{call_by, call_meant, call_seen}
+use Rattle.observation.specs.Faults.{IsFaultless}
+use Rattle.observation.specs.EngineCalls.{call_by, call_meant, call_seen}
 use Rattle.proof_pure_network.specs.Core.{Core, view}
 use Rattle.proof_pure_network.specs.Held.{blank}
 use Rattle.point_to_point_calls.specs.Refusals.{number_of_refusal}

@@ -18,9 +18,9 @@ use Rattle.perfect_queues.specs.State.{Local}
 use Rattle.incarnation.specs.declared.place.Place.{Place}
 use Rattle.proof_engine_steps.proofs.RefusedCalls.{allowed_calls_are_faultless, faults_have_reasons}
 use Rattle.proof_engine_steps.specs.Refused as cores
-use Rattle.proof_engine_steps.specs.Refused.{IsOutOfRoom, IsReason, MachinesFault, NoRoom}
+use Rattle.observation.specs.Reasons.{IsOutOfRoom, IsReason, MachinesFault, NoRoom}
 use Rattle.proof_engine_view.specs.Faults.{queue_fault}
-use Rattle.proof_engine_view.specs.Seen.{call_meant, call_seen}
+use Rattle.observation.specs.CoreCalls.{call_meant, call_seen}
 use Rattle.proof_engine_view.specs.Shown.{IsShown}
 use Rattle.proof_engine_view.specs.Transfers.{Announcements}
 use Rattle.proof_pure_network.specs.Core.{Core, view}

@@ -13,9 +13,9 @@ use Rattle.payload.proofs.Grammar.{payload_again}
 use Rattle.proof_collective_steps.specs.Sending.{AreWithinTypes, IsSendable}
 use Rattle.proof_engine_steps.proofs.Announces.{most_begun, next_below}
 use Rattle.proof_link_truth.specs.Events.{Comes, EventsAreTrue, IsAt, LeavesTrue, MaySend, MaySendAll, all_addressed, links_heard}
-use Rattle.proof_link_truth.specs.Links.{Links}
-use Rattle.proof_link_truth.specs.Truth.{AreTrue}
-use Rattle.proof_link_truth.specs.Wire.{CanBeSent, at, place_of}
+use Rattle.link_truth.specs.Links.{Links}
+use Rattle.link_truth.specs.Truth.{AreTrue}
+use Rattle.link_truth.specs.Wire.{CanBeSent, at, place_of}
 use Rattle.endpoint_links.specs.Links.{accept_all}
 use Rattle.proof_session_carrying.specs.Carrying.{bytes_of_message}
 use Rattle.proof_session_carrying.specs.EventLaws.{Bring, Tells}

@@ -24,7 +24,7 @@ use Rattle.proof_group_network.specs.Network.{NoticeLink, notify, notify_all}
 use Rattle.proof_group_network.specs.Notices.{Notice}
 use Rattle.proof_link_truth.proofs.Lists.{All_append}
 use Rattle.proof_link_truth.specs.Events.{all_addressed}
-use Rattle.proof_link_truth.specs.Wire.{at, place_of}
+use Rattle.link_truth.specs.Wire.{at, place_of}
 use Rattle.endpoint_links.specs.Links.{accept, accept_all}
 use Rattle.proof_pure_network.specs.Announced.{Begins}
 use Rattle.proof_pure_network.specs.Core.{Core}

@@ -13,8 +13,9 @@ use Rattle.point_to_point_calls.specs.declared.refusal.Refusal.{Refusal}
 use Rattle.sessions.specs.Heard.{HeardText, heard_of}
 use Rattle.sessions.specs.declared.heard.Unheard.{Unheard}
 use Rattle.proof_network_bridge.specs.GoingOn.{IsFollowedBy, RefusalsStand, TicksStand}
-use Rattle.proof_network_bridge.specs.Joined.{IsFollowed, network_after, sessions_in}
-use Rattle.proof_network_bridge.specs.Seen.{told_completion}
+use Rattle.proof_network_bridge.specs.Joined.{IsFollowed, network_after}
+use Rattle.observation.specs.Sessions.{sessions_in}
+use Rattle.observation.specs.EngineCalls.{told_completion}
 use Rattle.proof_network_bridge.proofs.Followed.{IsBeside, followed, followed_still, followed_unanswered}
 use Rattle.proof_network_bridge.proofs.Halves.{Keeps, away_keeps}
 use Rattle.proof_network_bridge.proofs.Worlds.{is_at}

@@ -39,8 +39,8 @@ use Rattle.proof_group_network.specs.Notices.{Member}
 use Rattle.proof_group_network.specs.NoticesStand.{heard_member}
 use Rattle.proof_link_truth.specs.Events as below
 use Rattle.proof_link_truth.specs.Events.{IsTrueWord, MaySendAll, all_addressed, links_heeded}
-use Rattle.proof_link_truth.specs.Links as lower
-use Rattle.proof_link_truth.specs.Wire.{at}
+use Rattle.link_truth.specs.Links as lower
+use Rattle.link_truth.specs.Wire.{at}
 use Rattle.endpoint_links.specs.Links.{LinksOf}
 use Rattle.proof_pure_network.specs.Announced.{MeetingsStand}
 use Rattle.proof_pure_network.specs.Core.{Effect}

@@ -23,18 +23,19 @@ use Rattle.proof_session_carrying.proofs.Carrying.{accepted_begins}
 use Rattle.proof_session_carrying.proofs.Growing.{announced_append, announced_grow, at_here, same_begins, transfers_grow}
 use Rattle.collective_messages.specs.declared.message.CollectiveMessage.{CollectiveMessage}
 use Rattle.datagram.specs.Spelling.{FrameText}
-use Rattle.proof_link_truth.specs.Sessions.{SessionsTell, is_pair}
+use Rattle.link_truth.specs.Sessions.{SessionsTell, is_pair}
 use Rattle.proof_session_carrying.specs.Announced.{Announced, all_announced, announced_in, announcements_in, transfer_as, transfers_as}
 use Rattle.proof_engine_steps.proofs.UnderWay.{others_may_announce}
 use Rattle.proof_pure_network.specs.Network.{Network, here}
 use Rattle.proof_engine_view.specs.Shown.{IsShown}
 use Rattle.proof_group_network.specs.Network.{GroupNetwork, Happening, happens, run}
 use Rattle.proof_link_truth.specs.Events.{IsAt}
-use Rattle.proof_link_truth.specs.Truth.{AreTrue}
-use Rattle.proof_link_truth.specs.Wire.{at, place_of}
+use Rattle.link_truth.specs.Truth.{AreTrue}
+use Rattle.link_truth.specs.Wire.{at, place_of}
 use Rattle.proof_session_carrying.specs.Carrying.{Saying, StandFor}
 use Rattle.proof_session_carrying.specs.EventLaws.{AreJoined}
-use Rattle.proof_network_bridge.specs.Joined.{IsJoined, sessions_in}
+use Rattle.proof_network_bridge.specs.Joined.{IsJoined}
+use Rattle.observation.specs.Sessions.{sessions_in}
 use Rattle.proof_network_bridge.proofs.Halves.{sessions_there}
 
 -- what stands at a place of a list of which one place was set

@@ -10,7 +10,7 @@ use Rattle.perfect_groups.specs.Calls as machine
 use Rattle.perfect_groups.specs.Events.{Entry}
 use Rattle.perfect_groups.specs.Faults.{fault}
 use Rattle.proof_collective_steps.specs.Shown as collectives
-use Rattle.proof_engine_steps.specs.Refused.{IsReason}
+use Rattle.observation.specs.Reasons.{IsReason}
 use Rattle.proof_engine_view.specs.Shown.{IsShown}
 use Rattle.proof_engine_view.specs.Transfers.{Announcements}
 use Rattle.proof_group_network.specs.Notices.{Member}
@@ -18,9 +18,9 @@ use Rattle.proof_pure_network.specs.Core.{Core, view}
 use Rattle.proof_pure_network.specs.Held.{blank}
 use Rattle.proof_queue_calls.specs.Halves.{AreInWorld}
 use Rattle.point_to_point_calls.specs.declared.refusal.Refusal.{Refusal}
-use Rattle.proof_network_bridge.specs.Following.{IsFaultless}
+use Rattle.observation.specs.Faults.{IsFaultless}
 use Rattle.proof_network_bridge.specs.Joined.{IsFollowed}
-use Rattle.proof_network_bridge.specs.Seen.{call_meant, call_seen}
+use Rattle.observation.specs.EngineCalls.{call_meant, call_seen}
 
 -- An engine is a rank: it holds the requests and messages that this core holds, and knows the ranks as the core does; it holds the
 -- communicators that this member holds, and is in the same collective; and these are of ranks of its job. `progress_on_announcement` are the

@@ -25,10 +25,13 @@ use Rattle.vocabulary.specs.declared.endpoint.Endpoint.{Endpoint}
 use Rattle.perfect_queues.specs.Calls as queues
 use Rattle.perfect_queues.specs.Quiet.{IsAtRest, ProbesFindAll}
 use Rattle.perfect_queues.specs.Receives as receives
-use Rattle.proof_engine_steps.specs.Refused.{IsReason}
-use Rattle.proof_link_truth.specs.Quiet.{AreQuiet}
-use Rattle.proof_network_bridge.specs.Joined.{IsFollowed, opening_engines, sessions_in}
-use Rattle.proof_network_bridge.specs.Seen.{call_meant, call_seen, told_call, told_completion}
+use Rattle.observation.specs.Reasons.{IsReason}
+use Rattle.link_truth.specs.Quiet.{AreQuiet}
+use Rattle.proof_network_bridge.specs.Joined.{IsFollowed, opening_engines}
+use Rattle.observation.specs.Sessions.{sessions_in}
+use Rattle.observation.specs.EngineCalls.{call_meant, call_seen, told_call, told_completion}
+pub use Rattle.observation.specs.Faults.{fault_in, IsFaultless, AnswersNone, LooksInVain, SearchesInVain}
+
 
 -- ---- what an event is to an engine
 
@@ -103,6 +106,7 @@ next_place p = record {
   endpoint = record { rank = p.endpoint.rank; incarnation = suc p.endpoint.incarnation };
   size = p.size;
   job = p.job;
+
 }
 
 -- a rank is started anew
@@ -114,26 +118,6 @@ RestartsFollow =
     old.sessions.place.endpoint.incarnation < last_incarnation →
     IsFollowed n (slice_set engines r (opening (next_place old.sessions.place))) datagrams
     (history ++ machine.Restarted r ∷ [])
-
--- the fault of a call at an endpoint, in a state of the machine
-abbrev pub fault_in : Machine → Endpoint → machine_calls.Call → Option ℕ
-fault_in s e call = fault e (s.queues.at e) (s.groups.of e) call
-
--- a call that names no request of another engine, and with which the machine finds no fault
-pub record IsFaultless (found : Option ℕ) (c : CoreState) (call : Call) : Type 0 where
-  pub own : call_meant c call ≡ call_seen call
-  pub none : found ≡ None
-
--- the engine at an endpoint answers a probe, which is this one in the machine, with none: one that looks, or one that takes out
-pub data AnswersNone (engines : List EngineState) (x : Endpoint) (q : receives.Probe) : Type 0 where
-  LooksInVain :
-      (r : ℕ) (e mid : EngineState) (p : Probe) → slice_get engines r ≡ Some e → e.sessions.place.endpoint ≡ x →
-      queue_call (member_of e.groups) (call_seen (calls.Iprobe p)) ≡ Some (queues.Iprobe q) →
-      CallGives e (calls.Iprobe p) (replies.Probed None) mid → AnswersNone engines x q
-  SearchesInVain :
-      (r : ℕ) (e mid : EngineState) (p : Probe) → slice_get engines r ≡ Some e → e.sessions.place.endpoint ≡ x →
-      queue_call (member_of e.groups) (call_seen (calls.Improbe p)) ≡ Some (queues.Improbe q) →
-      CallGives e (calls.Improbe p) (replies.Matched None) mid → AnswersNone engines x q
 
 -- A history is seen of a run of the machine of queues and groups among n ranks. The run ends with each rank at the
 -- incarnation of its engine, which knows there what its engine knows; a call that its engine refuses has a reason there, and

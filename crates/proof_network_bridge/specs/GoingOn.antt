@@ -14,7 +14,7 @@ use Rattle.point_to_point_calls.specs.declared.refusal.Refusal.{Refusal}
 use Rattle.vocabulary.specs.Endpoints.{last_incarnation}
 use Rattle.proof_network_bridge.specs.Following.{IsSeenOfMachine, RefusesDatagram, TakesDatagram, TakesTick, next_place}
 use Rattle.proof_network_bridge.specs.Joined.{IsJoined, network_after, opening_engines}
-use Rattle.proof_network_bridge.specs.Seen.{told_call, told_completion}
+use Rattle.observation.specs.EngineCalls.{told_call, told_completion}
 
 -- these happenings lead to a network of at most 1,024 ranks that is joined to the world, and of which the same is seen
 pub record IsFollowedBy (n : ℕ) (happenings : List Happening) (engines : List EngineState) (datagrams : List (ℕ × List ℕ)) (history : List machine.Entry) : Type 0 where

@@ -7,8 +7,8 @@ use Rattle.proof_collective_steps.specs.Shown as collectives
 use Rattle.proof_engine_view.specs.Shown.{IsShown}
 use Rattle.proof_group_network.specs.Carried.{Sessions}
 use Rattle.proof_group_network.specs.Network.{GroupNetwork, Happening, new_group_network, run}
-use Rattle.proof_link_truth.specs.Truth.{AreTrue}
-use Rattle.proof_link_truth.specs.Wire.{at, place_of}
+use Rattle.link_truth.specs.Truth.{AreTrue}
+use Rattle.link_truth.specs.Wire.{at, place_of}
 use Rattle.endpoint_links.specs.Links.{LinksOf}
 use Rattle.proof_pure_network.specs.Core.{new_core}
 use Rattle.proof_pure_network.specs.Network.{here}
@@ -18,10 +18,7 @@ use Rattle.proof_session_carrying.specs.EventLaws.{AreJoined}
 use Rattle.proof_network_bridge.specs.Payloads.{ArePayloads}
 use Rattle.sessions.specs.SessionsState.{SessionsState}
 use Rattle.vocabulary.specs.declared.endpoint.Endpoint.{Endpoint}
-
--- the sessions of these engines, rank by rank
-abbrev pub sessions_in : List EngineState → List SessionsState
-sessions_in engines = map (λ (e : EngineState). e.sessions) engines
+pub use Rattle.observation.specs.Sessions.{sessions_in}
 
 -- the engines of k ranks among n, from this rank on, at their first incarnations
 abbrev pub opening_engines : (n rank : ℕ) → ℕ → List EngineState

@@ -36,7 +36,7 @@ use Rattle.point_to_point.specs.Waiting.{Cancels, Tests, TestsBy, Waits, WaitsBy
 use Rattle.vocabulary.specs.declared.endpoint.Endpoint.{Endpoint}
 use Rattle.vocabulary.specs.declared.envelope.Source.{Source}
 use Rattle.vocabulary.specs.declared.envelope.Source.TheVariants as sources
-use Rattle.proof_request_keys.specs.Keys.{message_given}
+use Rattle.observation.specs.Requests.{message_given}
 use Rattle.proof_request_keys.proofs.Tables.{All, arrival_stays, cancel_stays, delivered_stays, own_sent_stays, receive_stays, replaces_stay, sent_stays, start_stays, use_stays}
 
 -- ---- events that start nothing

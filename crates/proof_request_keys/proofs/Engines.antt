@@ -20,7 +20,7 @@ use Rattle.engine_calls.specs.declared.call.Call.TheVariants as calls
 use Rattle.engine_calls.specs.declared.call.Probe.{Probe}
 use Rattle.engine_calls.specs.declared.reply.Reply.{Reply}
 use Rattle.engine_calls.specs.declared.reply.Reply.TheVariants as replies
-use Rattle.proof_engine_view.specs.Seen.{has_serial}
+use Rattle.observation.specs.CoreCalls.{has_serial}
 use Rattle.point_to_point_calls.specs.declared.call.CoreReply as core_answers
 use Rattle.point_to_point_calls.specs.declared.call.CoreReply.TheVariants as core_replies
 use Rattle.point_to_point.specs.CoreState.{CoreState}
@@ -30,7 +30,8 @@ use Rattle.requests.specs.declared.table.Request.{Request}
 use Rattle.sessions.specs.Heard.{Acknowledges, Follows, Hands, HeardText, Holds, Nothing, Repeats, WordText, heard_of}
 use Rattle.sessions.specs.declared.heard.Unheard.{Unheard}
 use Rattle.vocabulary.specs.declared.endpoint.Endpoint.{Endpoint}
-use Rattle.proof_request_keys.specs.Keys.{AreGiven, CallsKeepKeys, DatagramsKeepKeys, GivenAreNamed, IsApart, IsBelow, IsNamed, KeepsKeys, NamedAreOwn, TicksKeepKeys, request_given}
+use Rattle.proof_request_keys.specs.Keys.{AreGiven, CallsKeepKeys, DatagramsKeepKeys, GivenAreNamed, IsApart, IsBelow, IsNamed, KeepsKeys, NamedAreOwn, TicksKeepKeys}
+use Rattle.observation.specs.Requests.{request_given}
 use Rattle.proof_request_keys.proofs.Cores.{GoesOn, IsNext, StaysIn, as_stays, call_goes_on, news_stay, request_in, same_stays, then_stays, woken_stays}
 use Rattle.proof_request_keys.proofs.Tables.{All, At}
 

@@ -14,7 +14,7 @@ use Rattle.interpreter.specs.NamesState.{NamesState, given_back, with_message, w
 use Rattle.interpreter.specs.declared.steps.AnswerEffect.{AnswerEffect}
 use Rattle.interpreter.specs.declared.steps.AnswerEffect.TheVariants as heards
 use Rattle.interpreter.specs.declared.steps.Told.TheVariants as tolds
-use Rattle.proof_network_bridge.specs.Seen.{call_seen}
+use Rattle.observation.specs.EngineCalls.{call_seen}
 use Rattle.proof_one_meaning.specs.Following.{IsCovered}
 use Rattle.point_to_point_calls.specs.Refusals.{number_of_refusal}
 use Rattle.requests.specs.declared.answer.Answer.{Answer}

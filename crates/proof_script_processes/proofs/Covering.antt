@@ -18,7 +18,7 @@ use Rattle.layouts.specs.Layouts.{Shape}
 use Rattle.one_meaning.specs.Courses.{Calls, Refused, Replied, Told}
 use Rattle.perfect_groups.specs.Calls as machine
 use Rattle.perfect_queues.specs.Calls as queues
-use Rattle.proof_network_bridge.specs.Seen.{call_seen}
+use Rattle.observation.specs.EngineCalls.{call_seen}
 use Rattle.proof_one_meaning.proofs.Playing.{StaysGood}
 use Rattle.proof_one_meaning.specs.Following.{IsCovered, IsNotAny}
 use Rattle.event_loop.specs.declared.runner.RunnerStep.{RunnerStep}

@@ -7,8 +7,8 @@ use Rattle.script_calls.specs.Tables.{Entry}
 use Rattle.one_meaning.specs.Courses.{Calls, Told}
 use Rattle.perfect_groups.specs.Calls as machine
 use Rattle.perfect_queues.specs.Completions as completions
-use Rattle.proof_engine_view.specs.Seen.{own_serial, request_by, requests_by}
-use Rattle.proof_network_bridge.specs.Seen.{call_seen}
+use Rattle.observation.specs.CoreCalls.{own_serial, request_by, requests_by}
+use Rattle.observation.specs.EngineCalls.{call_seen}
 use Rattle.event_loop.specs.declared.runner.RunnerStep.{RunnerStep}
 use Rattle.event_loop.specs.declared.runner.RunnerStep.TheVariants as steps
 use Rattle.requests.specs.Regions.{handed_of}

@@ -11,8 +11,8 @@ use Rattle.engine_calls.specs.declared.reply.Fact.TheVariants as facts
 use Rattle.engine_calls.specs.declared.reply.Reply.{Reply}
 use Rattle.engine_calls.specs.declared.reply.Reply.TheVariants as replies
 use Rattle.interpreter.specs.NamesState.{NamesState}
-use Rattle.proof_collective_steps.specs.Shown.{ending_is}
-use Rattle.proof_engine_view.specs.Seen.{answer_seen, match_seen, outcome_seen, own_serial, request_by}
+use Rattle.observation.specs.Endings.{ending_is}
+use Rattle.observation.specs.CoreCalls.{answer_seen, match_seen, outcome_seen, own_serial, request_by}
 use Rattle.point_to_point_calls.specs.Refusals.{number_of_refusal}
 use Rattle.point_to_point_calls.specs.declared.refusal.Refusal as lower
 use Rattle.point_to_point_calls.specs.declared.refusal.Refusal.TheVariants as lowers

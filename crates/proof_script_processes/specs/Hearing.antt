@@ -8,8 +8,8 @@ use Rattle.one_meaning.specs.Courses.{Refused, Replied, Told}
 use Rattle.perfect_groups.specs.Calls as machine
 use Rattle.perfect_queues.specs.Calls as queues
 use Rattle.perfect_queues.specs.Completions as completions
-use Rattle.proof_collective_steps.specs.Shown.{ending_is}
-use Rattle.proof_engine_view.specs.Seen.{answer_seen, match_seen}
+use Rattle.observation.specs.Endings.{ending_is}
+use Rattle.observation.specs.CoreCalls.{answer_seen, match_seen}
 use Rattle.point_to_point_calls.specs.Refusals.{number_of_refusal}
 use Rattle.script_runner.specs.Running.{RunnerState, next_of}
 use Rattle.proof_script_processes.specs.Forgetting.{plain_call, plain_reply}

@@ -18,7 +18,7 @@ use Rattle.perfect_groups.specs.Membership as membership
 use Rattle.perfect_queues.specs.Calls as queues
 use Rattle.perfect_queues.specs.Completions as completions
 use Rattle.perfect_queues.specs.Outcomes as outcomes_of
-use Rattle.proof_network_bridge.specs.Seen.{call_seen}
+use Rattle.observation.specs.EngineCalls.{call_seen}
 use Rattle.proof_one_meaning.specs.Following.{IsNotAny}
 use Rattle.point_to_point_calls.specs.declared.refusal.Refusal as lower
 use Rattle.point_to_point_calls.specs.declared.refusal.Refusal.TheVariants as lowers

@@ -10,8 +10,8 @@ use Rattle.engine_calls.specs.declared.reply.Reply.{Reply}
 use Rattle.engine_calls.specs.declared.reply.Reply.TheVariants as replies
 use Rattle.perfect_groups.specs.Calls as machine
 use Rattle.perfect_groups.specs.Events.{Called}
-use Rattle.proof_network_bridge.specs.Seen.{call_seen, told_call}
-use Rattle.proof_request_keys.specs.Keys.{request_given}
+use Rattle.observation.specs.EngineCalls.{call_seen, told_call}
+use Rattle.observation.specs.Requests.{request_given}
 use Rattle.requests.specs.declared.table.Request.{Request}
 use Rattle.script_players.specs.Players.{AreAlike, IsCopyOf, IsCopyOfFact}
 use Rattle.vocabulary.specs.declared.endpoint.Endpoint.{Endpoint}

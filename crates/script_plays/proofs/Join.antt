@@ -13,7 +13,7 @@ use Rattle.perfect_groups.specs.Events.{Called, Completed}
 use Rattle.perfect_groups.specs.Events as seen_events
 use Rattle.perfect_groups.specs.Runs.{IsHistory}
 use Rattle.perfect_queues.specs.Calls as queues
-use Rattle.proof_network_bridge.specs.Seen.{call_seen, told_call, told_completion}
+use Rattle.observation.specs.EngineCalls.{call_seen, told_call, told_completion}
 use Rattle.proof_one_meaning.specs.Plays.{HasEnded, HasFault, HasNoRestart, IsAt, Player, Players, PlaysOn, PlaysThrough, Spoke, WasRefused, WasTaken, gone_on, is_blocking, players_at_start, told_by, with_player}
 use Rattle.point_to_point_calls.specs.Refusals.{number_of_refusal}
 use Rattle.event_loop.specs.declared.runner.RunnerStep.{RunnerStep}

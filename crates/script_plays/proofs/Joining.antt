@@ -11,7 +11,7 @@ use Rattle.engine_calls.specs.declared.reply.Completion.TheVariants as completio
 use Rattle.perfect_groups.specs.Communicators.{first_endpoint}
 use Rattle.perfect_groups.specs.Events.{Called, Completed, Restarted}
 use Rattle.perfect_groups.specs.Runs.{IsHistory}
-use Rattle.proof_network_bridge.specs.Seen.{told_completion}
+use Rattle.observation.specs.EngineCalls.{told_completion}
 use Rattle.proof_one_meaning.proofs.Beginnings.{endpoints_are_first}
 use Rattle.proof_one_meaning.specs.Plays.{HasEnded, HasNoRestart, IsOfFirst, Player, Players, PlaysOn, PlaysThrough, Spoke, WasAnswered, WasRefused, WasTaken, with_player}
 use Rattle.script_plays.specs.Alike.{IsAlike}

@@ -7,7 +7,7 @@ use Rattle.engine_calls.specs.declared.reply.Reply.{Reply}
 use Rattle.engine_calls.specs.declared.reply.Reply.TheVariants as replies
 use Rattle.perfect_groups.specs.Communicators.{first_endpoint}
 use Rattle.proof_one_meaning.specs.Plays.{HasNoRestart}
-use Rattle.proof_request_keys.specs.Keys.{request_given}
+use Rattle.observation.specs.Requests.{request_given}
 use Rattle.event_loop.specs.declared.runner.RunnerStep.{RunnerStep}
 use Rattle.event_loop.specs.declared.runner.RunnerStep.TheVariants as steps
 use Rattle.requests.specs.declared.table.Request.{Request}

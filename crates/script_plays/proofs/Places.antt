@@ -17,7 +17,7 @@ use Rattle.perfect_groups.specs.Events.{At, Restart, after_event, call_and_reply
 use Rattle.perfect_groups.specs.Machine.{Differs, InQueues, Leaves, Machine, Move, after_move, after_moves, machine_opening}
 use Rattle.perfect_groups.specs.Runs.{IsRun, after_run, seen}
 use Rattle.proof_network_bridge.proofs.Halves.{sessions_there}
-use Rattle.proof_network_bridge.specs.Seen.{told_call, told_completion}
+use Rattle.observation.specs.EngineCalls.{told_call, told_completion}
 use Rattle.proof_one_meaning.specs.Plays.{HasNoRestart}
 use Rattle.script_plays.specs.Events.{AreEventsOf, IsEventOf}
 use Rattle.script_plays.specs.Playing.{HasHeadline}

@@ -8,9 +8,9 @@ use Rattle.perfect_groups.specs.Calls as machine
 use Rattle.perfect_groups.specs.Communicators.{first_endpoint}
 use Rattle.perfect_groups.specs.Machine.{machine_opening}
 use Rattle.perfect_groups.specs.Runs.{after_run}
-use Rattle.proof_engine_steps.specs.Refused.{IsReason, MachinesFault, NoRoom}
-use Rattle.proof_network_bridge.specs.Following.{fault_in}
-use Rattle.proof_network_bridge.specs.Seen.{call_meant, call_seen}
+use Rattle.observation.specs.Reasons.{IsReason, MachinesFault, NoRoom}
+use Rattle.observation.specs.Faults.{fault_in}
+use Rattle.observation.specs.EngineCalls.{call_meant, call_seen}
 use Rattle.proof_one_meaning.specs.Plays.{HasFault, HasNoRestart}
 use Rattle.point_to_point_calls.specs.Refusals.{number_of_refusal}
 use Rattle.point_to_point_calls.specs.declared.refusal.Refusal as lower

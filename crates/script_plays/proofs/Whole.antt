@@ -13,9 +13,9 @@ use Rattle.perfect_groups.specs.Communicators.{first_endpoint}
 use Rattle.perfect_groups.specs.Events.{Completed}
 use Rattle.perfect_groups.specs.Events as seen_events
 use Rattle.perfect_groups.specs.Runs.{IsHistory}
-use Rattle.proof_collective_steps.specs.Shown.{ending_is}
-use Rattle.proof_engine_view.specs.Seen.{answer_seen}
-use Rattle.proof_network_bridge.specs.Seen.{told_call, told_completion}
+use Rattle.observation.specs.Endings.{ending_is}
+use Rattle.observation.specs.CoreCalls.{answer_seen}
+use Rattle.observation.specs.EngineCalls.{told_call, told_completion}
 use Rattle.proof_one_meaning.proofs.Beginnings.{beginnings_are_histories}
 use Rattle.proof_one_meaning.specs.Plays.{Player, PlaysOn, PlaysTheMeaning, WasAnswered, players_at_start, with_player}
 use Rattle.event_loop.specs.declared.runner.RunnerStep.{RunnerStep}

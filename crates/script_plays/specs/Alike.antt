@@ -4,7 +4,7 @@ use Rattle.engine_calls.specs.declared.call.Call.{Call}
 use Rattle.engine_calls.specs.declared.reply.Completion.{Completion}
 use Rattle.engine_calls.specs.declared.reply.Reply.{Reply}
 use Rattle.one_meaning.specs.Courses.{Calls, Ends, Prints}
-use Rattle.proof_network_bridge.specs.Seen.{call_seen}
+use Rattle.observation.specs.EngineCalls.{call_seen}
 use Rattle.proof_one_meaning.specs.Plays.{IsAt, Player, gone_on}
 use Rattle.event_loop.specs.declared.runner.RunnerStep.TheVariants as steps
 use Rattle.script_runner.specs.Running.{NextGives, RunnerState}

@@ -15,13 +15,14 @@ use Rattle.proof_engine_view.specs.Shown.{IsShown}
 use Rattle.proof_group_network.specs.Network.{GroupNetwork}
 use Rattle.proof_pure_network.specs.Network.{here}
 use Rattle.proof_session_carrying.specs.Announced.{announcements_in}
-use Rattle.proof_engine_view.specs.Seen.{own_serial, request_by, requests_by, serial_meant}
+use Rattle.observation.specs.CoreCalls.{own_serial, request_by, requests_by, serial_meant}
 use Rattle.proof_network_bridge.proofs.Worlds.{set_cases}
 use Rattle.proof_network_bridge.specs.Following.{next_place}
 use Rattle.proof_network_bridge.specs.Joined.{IsFollowed, network_after}
-use Rattle.proof_network_bridge.specs.Seen.{call_meant, call_seen}
+use Rattle.observation.specs.EngineCalls.{call_meant, call_seen}
 use Rattle.proof_request_keys.proofs.Engines.{calls_keep_keys, datagrams_keep_keys, given_are_named, named_are_own, ticks_keep_keys}
-use Rattle.proof_request_keys.specs.Keys.{AreGiven, IsBelow, IsNamed, KeepsKeys, request_given}
+use Rattle.proof_request_keys.specs.Keys.{AreGiven, IsBelow, IsNamed, KeepsKeys}
+use Rattle.observation.specs.Requests.{request_given}
 use Rattle.point_to_point.specs.CoreState.{CoreState}
 use Rattle.requests.specs.Regions.{handed_of}
 use Rattle.requests.specs.Table.{slot_at}

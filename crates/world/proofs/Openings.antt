@@ -2,7 +2,7 @@
 use Rattle.std.proofs.Common.{◌≡◌, ℕ, zero, suc, ◌+◌, List, [], ◌∷◌, ◌++◌, ap, ◌∙◌, arith}
 use Rattle.engine_calls.specs.EngineState.{EngineState, opening}
 use Rattle.proof_network_bridge.specs.Joined.{opening_engines}
-use Rattle.proof_link_truth.specs.Wire.{at, place_of}
+use Rattle.link_truth.specs.Wire.{at, place_of}
 
 one_more : (n a k : ℕ) → opening_engines n a (suc k) ≡ opening_engines n a k ++ opening (place_of n (at (a + k) 0)) ∷ []
 one_more n a zero = ap (λ (r : ℕ). opening (place_of n (at r 0)) ∷ []) (omega arith)

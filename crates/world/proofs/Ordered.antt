@@ -17,12 +17,13 @@ use Rattle.proof_pure_network.specs.Network.{Network}
 use Rattle.proof_link_truth.proofs.Idle.{idle_holds_nothing}
 use Rattle.proof_link_truth.proofs.Lists.{false_sym}
 use Rattle.proof_link_truth.proofs.Senders.{next_is}
-use Rattle.proof_link_truth.specs.Links.{Link, Links}
-use Rattle.proof_link_truth.specs.Quiet.{AreQuiet}
-use Rattle.proof_link_truth.specs.Sessions.{IsHeldOf, ReceiverTells, SenderTells}
-use Rattle.proof_link_truth.specs.Wire.{at, wire, wires}
+use Rattle.link_truth.specs.Links.{Link, Links}
+use Rattle.link_truth.specs.Quiet.{AreQuiet}
+use Rattle.link_truth.specs.Sessions.{IsHeldOf, ReceiverTells, SenderTells}
+use Rattle.link_truth.specs.Wire.{at, wire, wires}
 use Rattle.proof_network_bridge.proofs.Halves.{sessions_there}
-use Rattle.proof_network_bridge.specs.Joined.{network_after, sessions_in}
+use Rattle.proof_network_bridge.specs.Joined.{network_after}
+use Rattle.observation.specs.Sessions.{sessions_in}
 use Rattle.world.specs.Headline.{IsSound, NothingIsHeld, SessionsAreInOrder}
 use Rattle.world.specs.declared.event.HistoryEntry.{HistoryEntry}
 use Rattle.vocabulary.specs.declared.endpoint.Endpoint.{Endpoint}

@@ -8,8 +8,8 @@ use Rattle.sessions.specs.Peers.{IsIdlePeer, peer_at}
 use Rattle.incarnation.specs.declared.place.Place.{Place}
 use Rattle.incarnation.specs.Judging.{is_other}
 use Rattle.sessions.specs.SessionsState.{SessionsState}
-use Rattle.proof_link_truth.specs.Quiet.{AreQuiet, IsQuietTowards}
-use Rattle.proof_network_bridge.specs.Joined.{sessions_in}
+use Rattle.link_truth.specs.Quiet.{AreQuiet, IsQuietTowards}
+use Rattle.observation.specs.Sessions.{sessions_in}
 use Rattle.proof_network_bridge.proofs.Halves.{IsOf, engine_there, sessions_there}
 use Rattle.world.specs.Quiet.{AreQuietIfOthers, IsQuietIfOther}
 use Rattle.world.specs.WorldState.{ArePlaced}

@@ -10,7 +10,7 @@ use Rattle.engine_calls.specs.declared.call.Call.{Call}
 use Rattle.engine_calls.specs.declared.reply.Completion.{Completion}
 use Rattle.engine_calls.specs.declared.reply.Reply.{Reply}
 use Rattle.perfect_groups.specs.Events as machine
-use Rattle.proof_network_bridge.specs.Seen.{told_call, told_completion}
+use Rattle.observation.specs.EngineCalls.{told_call, told_completion}
 use Rattle.proof_group_network.specs.Network.{Happening}
 use Rattle.proof_network_runs.specs.Runs.{rank_of}
 use Rattle.proof_network_bridge.specs.Following.{next_place}

@@ -5,7 +5,8 @@ use Rattle.vocabulary.specs.declared.endpoint.Endpoint.{Endpoint}
 use Rattle.engine_calls.specs.declared.call.Call.{Call}
 use Rattle.engine_calls.specs.declared.call.Call.TheVariants as calls
 use Rattle.engine_calls.specs.EngineState.{EngineState}
-use Rattle.proof_request_keys.specs.Keys.{IsNamed, request_given}
+use Rattle.proof_request_keys.specs.Keys.{IsNamed}
+use Rattle.observation.specs.Requests.{request_given}
 use Rattle.requests.specs.declared.table.Request.{Request}
 use Rattle.world.specs.declared.event.HistoryEntry.{HistoryEntry}
 

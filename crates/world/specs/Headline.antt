@@ -1,14 +1,11 @@
 -- The headline: what is seen of a world is a run of the machine of queues and groups.
 --
 -- Its words, and where they stand: the machine's `IsRun`, `after_run`, `seen` (perfect_groups, Runs), `fault` (Faults), `IsAtRest`
--- and `ProbesFindAll` (perfect_queues, Quiet) and `CollectivesAreLeft` (perfect_groups, Quiet); what is seen of a call, its reply
--- and a completion, `call_seen`, `call_meant`, `told_call` and `told_completion` (proof_network_bridge, Seen); a call's fault in a
--- state, that a call has none, and that an engine answers a probe with none, `fault_in`, `IsFaultless` and `AnswersNone`
--- (proof_network_bridge, Following); why a call is refused, `IsReason` (proof_engine_steps, Refused); that a call names only
--- requests that its own engine gave, `NamesOwn` (Given); what a rank holds of communicators, `member_of` (engine, EngineState) and `held_at`
--- (perfect_groups, Calls); the sessions of all engines, `sessions_in` (proof_network_bridge, Joined), and when they are
--- quiet, `AreQuiet` (proof_link_truth, Quiet); the links and what sessions and datagrams tell of them, `Links` (Links) and
--- `AreTrue` (Truth, with Told and Witness). That a world is sound, `IsSound` below, is what its proofs carry from event to event
+-- and `ProbesFindAll` (perfect_queues, Quiet) and `CollectivesAreLeft` (perfect_groups, Quiet); what the machine sees of a call, its
+-- reply and a completion, which fault a call has and why it is refused, and the sessions of all engines (`observation`); when
+-- sessions are quiet, and what they and datagrams tell of the links (`link_truth`); that a call names only requests that its own
+-- engine gave, `NamesOwn` (Given); what a rank holds of communicators, `member_of` (EngineState) and `held_at` (perfect_groups,
+-- Calls). That a world is sound, `IsSound` below, is what its proofs carry from event to event
 use Rattle.std.specs.Prelude.{◌≡◌, ℕ, ◌+◌, ◌≤◌, false, List, [], ◌∷◌, ◌++◌, length, Option, Some, None, flat_map, ◌==◌, slice_get, slice_index}
 use Rattle.vocabulary.specs.declared.endpoint.Endpoint.{Endpoint}
 use Rattle.engine_calls.specs.Calls.{CallGives, IsTaken}
@@ -27,13 +24,14 @@ use Rattle.perfect_groups.specs.Machine.{machine_opening}
 use Rattle.perfect_groups.specs.Quiet.{CollectivesAreLeft}
 use Rattle.perfect_groups.specs.Runs.{IsRun, after_run, seen}
 use Rattle.perfect_queues.specs.Quiet.{IsAtRest, ProbesFindAll}
-use Rattle.proof_engine_steps.specs.Refused.{IsReason}
-use Rattle.proof_link_truth.specs.Links.{Links}
-use Rattle.proof_link_truth.specs.Quiet.{AreQuiet}
-use Rattle.proof_link_truth.specs.Truth.{AreTrue}
-use Rattle.proof_network_bridge.specs.Following.{AnswersNone, IsFaultless, fault_in}
-use Rattle.proof_network_bridge.specs.Joined.{IsFollowed, sessions_in}
-use Rattle.proof_network_bridge.specs.Seen.{call_meant, call_seen, told_call, told_completion}
+use Rattle.observation.specs.Reasons.{IsReason}
+use Rattle.link_truth.specs.Links.{Links}
+use Rattle.link_truth.specs.Quiet.{AreQuiet}
+use Rattle.link_truth.specs.Truth.{AreTrue}
+use Rattle.observation.specs.Faults.{AnswersNone, IsFaultless, fault_in}
+use Rattle.proof_network_bridge.specs.Joined.{IsFollowed}
+use Rattle.observation.specs.Sessions.{sessions_in}
+use Rattle.observation.specs.EngineCalls.{call_meant, call_seen, told_call, told_completion}
 use Rattle.world.specs.Given.{AreNamed, NamesOwn}
 use Rattle.world.specs.WorldState.{WorldState, IsWorld}
 use Rattle.world.specs.declared.event.HistoryEntry.{HistoryEntry}

@@ -2,7 +2,7 @@
 use Rattle.std.specs.Prelude.{◌≡◌, true, List, All}
 use Rattle.engine_calls.specs.EngineState.{EngineState}
 use Rattle.incarnation.specs.Judging.{is_other}
-use Rattle.proof_link_truth.specs.Quiet.{IsQuietTowards}
+use Rattle.link_truth.specs.Quiet.{IsQuietTowards}
 
 -- e's sessions are quiet towards d's rank, if they are different ranks of one job
 abbrev pub IsQuietIfOther : EngineState → EngineState → Type 0

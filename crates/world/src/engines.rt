@@ -4,7 +4,7 @@ ghost use Rattle.std.specs.Prelude.{◌≡◌, ◌≤◌, ◌<◌, ◌*◌, leng
 ghost use Rattle.point_to_point_calls.specs.declared.refusal.Refusal.TheVariants as lowers;
 ghost use Rattle.engine_calls.specs.EngineState.{opening};
 ghost use Rattle.proof_network_bridge.specs.Joined.{opening_engines};
-ghost use Rattle.proof_link_truth.specs.Wire.{at, place_of};
+ghost use Rattle.link_truth.specs.Wire.{at, place_of};
 ghost use Rattle.vocabulary.specs.Limits.{most_ranks};
 ghost use Rattle.world.specs.Faults.{target_of, bytes_fault, event_fault};
 ghost use Rattle.world.specs.WorldState.{IsWorld, ArePlaced};

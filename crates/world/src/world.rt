@@ -2,8 +2,8 @@
 
 ghost use Rattle.std.specs.Prelude.{◌≡◌, ◌≤◌, ◌+◌, ◌*◌, [], ◌∷◌, ◌++◌, length, Option, option_map, IfOk, IfErr, IsTrue, slice_get, Err, vec_len, vec_capacity, ◌↔◌, ◌⊎◌};
 ghost use Rattle.point_to_point_calls.specs.declared.refusal.Refusal.TheVariants as lowers;
-ghost use Rattle.proof_link_truth.specs.Quiet.{AreQuiet};
-ghost use Rattle.proof_network_bridge.specs.Joined.{sessions_in};
+ghost use Rattle.link_truth.specs.Quiet.{AreQuiet};
+ghost use Rattle.observation.specs.Sessions.{sessions_in};
 ghost use Rattle.vocabulary.specs.Limits.{most_ranks};
 ghost use Rattle.world.specs.WorldState.{is_outside, opening_world};
 ghost use Rattle.world.specs.Headline.{IsRunOfMachine, IsSound, NothingIsHeld, SessionsAreInOrder, SessionsAreTrue};

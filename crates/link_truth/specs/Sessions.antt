@@ -9,8 +9,8 @@ use Rattle.reliable_link.specs.ReceiverState.{ReceiverState, held_at}
 use Rattle.sessions.specs.declared.peers.Peer.{Peer}
 use Rattle.sessions.specs.SessionsState.{SessionsState}
 use Rattle.sessions.specs.Peers.{peer_at}
-use Rattle.proof_link_truth.specs.Links.{Link, Links}
-use Rattle.proof_link_truth.specs.Wire.{CanBeSent, at, place_of, wire, wires}
+use Rattle.link_truth.specs.Links.{Link, Links}
+use Rattle.link_truth.specs.Wire.{CanBeSent, at, place_of, wire, wires}
 
 -- no more is handed up than was accepted, each frame can be spelled, and each number has 64 bits
 pub record IsLink (link : Link) : Type 0 where

@@ -6,8 +6,8 @@ use Rattle.reliable_link.specs.ReceiverState.{held_at}
 use Rattle.sessions.specs.Peers.{peer_at}
 use Rattle.sessions.specs.SessionsState.{SessionsState}
 use Rattle.sessions.specs.Spellings.{ack_bytes}
-use Rattle.proof_link_truth.specs.Links.{Link}
-use Rattle.proof_link_truth.specs.Wire.{place_of, wire}
+use Rattle.link_truth.specs.Links.{Link}
+use Rattle.link_truth.specs.Wire.{place_of, wire}
 
 -- these bytes were emitted to this rank
 pub record IsAmong (datagrams : List (ℕ × List ℕ)) (t : ℕ × List ℕ) : Type 0 where

@@ -3,8 +3,8 @@ use Rattle.std.specs.Prelude.{◌≡◌, ℕ, ◌<◌, ◌≤◌, ◌%◌, ◌^�
 use Rattle.vocabulary.specs.declared.endpoint.Endpoint.{Endpoint}
 use Rattle.datagram.specs.Spelling.{FrameText}
 use Rattle.sessions.specs.Spellings.{ack_bytes, reset_bytes}
-use Rattle.proof_link_truth.specs.Links.{Links}
-use Rattle.proof_link_truth.specs.Wire.{place_of, wire}
+use Rattle.link_truth.specs.Links.{Links}
+use Rattle.link_truth.specs.Wire.{place_of, wire}
 
 -- what these bytes tell to d of s
 pub data Tells (n : ℕ) (s d : Endpoint) (links : Links) (bytes : List ℕ) : Type 0 where

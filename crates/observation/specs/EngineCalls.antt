@@ -14,8 +14,8 @@ use Rattle.perfect_groups.specs.Calls.{ByCollective, ByRequests, Call, Cancel, E
 use Rattle.perfect_groups.specs.Events.{Called, Completed, Entry}
 use Rattle.perfect_queues.specs.Calls as queues
 use Rattle.perfect_queues.specs.Completions.{ForMatch, ForProbe}
-use Rattle.proof_collective_steps.specs.Shown.{ending_is}
-use Rattle.proof_engine_view.specs.Seen.{answer_seen, awaited_by, match_seen, own_serial, request_by, serial_meant}
+use Rattle.observation.specs.Endings.{ending_is}
+use Rattle.observation.specs.CoreCalls.{answer_seen, awaited_by, match_seen, own_serial, request_by, serial_meant}
 use Rattle.point_to_point.specs.CoreState.{CoreState}
 use Rattle.requests.specs.Regions.{handed_of}
 use Rattle.requests.specs.declared.awaited_requests.Awaited.TheVariants as awaiteds

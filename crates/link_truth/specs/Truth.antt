@@ -4,10 +4,10 @@ use Rattle.std.specs.List.{AllByRecursion}
 use Rattle.vocabulary.specs.declared.endpoint.Endpoint.{Endpoint}
 use Rattle.vocabulary.specs.Endpoints.{last_incarnation}
 use Rattle.sessions.specs.SessionsState.{SessionsState}
-use Rattle.proof_link_truth.specs.Links.{Links}
-use Rattle.proof_link_truth.specs.Sessions.{SessionsTell, IsLink, is_pair}
-use Rattle.proof_link_truth.specs.Told.{IsTold}
-use Rattle.proof_link_truth.specs.Witness.{AreHeldEmitted, IsWitnessed}
+use Rattle.link_truth.specs.Links.{Links}
+use Rattle.link_truth.specs.Sessions.{SessionsTell, IsLink, is_pair}
+use Rattle.link_truth.specs.Told.{IsTold}
+use Rattle.link_truth.specs.Witness.{AreHeldEmitted, IsWitnessed}
 
 -- the sessions of each rank hold what the links carried, and datagrams tell of it; `current` is the incarnation of each rank
 pub record AreTrue (n : ℕ) (sessions : List SessionsState) (datagrams : List (ℕ × List ℕ)) (links : Links) (current : ℕ → ℕ)
