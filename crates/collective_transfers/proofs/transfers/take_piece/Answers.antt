@@ -1,4 +1,4 @@
--- Answered so that a wrong body is refused soon.
+-- PROOF, and for speed: the goals answered by `search rules` are proved without this file, too.
 use Rattle.std.proofs.Common.{rules, arith}
 use Rattle.std.proofs.lemmas.Grind.{common_steps}
 use Rattle.collective_transfers.proofs.Steps.{remove_set}

@@ -1,4 +1,4 @@
--- Answered so that a wrong body is refused soon.
+-- PROOF, and for speed: the goals answered by `search rules` are proved without this file, too.
 use Rattle.std.proofs.Common.{rules}
 use Rattle.communicator_members.proofs.InGroups.{found_is, none_is, rank_within}
 use Rattle.communicator_members.proofs.members.rank_among.Goals as goal

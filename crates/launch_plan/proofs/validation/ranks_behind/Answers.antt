@@ -1,4 +1,4 @@
--- Answered so that a wrong body is refused soon.
+-- PROOF, and for speed: the goals answered by `search rules` are proved without this file, too.
 use Rattle.std.proofs.Common.{rules}
 use Rattle.launch_plan.proofs.JudgingLaws.{behind_alone, behind_fault, behind_more, behind_words}
 use Rattle.launch_plan.proofs.validation.ranks_behind.Goals as goal

@@ -1,4 +1,4 @@
--- Answered so that a wrong body is refused soon.
+-- PROOF, and for speed: the goals answered by `search rules` are proved without this file, too.
 use Rattle.std.proofs.Common.{rules, ◌≡◌, Some, sym, ap, ◌∙◌}
 use Rattle.std.proofs.lemmas.List.Quantifiers.{position-Some}
 use Rattle.std.proofs.lemmas.Option.{slice_get-get_or}

@@ -1,4 +1,4 @@
--- Answered so that a wrong body is refused soon.
+-- PROOF, and for speed: the goals answered by `search rules` are proved without this file, too.
 use Rattle.std.proofs.Common.{rules}
 use Rattle.point_to_point.proofs.Keeping.{kept_on_cts}
 use Rattle.point_to_point.proofs.Taken.{kept_on_answer}
